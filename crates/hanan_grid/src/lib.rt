@@ -1,0 +1,6 @@
+//! Hanan's grid of a list of points.
+#![tactic(auto)]
+
+mod name;
+
+pub use name::EdgeName;

@@ -1,0 +1,16 @@
+-- A set of numbers below a size is the list of its flags: the flag at n is true where n is in the set.
+use Rattle.std.specs.Prelude.{ℕ, ◌+◌, ◌/◌, ◌%◌, ◌==◌, Bool, false, List, map, slice_index, slice_index_or}
+use Rattle.std.specs.Int.{bit_at}
+use Rattle.std.specs.List.{range_with_len}
+
+-- whether the number is in the set
+abbrev pub has : List Bool → ℕ → Bool
+has set n = slice_index_or set n false
+
+-- whether a number's bit is set where words of 64 bits keep one bit a number
+abbrev pub bit_in_words : List ℕ → ℕ → Bool
+bit_in_words words n = bit_at (slice_index words (n / 64)) (n % 64) == 1
+
+-- the flags that words of 64 bits keep
+abbrev pub flags_in_words : List ℕ → ℕ → List Bool
+flags_in_words words size = map (bit_in_words words) (range_with_len 0 size)

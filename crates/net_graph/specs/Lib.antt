@@ -1,0 +1,5 @@
+pub mod Flags
+pub mod Graph
+pub mod Network
+pub mod Decision
+pub mod Packing

@@ -1,0 +1,36 @@
+-- Walks, reached vertices, networks and their length. An edge set is the list of its flags: one for each
+-- edge, true where the edge is in it.
+use Rattle.std.specs.Prelude.{ℕ, zero, suc, ◌≡◌, ◌+◌, Bool, true, List, [], ◌∷◌, slice_get, Some, ◌⊎◌, All, if◌then◌else◌}
+use Rattle.net_graph.specs.declared.edge.Edge.{Edge}
+use Rattle.net_graph.specs.Graph.{Graph, root_of}
+
+-- the two vertices are the ends of the edge
+abbrev pub HasEnds : Edge → ℕ → ℕ → Type 0
+HasEnds e v w = ((e.a ≡ v) × (e.b ≡ w)) ⊎ ((e.a ≡ w) × (e.b ≡ v))
+
+-- some edge of the set has these ends
+abbrev pub Links : Graph → List Bool → ℕ → ℕ → Type 0
+Links g set v w = (n : ℕ) × (e : Edge) × (slice_get set n ≡ Some true) × (slice_get g.edges n ≡ Some e) × HasEnds e v w
+
+-- a walk of n edges of the set
+abbrev pub Walk : Graph → List Bool → ℕ → ℕ → ℕ → Type 0
+Walk g set v w zero = v ≡ w
+Walk g set v w (suc n) = (u : ℕ) × Walk g set v u n × Links g set u w
+
+-- a walk leads from the root to the vertex
+abbrev pub Reaches : Graph → List Bool → ℕ → Type 0
+Reaches g set v = (n : ℕ) × Walk g set (root_of g) v n
+
+-- every terminal is reached
+abbrev pub IsNetwork : Graph → List Bool → Type 0
+IsNetwork g set = All (Reaches g set) g.terminals
+
+-- the sum of the lengths of the edges whose flag is set
+abbrev pub length_of_edges : List Edge → List Bool → ℕ
+length_of_edges [] set = 0
+length_of_edges (e ∷ es) [] = 0
+length_of_edges (e ∷ es) (flag ∷ set) = (if flag then e.length else 0) + length_of_edges es set
+
+-- the plain sum of the lengths of the set's edges, each counted once
+abbrev pub length_of : Graph → List Bool → ℕ
+length_of g set = length_of_edges g.edges set

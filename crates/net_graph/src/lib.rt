@@ -1,0 +1,11 @@
+//! Graphs with edge lengths, sets of their edges and vertices, and the networks among the edge sets.
+#![tactic(auto)]
+
+mod edge;
+mod flag_set;
+mod packing;
+mod sets;
+
+pub use edge::{Edge, EdgeList, VertexList};
+pub use packing::{Cut, EdgeState};
+pub use sets::{EdgeSet, VertexSet};

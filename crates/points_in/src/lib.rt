@@ -1,0 +1,6 @@
+//! Points of the plane, and the text that lists them.
+#![tactic(auto)]
+
+mod point;
+
+pub use point::Point;
