@@ -1,5 +1,6 @@
 pub mod Flags
 pub mod Graph
+pub mod Fault
 pub mod Network
 pub mod Decision
 pub mod Packing
