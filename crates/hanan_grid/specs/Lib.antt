@@ -1,5 +1,7 @@
 pub mod Lines
 pub mod Grid
+pub mod Names
 pub mod LinesLaws
 pub mod Tables
 pub mod GridLaws
+pub mod NamesLaws
