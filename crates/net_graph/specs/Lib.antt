@@ -3,3 +3,4 @@ pub mod Graph
 pub mod Network
 pub mod Decision
 pub mod Packing
+pub mod LengthLaws

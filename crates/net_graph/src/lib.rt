@@ -3,6 +3,7 @@
 
 mod edge;
 mod flag_set;
+mod length;
 mod packing;
 mod sets;
 
