@@ -5,6 +5,7 @@ mod arcs;
 mod edge;
 mod flag_set;
 mod graph;
+mod length;
 mod packing;
 mod sets;
 
