@@ -1,3 +1,4 @@
 pub mod ArcLemmas
+pub mod FoundLemmas
 pub mod FlagWords
 pub mod LengthLemmas

@@ -2,6 +2,8 @@ pub mod Flags
 pub mod Graph
 pub mod Fault
 pub mod Arcs
+pub mod Search
+pub mod Found
 pub mod Network
 pub mod Decision
 pub mod Packing

@@ -4,6 +4,7 @@
 mod arcs;
 mod edge;
 mod flag_set;
+mod found;
 mod graph;
 mod length;
 mod packing;
