@@ -3,6 +3,7 @@ pub mod Graph
 pub mod Fault
 pub mod Arcs
 pub mod Search
+pub mod SearchLaws
 pub mod Found
 pub mod Network
 pub mod Decision

@@ -1,5 +1,5 @@
 -- Walks by single steps, and where they lead. A step is a relation between numbers, from the one to the other.
-use Rattle.std.specs.Prelude.{ℕ, zero, suc, ◌≡◌, Bool, true, List, All, Contains, ◌++◌}
+use Rattle.std.specs.Prelude.{ℕ, zero, suc, ◌≡◌, Bool, true, List, All, ◌++◌}
 use Rattle.net_graph.specs.declared.edge.Edge.{Edge}
 use Rattle.net_graph.specs.declared.arcs.Arc.{Arc}
 use Rattle.net_graph.specs.Arcs.{IsArcOf}

@@ -8,10 +8,12 @@ mod found;
 mod graph;
 mod length;
 mod packing;
+mod search;
 mod sets;
 
 pub use arcs::Arc;
 pub use edge::{Edge, EdgeList, VertexList};
 pub use graph::{GraphFault, NetGraph};
 pub use packing::{Cut, EdgeState};
+pub use search::{Passage, reached_from};
 pub use sets::{EdgeSet, VertexSet};
