@@ -6,6 +6,7 @@ pub mod Search
 pub mod SearchLaws
 pub mod Found
 pub mod Network
+pub mod Joins
 pub mod Decision
 pub mod Packing
 pub mod LengthLaws
