@@ -4,6 +4,7 @@ pub mod Fault
 pub mod Arcs
 pub mod Search
 pub mod SearchLaws
+pub mod Turned
 pub mod Found
 pub mod Network
 pub mod Joins

@@ -12,10 +12,10 @@ mod packing;
 mod search;
 mod sets;
 
-pub use arcs::Arc;
+pub use arcs::{Arc, partner};
 pub use edge::{Edge, EdgeList, VertexList};
 pub use graph::{GraphFault, NetGraph};
 pub use network::{joins, reached};
 pub use packing::{Cut, EdgeState};
-pub use search::{Passage, reached_from};
+pub use search::{Passage, leading_to, reached_from};
 pub use sets::{EdgeSet, VertexSet};

@@ -1,6 +1,6 @@
 //! Whether an edge set joins a graph's terminals.
 
-ghost use Rattle.std.specs.Prelude.{◌≡◌, ◌*◌, ◌<◌, ◌↔◌, ℕ, true, length, All, IsTrue, IfOk};
+ghost use Rattle.std.specs.Prelude.{◌≡◌, ◌<◌, ◌↔◌, ℕ, true, length, All, IsTrue, IfOk};
 ghost use Rattle.net_graph.specs.Flags.{has};
 ghost use Rattle.net_graph.specs.Network.{Reaches, IsNetwork};
 ghost use Rattle.net_graph.specs.Joins.{opens_edges};
@@ -14,7 +14,7 @@ use std::alloc::{AllocError, Global};
 impl Passage for EdgeSet {
     ghost opens = { opens_edges };
 
-    ghost arcs = { λ set. 2 * length set };
+    ghost edges = { λ set. length set };
 
     fn is_open(&self, arc: u32) -> bool {
         self.has(arc / 2)
