@@ -1,4 +1,5 @@
 pub mod Flags
+pub mod Members
 pub mod Graph
 pub mod Network
 pub mod Decision
