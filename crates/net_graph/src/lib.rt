@@ -3,9 +3,11 @@
 
 mod edge;
 mod flag_set;
+mod graph;
 mod packing;
 mod sets;
 
 pub use edge::{Edge, EdgeList, VertexList};
+pub use graph::{GraphFault, NetGraph};
 pub use packing::{Cut, EdgeState};
 pub use sets::{EdgeSet, VertexSet};
