@@ -5,3 +5,4 @@ pub mod Fault
 pub mod Network
 pub mod Decision
 pub mod Packing
+pub mod LengthLaws

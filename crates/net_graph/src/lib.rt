@@ -4,6 +4,7 @@
 mod edge;
 mod flag_set;
 mod graph;
+mod length;
 mod packing;
 mod sets;
 

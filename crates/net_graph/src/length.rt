@@ -1,0 +1,22 @@
+//! The length of an edge set.
+
+ghost use Rattle.std.specs.Prelude.{◌≡◌, ◌<◌, ◌^◌, length, sum_by};
+ghost use Rattle.net_graph.specs.Network.{length_of_edges};
+
+use crate::edge::Edge;
+use crate::sets::EdgeSet;
+
+/// The sum of the lengths of the set's edges.
+pub(crate) fn sum_of_lengths(edges: &[Edge], set: &EdgeSet) -> u64
+    requires total { sum_by (λ e. e.length) edges.now < 2 ^ 63 }
+    requires size { length edges.now ≡ length set.now }
+    ensures { result ≡ length_of_edges edges.now set.now }
+{
+    let mut sum = 0;
+    for n in 0..set.len() {
+        if set.has(n) {
+            sum += edges[n as usize].length;
+        }
+    }
+    sum
+}
