@@ -1,5 +1,6 @@
 pub mod Counts
 pub mod CountLaws
 pub mod Source
+pub mod SourceLaws
 pub mod Sink
 pub mod SinkLaws

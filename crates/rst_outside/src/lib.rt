@@ -3,6 +3,8 @@
 
 mod sink;
 mod source;
+mod take;
 
-pub use sink::{PutFault, Sink};
+pub use sink::{PutFault, Sink, put_all};
 pub use source::{Failed, Source};
+pub use take::{TakeFault, take_all};
