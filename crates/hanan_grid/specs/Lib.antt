@@ -1,2 +1,5 @@
 pub mod Lines
 pub mod Grid
+pub mod LinesLaws
+pub mod Tables
+pub mod GridLaws

@@ -8,6 +8,10 @@ pub record Graph : Type 0 where
   pub edges : List Edge
   pub terminals : List ℕ
 
+-- the graph of these parts
+abbrev pub graph_of : ℕ → List Edge → List ℕ → Graph
+graph_of vertices edges terminals = record { vertices = vertices; edges = edges; terminals = terminals }
+
 -- the sum of all edge lengths
 abbrev pub total_of : Graph → ℕ
 total_of g = sum_by (λ e. e.length) g.edges

@@ -3,10 +3,13 @@
 
 mod edge;
 mod flag_set;
-mod length;
+mod graph;
+mod lengths;
 mod packing;
 mod sets;
 
 pub use edge::{Edge, EdgeList, VertexList};
+pub use graph::{GraphFault, NetGraph};
+pub use lengths::length;
 pub use packing::{Cut, EdgeState};
 pub use sets::{EdgeSet, VertexSet};

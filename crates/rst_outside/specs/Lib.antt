@@ -1,3 +1,5 @@
 pub mod Counts
+pub mod CountLaws
 pub mod Source
 pub mod Sink
+pub mod SinkLaws
