@@ -4,11 +4,12 @@
 mod edge;
 mod flag_set;
 mod graph;
-mod length;
+mod lengths;
 mod packing;
 mod sets;
 
 pub use edge::{Edge, EdgeList, VertexList};
 pub use graph::{GraphFault, NetGraph};
+pub use lengths::length;
 pub use packing::{Cut, EdgeState};
 pub use sets::{EdgeSet, VertexSet};
