@@ -1,2 +1,3 @@
+pub mod ArcLemmas
 pub mod FlagWords
 pub mod LengthLemmas

@@ -2,6 +2,7 @@ pub mod Flags
 pub mod Members
 pub mod Graph
 pub mod Fault
+pub mod Arcs
 pub mod Network
 pub mod Decision
 pub mod Packing

@@ -1,6 +1,7 @@
 //! Graphs with edge lengths, sets of their edges and vertices, and the networks among the edge sets.
 #![tactic(auto)]
 
+mod arcs;
 mod edge;
 mod flag_set;
 mod graph;
@@ -8,6 +9,7 @@ mod lengths;
 mod packing;
 mod sets;
 
+pub use arcs::Arc;
 pub use edge::{Edge, EdgeList, VertexList};
 pub use graph::{GraphFault, NetGraph};
 pub use lengths::length;
