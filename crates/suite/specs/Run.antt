@@ -22,7 +22,7 @@ pub record Outside : Type 0 where
 
 -- The words choose no tool: nothing is read or printed.
 pub record IsMisused (before after : Outside) (status : ℕ) : Type 0 where
-  pub status : status ≡ 2
+  pub ends : status ≡ 2
   pub input : after.input ≡ before.input
   pub out : after.out ≡ before.out
   pub shelf : after.shelf ≡ before.shelf
@@ -36,7 +36,7 @@ pub record IsAnswered (before after : Outside) (status : ℕ) : Type 0 where
 
 -- A tool refused, with the cause that its status and its text name.
 pub record IsRefused (tool : Tool) (before after : Outside) (status : ℕ) (refusal : Refusal) : Type 0 where
-  pub status : status ≡ status_of refusal
+  pub ends : status ≡ status_of refusal
   pub cause : HasCause refusal before.input after.input before.out after.out
   pub out : KeepsOut refusal before.out after.out
   pub shelf : after.shelf ≡ before.shelf

@@ -1,7 +1,6 @@
 -- The steps of `solve` before it writes, each with the cause of its refusals.
 use Rattle.std.specs.Prelude.{ℕ, ◌≡◌, ◌<◌, ◌≤◌, ◌^◌, List, length, Result, Ok, Err}
-use Rattle.std.specs.Vec.{Vec}
-use Rattle.std.specs.declared.alloc.Global.{Global}
+use Rattle.std.specs.Global.{Vec}
 use Rattle.rst_outside.specs.Source.{SourceState}
 use Rattle.rst_outside.specs.Sink.{SinkState}
 use Rattle.points_in.specs.declared.point.Point.{Point}
@@ -18,7 +17,7 @@ abbrev pub HasCauseBefore : Refusal → SourceState → SourceState → Type 0
 HasCauseBefore refusal input input' = (out : SinkState) → HasCause refusal input input' out out × KeepsOut refusal out out
 
 -- The input was read to its end, or it couldn't be.
-abbrev pub TakesWhole : SourceState → SourceState → Result (Vec ℕ Global) Refusal → Type 0
+abbrev pub TakesWhole : SourceState → SourceState → Result (Vec ℕ) Refusal → Type 0
 TakesWhole input input' (Ok bytes) = IsWholeInput input input' bytes.items
 TakesWhole input input' (Err refusal) = HasCauseBefore refusal input input'
 

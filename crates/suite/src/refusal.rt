@@ -57,22 +57,18 @@ pub fn tell_usage<R: Sink>(err: &mut R)
 }
 
 // The text of a refusal.
+#[tactic(auto, using(text_out::specs::GatherLaws::pieces))]
 fn write_refusal<R: Sink>(err: &mut R, tool: Tool, refusal: Refusal) -> Result<(), PutFault>
     ensures { Writes (R.state err.old) (refusal_text tool refusal) (R.state err.new) result }
 {
     let mut block = Block::new();
-    write_fault(&mut block, err, tool, refusal)?;
+    write_fault(&mut block, err, tool, refusal);
     finish(block, err)
 }
 
 // That text, of which the last bytes wait in the block.
-fn write_fault<R: Sink>(
-    block: &mut Block,
-    err: &mut R,
-    tool: Tool,
-    refusal: Refusal,
-) -> Result<(), PutFault>
-    ensures { Gathers (R.state err.old) block.old (refusal_text tool refusal) (R.state err.new) block.new result }
+fn write_fault<R: Sink>(block: &mut Block, err: &mut R, tool: Tool, refusal: Refusal)
+    ensures { Gathers (R.state err.old) block.old (refusal_text tool refusal) (R.state err.new) block.new }
 {
     match refusal {
         Refusal::NotPlain => write_line(block, err, tool, b"not a plain list of points"),
@@ -85,33 +81,26 @@ fn write_fault<R: Sink>(
 }
 
 // A fault under a tool.
-fn write_line<R: Sink>(
-    block: &mut Block,
-    err: &mut R,
-    tool: Tool,
-    fault: &[u8],
-) -> Result<(), PutFault>
-    ensures { Gathers (R.state err.old) block.old (fault_line tool fault.now) (R.state err.new) block.new result }
+#[tactic(auto, using(text_out::specs::GatherLaws::pieces))]
+fn write_line<R: Sink>(block: &mut Block, err: &mut R, tool: Tool, fault: &[u8])
+    ensures { Gathers (R.state err.old) block.old (fault_line tool fault.now) (R.state err.new) block.new }
 {
-    literal(block, err, b"rst: ")?;
-    literal(block, err, tool.name())?;
-    literal(block, err, b": ")?;
-    literal(block, err, fault)?;
-    literal(block, err, b"\n")
+    literal(block, err, b"rst: ");
+    literal(block, err, tool.name());
+    literal(block, err, b": ");
+    literal(block, err, fault);
+    literal(block, err, b"\n");
 }
 
 // The fault of a grid that is too long, with its total.
-fn write_total<R: Sink>(
-    block: &mut Block,
-    err: &mut R,
-    tool: Tool,
-    total: u128,
-) -> Result<(), PutFault>
-    ensures { Gathers (R.state err.old) block.old (fault_line tool (codes "the grid is too long: " ++ decimal total)) (R.state err.new) block.new result }
+#[tactic(auto, using(text_out::specs::GatherLaws::pieces))]
+fn write_total<R: Sink>(block: &mut Block, err: &mut R, tool: Tool, total: u128)
+    ensures { Gathers (R.state err.old) block.old (fault_line tool (codes "the grid is too long: " ++ decimal total)) (R.state err.new) block.new }
 {
-    literal(block, err, b"rst: ")?;
-    literal(block, err, tool.name())?;
-    literal(block, err, b": the grid is too long: ")?;
-    number(block, err, total)?;
-    literal(block, err, b"\n")
+    literal(block, err, b"rst: ");
+    literal(block, err, tool.name());
+    literal(block, err, b": ");
+    literal(block, err, b"the grid is too long: ");
+    number(block, err, total);
+    literal(block, err, b"\n");
 }
