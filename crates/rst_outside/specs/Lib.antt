@@ -4,3 +4,4 @@ pub mod Source
 pub mod SourceLaws
 pub mod Sink
 pub mod SinkLaws
+pub mod Memory

@@ -1,10 +1,13 @@
 //! The outside of the program, as traits whose ghost members say what a contract may know of it.
 #![tactic(auto)]
 
+mod faults;
+mod memory;
 mod sink;
 mod source;
 mod take;
 
+pub use memory::{MemSink, MemSource};
 pub use sink::{PutFault, Sink, put_all};
 pub use source::{Failed, Source};
 pub use take::{TakeFault, take_all};
