@@ -5,3 +5,5 @@ pub mod SourceLaws
 pub mod Sink
 pub mod SinkLaws
 pub mod Memory
+pub mod Shelf
+pub mod Untold
