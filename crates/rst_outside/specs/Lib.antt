@@ -4,3 +4,6 @@ pub mod Source
 pub mod SourceLaws
 pub mod Sink
 pub mod SinkLaws
+pub mod Memory
+pub mod Shelf
+pub mod Untold
