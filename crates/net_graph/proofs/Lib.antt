@@ -1,3 +1,5 @@
 pub mod ArcLemmas
+pub mod FoundLemmas
+pub mod SearchLemmas
 pub mod FlagWords
 pub mod LengthLemmas

@@ -4,6 +4,9 @@ pub mod MembersLaws
 pub mod Graph
 pub mod Fault
 pub mod Arcs
+pub mod Search
+pub mod SearchLaws
+pub mod Found
 pub mod Network
 pub mod Decision
 pub mod Packing

@@ -4,9 +4,11 @@
 mod arcs;
 mod edge;
 mod flag_set;
+mod found;
 mod graph;
 mod lengths;
 mod packing;
+mod search;
 mod sets;
 
 pub use arcs::Arc;
@@ -14,4 +16,5 @@ pub use edge::{Edge, EdgeList, VertexList};
 pub use graph::{GraphFault, NetGraph};
 pub use lengths::length;
 pub use packing::{Cut, EdgeState};
+pub use search::{Passage, reached_from};
 pub use sets::{EdgeSet, VertexSet};
