@@ -5,7 +5,7 @@ use Rattle.std.specs.List.{range_with_len}
 use Rattle.points_in.specs.declared.point.Point.{Point}
 use Rattle.net_graph.specs.declared.edge.Edge.{Edge}
 use Rattle.net_graph.specs.Graph.{Graph}
-use Rattle.hanan_grid.specs.Lines.{ascending, line_at, gap_after, place_of}
+use Rattle.hanan_grid.specs.Lines.{ascending, gap_after, place_of}
 
 -- the vertical lines, by their x, and the horizontal lines, by their y
 abbrev pub xs_of : List Point → List ℤ

@@ -1,10 +1,11 @@
 -- What the length of an edge set comes to.
-use Rattle.std.specs.Prelude.{ℕ, zero, suc, ◌≡◌, ◌+◌, ◌<◌, ◌≤◌, Bool, true, false, List, [], ◌∷◌, length, slice_get, slice_set, slice_index_or, sum_by, replicate, take, Some, All, if◌then◌else◌}
+use Rattle.std.specs.Prelude.{ℕ, zero, suc, ◌≡◌, ◌+◌, ◌<◌, ◌≤◌, ◌^◌, Bool, true, false, List, [], ◌∷◌, length, slice_get, slice_set, slice_index_or, sum_by, replicate, take, Some, All, if◌then◌else◌}
 use Rattle.std.proofs.Common.{arith, refl, None, add-one}
 use Rattle.std.proofs.lemmas.List.Sums.{sum_by-cons}
 use Rattle.std.proofs.lemmas.Option.{same_Some, slice_get_within, slice_get-get_or}
 use Rattle.net_graph.specs.declared.edge.Edge.{Edge}
-use Rattle.net_graph.specs.Network.{length_of_edges}
+use Rattle.net_graph.specs.Graph.{Graph, IsGraph}
+use Rattle.net_graph.specs.Network.{length_of, length_of_edges}
 
 -- the length among the first edges and one more
 length_of_edges-take-suc : (edges : List Edge) (set : List Bool) (n : ℕ) (e : Edge) → n < length edges → n < length set →
@@ -105,3 +106,7 @@ no_edge_from_length edges set positive size none n inside =
       positive n other below,
       length-le-length_of_edges edges set n (slice_index_or edges n other) inside (slice_get-get_or edges n other below),
     )
+
+-- no set is longer than 2^63 - 1
+pub length_of-small : (g : Graph) (set : List Bool) → IsGraph g → length_of g set < 2 ^ 63
+length_of-small g set graph = omega (arith, graph.total, length_of_edges-le-sum g.edges set)

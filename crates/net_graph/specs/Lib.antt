@@ -1,4 +1,6 @@
 pub mod Flags
+pub mod Members
+pub mod MembersLaws
 pub mod Graph
 pub mod Fault
 pub mod Arcs
