@@ -1,6 +1,10 @@
 //! Sets of a graph's edges and of its vertices.
 
+ghost use Rattle.std.specs.Prelude.{◌≡◌, ◌<◌, true, false, length, replicate, slice_get, slice_set, IfOk};
+ghost use Rattle.net_graph.specs.Flags.{has};
+
 use crate::flag_set::FlagSet;
+use std::alloc::{AllocError, Global};
 use std::marker::Model;
 
 /// A set of edges of a graph, by their numbers. Its size is the number of the graph's edges.
@@ -17,6 +21,63 @@ impl Model for EdgeSet {
     ghost view = { λ s. s.flags };
 }
 
+impl EdgeSet {
+    /// The empty set among `size` edges. An error comes where memory is short.
+    pub fn empty(alloc: Global, size: u32) -> Result<EdgeSet, AllocError>
+        ensures { IfOk result (λ s. s ≡ replicate size false) }
+    {
+        let flags = FlagSet::empty(alloc, size)?;
+        Ok(EdgeSet { flags })
+    }
+
+    /// The size: the number of edges that may be in the set.
+    pub fn len(&self) -> u32
+        ensures { result ≡ length self.now }
+    {
+        self.flags.len()
+    }
+
+    /// Whether the edge `n` is in the set.
+    pub fn has(&self, n: u32) -> bool
+        requires { n < length self.now }
+        ensures flag { slice_get self.now n ≡ Some result }
+        ensures within { result ≡ has self.now n }
+    {
+        self.flags.has(n)
+    }
+
+    /// Puts the edge `n` into the set.
+    pub fn add(&mut self, n: u32)
+        requires { n < length self.old }
+        ensures { self.new ≡ slice_set self.old n true }
+    {
+        self.flags.add(n);
+    }
+
+    /// Takes the edge `n` out of the set.
+    pub fn remove(&mut self, n: u32)
+        requires { n < length self.old }
+        ensures { self.new ≡ slice_set self.old n false }
+    {
+        self.flags.remove(n);
+    }
+
+    /// Takes every edge out of the set.
+    pub fn clear(&mut self)
+        ensures { self.new ≡ replicate (length self.old) false }
+    {
+        self.flags.clear();
+    }
+
+    /// A set of the same edges. An error comes where memory is short.
+    pub fn copy(&self) -> Result<EdgeSet, AllocError>
+        ensures { IfOk result (λ s. s ≡ self.now) }
+    {
+        let flags = self.flags.copy()?;
+        Ok(EdgeSet { flags })
+    }
+}
+
 /// A set of vertices of a graph, by their numbers. Its size is the number of the graph's vertices.
 #[derive(Debug, Drop)]
 pub struct VertexSet {
@@ -29,4 +90,100 @@ impl Model for VertexSet {
     ghost Value = { List Bool };
 
     ghost view = { λ s. s.flags };
+}
+
+impl VertexSet {
+    /// The empty set among `size` vertices. An error comes where memory is short.
+    pub fn empty(alloc: Global, size: u32) -> Result<VertexSet, AllocError>
+        ensures { IfOk result (λ s. s ≡ replicate size false) }
+    {
+        let flags = FlagSet::empty(alloc, size)?;
+        Ok(VertexSet { flags })
+    }
+
+    /// The size: the number of vertices that may be in the set.
+    pub fn len(&self) -> u32
+        ensures { result ≡ length self.now }
+    {
+        self.flags.len()
+    }
+
+    /// Whether the vertex `n` is in the set.
+    pub fn has(&self, n: u32) -> bool
+        requires { n < length self.now }
+        ensures flag { slice_get self.now n ≡ Some result }
+        ensures within { result ≡ has self.now n }
+    {
+        self.flags.has(n)
+    }
+
+    /// Puts the vertex `n` into the set.
+    pub fn add(&mut self, n: u32)
+        requires { n < length self.old }
+        ensures { self.new ≡ slice_set self.old n true }
+    {
+        self.flags.add(n);
+    }
+
+    /// Takes the vertex `n` out of the set.
+    pub fn remove(&mut self, n: u32)
+        requires { n < length self.old }
+        ensures { self.new ≡ slice_set self.old n false }
+    {
+        self.flags.remove(n);
+    }
+
+    /// Takes every vertex out of the set.
+    pub fn clear(&mut self)
+        ensures { self.new ≡ replicate (length self.old) false }
+    {
+        self.flags.clear();
+    }
+
+    /// A set of the same vertices. An error comes where memory is short.
+    pub fn copy(&self) -> Result<VertexSet, AllocError>
+        ensures { IfOk result (λ s. s ≡ self.now) }
+    {
+        let flags = self.flags.copy()?;
+        Ok(VertexSet { flags })
+    }
+}
+
+#[cfg(test)]
+mod tests {
+    use super::*;
+    use std::test::Fail;
+
+    #[test]
+    fn edges_round_the_end_of_a_word(rt: HostRuntime) -> Result<(), Fail> {
+        let mut set = EdgeSet::empty(rt.alloc(), 66)?;
+        set.add(63);
+        set.add(64);
+        set.add(65);
+        set.remove(64);
+        let held = [set.has(62), set.has(63), set.has(64), set.has(65)];
+        assert_eq!(rt; held, [false, true, false, true]);
+        let copy = set.copy()?;
+        set.clear();
+        assert_eq!(rt; [set.has(63), copy.has(63)], [false, true]);
+        assert_eq!(rt; set.len(), 66);
+        Ok(())
+    }
+
+    #[test]
+    fn no_vertices_and_some(rt: HostRuntime) -> Result<(), Fail> {
+        let none = VertexSet::empty(rt.alloc(), 0)?;
+        assert_eq!(rt; none.len(), 0);
+        let mut set = VertexSet::empty(rt.alloc(), 2)?;
+        set.add(0);
+        set.add(1);
+        set.remove(0);
+        let copy = set.copy()?;
+        set.clear();
+        assert_eq!(rt;
+            [set.has(1), copy.has(0), copy.has(1)],
+            [false, false, true]
+        );
+        Ok(())
+    }
 }

@@ -19,7 +19,8 @@ pub trait Sink {
     fn write(&mut self, from: &[u8]) -> Result<usize, Failed>
         ensures within { IfOk result (λ n. n ≤ length from.now) }
         ensures some { IfOk result (λ n. 0 < length from.now → 0 < n) }
-        ensures appended { IfOk result (λ n. Appended (state self.old).taken (take n from.now) (state self.new).taken) }
+        ensures appended { IfOk result
+            (λ n. Appended (state self.old).taken (take n from.now) (state self.new).taken) }
         ensures room { IfOk result (λ n. (state self.old).sure ≤ (state self.new).sure + n) }
         ensures count { (state self.old).faults ≤ (state self.new).faults }
         ensures failed { OnErr result (Rose (state self.old).faults (state self.new).faults) }
@@ -27,15 +28,13 @@ pub trait Sink {
         ensures no_room { OnErr result (((state self.old).sure ≡ 0) × ((state self.new).sure ≡ 0)) };
 }
 
-/// Writes all the bytes. It takes no memory.
+/// Writes all the bytes. A write that fails is not tried again: it ends the call with `PutFault`, and the
+/// bytes before it stay written. It takes no memory.
 pub fn put_all<S: Sink>(sink: &mut S, bytes: &[u8]) -> Result<(), PutFault>
     ensures { Writes (S.state sink.old) bytes.now (S.state sink.new) result }
 {
     let mut rest = bytes;
-    for _ in 0..bytes.len() {
-        if rest.is_empty() {
-            break;
-        }
+    while !rest.is_empty() {
         match sink.write(rest) {
             Ok(n) => rest = &rest[n..],
             Err(Failed) => return Err(PutFault),
