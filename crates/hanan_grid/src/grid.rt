@@ -19,9 +19,9 @@ use points_in::{MAX_POINTS, Point, Points};
 use std::alloc::Global;
 use std::marker::Model;
 
-/// Hanan's grid of terminals: a vertical line through each terminal's x and a horizontal line through each
-/// terminal's y, with a vertex at each crossing and an edge between neighbours on a line (Hanan 1966).
-/// Contracts see the list of the terminals, since everything else is a function of it.
+/// Hanan's grid of terminals: a vertical line through each terminal's x and a horizontal line through
+/// each terminal's y, with a vertex at each crossing and an edge between neighbours on a line (Hanan
+/// 1966). Contracts see the list of the terminals, since everything else is a function of it.
 #[derive(Debug, Drop)]
 pub struct Grid {
     points: Points,
@@ -43,8 +43,8 @@ impl Model for Grid {
 }
 
 impl Grid {
-    /// The grid of these terminals, of which it keeps a copy. An `Err` says that the edges' total is above
-    /// 2^63 - 1, or is want of memory.
+    /// The grid of these terminals, of which it keeps a copy. An `Err` says that the edges' total is
+    /// above 2^63 - 1, or is want of memory.
     pub fn new(alloc: Global, points: &Points) -> Result<Grid, GridFault>
         ensures ok { IfOk result (λ grid. grid ≡ points.now) }
         ensures fits { OnOk result (total_of (hanan_grid_of points.now) < 2 ^ 63) }
@@ -71,8 +71,8 @@ impl Grid {
         &self.points
     }
 
-    /// The graph of the grid. Vertices are numbered row by row; edges too, the horizontal ones before the
-    /// vertical ones. Its terminals are the vertices of the grid's terminals, in their order.
+    /// The graph of the grid. Vertices are numbered row by row; edges too, the horizontal ones before
+    /// the vertical ones. Its terminals are the vertices of the grid's terminals, in their order.
     pub fn graph(&self) -> &NetGraph
         ensures graph { result.now ≡ hanan_grid_of self.now }
         ensures sound { IsGraph (hanan_grid_of self.now) }
@@ -117,7 +117,8 @@ impl Grid {
         requires { terminal < length self.now }
         ensures column { result.column < length (xs_of self.now) }
         ensures row { result.row < length (ys_of self.now) }
-        ensures point { slice_get self.now terminal ≡ Some (crossing (xs_of self.now) (ys_of self.now) result.column result.row) }
+        ensures point { slice_get self.now terminal
+            ≡ Some (crossing (xs_of self.now) (ys_of self.now) result.column result.row) }
         ensures vertex { slice_get (hanan_grid_of self.now).terminals terminal
             ≡ Some (vertex_number (length (xs_of self.now)) result.column result.row) }
     {
@@ -149,7 +150,8 @@ impl Grid {
     pub fn horizontal_edge(&self, column: u32, row: u32) -> u32
         requires column { column + 1 < length (xs_of self.now) }
         requires row { row < length (ys_of self.now) }
-        ensures edge { slice_get (hanan_grid_of self.now).edges result ≡ Some (horizontal (xs_of self.now) row column) }
+        ensures edge { slice_get (hanan_grid_of self.now).edges result
+            ≡ Some (horizontal (xs_of self.now) row column) }
         ensures below { result < length (hanan_grid_of self.now).edges }
     {
         let columns = self.xs.len() as u32;
@@ -184,7 +186,8 @@ impl Grid {
     pub fn place_at(&self, point: Point) -> Option<Place>
         ensures column { IfSome result (λ place. place.column < length (xs_of self.now)) }
         ensures row { IfSome result (λ place. place.row < length (ys_of self.now)) }
-        ensures point { IfSome result (λ place. crossing (xs_of self.now) (ys_of self.now) place.column place.row ≡ point) }
+        ensures point { IfSome result
+            (λ place. crossing (xs_of self.now) (ys_of self.now) place.column place.row ≡ point) }
         ensures none { IfNone result (¬ IsCrossing (xs_of self.now) (ys_of self.now) point) }
     {
         let column = found_in(&self.xs, point.x)?;
@@ -195,8 +198,10 @@ impl Grid {
     /// The vertex of a point, where it is a crossing.
     pub fn vertex_at(&self, point: Point) -> Option<u32>
         ensures below { IfSome result (λ v. v < (hanan_grid_of self.now).vertices) }
-        ensures vertex { IfSome result (λ v. v ≡ vertex_of (xs_of self.now) (ys_of self.now) point) }
-        ensures point { IfSome result (λ v. point_of_vertex (xs_of self.now) (ys_of self.now) v ≡ point) }
+        ensures vertex { IfSome result
+            (λ v. v ≡ vertex_of (xs_of self.now) (ys_of self.now) point) }
+        ensures point { IfSome result
+            (λ v. point_of_vertex (xs_of self.now) (ys_of self.now) v ≡ point) }
         ensures none { IfNone result (¬ IsCrossing (xs_of self.now) (ys_of self.now) point) }
     {
         let place = self.place_at(point)?;
@@ -215,14 +220,15 @@ impl Grid {
         self.edge_between(from, to)
     }
 
-    // The number of the edge between two crossings, where there is one from the first to the second.
+    // The number of the edge from one crossing to another, where there is one.
     fn edge_between(&self, from: Place, to: Place) -> Option<u32>
         requires from_column { from.column < length (xs_of self.now) }
         requires from_row { from.row < length (ys_of self.now) }
         requires to_column { to.column < length (xs_of self.now) }
         requires to_row { to.row < length (ys_of self.now) }
         ensures below { IfSome result (λ e. e < length (hanan_grid_of self.now).edges) }
-        ensures name { IfSome result (λ e. name_of_edge self.now e ≡ name_of_crossings self.now from to) }
+        ensures name { IfSome result
+            (λ e. name_of_edge self.now e ≡ name_of_crossings self.now from to) }
         ensures none { IfNone result (NamesNoEdge self.now (name_of_crossings self.now from to)) }
     {
         let columns = self.columns();
@@ -237,8 +243,8 @@ impl Grid {
         }
     }
 
-    /// How far it is along x and along y between the terminals at two places of the list, counted from 0.
-    /// It is at most the graph's total, which is below 2^63.
+    /// How far it is along x and along y between the terminals at two places of the list, counted
+    /// from 0. It is at most the graph's total, which is below 2^63.
     pub fn distance(&self, i: usize, j: usize) -> u64
         requires first { i < length self.now }
         requires second { j < length self.now }

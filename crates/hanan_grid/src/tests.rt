@@ -1,4 +1,4 @@
-//! Grids of points from outside: three points, a row, a column, a point alone, and the ends of the 64-bit numbers.
+//! Grids of points from outside: three points, thin grids, and the ends of the 64-bit numbers.
 
 use super::*;
 use points_in::{Point, Points};
