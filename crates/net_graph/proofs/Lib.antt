@@ -1,5 +1,6 @@
 pub mod ArcLemmas
 pub mod FoundLemmas
 pub mod SearchLemmas
+pub mod NetworkLemmas
 pub mod FlagWords
 pub mod LengthLemmas

@@ -1,5 +1,5 @@
 -- Arcs. An edge is two arcs: arc 2n leads along edge n from its end a to its end b, and arc 2n + 1 from b to a.
-use Rattle.std.specs.Prelude.{ℕ, ◌≡◌, ◌+◌, ◌*◌, ◌<◌, ◌≤◌, List, length, slice_get, slice_index_or, Some, All, Contains, ◌⊎◌}
+use Rattle.std.specs.Prelude.{ℕ, ◌≡◌, ◌+◌, ◌-◌, ◌*◌, ◌%◌, ◌==◌, ◌<◌, ◌≤◌, List, length, slice_get, slice_index_or, Some, All, Contains, ◌⊎◌, if◌then◌else◌}
 use Rattle.net_graph.specs.declared.edge.Edge.{Edge}
 use Rattle.net_graph.specs.declared.arcs.Arc.{Arc}
 use Rattle.net_graph.specs.Graph.{Graph}
@@ -11,6 +11,10 @@ forward_arc n e = record { number = 2 * n; from = e.a; to = e.b }
 -- the arc from an edge's end b to its end a
 abbrev pub backward_arc : ℕ → Edge → Arc
 backward_arc n e = record { number = 2 * n + 1; from = e.b; to = e.a }
+
+-- the number of the other arc of an arc's edge
+abbrev pub partner_of : ℕ → ℕ
+partner_of arc = if arc % 2 == 0 then arc + 1 else arc - 1
 
 -- it is one of the two arcs of one of the edges
 abbrev pub IsArcOf : List Edge → Arc → Type 0

@@ -6,8 +6,10 @@ pub mod Fault
 pub mod Arcs
 pub mod Search
 pub mod SearchLaws
+pub mod Turned
 pub mod Found
 pub mod Network
+pub mod Joins
 pub mod Decision
 pub mod Packing
 pub mod LengthLaws

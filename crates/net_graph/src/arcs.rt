@@ -2,7 +2,7 @@
 
 ghost use Rattle.std.specs.Prelude.{◌≡◌, ◌+◌, ◌*◌, ◌<◌, ◌≤◌, length, Contains, IfOk};
 ghost use Rattle.std.specs.List.Sorted.{IsNonDecreasingBy};
-ghost use Rattle.net_graph.specs.Arcs.{AreArcsOf, AreArcsFrom, IsSplitAt, IsSplitBy};
+ghost use Rattle.net_graph.specs.Arcs.{partner_of, AreArcsOf, AreArcsFrom, IsSplitAt, IsSplitBy};
 
 use crate::edge::Edge;
 use std::alloc::{AllocError, Global};
@@ -15,6 +15,13 @@ pub struct Arc {
     pub number: u32,
     pub from: u32,
     pub to: u32,
+}
+
+/// The number of the other arc of an arc's edge.
+pub fn partner(arc: u32) -> u32
+    ensures { result ≡ partner_of arc }
+{
+    if arc % 2 == 0 { arc + 1 } else { arc - 1 }
 }
 
 /// All arcs of a graph, by the vertex that they lead from.

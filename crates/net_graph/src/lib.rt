@@ -7,14 +7,16 @@ mod flag_set;
 mod found;
 mod graph;
 mod lengths;
+mod network;
 mod packing;
 mod search;
 mod sets;
 
-pub use arcs::Arc;
+pub use arcs::{Arc, partner};
 pub use edge::{Edge, EdgeList, VertexList};
 pub use graph::{GraphFault, NetGraph};
 pub use lengths::length;
+pub use network::{joins, reached};
 pub use packing::{Cut, EdgeState};
-pub use search::{Passage, reached_from};
+pub use search::{Passage, leading_to, reached_from};
 pub use sets::{EdgeSet, VertexSet};
