@@ -1,7 +1,12 @@
 //! Hanan's grid of a list of points.
 #![tactic(auto)]
 
+mod edges;
+mod fault;
+mod grid;
 mod lines;
 mod name;
 
+pub use fault::GridFault;
+pub use grid::Grid;
 pub use name::EdgeName;

@@ -1,7 +1,7 @@
 //! The lines of a grid: the distinct coordinates of points, in ascending order.
 
-ghost use Rattle.std.specs.Prelude.{◌≡◌, ◌≤◌, length, IfOk};
-ghost use Rattle.hanan_grid.specs.Lines.{ascending, place_of};
+ghost use Rattle.std.specs.Prelude.{◌≡◌, ◌+◌, ◌<◌, ◌≤◌, length, IfOk};
+ghost use Rattle.hanan_grid.specs.Lines.{ascending, gap_after, place_of};
 ghost use Rattle.hanan_grid.specs.LinesLaws.{IsRising};
 ghost use Rattle.hanan_grid.specs.Grid.{xs_of, ys_of};
 
@@ -43,7 +43,16 @@ fn lines_of(mut values: Vec<i64>) -> Vec<i64>
 pub fn place_in(lines: &[i64], value: i64) -> u32
     requires rising { IsRising lines.now }
     requires few { length lines.now ≤ 50 }
-    ensures { result ≡ place_of value lines.now }
+    ensures place { result ≡ place_of value lines.now }
+    ensures within { result ≤ length lines.now }
 {
     lines.partition_point(|line| *line < value) as u32
+}
+
+// How far it is from a line to the next one.
+pub fn gap(lines: &[i64], place: usize) -> u64
+    requires { place + 1 < length lines.now }
+    ensures { result ≡ gap_after lines.now place }
+{
+    lines[place + 1].abs_diff(lines[place])
 }
