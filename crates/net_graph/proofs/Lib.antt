@@ -3,3 +3,4 @@ pub mod FoundLemmas
 pub mod SearchLemmas
 pub mod FlagWords
 pub mod LengthLemmas
+pub mod DecisionLemmas
