@@ -2,6 +2,7 @@
 #![tactic(auto)]
 
 mod arcs;
+mod decision;
 mod edge;
 mod flag_set;
 mod found;
@@ -13,6 +14,8 @@ mod search;
 mod sets;
 
 pub use arcs::{Arc, partner};
+pub use arcs::Arc;
+pub use decision::{Decision, required};
 pub use edge::{Edge, EdgeList, VertexList};
 pub use graph::{GraphFault, NetGraph};
 pub use lengths::length;
