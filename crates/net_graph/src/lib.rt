@@ -14,7 +14,6 @@ mod search;
 mod sets;
 
 pub use arcs::{Arc, partner};
-pub use arcs::Arc;
 pub use decision::{Decision, required};
 pub use edge::{Edge, EdgeList, VertexList};
 pub use graph::{GraphFault, NetGraph};
