@@ -4,3 +4,4 @@ pub mod SearchLemmas
 pub mod FlagWords
 pub mod LengthLemmas
 pub mod DecisionLemmas
+pub mod PackingLemmas

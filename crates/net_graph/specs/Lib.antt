@@ -11,3 +11,4 @@ pub mod Network
 pub mod Decision
 pub mod Packing
 pub mod LengthLaws
+pub mod PackingLaws

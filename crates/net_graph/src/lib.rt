@@ -17,6 +17,6 @@ pub use decision::{Decision, required};
 pub use edge::{Edge, EdgeList, VertexList};
 pub use graph::{GraphFault, NetGraph};
 pub use lengths::length;
-pub use packing::{Cut, EdgeState};
+pub use packing::{Cut, EdgeState, Packing, value};
 pub use search::{Passage, reached_from};
 pub use sets::{EdgeSet, VertexSet};
