@@ -141,3 +141,54 @@ fn total_weight(cuts: &[Cut]) -> u128
     }
     sum
 }
+
+#[cfg(test)]
+mod tests {
+    use super::*;
+    use crate::decision::required;
+    use item_list::ItemList;
+    use std::test::Fail;
+
+    // Edges of the lengths 5 and 7 in a row, between the terminals 0 and 2.
+    fn two_edges(alloc: Global) -> Result<NetGraph, Fail>
+        ensures { IfOk result (λ g. length g.edges ≡ 2) }
+    {
+        let first = Edge {
+            a: 0,
+            b: 1,
+            length: 5,
+        };
+        let second = Edge {
+            a: 1,
+            b: 2,
+            length: 7,
+        };
+        let edges = ItemList::from_vec(vec![in alloc; first, second]?);
+        let terminals = ItemList::from_vec(vec![in alloc; 0, 2]?);
+        let g = NetGraph::new(alloc, 3, edges, terminals)?;
+        Ok(g)
+    }
+
+    #[test]
+    fn an_inside_edge_requires_its_ends(rt: HostRuntime) -> Result<(), Fail> {
+        let g = two_edges(rt.alloc())?;
+        let mut d = Decision::none(rt.alloc(), &g)?;
+        let before = required(&g, &d, 1);
+        d.decide(0, EdgeState::Inside);
+        let d = d.copy()?;
+        assert_eq!(rt; [before, required(&g, &d, 1)], [false, true]);
+        Ok(())
+    }
+
+    #[test]
+    fn a_cut_and_its_copy_weigh_the_same(rt: HostRuntime) -> Result<(), Fail> {
+        let g = two_edges(rt.alloc())?;
+        let d = Decision::none(rt.alloc(), &g)?;
+        let members = VertexSet::empty(rt.alloc(), 3)?;
+        let mut p = Packing::empty(rt.alloc());
+        p.push(Cut { weight: 7, members })?;
+        let p = p.copy()?;
+        assert_eq!(rt; value(&g, &d, &p), 7);
+        Ok(())
+    }
+}
