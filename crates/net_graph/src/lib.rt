@@ -11,6 +11,8 @@ mod lengths;
 mod network;
 mod packing;
 mod search;
+#[cfg(test)]
+mod search_tests;
 mod sets;
 
 pub use arcs::{Arc, partner};
