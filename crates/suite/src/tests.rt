@@ -134,7 +134,10 @@ fn takes_no_other_words(rt: HostRuntime) -> Result<(), Fail> {
         let left = ran(&rt, words, b"5 5\n", 4096, (&[], &[]))?;
         assert_eq!(rt; left.status, 2);
         assert_eq!(rt; left.out.len(), 0);
-        assert_eq!(rt; left.err.as_slice(), b"usage: rst solve [WORDS]\n".as_slice());
+        assert_eq!(rt;
+            left.err.as_slice(),
+            b"usage: rst solve [WORDS]\n".as_slice()
+        );
     }
     Ok(())
 }
@@ -145,11 +148,17 @@ fn tells_of_failing_reads_and_writes(rt: HostRuntime) -> Result<(), Fail> {
     let unread = ran(&rt, &["solve"], square, 4, (&[2], &[]))?;
     assert_eq!(rt; unread.status, 5);
     assert_eq!(rt; unread.out.len(), 0);
-    assert_eq!(rt; unread.err.as_slice(), b"rst: solve: cannot read input\n".as_slice());
+    assert_eq!(rt;
+        unread.err.as_slice(),
+        b"rst: solve: cannot read input\n".as_slice()
+    );
     let unwritten = ran(&rt, &["solve"], square, 4, (&[], &[2]))?;
     assert_eq!(rt; unwritten.status, 6);
     assert_eq!(rt; unwritten.out.as_slice(), b"rst answ".as_slice());
-    assert_eq!(rt; unwritten.err.as_slice(), b"rst: solve: cannot write\n".as_slice());
+    assert_eq!(rt;
+        unwritten.err.as_slice(),
+        b"rst: solve: cannot write\n".as_slice()
+    );
     Ok(())
 }
 
@@ -159,6 +168,9 @@ fn takes_no_more_bytes_than_the_limit(rt: HostRuntime) -> Result<(), Fail> {
     let left = solved(&rt, bytes.as_slice())?;
     assert_eq!(rt; left.status, 8);
     assert_eq!(rt; left.out.len(), 0);
-    assert_eq!(rt; left.err.as_slice(), b"rst: solve: more than 67108864 bytes\n".as_slice());
+    assert_eq!(rt;
+        left.err.as_slice(),
+        b"rst: solve: more than 67108864 bytes\n".as_slice()
+    );
     Ok(())
 }
