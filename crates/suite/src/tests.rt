@@ -5,7 +5,8 @@ use rst_outside::{DirShelf, MemSink, MemSource};
 use std::test::Fail;
 
 /// What a run left behind.
-struct Ran {
+#[derive(Drop)]
+struct Outcome {
     status: u8,
     out: Vec<u8>,
     err: Vec<u8>,
@@ -22,7 +23,7 @@ fn ran(
     input: &[u8],
     step: usize,
     failing: (&[u64], &[u64]),
-) -> Result<Ran, Fail> {
+) -> Result<Outcome, Fail> {
     let alloc = rt.alloc();
     let mut owned = Vec::new(alloc);
     for word in words {
@@ -33,7 +34,7 @@ fn ran(
     let mut source = MemSource::new(bytes, step, Vec::from_slice(alloc, failing.0)?);
     let mut out = MemSink::with_room(alloc, ROOM, step, Vec::from_slice(alloc, failing.1)?)?;
     let mut err = MemSink::with_room(alloc, ROOM, step, Vec::new(alloc))?;
-    let mut shelf = DirShelf::new(rt.clone());
+    let mut shelf = DirShelf::new(rt);
     let status = run(
         alloc,
         owned.as_slice(),
@@ -42,7 +43,7 @@ fn ran(
         &mut err,
         &mut shelf,
     );
-    Ok(Ran {
+    Ok(Outcome {
         status,
         out: Vec::from_slice(alloc, out.bytes())?,
         err: Vec::from_slice(alloc, err.bytes())?,
@@ -50,7 +51,7 @@ fn ran(
 }
 
 /// Runs `solve` where no call fails.
-fn solved(rt: &HostRuntime, input: &[u8]) -> Result<Ran, Fail> {
+fn solved(rt: &HostRuntime, input: &[u8]) -> Result<Outcome, Fail> {
     ran(rt, &["solve"], input, 4096, (&[], &[]))
 }
 
