@@ -28,7 +28,10 @@ pub enum GraphFault {
     TerminalOutOfRange(usize),
     /// The lengths sum to more than 2^63 - 1.
     #[error("the lengths sum to {total}, which is above 2^63 - 1")]
-    TooLong { total: u128 },
+    TooLong {
+        /// The sum of the lengths.
+        total: u128,
+    },
     /// Want of memory.
     #[error("there is not enough memory for the graph")]
     Memory(AllocError),
