@@ -4,3 +4,5 @@ pub mod SearchLemmas
 pub mod NetworkLemmas
 pub mod FlagWords
 pub mod LengthLemmas
+pub mod DecisionLemmas
+pub mod PackingLemmas

@@ -14,14 +14,22 @@ status_of CannotRead = 5
 status_of CannotWrite = 6
 status_of OutOfMemory = 7
 
+-- whose fault it is
+abbrev pub tool_prefix : Tool → List ℕ
+tool_prefix tool = codes "rst: " ++ name_of tool ++ codes ": "
+
 -- what is said of a fault under a tool
 abbrev pub fault_line : Tool → List ℕ → List ℕ
-fault_line tool fault = codes "rst: " ++ name_of tool ++ codes ": " ++ fault ++ codes "\n"
+fault_line tool fault = tool_prefix tool ++ fault ++ codes "\n"
+
+-- the fault of a grid whose edges sum to a total that is too great
+abbrev pub total_fault : ℕ → List ℕ
+total_fault total = codes "the grid is too long: " ++ decimal total
 
 -- the text on `err`
 abbrev pub refusal_text : Tool → Refusal → List ℕ
 refusal_text tool NotPlain = fault_line tool (codes "not a plain list of points")
-refusal_text tool (GridTooLong total) = fault_line tool (codes "the grid is too long: " ++ decimal total)
+refusal_text tool (GridTooLong total) = fault_line tool (total_fault total)
 refusal_text tool TooManyBytes = fault_line tool (codes "more than 67108864 bytes")
 refusal_text tool CannotRead = fault_line tool (codes "cannot read input")
 refusal_text tool CannotWrite = fault_line tool (codes "cannot write")

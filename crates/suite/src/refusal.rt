@@ -1,9 +1,9 @@
 //! Why a run ends without an answer, and what it then says.
 
-ghost use Rattle.std.specs.Prelude.{◌≡◌, ◌++◌, codes, decimal};
+ghost use Rattle.std.specs.Prelude.{◌≡◌};
 ghost use Rattle.rst_outside.specs.Sink.{Writes};
 ghost use Rattle.text_out.specs.Gathers.{Gathers};
-ghost use Rattle.suite.specs.Refusal.{status_of, refusal_text, usage_text, fault_line};
+ghost use Rattle.suite.specs.Refusal.{status_of, refusal_text, usage_text, fault_line, tool_prefix, total_fault};
 ghost use Rattle.suite.specs.Told.{Told};
 
 use crate::tool::Tool;
@@ -72,7 +72,7 @@ fn write_fault<R: Sink>(block: &mut Block, err: &mut R, tool: Tool, refusal: Ref
 {
     match refusal {
         Refusal::NotPlain => write_line(block, err, tool, b"not a plain list of points"),
-        Refusal::GridTooLong { total } => write_total(block, err, tool, total),
+        Refusal::GridTooLong { total } => write_total_line(block, err, tool, total),
         Refusal::TooManyBytes => write_line(block, err, tool, b"more than 67108864 bytes"),
         Refusal::CannotRead => write_line(block, err, tool, b"cannot read input"),
         Refusal::CannotWrite => write_line(block, err, tool, b"cannot write"),
@@ -80,27 +80,41 @@ fn write_fault<R: Sink>(block: &mut Block, err: &mut R, tool: Tool, refusal: Ref
     }
 }
 
+// Whose fault it is.
+#[tactic(auto, using(text_out::specs::GatherLaws::pieces))]
+fn write_prefix<R: Sink>(block: &mut Block, err: &mut R, tool: Tool)
+    ensures { Gathers (R.state err.old) block.old (tool_prefix tool) (R.state err.new) block.new }
+{
+    literal(block, err, b"rst: ");
+    literal(block, err, tool.name());
+    literal(block, err, b": ");
+}
+
 // A fault under a tool.
 #[tactic(auto, using(text_out::specs::GatherLaws::pieces))]
 fn write_line<R: Sink>(block: &mut Block, err: &mut R, tool: Tool, fault: &[u8])
     ensures { Gathers (R.state err.old) block.old (fault_line tool fault.now) (R.state err.new) block.new }
 {
-    literal(block, err, b"rst: ");
-    literal(block, err, tool.name());
-    literal(block, err, b": ");
+    write_prefix(block, err, tool);
     literal(block, err, fault);
     literal(block, err, b"\n");
 }
 
-// The fault of a grid that is too long, with its total.
+// The fault of a grid that is too long, under a tool.
 #[tactic(auto, using(text_out::specs::GatherLaws::pieces))]
-fn write_total<R: Sink>(block: &mut Block, err: &mut R, tool: Tool, total: u128)
-    ensures { Gathers (R.state err.old) block.old (fault_line tool (codes "the grid is too long: " ++ decimal total)) (R.state err.new) block.new }
+fn write_total_line<R: Sink>(block: &mut Block, err: &mut R, tool: Tool, total: u128)
+    ensures { Gathers (R.state err.old) block.old (fault_line tool (total_fault total)) (R.state err.new) block.new }
 {
-    literal(block, err, b"rst: ");
-    literal(block, err, tool.name());
-    literal(block, err, b": ");
+    write_prefix(block, err, tool);
+    write_total(block, err, total);
+    literal(block, err, b"\n");
+}
+
+// That fault, with the total.
+#[tactic(auto, using(text_out::specs::GatherLaws::pieces))]
+fn write_total<R: Sink>(block: &mut Block, err: &mut R, total: u128)
+    ensures { Gathers (R.state err.old) block.old (total_fault total) (R.state err.new) block.new }
+{
     literal(block, err, b"the grid is too long: ");
     number(block, err, total);
-    literal(block, err, b"\n");
 }
