@@ -6,3 +6,4 @@ pub mod FlagWords
 pub mod LengthLemmas
 pub mod DecisionLemmas
 pub mod PackingLemmas
+pub mod RootedLemmas

@@ -10,6 +10,7 @@ mod graph;
 mod lengths;
 mod network;
 mod packing;
+mod rooted;
 mod search;
 #[cfg(test)]
 mod search_tests;
@@ -22,5 +23,6 @@ pub use graph::{GraphFault, NetGraph};
 pub use lengths::length;
 pub use network::{joins, reached};
 pub use packing::{Cut, EdgeState, Packing, value};
+pub use rooted::root_part;
 pub use search::{Passage, leading_to, reached_from};
 pub use sets::{EdgeSet, VertexSet};
