@@ -7,3 +7,4 @@ pub mod LengthLemmas
 pub mod DecisionLemmas
 pub mod PackingLemmas
 pub mod RootedLemmas
+pub mod FeasibleLemmas

@@ -4,6 +4,7 @@
 mod arcs;
 mod decision;
 mod edge;
+mod feasibility;
 mod flag_set;
 mod found;
 mod graph;
@@ -19,6 +20,7 @@ mod sets;
 pub use arcs::{Arc, partner};
 pub use decision::{Decision, required};
 pub use edge::{Edge, EdgeList, VertexList};
+pub use feasibility::feasible;
 pub use graph::{GraphFault, NetGraph};
 pub use lengths::length;
 pub use network::{joins, reached};
