@@ -12,5 +12,6 @@ pub mod Network
 pub mod Joins
 pub mod Decision
 pub mod Packing
+pub mod Feasible
 pub mod LengthLaws
 pub mod PackingLaws
