@@ -12,4 +12,5 @@ pub mod Network
 pub mod Joins
 pub mod Decision
 pub mod Packing
+pub mod Saturation
 pub mod LengthLaws
