@@ -3,3 +3,4 @@ pub mod Crossing
 pub mod Exchange
 pub mod Reached
 pub mod DualityLemmas
+pub mod RoomLemmas

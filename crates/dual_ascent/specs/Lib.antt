@@ -1,2 +1,3 @@
 pub mod Duality
 pub mod Choosing
+pub mod Rooms

@@ -4,6 +4,7 @@
 mod candidate;
 mod chooser;
 mod duality;
+mod rooms;
 
 pub use candidate::Candidate;
 pub use chooser::{Chooser, Rule};
