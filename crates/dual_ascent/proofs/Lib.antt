@@ -4,3 +4,8 @@ pub mod Exchange
 pub mod Reached
 pub mod DualityLemmas
 pub mod RoomLemmas
+pub mod LoadLemmas
+pub mod FullLemmas
+pub mod PackLemmas
+pub mod RequiredLemmas
+pub mod StepLemmas
