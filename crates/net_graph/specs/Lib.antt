@@ -14,3 +14,4 @@ pub mod Decision
 pub mod Packing
 pub mod Saturation
 pub mod LengthLaws
+pub mod PackingLaws

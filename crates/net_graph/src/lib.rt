@@ -23,4 +23,6 @@ pub use lengths::length;
 pub use network::{joins, reached};
 pub use packing::{Cut, EdgeState};
 pub use search::{Passage, leading_to, reached_from};
+pub use packing::{Cut, EdgeState, Packing, value};
+pub use search::{Passage, reached_from};
 pub use sets::{EdgeSet, VertexSet};
