@@ -3,3 +3,9 @@ pub mod Crossing
 pub mod Exchange
 pub mod Reached
 pub mod DualityLemmas
+pub mod RoomLemmas
+pub mod LoadLemmas
+pub mod FullLemmas
+pub mod PackLemmas
+pub mod RequiredLemmas
+pub mod StepLemmas

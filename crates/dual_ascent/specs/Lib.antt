@@ -1,2 +1,4 @@
 pub mod Duality
 pub mod Choosing
+pub mod Rooms
+pub mod Steps

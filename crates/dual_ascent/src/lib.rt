@@ -4,6 +4,9 @@
 mod candidate;
 mod chooser;
 mod duality;
+mod required;
+mod rooms;
+mod step;
 
 pub use candidate::Candidate;
 pub use chooser::{Chooser, Rule};

@@ -13,5 +13,6 @@ pub mod Joins
 pub mod Decision
 pub mod Packing
 pub mod Feasible
+pub mod Saturation
 pub mod LengthLaws
 pub mod PackingLaws

@@ -1,6 +1,6 @@
 //! The vertices that a search has found.
 
-ghost use Rattle.std.specs.Prelude.{◌≡◌, ◌<◌, ◌≤◌, ◌↔◌, ℕ, true, [], ◌∷◌, ◌++◌, ◌⊎◌, length, slice_get, Some, Contains, IfOk};
+ghost use Rattle.std.specs.Prelude.{◌≡◌, ◌<◌, ◌≤◌, ◌↔◌, ℕ, true, [], ◌∷◌, ◌++◌, ◌⊎◌, length, count_by, slice_get, Some, Contains, IfOk};
 ghost use Rattle.net_graph.specs.Flags.{has};
 
 use crate::sets::VertexSet;
@@ -69,6 +69,7 @@ impl Found {
     /// The set of the vertices that were found.
     pub fn into_set(self) -> VertexSet
         ensures size { length result ≡ self.size }
+        ensures count { count_by (λ flag. flag) result ≡ length self.order }
         ensures flags { (v : ℕ) → (has result v ≡ true) ↔ Contains self.order v }
     {
         let Found { marks, order: _ } = self;

@@ -2,6 +2,7 @@
 #![tactic(auto)]
 
 mod arcs;
+mod counted;
 mod decision;
 mod edge;
 mod feasibility;
@@ -18,6 +19,7 @@ mod search_tests;
 mod sets;
 
 pub use arcs::{Arc, partner};
+pub use counted::{CountedSet, counted_leading_to};
 pub use decision::{Decision, required};
 pub use edge::{Edge, EdgeList, VertexList};
 pub use feasibility::feasible;

@@ -37,6 +37,22 @@ pub fn reached_from<P: Passage>(
     ensures size { IfOk result (λ marks. length marks ≡ graph.now.vertices) }
     ensures reached { IfOk result (λ marks. (v : ℕ) → (has marks v ≡ true) ↔ Leads (OpenStep graph.now.edges (P.opens passage.now)) start v) }
 {
+    let found = found_from(alloc, graph, start, passage)?;
+    Ok(found.into_set())
+}
+
+// What a search over open arcs finds from `start`, which it finds first. An `Err` is want of memory.
+pub(crate) fn found_from<P: Passage>(
+    alloc: Global,
+    graph: &NetGraph,
+    start: u32,
+    passage: &P,
+) -> Result<Found, AllocError>
+    requires start { start < graph.now.vertices }
+    requires edges { P.edges passage.now ≡ length graph.now.edges }
+    ensures size { IfOk result (λ found. found.size ≡ graph.now.vertices) }
+    ensures found { IfOk result (λ found. (v : ℕ) → Contains found.order v ↔ Leads (OpenStep graph.now.edges (P.opens passage.now)) start v) }
+{
     let mut found = Found::nothing(alloc, graph.vertex_count())?;
     found.add(start);
     let mut place = 0;
@@ -44,7 +60,7 @@ pub fn reached_from<P: Passage>(
         add_next(graph, found.get(place), passage, &mut found);
         place += 1;
     }
-    Ok(found.into_set())
+    Ok(found)
 }
 
 /// The vertices that walks over open arcs lead to `end` from, which is one of them. An `Err` is want of memory.
@@ -64,8 +80,8 @@ pub fn leading_to<P: Passage>(
 
 // Each arc may be walked where the other arc of its edge may, so that a search goes against the arcs' direction.
 #[derive(Drop)]
-struct Backward<'a, P> {
-    passage: &'a P,
+pub(crate) struct Backward<'a, P> {
+    pub(crate) passage: &'a P,
 }
 
 impl<'a, P: Passage> Passage for Backward<'a, P> {

@@ -1,7 +1,7 @@
 use Rattle.std.proofs.Common.{◌≡◌, ◌-◌}
 use Rattle.net_graph.specs.Search.{OpenStep}
 use Rattle.net_graph.proofs.SearchLemmas.{SearchSoFar}
-use Rattle.net_graph.proofs.search.reached_from.Given as goal
+use Rattle.net_graph.proofs.search.found_from.Given as goal
 
 abbrev pub invariant-loop-place : goal.invariant-loop-place
 invariant-loop-place g l =

@@ -1,0 +1,102 @@
+-- What one more cut loads, and what it leaves of the rooms.
+use Rattle.std.proofs.Common.{ℕ, zero, suc, ◌≡◌, ◌+◌, ◌-◌, ◌≤◌, ◌<◌, List, [], ◌∷◌, ◌++◌, map, length, slice_get, Option, Some, None, cond, leb, refl, sym, ap, ◌∙◌, ⊎_elim, arith}
+use Rattle.std.proofs.lemmas.Bool.{cases_lt, le-leb, lt-leb}
+use Rattle.std.proofs.lemmas.Bool.Decides.{nat_tests}
+use Rattle.std.proofs.lemmas.List.Sums.{sum_by_push}
+use Rattle.std.proofs.lemmas.Option.{same_Some}
+use Rattle.net_graph.specs.declared.edge.Edge.{Edge}
+use Rattle.net_graph.specs.declared.packing.EdgeState.{EdgeState}
+use Rattle.net_graph.specs.declared.packing.Cut.{Cut}
+use Rattle.net_graph.specs.Packing.{enters, load}
+use Rattle.net_graph.specs.Saturation.{room_of}
+use Rattle.dual_ascent.specs.declared.rooms.EdgeRoom.{EdgeRoom}
+use Rattle.dual_ascent.specs.Rooms.{left_after, weight_on, left_of, rooms_of, lowered_by}
+
+-- a load within a room leaves the rest
+pub left_after-le : (room amount : ℕ) → amount ≤ room → left_after (Some room) amount ≡ Some (room - amount)
+left_after-le room amount fits = rw (le-leb amount room fits) refl
+
+-- a load above a room leaves nothing that could be used up
+pub left_after-lt : (room amount : ℕ) → room < amount → left_after (Some room) amount ≡ None
+left_after-lt room amount over = rw (lt-leb amount room over) refl
+
+-- a load and then another one
+pub left_after-left_after : (room : Option ℕ) (m n : ℕ) → left_after (left_after room m) n ≡ left_after room (m + n)
+left_after-left_after None m n = refl
+left_after-left_after (Some room) m n =
+    ⊎_elim
+    (λ over. let both : room < m + n = omega arith in ap (λ left. left_after left n) (left_after-lt room m over) ∙ sym (left_after-lt room (m + n) both))
+    (λ fits. ap (λ left. left_after left n) (left_after-le room m fits) ∙
+    ⊎_elim
+    (λ over. let both : room < m + n = omega arith in left_after-lt (room - m) n over ∙ sym (left_after-lt room (m + n) both))
+    (λ rest. let both : m + n ≤ room = omega arith in
+    let same : room - m - n ≡ room - (m + n) = omega arith in
+    left_after-le (room - m) n rest ∙ ap (λ left. Some left) same ∙ sym (left_after-le room (m + n) both))
+    (cases_lt (room - m) n))
+    (cases_lt room m)
+
+-- nothing is left where the load is the room
+pub left_after-same : (room : Option ℕ) (amount : ℕ) → room ≡ Some amount → left_after room amount ≡ Some 0
+left_after-same room amount is =
+    let none : amount - amount ≡ 0 = omega arith in
+    rw is (left_after-le amount amount (omega arith) ∙ ap (λ left. Some left) none)
+
+-- .. and only there
+pub left_after-none : (room : Option ℕ) (amount : ℕ) → left_after room amount ≡ Some 0 → room ≡ Some amount
+left_after-none None amount none = absurd cc
+left_after-none (Some room) amount none =
+    ⊎_elim
+    (λ over. let missing : left_after (Some room) amount ≡ None = left_after-lt room amount over in absurd cc)
+    (λ fits. let rest : room - amount ≡ 0 = same_Some (room - amount) 0 (sym (left_after-le room amount fits) ∙ none) in
+    ap (λ n. Some n) (omega arith))
+    (cases_lt room amount)
+
+-- the load of one more cut
+pub load-push : (packing : List Cut) (cut : Cut) (u v : ℕ) → load (packing ++ cut ∷ []) u v ≡ load packing u v + weight_on cut u v
+load-push packing cut u v = sum_by_push (λ (c : Cut). weight_on c u v) packing cut
+
+-- what one more cut leaves of an arc
+left_after-push : (room : Option ℕ) (packing : List Cut) (cut : Cut) (u v : ℕ) →
+    left_after (left_after room (load packing u v)) (weight_on cut u v) ≡ left_after room (load (packing ++ cut ∷ []) u v)
+left_after-push room packing cut u v =
+    left_after-left_after room (load packing u v) (weight_on cut u v) ∙ ap (left_after room) (sym (load-push packing cut u v))
+
+-- .. of an edge
+pub lowered_by-left_of : (e : Edge) (state : EdgeState) (packing : List Cut) (cut : Cut) → lowered_by cut (left_of e state packing) ≡ left_of e state (packing ++ cut ∷ [])
+lowered_by-left_of e state packing cut =
+    let there = left_after-push (room_of state e) packing cut e.a e.b in
+    let back = left_after-push (room_of state e) packing cut e.b e.a in
+    cc
+
+-- .. of all edges
+pub map-lowered_by : (edges : List Edge) (decision : List EdgeState) (packing : List Cut) (cut : Cut) →
+    map (lowered_by cut) (rooms_of edges decision packing) ≡ rooms_of edges decision (packing ++ cut ∷ [])
+map-lowered_by [] decision packing cut = refl
+map-lowered_by (e ∷ edges) [] packing cut = refl
+map-lowered_by (e ∷ edges) (state ∷ decision) packing cut =
+    let here = lowered_by-left_of e state packing cut in
+    let rest = map-lowered_by edges decision packing cut in
+    cc
+
+-- the room of an edge
+pub slice_get-rooms_of : (edges : List Edge) (decision : List EdgeState) (packing : List Cut) (n : ℕ) (e : Edge) (state : EdgeState) →
+    slice_get edges n ≡ Some e → slice_get decision n ≡ Some state → slice_get (rooms_of edges decision packing) n ≡ Some (left_of e state packing)
+slice_get-rooms_of [] decision packing n e state at decided = absurd cc
+slice_get-rooms_of (x ∷ edges) [] packing n e state at decided = absurd cc
+slice_get-rooms_of (x ∷ edges) (s ∷ decision) packing zero e state at decided =
+    let same_edge : x ≡ e = same_Some x e at in
+    let same_state : s ≡ state = same_Some s state decided in
+    cc
+slice_get-rooms_of (x ∷ edges) (s ∷ decision) packing (suc n) e state at decided = slice_get-rooms_of edges decision packing n e state at decided
+
+-- there are as many rooms as edges
+pub length-rooms_of : (edges : List Edge) (decision : List EdgeState) (packing : List Cut) → length decision ≡ length edges → length (rooms_of edges decision packing) ≡ length edges
+length-rooms_of [] decision packing size = refl
+length-rooms_of (e ∷ edges) [] packing size = absurd (omega arith)
+length-rooms_of (e ∷ edges) (state ∷ decision) packing size = ap suc (length-rooms_of edges decision packing (omega arith))
+
+-- the rooms are those of the graph's edges
+pub edges-rooms_of : (edges : List Edge) (decision : List EdgeState) (packing : List Cut) → length decision ≡ length edges → map (λ (room : EdgeRoom). room.edge) (rooms_of edges decision packing) ≡ edges
+edges-rooms_of [] decision packing size = refl
+edges-rooms_of (e ∷ edges) [] packing size = absurd (omega arith)
+edges-rooms_of (e ∷ edges) (state ∷ decision) packing size = ap (λ rest. e ∷ rest) (edges-rooms_of edges decision packing (omega arith))

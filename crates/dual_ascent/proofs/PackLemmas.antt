@@ -1,0 +1,157 @@
+-- A packing stays feasible with one more cut that fits, and fewer arcs have room left.
+use Rattle.std.proofs.Common.{ℕ, zero, suc, ◌≡◌, ◌+◌, ◌-◌, ◌*◌, ◌≤◌, ◌<◌, Bool, true, false, cond, List, [], ◌∷◌, ◌++◌, map, length, sum_by, All, slice_get, Contains, Option, Some, None, ◌⊎◌, inl, inr, ⊎_elim, refl, sym, ap, subst, ◌∙◌, arith, add-zero}
+use Rattle.std.proofs.lemmas.Bool.{cases_Bool, cases_lt}
+use Rattle.std.proofs.lemmas.List.Elements.{All-push}
+use Rattle.std.proofs.lemmas.List.Sums.{sum_by-cons}
+use Rattle.std.proofs.lemmas.Option.{same_Some, slice_get_within, slice_get-get_or, get_or_from_slice_get}
+use Rattle.net_graph.specs.declared.edge.Edge.{Edge}
+use Rattle.net_graph.specs.declared.packing.EdgeState.{EdgeState}
+use Rattle.net_graph.specs.declared.packing.EdgeState.TheVariants.{Undecided, Inside, Outside}
+use Rattle.net_graph.specs.declared.packing.Cut.{Cut}
+use Rattle.net_graph.specs.Graph.{Graph}
+use Rattle.net_graph.specs.Packing.{enters, load, IsCut, IsWithinRoom, IsFeasible}
+use Rattle.net_graph.specs.Saturation.{room_of}
+use Rattle.dual_ascent.specs.declared.rooms.EdgeRoom.{EdgeRoom}
+use Rattle.dual_ascent.specs.Rooms.{left_after, weight_on, left_of, rooms_of, lowered_by, unfilled_arc, unfilled_of, unfilled, EntersWith, Entering}
+use Rattle.dual_ascent.proofs.LoadLemmas.{left_after-le, left_after-lt, load-push, slice_get-rooms_of}
+
+-- a weight that is no more than what is left stays within the room
+IsWithinRoom-more : (state : EdgeState) (e : Edge) (amount weight : ℕ) → 0 < weight → IsWithinRoom state e amount →
+    ((left : ℕ) → left_after (room_of state e) amount ≡ Some left → weight ≤ left) → IsWithinRoom state e (amount + weight)
+IsWithinRoom-more Undecided e amount weight some within fits =
+    let low : weight ≤ e.length - amount = fits (e.length - amount) (left_after-le e.length amount within) in omega arith
+IsWithinRoom-more Inside e amount weight some within fits =
+    let low : weight ≤ 0 - amount = fits (0 - amount) (left_after-le 0 amount (omega arith)) in absurd (omega arith)
+IsWithinRoom-more Outside e amount weight some within fits = tt
+
+-- so does an arc, whether it enters the cut or not
+IsWithinRoom-push : (state : EdgeState) (e : Edge) (packing : List Cut) (cut : Cut) (u v : ℕ) → 0 < cut.weight → IsWithinRoom state e (load packing u v) →
+    ((left : ℕ) → enters cut.members u v ≡ true → left_after (room_of state e) (load packing u v) ≡ Some left → cut.weight ≤ left) →
+    IsWithinRoom state e (load (packing ++ cut ∷ []) u v)
+IsWithinRoom-push state e packing cut u v some within fits =
+    subst (IsWithinRoom state e) (sym (load-push packing cut u v))
+    (⊎_elim
+    (λ (entered : enters cut.members u v ≡ true).
+    let is : load packing u v + cut.weight ≡ load packing u v + weight_on cut u v = rw entered refl in
+    subst (IsWithinRoom state e) is (IsWithinRoom-more state e (load packing u v) cut.weight some within (λ left. fits left entered)))
+    (λ (apart : enters cut.members u v ≡ false).
+    let is : load packing u v ≡ load packing u v + weight_on cut u v = rw (apart, add-zero) refl in
+    subst (IsWithinRoom state e) is within)
+    (cases_Bool (enters cut.members u v)))
+
+-- a list has what stands at a place of it
+Contains-from_slice_get : (rooms : List EdgeRoom) (n : ℕ) (room : EdgeRoom) → slice_get rooms n ≡ Some room → Contains rooms room
+Contains-from_slice_get rooms n room at = (n, slice_get_within rooms n room at, get_or_from_slice_get rooms n room room at)
+
+-- one more cut that is no heavier than what is left of the arcs that enter it
+pub IsFeasible-push : (g : Graph) (decision : List EdgeState) (packing : List Cut) (cut : Cut) → IsFeasible g decision packing →
+    0 < cut.weight → IsCut g decision cut.members →
+    ((left : ℕ) → Entering (rooms_of g.edges decision packing) cut.members left → cut.weight ≤ left) → IsFeasible g decision (packing ++ cut ∷ [])
+IsFeasible-push g decision packing cut feasible some is_cut fits = record {
+  cuts = All-push (λ (c : Cut). (0 < c.weight) × IsCut g decision c.members) packing cut feasible.cuts (some, is_cut);
+  room = λ n e state at decided.
+      let within = feasible.room n e state at decided in
+      let room : EdgeRoom = left_of e state packing in
+      let found : Contains (rooms_of g.edges decision packing) room = Contains-from_slice_get (rooms_of g.edges decision packing) n room (slice_get-rooms_of g.edges decision packing n e state at decided) in (
+        IsWithinRoom-push state e packing cut e.a e.b some within.0 (λ left entered is. fits left (room, found, inl (entered, is))),
+        IsWithinRoom-push state e packing cut e.b e.a some within.1 (λ left entered is. fits left (room, found, inr (entered, is))),
+      );
+}
+
+-- an arc counts once at most
+unfilled_arc-le : (room : Option ℕ) → unfilled_arc room ≤ 1
+unfilled_arc-le None = omega arith
+unfilled_arc-le (Some zero) = omega arith
+unfilled_arc-le (Some (suc left)) = omega arith
+
+-- nothing stays nothing
+nothing_left : (amount : ℕ) → amount ≤ 0 → left_after (Some 0) amount ≡ Some 0
+nothing_left amount fits = let none : 0 - amount ≡ 0 = omega arith in left_after-le 0 amount fits ∙ ap (λ left. Some left) none
+
+-- a load leaves no room where there was none
+unfilled_arc-after : (room : Option ℕ) (amount : ℕ) → unfilled_arc (left_after room amount) ≤ unfilled_arc room
+unfilled_arc-after None amount = omega arith
+unfilled_arc-after (Some zero) amount =
+    ⊎_elim
+    (λ over. rw (left_after-lt 0 amount over) (omega arith))
+    (λ fits. rw (nothing_left amount fits) (omega arith))
+    (cases_lt 0 amount)
+unfilled_arc-after (Some (suc room)) amount = unfilled_arc-le (left_after (Some (suc room)) amount)
+
+-- a load of all that is left leaves none
+unfilled_arc-filled : (amount : ℕ) → 0 < amount → unfilled_arc (left_after (Some amount) amount) < unfilled_arc (Some amount)
+unfilled_arc-filled zero some = absurd (omega arith)
+unfilled_arc-filled (suc amount) some = let none : suc amount - suc amount ≡ 0 = omega arith in rw (left_after-le (suc amount) (suc amount) (omega arith), none) (omega arith)
+
+-- one more cut leaves no more of an edge's arcs with room
+unfilled_of-lowered_by : (cut : Cut) (room : EdgeRoom) → unfilled_of (lowered_by cut room) ≤ unfilled_of room
+unfilled_of-lowered_by cut room = omega (
+  arith,
+  unfilled_arc-after room.there (weight_on cut room.edge.a room.edge.b),
+  unfilled_arc-after room.back (weight_on cut room.edge.b room.edge.a),
+)
+
+-- a cut leaves nothing of an arc that enters it and had its weight left
+unfilled_arc-entered : (cut : Cut) (room : Option ℕ) (u v : ℕ) → 0 < cut.weight → enters cut.members u v ≡ true → room ≡ Some cut.weight →
+    unfilled_arc (left_after room (weight_on cut u v)) < unfilled_arc room
+unfilled_arc-entered cut room u v some entered is =
+    let loaded : weight_on cut u v ≡ cut.weight = rw entered refl in
+    rw (loaded, is) (unfilled_arc-filled cut.weight some)
+
+-- .. and so fewer of its edge's arcs have room
+unfilled_of-entered : (cut : Cut) (room : EdgeRoom) → 0 < cut.weight → EntersWith cut.members room cut.weight → unfilled_of (lowered_by cut room) < unfilled_of room
+unfilled_of-entered cut room some ways =
+    ⊎_elim
+    (λ (there : (enters cut.members room.edge.a room.edge.b ≡ true) × (room.there ≡ Some cut.weight)). omega (
+      arith,
+      unfilled_arc-entered cut room.there room.edge.a room.edge.b some there.0 there.1,
+      unfilled_arc-after room.back (weight_on cut room.edge.b room.edge.a),
+    ))
+    (λ (back : (enters cut.members room.edge.b room.edge.a ≡ true) × (room.back ≡ Some cut.weight)). omega (
+      arith,
+      unfilled_arc-entered cut room.back room.edge.b room.edge.a some back.0 back.1,
+      unfilled_arc-after room.there (weight_on cut room.edge.a room.edge.b),
+    ))
+    ways
+
+-- one more cut leaves no more arcs with room
+unfilled-map-le : (cut : Cut) (rooms : List EdgeRoom) → unfilled (map (lowered_by cut) rooms) ≤ unfilled rooms
+unfilled-map-le cut [] = omega arith
+unfilled-map-le cut (room ∷ rooms) = omega (
+  arith,
+  unfilled_of-lowered_by cut room,
+  unfilled-map-le cut rooms,
+  sum_by-cons unfilled_of room rooms,
+  sum_by-cons unfilled_of (lowered_by cut room) (map (lowered_by cut) rooms),
+)
+
+-- .. and fewer, where there are fewer at one edge
+unfilled-map-lt : (cut : Cut) (rooms : List EdgeRoom) (n : ℕ) (room : EdgeRoom) → slice_get rooms n ≡ Some room →
+    unfilled_of (lowered_by cut room) < unfilled_of room → unfilled (map (lowered_by cut) rooms) < unfilled rooms
+unfilled-map-lt cut [] n room at less = absurd cc
+unfilled-map-lt cut (first ∷ rooms) zero room at less =
+    let same : room ≡ first = sym (same_Some first room at) in
+    omega (
+      arith,
+      subst (λ r. unfilled_of (lowered_by cut r) < unfilled_of r) same less,
+      unfilled-map-le cut rooms,
+      sum_by-cons unfilled_of first rooms,
+      sum_by-cons unfilled_of (lowered_by cut first) (map (lowered_by cut) rooms),
+    )
+unfilled-map-lt cut (first ∷ rooms) (suc n) room at less = omega (
+  arith,
+  unfilled_of-lowered_by cut first,
+  unfilled-map-lt cut rooms n room at less,
+  sum_by-cons unfilled_of first rooms,
+  sum_by-cons unfilled_of (lowered_by cut first) (map (lowered_by cut) rooms),
+)
+
+-- a cut whose weight is what was left of an arc that enters it leaves fewer arcs with room
+pub unfilled-lowered_by : (cut : Cut) (rooms : List EdgeRoom) → 0 < cut.weight → Entering rooms cut.members cut.weight → unfilled (map (lowered_by cut) rooms) < unfilled rooms
+unfilled-lowered_by cut rooms some (room, (k, below, is), ways) =
+    unfilled-map-lt cut rooms k room (slice_get-get_or rooms k room below ∙ ap (λ x. Some x) is) (unfilled_of-entered cut room some ways)
+
+-- there are at most two arcs an edge
+pub unfilled-le : (rooms : List EdgeRoom) → unfilled rooms ≤ 2 * length rooms
+unfilled-le [] = omega arith
+unfilled-le (room ∷ rooms) = omega (arith, unfilled_arc-le room.there, unfilled_arc-le room.back, unfilled-le rooms, sum_by-cons unfilled_of room rooms)
