@@ -9,3 +9,4 @@ pub mod FullLemmas
 pub mod PackLemmas
 pub mod RequiredLemmas
 pub mod StepLemmas
+pub mod AscentLemmas

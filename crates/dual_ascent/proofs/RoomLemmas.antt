@@ -1,5 +1,5 @@
 -- What is left of the arcs' room: a loop's steps.
-use Rattle.std.proofs.Common.{ℕ, ◌≡◌, ◌+◌, ◌<◌, ◌≤◌, min, Bool, List, [], ◌∷◌, ◌++◌, map, length, get_or, take, Contains, Option, Some, None, ◌⊎◌, inl, inr, ⊎_elim, refl, sym, ap, subst, arith}
+use Rattle.std.proofs.Common.{ℕ, ◌≡◌, ◌+◌, ◌<◌, ◌≤◌, min, Bool, List, [], ◌∷◌, ◌++◌, map, length, get_or, take, Contains, Option, Some, None, ◌⊎◌, inl, inr, ⊎_elim, refl, sym, ap, subst, ◌∙◌, arith}
 use Rattle.std.specs.List.{zip}
 use Rattle.std.proofs.lemmas.Bool.{cases_lt}
 use Rattle.std.proofs.lemmas.List.{take_more}
@@ -8,7 +8,8 @@ use Rattle.net_graph.specs.declared.edge.Edge.{Edge}
 use Rattle.net_graph.specs.declared.packing.EdgeState.{EdgeState}
 use Rattle.net_graph.specs.declared.packing.Cut.{Cut}
 use Rattle.dual_ascent.specs.declared.rooms.EdgeRoom.{EdgeRoom}
-use Rattle.dual_ascent.specs.Rooms.{left_of, rooms_of, EntersWith, Entering, lesser_of, IsLeastOf}
+use Rattle.dual_ascent.specs.Rooms.{left_of, rooms_of, lowered_by, EntersWith, Entering, lesser_of, IsLeastOf}
+use Rattle.dual_ascent.proofs.LoadLemmas.{map-lowered_by}
 
 -- what a read past the end gives
 abbrev pub no_room : EdgeRoom
@@ -57,3 +58,9 @@ IsLeastOf-more rooms members i d least here within so_far now =
     (λ n (room, found, enters). (room, Contains-append_left (take i rooms) (last ∷ []) room found, enters))
     (λ n enters. (last, Contains-push (take i rooms) last, enters))
     so_far now)
+
+-- one more cut of a packing
+pub rooms_of-take : (edges : List Edge) (decision : List EdgeState) (packing : List Cut) (i : ℕ) (c : Cut) → i < length packing →
+    map (lowered_by (get_or packing i c)) (rooms_of edges decision (take i packing)) ≡ rooms_of edges decision (take (i + 1) packing)
+rooms_of-take edges decision packing i c within =
+    map-lowered_by edges decision (take i packing) (get_or packing i c) ∙ ap (rooms_of edges decision) (sym (take_more packing i c within))

@@ -2,3 +2,5 @@ pub mod Duality
 pub mod Choosing
 pub mod Rooms
 pub mod Steps
+pub mod Ascending
+pub mod AscendingLaws

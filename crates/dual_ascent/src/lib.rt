@@ -1,13 +1,19 @@
 //! Lower bounds from packings of weighted directed cuts.
 #![tactic(auto)]
 
+mod ascent;
 mod candidate;
 mod chooser;
 mod duality;
+mod maximality;
 mod required;
 mod rooms;
 mod step;
+#[cfg(test)]
+mod tests;
 
+pub use ascent::{Ascent, ascend};
 pub use candidate::Candidate;
 pub use chooser::{Chooser, Rule};
 pub use duality::weak_duality;
+pub use maximality::maximal;

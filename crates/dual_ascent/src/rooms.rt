@@ -6,7 +6,7 @@ ghost use Rattle.net_graph.specs.Flags.{has};
 ghost use Rattle.net_graph.specs.Packing.{enters};
 ghost use Rattle.dual_ascent.specs.Rooms.{left_after, weight_on, left_of, rooms_of, lowered_by, is_full, EntersWith, Entering, lesser_of, IsLeastOf};
 
-use net_graph::{Cut, Decision, Edge, EdgeState, NetGraph, Passage, VertexSet};
+use net_graph::{Cut, Decision, Edge, EdgeState, NetGraph, Packing, Passage, VertexSet};
 use std::alloc::{AllocError, Global};
 use std::marker::Model;
 
@@ -139,12 +139,28 @@ impl Model for Rooms {
 }
 
 impl Rooms {
-    /// The rooms of the graph's arcs, with no cut packed. An `Err` is want of memory.
-    pub fn whole(alloc: Global, g: &NetGraph, d: &Decision) -> Result<Rooms, AllocError>
+    // The rooms of the graph's arcs, with no cut packed. An `Err` is want of memory.
+    fn whole(alloc: Global, g: &NetGraph, d: &Decision) -> Result<Rooms, AllocError>
         ensures { IfOk result (λ rooms. rooms ≡ rooms_of g.now.edges d.now []) }
     {
         let edges = whole_rooms(alloc, g.edges(), d.states())?;
         Ok(Rooms { edges })
+    }
+
+    /// What the cuts of a packing leave of the rooms of the graph's arcs. An `Err` is want of memory.
+    pub fn of(
+        alloc: Global,
+        g: &NetGraph,
+        d: &Decision,
+        packing: &Packing,
+    ) -> Result<Rooms, AllocError>
+        ensures { IfOk result (λ rooms. rooms ≡ rooms_of g.now.edges d.now packing.now) }
+    {
+        let mut rooms = Rooms::whole(alloc, g, d)?;
+        for cut in packing.cuts() {
+            rooms.load(cut);
+        }
+        Ok(rooms)
     }
 
     /// Packs one more cut.

@@ -1,0 +1,84 @@
+//! Dual ascent, which packs cuts until saturated arcs lead to every required vertex.
+
+ghost use Rattle.std.specs.Prelude.{◌≡◌, ◌+◌, ◌*◌, ◌≤◌, Bool, List, true, false, length, IfOk};
+ghost use Rattle.net_graph.specs.Graph.{total_of};
+ghost use Rattle.net_graph.specs.Network.{IsNetwork, length_of};
+ghost use Rattle.net_graph.specs.Decision.{Agrees};
+ghost use Rattle.net_graph.specs.Packing.{IsFeasible, packing_value};
+ghost use Rattle.net_graph.specs.Saturation.{IsMaximal};
+ghost use Rattle.dual_ascent.specs.Ascending.{BeginsWith, closed_with};
+
+use crate::chooser::{Chooser, Rule};
+use crate::duality::weak_duality;
+use crate::required::required_vertices;
+use crate::rooms::Rooms;
+use crate::step::{Step, next_step};
+use net_graph::{Cut, Decision, NetGraph, Packing, VertexSet};
+use std::alloc::{AllocError, Global};
+
+/// What an ascent comes to.
+#[derive(Debug, Drop)]
+pub struct Ascent {
+    /// The packing that the ascent began with, and the cuts that it added.
+    pub packing: Packing,
+    /// Whether the ascent ended at a set that only arcs of outside edges enter. Its last cut is then that set, with
+    /// the sum of all edge lengths as its weight, if this isn't 0.
+    pub closed: bool,
+}
+
+/// Adds cuts to a packing by dual ascent (Wong 1984), at each step that of the candidate which the rule chooses. The
+/// candidates are the required vertices to which saturated arcs don't lead from the root, in ascending number. A
+/// candidate's size is the number of the vertices from which saturated arcs lead to it, itself counted, and its cut is
+/// the set of these vertices. The cut's weight is the least that is left of the room of an arc that enters it. An `Err`
+/// is want of memory.
+pub fn ascend<F: Rule>(
+    alloc: Global,
+    g: &NetGraph,
+    d: &Decision,
+    start: Packing,
+    chooser: &Chooser<F>,
+) -> Result<Ascent, AllocError>
+    requires decision { length d.now ≡ length g.now.edges }
+    requires feasible { IsFeasible g.now d.now start }
+    requires few { length start ≤ 2 * length g.now.edges }
+    ensures feasible { IfOk result (λ a. IsFeasible g.now d.now a.packing) }
+    ensures begins { IfOk result (λ a. BeginsWith a.packing start) }
+    ensures few { IfOk result (λ a. length a.packing ≤ 4 * length g.now.edges + 1) }
+    ensures maximal { IfOk result (λ a. a.closed ≡ false → IsMaximal g.now d.now a.packing) }
+    ensures closed { IfOk result (λ a. a.closed ≡ true → total_of g.now ≤ packing_value g.now d.now a.packing) }
+    // No network that agrees with the decision is shorter than the packing's value.
+    ensures bound { IfOk result (λ a. (set : List Bool) → Agrees g.now d.now set → IsNetwork g.now set → packing_value g.now d.now a.packing ≤ length_of g.now set) }
+{
+    weak_duality();
+    let required = required_vertices(alloc, g, d)?;
+    let mut rooms = Rooms::of(alloc, g, d, &start)?;
+    let mut packing = start;
+    loop {
+        match next_step(alloc, g, &required, &rooms, chooser)? {
+            Step::Done => return Ok(Ascent {
+                packing,
+                closed: false,
+            }),
+            Step::Pack(cut) => {
+                rooms.load(&cut);
+                packing.push(cut)?;
+            }
+            Step::Close(members) => return close(g, packing, members),
+        }
+    }
+}
+
+// The ascent that ends at a set which only arcs of outside edges enter. An `Err` is want of memory.
+fn close(g: &NetGraph, mut packing: Packing, members: VertexSet) -> Result<Ascent, AllocError>
+    ensures packing { IfOk result (λ a. a.packing ≡ closed_with g.now members packing) }
+    ensures closed { IfOk result (λ a. a.closed ≡ true) }
+{
+    let weight = g.total();
+    if weight > 0 {
+        packing.push(Cut { weight, members })?;
+    }
+    Ok(Ascent {
+        packing,
+        closed: true,
+    })
+}

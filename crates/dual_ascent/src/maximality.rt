@@ -1,0 +1,34 @@
+//! Whether more cuts could be packed.
+
+ghost use Rattle.std.specs.Prelude.{◌≡◌, ◌<◌, ◌↔◌, true, length, All, IsTrue, IfOk};
+ghost use Rattle.net_graph.specs.Flags.{has};
+ghost use Rattle.net_graph.specs.Saturation.{IsMaximal};
+
+use crate::required::required_vertices;
+use crate::rooms::Rooms;
+use net_graph::{Decision, NetGraph, Packing, VertexSet, reached_from};
+use std::alloc::{AllocError, Global};
+
+/// Whether saturated arcs lead from the root to every required vertex. An `Err` is want of memory.
+pub fn maximal(
+    alloc: Global,
+    g: &NetGraph,
+    d: &Decision,
+    packing: &Packing,
+) -> Result<bool, AllocError>
+    requires { length d.now ≡ length g.now.edges }
+    ensures { IfOk result (λ yes. IsTrue yes ↔ IsMaximal g.now d.now packing.now) }
+{
+    let required = required_vertices(alloc, g, d)?;
+    let rooms = Rooms::of(alloc, g, d, packing)?;
+    let reached = reached_from(alloc, g, g.root(), &rooms)?;
+    Ok(has_all(&reached, &required))
+}
+
+// Whether each of the vertices is in the set.
+fn has_all(set: &VertexSet, vertices: &[u32]) -> bool
+    requires { All (λ v. v < length set.now) vertices.now }
+    ensures { IsTrue result ↔ All (λ v. has set.now v ≡ true) vertices.now }
+{
+    vertices.iter().all(|v| set.has(*v))
+}
