@@ -1,0 +1,4 @@
+pub mod Digits
+pub mod Pieces
+pub mod Lines
+pub mod Readings

@@ -1,0 +1,3 @@
+pub mod Value
+pub mod Text
+pub mod Spelling

@@ -1,0 +1,8 @@
+//! Answers: a network with the cuts that bound it from below, and the text that tells one.
+#![tactic(auto)]
+
+mod head;
+mod reading;
+
+pub use head::{AnswerHead, ConcatNote};
+pub use reading::one_reading;
