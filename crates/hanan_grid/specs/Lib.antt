@@ -1,5 +1,8 @@
 pub mod Lines
 pub mod Grid
+pub mod Names
+pub mod Distance
 pub mod LinesLaws
 pub mod Tables
 pub mod GridLaws
+pub mod NamesLaws

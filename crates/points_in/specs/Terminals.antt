@@ -1,5 +1,5 @@
 -- The terminals of a list of points.
-use Rattle.std.specs.Prelude.{ℕ, ◌≡◌, ◌<◌, ◌≤◌, Bool, ◌&&◌, not, List, [], ◌∷◌, length, filter, AllPairs, ◌≢◌}
+use Rattle.std.specs.Prelude.{Bool, ◌&&◌, not, List, [], ◌∷◌, filter, AllPairs, ◌≢◌}
 use Rattle.std.specs.Ordering.{int_eq}
 use Rattle.points_in.specs.declared.point.Point.{Point}
 
@@ -11,3 +11,7 @@ same_point p q = int_eq p.x q.x && int_eq p.y q.y
 abbrev pub terminals_of : List Point → List Point
 terminals_of [] = []
 terminals_of (p ∷ ps) = p ∷ filter (λ q. not (same_point p q)) (terminals_of ps)
+
+-- No point stands twice in the list.
+abbrev pub AreDistinct : List Point → Type 0
+AreDistinct ps = AllPairs (λ p q. p ≢ q) ps

@@ -2,5 +2,7 @@
 #![tactic(auto)]
 
 mod point;
+mod points;
 
 pub use point::Point;
+pub use points::{AddFault, Added, MAX_POINTS, Points};

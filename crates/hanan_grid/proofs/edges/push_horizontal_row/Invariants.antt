@@ -1,0 +1,11 @@
+use Rattle.std.proofs.Common.{◌≡◌, ◌+◌, ◌++◌, map, vec_len, vec_capacity}
+use Rattle.std.specs.List.{range_with_len}
+use Rattle.hanan_grid.specs.Grid.{horizontal}
+use Rattle.hanan_grid.proofs.edges.push_horizontal_row.Given as goal
+
+-- the row's edges so far are there
+abbrev pub invariant-loop-column : goal.invariant-loop-column
+invariant-loop-column l =
+    (l.edges.items ≡ l.initial.edges.items ++ map (horizontal l.xs l.row) (range_with_len 0 l.column))
+    × (vec_len l.edges ≡ vec_len l.initial.edges + l.column)
+    × (vec_capacity l.edges ≡ vec_capacity l.initial.edges)

@@ -1,0 +1,8 @@
+use Rattle.std.proofs.Common.{rules, arith}
+use Rattle.hanan_grid.specs.Grid.{vertical}
+use Rattle.hanan_grid.proofs.Rows.{row_more}
+use Rattle.hanan_grid.proofs.edges.push_vertical_row.Goals as goal
+
+pub loop-column-preserved : goal.loop-column-preserved
+loop-column-preserved c =
+    (row_more (vertical c.args.columns c.args.ys.now c.args.row) c.args.edges.now.items c.loop-column.edges.items _ c.loop-column.column _ c.loop-column.invariant.0 (grind arith) c.push_reserved.ensures.items, omega arith, search rules)

@@ -1,0 +1,27 @@
+-- The points of a grid's vertices, and the names of its edges.
+use Rattle.std.specs.Prelude.{ℕ, ◌/◌, ◌%◌, ℤ, List, length, slice_index_or}
+use Rattle.points_in.specs.declared.point.Point.{Point}
+use Rattle.net_graph.specs.declared.edge.Edge.{Edge}
+use Rattle.hanan_grid.specs.declared.name.EdgeName.{EdgeName}
+use Rattle.hanan_grid.specs.Lines.{line_at}
+use Rattle.hanan_grid.specs.Grid.{xs_of, ys_of, hanan_grid_of}
+
+-- the point of a vertex: where its column crosses its row
+abbrev pub point_of_vertex : List ℤ → List ℤ → ℕ → Point
+point_of_vertex xs ys v = record { x = line_at xs (v % length xs); y = line_at ys (v / length xs) }
+
+-- the name of an edge between two points
+abbrev pub name_between : Point → Point → EdgeName
+name_between p q = record { x1 = p.x; y1 = p.y; x2 = q.x; y2 = q.y }
+
+-- the name of an edge of the lines
+abbrev pub name_of : List ℤ → List ℤ → Edge → EdgeName
+name_of xs ys e = name_between (point_of_vertex xs ys e.a) (point_of_vertex xs ys e.b)
+
+-- what stands for an edge where there is none
+abbrev pub no_edge : Edge
+no_edge = record { a = 0; b = 0; length = 0 }
+
+-- the name of the grid's edge of a number
+abbrev pub name_of_edge : List Point → ℕ → EdgeName
+name_of_edge ps e = name_of (xs_of ps) (ys_of ps) (slice_index_or (hanan_grid_of ps).edges e no_edge)

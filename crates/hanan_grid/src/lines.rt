@@ -1,0 +1,58 @@
+//! The lines of a grid: the distinct coordinates of points, in ascending order.
+
+ghost use Rattle.std.specs.Prelude.{◌≡◌, ◌+◌, ◌<◌, ◌≤◌, length, IfOk};
+ghost use Rattle.hanan_grid.specs.Lines.{ascending, gap_after, place_of};
+ghost use Rattle.hanan_grid.specs.LinesLaws.{IsRising};
+ghost use Rattle.hanan_grid.specs.Grid.{xs_of, ys_of};
+
+use points_in::Point;
+use std::alloc::{AllocError, Global};
+
+// The vertical lines of points.
+pub fn x_lines(alloc: Global, points: &[Point]) -> Result<Vec<i64>, AllocError>
+    ensures { IfOk result (λ lines. lines.items ≡ xs_of points.now) }
+{
+    let mut values = Vec::with_capacity(alloc, points.len())?;
+    for point in points {
+        values.push_reserved(point.x);
+    }
+    Ok(lines_of(values))
+}
+
+// The horizontal lines of points.
+pub fn y_lines(alloc: Global, points: &[Point]) -> Result<Vec<i64>, AllocError>
+    ensures { IfOk result (λ lines. lines.items ≡ ys_of points.now) }
+{
+    let mut values = Vec::with_capacity(alloc, points.len())?;
+    for point in points {
+        values.push_reserved(point.y);
+    }
+    Ok(lines_of(values))
+}
+
+// The distinct values in ascending order.
+fn lines_of(mut values: Vec<i64>) -> Vec<i64>
+    ensures { result.items ≡ ascending values.items }
+{
+    values.sort_unstable();
+    values.dedup();
+    values
+}
+
+// How many of the lines are below a value.
+pub fn place_in(lines: &[i64], value: i64) -> u32
+    requires rising { IsRising lines.now }
+    requires few { length lines.now ≤ 50 }
+    ensures place { result ≡ place_of value lines.now }
+    ensures within { result ≤ length lines.now }
+{
+    lines.partition_point(|line| *line < value) as u32
+}
+
+// How far it is from a line to the next one.
+pub fn gap(lines: &[i64], place: usize) -> u64
+    requires { place + 1 < length lines.now }
+    ensures { result ≡ gap_after lines.now place }
+{
+    lines[place + 1].abs_diff(lines[place])
+}
