@@ -2,3 +2,4 @@ pub mod Digits
 pub mod Pieces
 pub mod Lines
 pub mod Readings
+pub mod TreeLemmas

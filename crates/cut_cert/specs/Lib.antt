@@ -1,3 +1,5 @@
 pub mod Value
 pub mod Text
 pub mod Spelling
+pub mod Kept
+pub mod Bound

@@ -3,6 +3,8 @@
 
 mod head;
 mod reading;
+mod tree;
 
 pub use head::{AnswerHead, ConcatNote};
 pub use reading::one_reading;
+pub use tree::{CertTree, Packing};
