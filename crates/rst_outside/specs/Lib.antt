@@ -1,5 +1,9 @@
 pub mod Counts
 pub mod CountLaws
 pub mod Source
+pub mod SourceLaws
 pub mod Sink
 pub mod SinkLaws
+pub mod Memory
+pub mod Shelf
+pub mod Untold

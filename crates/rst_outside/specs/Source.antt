@@ -7,9 +7,9 @@ pub record SourceState : Type 0 where
   pub rest : Option (List ℕ)
 
 -- These bytes came from a source: they were the next ones of its rest, and the rest is now what follows them.
--- Of a source that doesn't tell its rest nothing is said.
+-- A source that doesn't tell its rest doesn't begin to.
 abbrev pub Came : Option (List ℕ) → List ℕ → Option (List ℕ) → Type 0
-Came None bytes after = ⊤
+Came None bytes after = after ≡ None
 Came (Some rest) bytes after = (left : List ℕ) × (after ≡ Some left) × (rest ≡ bytes ++ left)
 
 -- No byte is still to come.

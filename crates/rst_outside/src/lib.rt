@@ -1,8 +1,17 @@
 //! The outside of the program, as traits whose ghost members say what a contract may know of it.
 #![tactic(auto)]
 
+mod adapters;
+mod faults;
+mod memory;
+mod shelf;
 mod sink;
 mod source;
+mod take;
 
-pub use sink::{PutFault, Sink};
+pub use adapters::{DirShelf, StdSink, StdSource};
+pub use memory::{MemSink, MemSource};
+pub use shelf::Shelf;
+pub use sink::{PutFault, Sink, put_all};
 pub use source::{Failed, Source};
+pub use take::{TakeFault, take_all};

@@ -19,7 +19,8 @@ pub trait Sink {
     fn write(&mut self, from: &[u8]) -> Result<usize, Failed>
         ensures within { IfOk result (λ n. n ≤ length from.now) }
         ensures some { IfOk result (λ n. 0 < length from.now → 0 < n) }
-        ensures appended { IfOk result (λ n. Appended (state self.old).taken (take n from.now) (state self.new).taken) }
+        ensures appended { IfOk result
+            (λ n. Appended (state self.old).taken (take n from.now) (state self.new).taken) }
         ensures room { IfOk result (λ n. (state self.old).sure ≤ (state self.new).sure + n) }
         ensures count { (state self.old).faults ≤ (state self.new).faults }
         ensures failed { OnErr result (Rose (state self.old).faults (state self.new).faults) }

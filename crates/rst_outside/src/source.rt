@@ -17,7 +17,8 @@ pub trait Source {
     /// 0 is the end.
     fn read(&mut self, into: &mut [u8]) -> Result<usize, Failed>
         ensures within { IfOk result (λ n. n ≤ length into.new) }
-        ensures came { IfOk result (λ n. Came (state self.old).rest (take n into.new) (state self.new).rest) }
+        ensures came { IfOk result
+            (λ n. Came (state self.old).rest (take n into.new) (state self.new).rest) }
         ensures end { IfOk result (λ n. n ≡ 0 → 0 < length into.new → IsAtEnd (state self.old).rest) }
         ensures count { (state self.old).faults ≤ (state self.new).faults }
         ensures failed { OnErr result (Rose (state self.old).faults (state self.new).faults) }
