@@ -3,3 +3,4 @@ pub mod Pieces
 pub mod Lines
 pub mod Readings
 pub mod TreeLemmas
+pub mod Lengths

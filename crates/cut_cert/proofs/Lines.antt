@@ -7,7 +7,7 @@ use Rattle.spelled.specs.Numbers.{signed_front_unique}
 use Rattle.net_graph.specs.declared.packing.Cut.{Cut}
 use Rattle.hanan_grid.specs.declared.name.EdgeName.{EdgeName}
 use Rattle.cut_cert.specs.declared.head.AnswerHead.{AnswerHead}
-use Rattle.cut_cert.specs.Text.{set_text, cut_line, edge_line, head_text, status_word, concat_word}
+use Rattle.cut_cert.specs.Text.{set_text, cut_line, edge_line, result_text, search_text, head_text, status_word, concat_word}
 use Rattle.cut_cert.specs.Spelling.{FitsHead, FitsName, FitsCut}
 use Rattle.cut_cert.proofs.Digits.{set_front}
 use Rattle.cut_cert.proofs.Pieces.{number_front, status_front, concat_front, IsToldByFront}
@@ -61,39 +61,55 @@ same_head : (h k : AnswerHead) → h.length ≡ k.length → h.bound ≡ k.bound
 same_head h k length bound optimal openings least total =
     λ i. record { length = length i; bound = bound i; optimal = optimal i; openings = openings i; concat = record { least = least i; total = total i } }
 
--- what stands from a part of a head on
+-- what stands from a part of the first four lines on
+abbrev from_status : AnswerHead → List ℕ → List ℕ
+from_status h p = codes "status " ++ (status_word h.optimal ++ 10 ∷ p)
+
+abbrev from_bound : AnswerHead → List ℕ → List ℕ
+from_bound h p = codes "bound " ++ (decimal h.bound ++ 10 ∷ from_status h p)
+
+-- these lines and what follows them, piece by piece
+result_pieces : (h : AnswerHead) (p : List ℕ) → result_text h ++ p ≡ codes "rst answer 1\nlength " ++ (decimal h.length ++ 10 ∷ from_bound h p)
+result_pieces h p = simp append_assoc
+
+-- the first four lines
+result_front : (h k : AnswerHead) (p q : List ℕ) → FitsHead h → FitsHead k → result_text h ++ p ≡ result_text k ++ q
+    → (h.length ≡ k.length) × (h.bound ≡ k.bound) × (h.optimal ≡ k.optimal) × (p ≡ q)
+result_front h k p q f g e =
+    let first = append_cancel_left (codes "rst answer 1\nlength ") (decimal h.length ++ 10 ∷ from_bound h p) (decimal k.length ++ 10 ∷ from_bound k q) (sym (result_pieces h p) ∙ e ∙ result_pieces k q) in
+    let length = number_front 10 h.length k.length (from_bound h p) (from_bound k q) (omega arith) (omega arith) (omega arith) first in
+    let second = append_cancel_left (codes "bound ") (decimal h.bound ++ 10 ∷ from_status h p) (decimal k.bound ++ 10 ∷ from_status k q) length.1 in
+    let bound = number_front 10 h.bound k.bound (from_status h p) (from_status k q) (omega arith) (omega arith) (omega arith) second in
+    let third = append_cancel_left (codes "status ") (status_word h.optimal ++ 10 ∷ p) (status_word k.optimal ++ 10 ∷ q) bound.1 in
+    let optimal = status_front h.optimal k.optimal (10 ∷ p) (10 ∷ q) third in
+    (length.0, bound.0, optimal.0, append_cancel_left (codes "\n") p q optimal.1)
+
+-- what stands from a part of the next two lines on
 abbrev from_total : AnswerHead → List ℕ → List ℕ
 from_total h p = decimal h.concat.total ++ 10 ∷ p
 
 abbrev from_concat : AnswerHead → List ℕ → List ℕ
 from_concat h p = codes "concat " ++ (concat_word h.concat.least ++ 32 ∷ from_total h p)
 
-abbrev from_openings : AnswerHead → List ℕ → List ℕ
-from_openings h p = codes "openings " ++ (decimal h.openings ++ 10 ∷ from_concat h p)
+-- these lines and what follows them, piece by piece
+search_pieces : (h : AnswerHead) (p : List ℕ) → search_text h ++ p ≡ codes "openings " ++ (decimal h.openings ++ 10 ∷ from_concat h p)
+search_pieces h p = simp append_assoc
 
-abbrev from_status : AnswerHead → List ℕ → List ℕ
-from_status h p = codes "status " ++ (status_word h.optimal ++ 10 ∷ from_openings h p)
-
-abbrev from_bound : AnswerHead → List ℕ → List ℕ
-from_bound h p = codes "bound " ++ (decimal h.bound ++ 10 ∷ from_status h p)
-
--- a head and what follows it, piece by piece
-head_pieces : (h : AnswerHead) (p : List ℕ) → head_text h ++ p ≡ codes "rst answer 1\nlength " ++ (decimal h.length ++ 10 ∷ from_bound h p)
-head_pieces h p = simp append_assoc
+-- the next two lines
+search_front : (h k : AnswerHead) (p q : List ℕ) → FitsHead h → FitsHead k → search_text h ++ p ≡ search_text k ++ q
+    → (h.openings ≡ k.openings) × (h.concat.least ≡ k.concat.least) × (h.concat.total ≡ k.concat.total) × (p ≡ q)
+search_front h k p q f g e =
+    let first = append_cancel_left (codes "openings ") (decimal h.openings ++ 10 ∷ from_concat h p) (decimal k.openings ++ 10 ∷ from_concat k q) (sym (search_pieces h p) ∙ e ∙ search_pieces k q) in
+    let openings = number_front 10 h.openings k.openings (from_concat h p) (from_concat k q) (omega arith) (omega arith) (omega arith) first in
+    let second = append_cancel_left (codes "concat ") (concat_word h.concat.least ++ 32 ∷ from_total h p) (concat_word k.concat.least ++ 32 ∷ from_total k q) openings.1 in
+    let least = concat_front h.concat.least k.concat.least (32 ∷ from_total h p) (32 ∷ from_total k q) second in
+    let third = append_cancel_left (codes " ") (from_total h p) (from_total k q) least.1 in
+    let total = number_front 10 h.concat.total k.concat.total p q (omega arith) (omega arith) (omega arith) third in
+    (openings.0, least.0, total.0, total.1)
 
 -- the text of a head
 pub head_front : IsToldByFront FitsHead head_text
 head_front h k p q f g e =
-    let first = append_cancel_left (codes "rst answer 1\nlength ") (decimal h.length ++ 10 ∷ from_bound h p) (decimal k.length ++ 10 ∷ from_bound k q) (sym (head_pieces h p) ∙ e ∙ head_pieces k q) in
-    let length = number_front 10 h.length k.length (from_bound h p) (from_bound k q) (omega arith) (omega arith) (omega arith) first in
-    let second = append_cancel_left (codes "bound ") (decimal h.bound ++ 10 ∷ from_status h p) (decimal k.bound ++ 10 ∷ from_status k q) length.1 in
-    let bound = number_front 10 h.bound k.bound (from_status h p) (from_status k q) (omega arith) (omega arith) (omega arith) second in
-    let third = append_cancel_left (codes "status ") (status_word h.optimal ++ 10 ∷ from_openings h p) (status_word k.optimal ++ 10 ∷ from_openings k q) bound.1 in
-    let optimal = status_front h.optimal k.optimal (10 ∷ from_openings h p) (10 ∷ from_openings k q) third in
-    let fourth = append_cancel_left (codes "\nopenings ") (decimal h.openings ++ 10 ∷ from_concat h p) (decimal k.openings ++ 10 ∷ from_concat k q) optimal.1 in
-    let openings = number_front 10 h.openings k.openings (from_concat h p) (from_concat k q) (omega arith) (omega arith) (omega arith) fourth in
-    let fifth = append_cancel_left (codes "concat ") (concat_word h.concat.least ++ 32 ∷ from_total h p) (concat_word k.concat.least ++ 32 ∷ from_total k q) openings.1 in
-    let least = concat_front h.concat.least k.concat.least (32 ∷ from_total h p) (32 ∷ from_total k q) fifth in
-    let sixth = append_cancel_left (codes " ") (from_total h p) (from_total k q) least.1 in
-    let total = number_front 10 h.concat.total k.concat.total p q (omega arith) (omega arith) (omega arith) sixth in
-    (same_head h k length.0 bound.0 optimal.0 openings.0 least.0 total.0, total.1)
+    let result = result_front h k (search_text h ++ p) (search_text k ++ q) f g (sym (append_assoc (result_text h) (search_text h) p) ∙ e ∙ append_assoc (result_text k) (search_text k) q) in
+    let search_part = search_front h k p q f g result.3 in
+    (same_head h k result.0 result.1 result.2 search_part.0 search_part.1 search_part.2, search_part.3)

@@ -3,3 +3,4 @@ pub mod Text
 pub mod Spelling
 pub mod Kept
 pub mod Bound
+pub mod SetLaws

@@ -35,9 +35,13 @@ cut_line c = codes "cut " ++ decimal c.weight ++ codes " " ++ set_text c.members
 abbrev pub edge_line : EdgeName → List ℕ
 edge_line e = signed_decimal e.x1 ++ codes " " ++ signed_decimal e.y1 ++ codes " " ++ signed_decimal e.x2 ++ codes " " ++ signed_decimal e.y2 ++ codes "\n"
 
+-- the lines of cuts
+abbrev pub cut_lines : List Cut → List ℕ
+cut_lines cuts = flat_map cut_line cuts
+
 -- a leaf: how many cuts it has, and the cuts
 abbrev pub leaf_text : List Cut → List ℕ
-leaf_text cuts = codes "leaf " ++ decimal (length cuts) ++ codes "\n" ++ flat_map cut_line cuts
+leaf_text cuts = codes "leaf " ++ decimal (length cuts) ++ codes "\n" ++ cut_lines cuts
 
 -- the line of a split
 abbrev pub split_line : EdgeName → List ℕ
@@ -55,10 +59,17 @@ status_word optimal = if optimal then codes "optimal" else codes "stopped"
 abbrev pub concat_word : Bool → List ℕ
 concat_word least = if least then codes "least" else codes "spent"
 
+-- the first four lines
+abbrev pub result_text : AnswerHead → List ℕ
+result_text h = codes "rst answer 1\nlength " ++ decimal h.length ++ codes "\nbound " ++ decimal h.bound ++ codes "\nstatus " ++ status_word h.optimal ++ codes "\n"
+
+-- the next two
+abbrev pub search_text : AnswerHead → List ℕ
+search_text h = codes "openings " ++ decimal h.openings ++ codes "\nconcat " ++ concat_word h.concat.least ++ codes " " ++ decimal h.concat.total ++ codes "\n"
+
 -- the first six lines
 abbrev pub head_text : AnswerHead → List ℕ
-head_text h = codes "rst answer 1\nlength " ++ decimal h.length ++ codes "\nbound " ++ decimal h.bound ++ codes "\nstatus " ++ status_word h.optimal
-    ++ codes "\nopenings " ++ decimal h.openings ++ codes "\nconcat " ++ concat_word h.concat.least ++ codes " " ++ decimal h.concat.total ++ codes "\n"
+head_text h = result_text h ++ search_text h
 
 -- the network: how many edges it has, and the edges
 abbrev pub network_text : List EdgeName → List ℕ

@@ -2,8 +2,10 @@
 #![tactic(auto)]
 
 mod head;
+mod length;
 mod reading;
 mod tree;
+mod write;
 
 pub use head::{AnswerHead, ConcatNote};
 pub use reading::one_reading;
