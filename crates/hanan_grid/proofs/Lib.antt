@@ -1,3 +1,4 @@
+pub mod GraphFaults
 pub mod Rows
 pub mod Spans
 pub mod Sorting

@@ -10,7 +10,7 @@ use Rattle.net_graph.specs.declared.edge.Edge.{Edge}
 use Rattle.net_graph.specs.Graph.{IsGraph, HasEndsBelow, total_of}
 use Rattle.hanan_grid.specs.Lines.{place_of}
 use Rattle.hanan_grid.specs.Grid.{xs_of, ys_of, vertex_number, horizontal, vertical, horizontals, verticals, vertex_of, hanan_grid_of}
-use Rattle.hanan_grid.specs.LinesLaws.{IsRising, IsRising-ascending, Contains-ascending, place_of-below, gap_after-positive, length-ascending-le}
+use Rattle.hanan_grid.specs.LinesLaws.{IsRising, IsRising-ascending, Contains-ascending, place_of-below, gap_after-positive, length-ascending-le, length-ascending-positive}
 use Rattle.hanan_grid.specs.Tables.{length-table_from, get_or-table_from, All-table_from}
 
 -- ---- how many edges there are
@@ -85,7 +85,7 @@ pub vertex_number-below : (nx ny i j : ℕ) → i < nx → j < ny → vertex_num
 vertex_number-below nx ny i j column row = mul-add-lt j nx i ny row column
 
 -- the ends of the edges are crossings
-ends_below : (xs ys : List ℤ) → All (HasEndsBelow (length xs * length ys)) (edges_of_lines xs ys)
+pub ends_below : (xs ys : List ℤ) → All (HasEndsBelow (length xs * length ys)) (edges_of_lines xs ys)
 ends_below xs ys = All-append (HasEndsBelow (length xs * length ys)) (horizontals xs ys) (verticals xs ys)
     (All-table_from (HasEndsBelow (length xs * length ys)) (horizontal xs) 0 (length ys) (length xs - 1) (λ j i row column. record {
       a = vertex_number-below (length xs) (length ys) i j (omega arith) (omega arith);
@@ -97,17 +97,17 @@ ends_below xs ys = All-append (HasEndsBelow (length xs * length ys)) (horizontal
     }))
 
 -- the edges of rising lines have a length
-lengths_positive : (xs ys : List ℤ) → IsRising xs → IsRising ys → All (λ e. 0 < e.length) (edges_of_lines xs ys)
+pub lengths_positive : (xs ys : List ℤ) → IsRising xs → IsRising ys → All (λ e. 0 < e.length) (edges_of_lines xs ys)
 lengths_positive xs ys rises rises' = All-append (λ e. 0 < e.length) (horizontals xs ys) (verticals xs ys)
     (All-table_from (λ e. 0 < e.length) (horizontal xs) 0 (length ys) (length xs - 1) (λ j i row column. gap_after-positive xs i (omega arith) rises))
     (All-table_from (λ e. 0 < e.length) (vertical (length xs) ys) 0 (length ys - 1) (length xs) (λ j i row column. gap_after-positive ys j (omega arith) rises'))
 
 -- at most 50 lines each way make at most 2500 crossings
-few_crossings : (nx ny : ℕ) → nx ≤ 50 → ny ≤ 50 → nx * ny ≤ 2500
+pub few_crossings : (nx ny : ℕ) → nx ≤ 50 → ny ≤ 50 → nx * ny ≤ 2500
 few_crossings nx ny few few' = omega (arith, mul-le nx ny 50 50 few few')
 
 -- and at most 4900 edges
-few_edges : (nx ny : ℕ) → nx ≤ 50 → ny ≤ 50 → ny * (nx - 1) + (ny - 1) * nx ≤ 4900
+pub few_edges : (nx ny : ℕ) → nx ≤ 50 → ny ≤ 50 → ny * (nx - 1) + (ny - 1) * nx ≤ 4900
 few_edges nx ny few few' =
     omega (arith, mul-le ny (nx - 1) 50 49 few' (omega arith), mul-le (ny - 1) nx 49 50 (omega arith) few)
 
@@ -137,6 +137,13 @@ length-xs_of-le ps = omega (arith, length-ascending-le (map (λ p. p.x) ps), len
 pub length-ys_of-le : (ps : List Point) → length (ys_of ps) ≤ length ps
 length-ys_of-le ps = omega (arith, length-ascending-le (map (λ p. p.y) ps), length-map ps (λ p. p.y))
 
+-- and at least one each way, where there is a point
+pub length-xs_of-positive : (ps : List Point) → 0 < length ps → 0 < length (xs_of ps)
+length-xs_of-positive ps some = length-ascending-positive (map (λ p. p.x) ps) (omega (arith, length-map ps (λ p. p.x)))
+
+pub length-ys_of-positive : (ps : List Point) → 0 < length ps → 0 < length (ys_of ps)
+length-ys_of-positive ps some = length-ascending-positive (map (λ p. p.y) ps) (omega (arith, length-map ps (λ p. p.y)))
+
 -- each terminal's vertex is one
 pub vertex_of-below : (ps : List Point) (k : ℕ) (d : Point) → k < length ps → vertex_of (xs_of ps) (ys_of ps) (get_or ps k d) < length (xs_of ps) * length (ys_of ps)
 vertex_of-below ps k d inside =
@@ -145,17 +152,27 @@ vertex_of-below ps k d inside =
     (place_of-below p.x (xs_of ps) (Contains-xs_of ps k d inside) (IsRising-xs_of ps))
     (place_of-below p.y (ys_of ps) (Contains-ys_of ps k d inside) (IsRising-ys_of ps))
 
+-- the terminals' vertices are vertices
+pub terminals_below : (ps : List Point) → All (λ t. t < length (xs_of ps) * length (ys_of ps)) (hanan_grid_of ps).terminals
+terminals_below ps = All-map (λ t. t < length (xs_of ps) * length (ys_of ps)) (vertex_of (xs_of ps) (ys_of ps)) ps (λ k d inside. vertex_of-below ps k d inside)
+
+-- the grid of at most 50 points has at most 2500 crossings
+pub few_crossings_of : (ps : List Point) → length ps ≤ 50 → (hanan_grid_of ps).vertices ≤ 2500
+few_crossings_of ps few = few_crossings (length (xs_of ps)) (length (ys_of ps)) (omega (arith, length-xs_of-le ps)) (omega (arith, length-ys_of-le ps))
+
+-- and at most 4900 edges
+pub few_edges_of : (ps : List Point) → length ps ≤ 50 → length (hanan_grid_of ps).edges ≤ 4900
+few_edges_of ps few =
+    omega (arith, length-edges_of_lines (xs_of ps) (ys_of ps), few_edges (length (xs_of ps)) (length (ys_of ps)) (omega (arith, length-xs_of-le ps)) (omega (arith, length-ys_of-le ps)))
+
 -- the grid of 1 to 50 points is a graph where its total is a signed 64-bit number
 pub IsGraph-hanan_grid_of : (ps : List Point) → 0 < length ps → length ps ≤ 50 → total_of (hanan_grid_of ps) < 2 ^ 63 → IsGraph (hanan_grid_of ps)
-IsGraph-hanan_grid_of ps some few total =
-    let columns = length-xs_of-le ps in
-    let rows = length-ys_of-le ps in
-    record {
-      few_vertices = few_crossings (length (xs_of ps)) (length (ys_of ps)) (omega arith) (omega arith);
-      few_edges = omega (arith, length-edges_of_lines (xs_of ps) (ys_of ps), few_edges (length (xs_of ps)) (length (ys_of ps)) (omega arith) (omega arith));
-      ends = ends_below (xs_of ps) (ys_of ps);
-      lengths = lengths_positive (xs_of ps) (ys_of ps) (IsRising-xs_of ps) (IsRising-ys_of ps);
-      terminal = omega (arith, length-map ps (vertex_of (xs_of ps) (ys_of ps)));
-      terminals = All-map (λ t. t < length (xs_of ps) * length (ys_of ps)) (vertex_of (xs_of ps) (ys_of ps)) ps (λ k d inside. vertex_of-below ps k d inside);
-      total = total;
-    }
+IsGraph-hanan_grid_of ps some few total = record {
+  few_vertices = few_crossings_of ps few;
+  few_edges = few_edges_of ps few;
+  ends = ends_below (xs_of ps) (ys_of ps);
+  lengths = lengths_positive (xs_of ps) (ys_of ps) (IsRising-xs_of ps) (IsRising-ys_of ps);
+  terminal = omega (arith, length-map ps (vertex_of (xs_of ps) (ys_of ps)));
+  terminals = terminals_below ps;
+  total = total;
+}

@@ -2,7 +2,9 @@ pub mod Lines
 pub mod Grid
 pub mod Names
 pub mod Distance
+pub mod Fault
 pub mod LinesLaws
 pub mod Tables
 pub mod GridLaws
 pub mod NamesLaws
+pub mod Whole

@@ -2,7 +2,11 @@
 #![tactic(auto)]
 
 mod edges;
+mod fault;
+mod grid;
 mod lines;
 mod name;
 
+pub use fault::GridFault;
+pub use grid::Grid;
 pub use name::EdgeName;

@@ -1,7 +1,15 @@
 pub mod Flags
 pub mod Members
+pub mod MembersLaws
 pub mod Graph
 pub mod Fault
+pub mod Arcs
+pub mod Search
+pub mod SearchLaws
+pub mod Turned
+pub mod Found
 pub mod Network
+pub mod Joins
 pub mod Decision
 pub mod Packing
+pub mod LengthLaws

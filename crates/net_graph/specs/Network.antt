@@ -1,8 +1,9 @@
 -- Walks, reached vertices, networks and their length. An edge set is the list of its flags: one for each
 -- edge, true where the edge is in it.
-use Rattle.std.specs.Prelude.{ℕ, zero, suc, ◌≡◌, ◌+◌, Bool, true, List, [], ◌∷◌, slice_get, Some, ◌⊎◌, All, if◌then◌else◌}
+use Rattle.std.specs.Prelude.{ℕ, ◌≡◌, ◌+◌, Bool, true, List, [], ◌∷◌, slice_get, Some, ◌⊎◌, All, if◌then◌else◌}
 use Rattle.net_graph.specs.declared.edge.Edge.{Edge}
 use Rattle.net_graph.specs.Graph.{Graph, root_of}
+use Rattle.net_graph.specs.Search.{StepWalk, Leads}
 
 -- the two vertices are the ends of the edge
 abbrev pub HasEnds : Edge → ℕ → ℕ → Type 0
@@ -12,14 +13,13 @@ HasEnds e v w = ((e.a ≡ v) × (e.b ≡ w)) ⊎ ((e.a ≡ w) × (e.b ≡ v))
 abbrev pub Links : Graph → List Bool → ℕ → ℕ → Type 0
 Links g set v w = (n : ℕ) × (e : Edge) × (slice_get set n ≡ Some true) × (slice_get g.edges n ≡ Some e) × HasEnds e v w
 
--- a walk of n edges of the set
+-- a walk of n edges of the set, from v to w
 abbrev pub Walk : Graph → List Bool → ℕ → ℕ → ℕ → Type 0
-Walk g set v w zero = v ≡ w
-Walk g set v w (suc n) = (u : ℕ) × Walk g set v u n × Links g set u w
+Walk g set v w n = StepWalk (Links g set) v w n
 
 -- a walk leads from the root to the vertex
 abbrev pub Reaches : Graph → List Bool → ℕ → Type 0
-Reaches g set v = (n : ℕ) × Walk g set (root_of g) v n
+Reaches g set v = Leads (Links g set) (root_of g) v
 
 -- every terminal is reached
 abbrev pub IsNetwork : Graph → List Bool → Type 0

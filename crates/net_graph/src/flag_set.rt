@@ -14,7 +14,7 @@ pub(crate) struct FlagSet {
 }
 
 impl Model for FlagSet {
-    ghost use Rattle.std.specs.Prelude.{◌≡◌, ◌+◌, ◌/◌, ◌≤◌, List, Bool, length};
+    ghost use Rattle.std.specs.Prelude.{◌≡◌, ◌+◌, ◌/◌, List, Bool, length};
     ghost use Rattle.net_graph.specs.Flags.{flags_in_words};
 
     ghost Value = { List Bool };

@@ -1,9 +1,11 @@
 //! Graphs with edge lengths and terminals.
 
-ghost use Rattle.std.specs.Prelude.{◌≡◌, ℕ, ◌<◌, ◌≤◌, ◌^◌, length, All, sum_by, slice_get, Some, IfOk, IfErr, IfNone, IfSome};
+ghost use Rattle.std.specs.Prelude.{◌≡◌, ◌*◌, ◌<◌, ◌≤◌, length, All, sum_by, slice_get, Some, IfOk, IfErr, IfNone, IfSome};
 ghost use Rattle.net_graph.specs.Graph.{IsGraph, HasEndsBelow, graph_of, total_of, root_of};
+ghost use Rattle.net_graph.specs.Arcs.{IsArcOf, AreArcsFrom};
 ghost use Rattle.net_graph.specs.Fault.{IsFirst, IsFirstFault};
 
+use crate::arcs::{Arc, ArcTable};
 use crate::edge::{Edge, EdgeList, VertexList};
 use std::alloc::{AllocError, Global};
 use std::marker::Model;
@@ -40,17 +42,19 @@ pub struct NetGraph {
     edges: EdgeList,
     terminals: VertexList,
     total: u64,
+    arcs: ArcTable,
 }
 
 impl Model for NetGraph {
     ghost use Rattle.std.specs.Prelude.{◌≡◌};
     ghost use Rattle.net_graph.specs.Graph.{Graph, IsGraph, graph_of, total_of};
+    ghost use Rattle.net_graph.specs.Arcs.{AreArcsOfGraph};
 
     ghost Value = { Graph };
 
     ghost view = { λ g. graph_of g.vertices g.edges g.terminals };
 
-    ghost invariant = { λ g. IsGraph (graph_of g.vertices g.edges g.terminals) × (g.total ≡ total_of (graph_of g.vertices g.edges g.terminals)) };
+    ghost invariant = { λ g. IsGraph (graph_of g.vertices g.edges g.terminals) × (g.total ≡ total_of (graph_of g.vertices g.edges g.terminals)) × AreArcsOfGraph (graph_of g.vertices g.edges g.terminals) g.arcs };
 }
 
 impl NetGraph {
@@ -68,11 +72,13 @@ impl NetGraph {
         ensures fault { IfErr result (IsFirstFault (graph_of vertices edges terminals)) }
     {
         let total = judged_total(vertices, edges.as_slice(), terminals.as_slice())?;
+        let arcs = ArcTable::of(alloc, vertices, edges.as_slice()).map_err(GraphFault::Memory)?;
         Ok(NetGraph {
             vertices,
             edges,
             terminals,
             total,
+            arcs,
         })
     }
 
@@ -140,6 +146,15 @@ impl NetGraph {
         ensures graph { IsGraph self.now }
     {
         *self.terminals.get(0)
+    }
+
+    /// The arcs that lead from a vertex, in no order.
+    pub fn arcs_from(&self, vertex: u32) -> &[Arc]
+        requires { vertex < self.now.vertices }
+        ensures arcs { AreArcsFrom (IsArcOf self.now.edges) vertex result.now }
+        ensures bounds { All (λ arc. (arc.to < self.now.vertices) × (arc.number < 2 * length self.now.edges)) result.now }
+    {
+        self.arcs.leaving(vertex)
     }
 
     /// The sum of all edge lengths, at most 2^63 - 1.

@@ -1,13 +1,24 @@
 //! Graphs with edge lengths, sets of their edges and vertices, and the networks among the edge sets.
 #![tactic(auto)]
 
+mod arcs;
+mod decision;
 mod edge;
 mod flag_set;
+mod found;
 mod graph;
+mod lengths;
+mod network;
 mod packing;
+mod search;
 mod sets;
 
+pub use arcs::{Arc, partner};
+pub use decision::{Decision, required};
 pub use edge::{Edge, EdgeList, VertexList};
 pub use graph::{GraphFault, NetGraph};
+pub use lengths::length;
+pub use network::{joins, reached};
 pub use packing::{Cut, EdgeState};
+pub use search::{Passage, leading_to, reached_from};
 pub use sets::{EdgeSet, VertexSet};

@@ -148,3 +148,42 @@ impl VertexSet {
         Ok(VertexSet { flags })
     }
 }
+
+#[cfg(test)]
+mod tests {
+    use super::*;
+    use std::test::Fail;
+
+    #[test]
+    fn edges_round_the_end_of_a_word(rt: HostRuntime) -> Result<(), Fail> {
+        let mut set = EdgeSet::empty(rt.alloc(), 66)?;
+        set.add(63);
+        set.add(64);
+        set.add(65);
+        set.remove(64);
+        let held = [set.has(62), set.has(63), set.has(64), set.has(65)];
+        assert_eq!(rt; held, [false, true, false, true]);
+        let copy = set.copy()?;
+        set.clear();
+        assert_eq!(rt; [set.has(63), copy.has(63)], [false, true]);
+        assert_eq!(rt; set.len(), 66);
+        Ok(())
+    }
+
+    #[test]
+    fn no_vertices_and_some(rt: HostRuntime) -> Result<(), Fail> {
+        let none = VertexSet::empty(rt.alloc(), 0)?;
+        assert_eq!(rt; none.len(), 0);
+        let mut set = VertexSet::empty(rt.alloc(), 2)?;
+        set.add(0);
+        set.add(1);
+        set.remove(0);
+        let copy = set.copy()?;
+        set.clear();
+        assert_eq!(rt;
+            [set.has(1), copy.has(0), copy.has(1)],
+            [false, false, true]
+        );
+        Ok(())
+    }
+}

@@ -8,6 +8,8 @@ mod shelf;
 mod sink;
 mod source;
 mod take;
+#[cfg(test)]
+mod tests;
 
 pub use adapters::{DirShelf, StdSink, StdSource};
 pub use memory::{MemSink, MemSource};

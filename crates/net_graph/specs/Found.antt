@@ -1,0 +1,10 @@
+-- Found numbers, each in a list and with a mark.
+use Rattle.std.specs.Prelude.{ℕ, ◌≡◌, ◌<◌, Bool, true, List, length, count_by, All, Contains}
+use Rattle.net_graph.specs.Flags.{has}
+
+-- the marked numbers are those of the list, and there are as many marks as places in it
+pub record AreMarksOf (order : List ℕ) (marks : List Bool) : Type 0 where
+  pub below : All (λ v. v < length marks) order
+  pub marked : (v : ℕ) → Contains order v → has marks v ≡ true
+  pub listed : (v : ℕ) → has marks v ≡ true → Contains order v
+  pub count : length order ≡ count_by (λ flag. flag) marks

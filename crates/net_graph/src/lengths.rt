@@ -1,0 +1,62 @@
+//! The lengths of edge sets.
+
+ghost use Rattle.std.specs.Prelude.{◌≡◌, ◌<◌, ◌^◌, length, sum_by};
+ghost use Rattle.net_graph.specs.Network.{length_of, length_of_edges};
+
+use crate::edge::Edge;
+use crate::graph::NetGraph;
+use crate::sets::EdgeSet;
+
+/// The length of an edge set: the plain sum of its edges' lengths, each counted once. It is below 2^63.
+pub fn length(g: &NetGraph, set: &EdgeSet) -> u64
+    requires { length set.now ≡ length g.now.edges }
+    ensures sum { result ≡ length_of g.now set.now }
+    ensures small { result < 2 ^ 63 }
+{
+    sum_of_lengths(g.edges(), set)
+}
+
+// The sum of the lengths of the set's edges.
+fn sum_of_lengths(edges: &[Edge], set: &EdgeSet) -> u64
+    requires total { sum_by (λ e. e.length) edges.now < 2 ^ 63 }
+    requires size { length edges.now ≡ length set.now }
+    ensures { result ≡ length_of_edges edges.now set.now }
+{
+    let mut sum = 0;
+    for n in 0..set.len() {
+        if set.has(n) {
+            sum += edges[n as usize].length;
+        }
+    }
+    sum
+}
+
+#[cfg(test)]
+mod tests {
+    use super::*;
+    use item_list::ItemList;
+    use std::test::Fail;
+
+    #[test]
+    fn sums_the_edges_of_the_set(rt: HostRuntime) -> Result<(), Fail> {
+        let first = Edge {
+            a: 0,
+            b: 1,
+            length: 5,
+        };
+        let second = Edge {
+            a: 1,
+            b: 2,
+            length: 7,
+        };
+        let edges = ItemList::from_vec(vec![in rt.alloc(); first, second]?);
+        let terminals = ItemList::from_vec(vec![in rt.alloc(); 0, 2]?);
+        let g = NetGraph::new(rt.alloc(), 3, edges, terminals)?;
+        let mut set = EdgeSet::empty(rt.alloc(), g.edge_count())?;
+        assert_eq!(rt; length(&g, &set), 0);
+        assert_eq!(rt; set.len(), 2);
+        set.add(1);
+        assert_eq!(rt; length(&g, &set), 7);
+        Ok(())
+    }
+}

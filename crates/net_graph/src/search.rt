@@ -1,0 +1,95 @@
+//! Searches over the arcs that may be walked.
+
+ghost use Rattle.std.specs.Prelude.{◌≡◌, ◌*◌, ◌<◌, ◌↔◌, ℕ, Bool, true, length, Contains, IfOk};
+ghost use Rattle.net_graph.specs.Flags.{has};
+ghost use Rattle.net_graph.specs.Arcs.{partner_of};
+ghost use Rattle.net_graph.specs.Search.{OpenStep, Leads, Extends};
+
+use crate::arcs::partner;
+use crate::found::Found;
+use crate::graph::NetGraph;
+use crate::sets::VertexSet;
+use std::alloc::{AllocError, Global};
+
+/// Which arcs of a graph may be walked.
+pub trait Passage {
+    /// Whether the arc of a number may be walked.
+    ghost opens: { Self → ℕ → Bool };
+
+    /// How many edges the arcs are of.
+    ghost edges: { Self → ℕ };
+
+    /// Whether the arc of a number may be walked.
+    fn is_open(&self, arc: u32) -> bool
+        requires { arc < 2 * edges self.now }
+        ensures { result ≡ opens self.now arc };
+}
+
+/// The vertices that walks over open arcs lead to from `start`, which is one of them. An `Err` is want of memory.
+pub fn reached_from<P: Passage>(
+    alloc: Global,
+    graph: &NetGraph,
+    start: u32,
+    passage: &P,
+) -> Result<VertexSet, AllocError>
+    requires start { start < graph.now.vertices }
+    requires edges { P.edges passage.now ≡ length graph.now.edges }
+    ensures size { IfOk result (λ marks. length marks ≡ graph.now.vertices) }
+    ensures reached { IfOk result (λ marks. (v : ℕ) → (has marks v ≡ true) ↔ Leads (OpenStep graph.now.edges (P.opens passage.now)) start v) }
+{
+    let mut found = Found::nothing(alloc, graph.vertex_count())?;
+    found.add(start);
+    let mut place = 0;
+    while place < found.len() {
+        add_next(graph, found.get(place), passage, &mut found);
+        place += 1;
+    }
+    Ok(found.into_set())
+}
+
+/// The vertices that walks over open arcs lead to `end` from, which is one of them. An `Err` is want of memory.
+pub fn leading_to<P: Passage>(
+    alloc: Global,
+    graph: &NetGraph,
+    end: u32,
+    passage: &P,
+) -> Result<VertexSet, AllocError>
+    requires end { end < graph.now.vertices }
+    requires edges { P.edges passage.now ≡ length graph.now.edges }
+    ensures size { IfOk result (λ marks. length marks ≡ graph.now.vertices) }
+    ensures leading { IfOk result (λ marks. (v : ℕ) → (has marks v ≡ true) ↔ Leads (OpenStep graph.now.edges (P.opens passage.now)) v end) }
+{
+    reached_from(alloc, graph, end, &Backward { passage })
+}
+
+// Each arc may be walked where the other arc of its edge may, so that a search goes against the arcs' direction.
+#[derive(Drop)]
+struct Backward<'a, P> {
+    passage: &'a P,
+}
+
+impl<'a, P: Passage> Passage for Backward<'a, P> {
+    ghost opens = { λ b arc. P.opens b.passage.now (partner_of arc) };
+
+    ghost edges = { λ b. P.edges b.passage.now };
+
+    fn is_open(&self, arc: u32) -> bool {
+        self.passage.is_open(partner(arc))
+    }
+}
+
+// Adds the vertices that one open arc leads to from a vertex.
+fn add_next<P: Passage>(graph: &NetGraph, vertex: u32, passage: &P, found: &mut Found)
+    requires vertex { vertex < graph.now.vertices }
+    requires edges { P.edges passage.now ≡ length graph.now.edges }
+    requires size { found.old.size ≡ graph.now.vertices }
+    ensures size { found.new.size ≡ found.old.size }
+    ensures more { Extends (λ w. (w < graph.now.vertices) × OpenStep graph.now.edges (P.opens passage.now) vertex w) found.old.order found.new.order }
+    ensures every { (w : ℕ) → OpenStep graph.now.edges (P.opens passage.now) vertex w → Contains found.new.order w }
+{
+    for arc in graph.arcs_from(vertex) {
+        if passage.is_open(arc.number) {
+            found.add(arc.to);
+        }
+    }
+}

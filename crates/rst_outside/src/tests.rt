@@ -1,0 +1,65 @@
+//! Each public function once, with sources and sinks in memory that fail where they are told to.
+
+use super::*;
+use std::test::Fail;
+
+#[test]
+fn takes_all_up_to_the_limit(rt: HostRuntime) -> Result<(), Fail> {
+    let alloc = rt.alloc();
+    let mut source = MemSource::new(b"steiner".to_vec(alloc)?, 3, Vec::new(alloc));
+    let bytes = take_all(alloc, &mut source, 7)?;
+    assert_eq!(rt; bytes.as_slice(), b"steiner".as_slice());
+
+    let mut source = MemSource::new(b"steiner".to_vec(alloc)?, 3, Vec::new(alloc));
+    assert_eq!(rt;
+        take_all(alloc, &mut source, 6).err(),
+        Some(TakeFault::TooLong)
+    );
+    Ok(())
+}
+
+#[test]
+fn failed_read_leaves_the_rest(rt: HostRuntime) -> Result<(), Fail> {
+    let alloc = rt.alloc();
+    let mut source = MemSource::new(b"steiner".to_vec(alloc)?, 3, vec![in alloc; 1]?);
+    assert_eq!(rt;
+        take_all(alloc, &mut source, 7).err(),
+        Some(TakeFault::Failed)
+    );
+    let bytes = take_all(alloc, &mut source, 7)?;
+    assert_eq!(rt; bytes.as_slice(), b"iner".as_slice());
+    Ok(())
+}
+
+#[test]
+fn puts_all_that_fits(rt: HostRuntime) -> Result<(), Fail> {
+    let alloc = rt.alloc();
+    let mut sink = MemSink::with_room(alloc, 10, 4, Vec::new(alloc))?;
+    assert_eq!(rt; put_all(&mut sink, b"steiner"), Ok(()));
+    assert_eq!(rt; put_all(&mut sink, b"tree"), Err(PutFault));
+    assert_eq!(rt; sink.bytes(), b"steinertre".as_slice());
+    Ok(())
+}
+
+#[test]
+fn failed_write_cuts_short(rt: HostRuntime) -> Result<(), Fail> {
+    let alloc = rt.alloc();
+    let mut sink = MemSink::with_room(alloc, 10, 4, vec![in alloc; 1]?)?;
+    assert_eq!(rt; put_all(&mut sink, b"steiner"), Err(PutFault));
+    assert_eq!(rt; sink.bytes(), b"stei".as_slice());
+    Ok(())
+}
+
+#[test]
+fn reaches_the_system(rt: HostRuntime) {
+    let mut source = StdSource::new(rt.stdin());
+    assert_eq!(rt; source.read(&mut []), Ok(0));
+
+    let mut sink = StdSink::new(rt.stdout());
+    assert_eq!(rt; put_all(&mut sink, b"steiner\n"), Ok(()));
+
+    let mut shelf = DirShelf::new(&rt);
+    let mut block = [0u8; 4];
+    assert_eq!(rt; shelf.read_at("no such file", 0, &mut block), Err(Failed));
+    assert_eq!(rt; shelf.read_at("", 0, &mut block), Err(Failed));
+}

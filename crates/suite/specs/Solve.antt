@@ -1,0 +1,90 @@
+-- A run of `solve`, from what came in to what went out.
+use Rattle.std.specs.Prelude.{ℕ, ◌≡◌, ◌<◌, ◌≤◌, ◌^◌, ◌==◌, Bool, List, length, Result, Ok, Err, if◌then◌else◌}
+use Rattle.rst_outside.specs.Counts.{Rose}
+use Rattle.rst_outside.specs.Source.{SourceState, Came, CameToTheEnd}
+use Rattle.rst_outside.specs.Sink.{SinkState, Wrote, CutShort}
+use Rattle.points_in.specs.declared.point.Point.{Point}
+use Rattle.points_in.specs.Terminals.{terminals_of}
+use Rattle.points_in.specs.Text.{IsPlainList}
+use Rattle.net_graph.specs.Graph.{Graph, total_of}
+use Rattle.net_graph.specs.Network.{IsNetwork, length_of}
+use Rattle.hanan_grid.specs.Grid.{hanan_grid_of}
+use Rattle.suite.specs.declared.refusal.Refusal.{Refusal}
+use Rattle.suite.specs.declared.refusal.Refusal.TheVariants.{NotPlain, GridTooLong, TooManyBytes, CannotRead, CannotWrite, OutOfMemory}
+use Rattle.suite.specs.declared.solve.Ending.{Ending}
+use Rattle.suite.specs.declared.solve.Ending.TheVariants.{Optimal, Stopped}
+use Rattle.suite.specs.Answer.{answer_text}
+
+-- the greatest number of bytes of an input that is taken whole
+abbrev pub input_limit : ℕ
+input_limit = 2 ^ 26
+
+-- the input was read to its end, and these are its bytes
+pub record IsWholeInput (before after : SourceState) (bytes : List ℕ) : Type 0 where
+  pub came : CameToTheEnd before.rest bytes after.rest
+  pub within : length bytes ≤ input_limit
+
+-- the input was read to its end, and its bytes are the written text of these points
+abbrev pub ListsPoints : SourceState → SourceState → List Point → Type 0
+ListsPoints before after ps = (bytes : List ℕ) × IsWholeInput before after bytes × IsPlainList bytes ps
+
+-- Hanan's grid of the points, of which repeats are dropped
+abbrev pub grid_of_points : List Point → Graph
+grid_of_points ps = hanan_grid_of (terminals_of ps)
+
+-- the edge set is a network of a graph
+pub record IsNetworkOf (g : Graph) (set : List Bool) : Type 0 where
+  pub size : length set ≡ length g.edges
+  pub joins : IsNetwork g set
+
+-- The input lists these points, their grid isn't too long, and the edge set is a network of it.
+pub record IsSolved (before after : SourceState) (ps : List Point) (set : List Bool) : Type 0 where
+  pub points : ListsPoints before after ps
+  pub short : total_of (grid_of_points ps) < 2 ^ 63
+  pub network : IsNetworkOf (grid_of_points ps) set
+
+-- the answer for the points and the network
+abbrev pub solve_text : List Point → List Bool → List ℕ
+solve_text ps set = answer_text (terminals_of ps) set
+
+-- the status of an answer with this length and the bound 0
+abbrev pub status_of_length : ℕ → ℕ
+status_of_length length = if length == 0 then 0 else 3
+
+abbrev pub status_of_ending : Ending → ℕ
+status_of_ending Optimal = 0
+status_of_ending Stopped = 3
+
+-- Why a run ends with a refusal. Want of memory has no cause that a contract could name.
+abbrev pub HasCause : Refusal → SourceState → SourceState → SinkState → SinkState → Type 0
+HasCause NotPlain input input' out out' =
+    (bytes : List ℕ) × IsWholeInput input input' bytes × ((ps : List Point) → IsPlainList bytes ps → ⊥)
+HasCause (GridTooLong total) input input' out out' =
+    (ps : List Point) × ListsPoints input input' ps × (total ≡ total_of (grid_of_points ps)) × (2 ^ 63 ≤ total)
+HasCause TooManyBytes input input' out out' =
+    (bytes : List ℕ) × (input_limit < length bytes) × Came input.rest bytes input'.rest
+HasCause CannotRead input input' out out' = Rose input.faults input'.faults
+HasCause CannotWrite input input' out out' =
+    (ps : List Point) × (set : List Bool) × IsSolved input input' ps set × CutShort out (solve_text ps set) out'
+HasCause OutOfMemory input input' out out' = Unit {0}
+
+-- Only a write that fails leaves a part of a text on `out`.
+abbrev pub KeepsOut : Refusal → SinkState → SinkState → Type 0
+KeepsOut NotPlain out out' = out' ≡ out
+KeepsOut (GridTooLong total) out out' = out' ≡ out
+KeepsOut TooManyBytes out out' = out' ≡ out
+KeepsOut CannotRead out out' = out' ≡ out
+KeepsOut CannotWrite out out' = Unit {0}
+KeepsOut OutOfMemory out out' = out' ≡ out
+
+-- The whole text of an answer for the input's points was written, and this is its status.
+abbrev pub PrintsAnswer : SourceState → SourceState → SinkState → SinkState → ℕ → Type 0
+PrintsAnswer input input' out out' status =
+    (ps : List Point) × (set : List Bool) × IsSolved input input' ps set × Wrote out (solve_text ps set) out'
+    × (status ≡ status_of_length (length_of (grid_of_points ps) set))
+
+-- A run of `solve` that ends so.
+abbrev pub IsSolveRun : SourceState → SourceState → SinkState → SinkState → Result Ending Refusal → Type 0
+IsSolveRun input input' out out' (Ok ending) = PrintsAnswer input input' out out' (status_of_ending ending)
+IsSolveRun input input' out out' (Err refusal) =
+    HasCause refusal input input' out out' × KeepsOut refusal out out'

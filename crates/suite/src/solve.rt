@@ -1,0 +1,89 @@
+//! The tool `solve`: points come in, the answer of a network that joins them goes out.
+
+ghost use Rattle.std.specs.Prelude.{◌≡◌, ◌<◌, ◌≤◌, ◌^◌, length};
+ghost use Rattle.suite.specs.Solve.{IsSolveRun};
+ghost use Rattle.suite.specs.SolveSteps.{TakesWhole, ReadsTerminals, MakesGrid, ReadsGrid};
+
+use crate::answer::write_answer;
+use crate::refusal::Refusal;
+use hanan_grid::{Grid, GridFault};
+use net_graph::length;
+use points_in::{PointFault, Points, read_points};
+use rst_outside::{PutFault, Sink, Source, TakeFault, take_all};
+use std::alloc::Global;
+use trunk_network::trunk_network;
+
+/// The greatest number of bytes of an input that is taken whole.
+const INPUT_LIMIT: u64 = 1 << 26;
+
+/// How a tool ends that printed an answer.
+#[derive(Clone, Copy, Debug, PartialEq, Eq)]
+pub enum Ending {
+    /// The bound is the length.
+    Optimal,
+    /// The bound is below the length.
+    Stopped,
+}
+
+/// Reads points from the input and writes the answer of a network of their grid to `out`. A refusal has the cause
+/// that it names; only where a write failed a part of an answer is on `out`.
+pub fn solve<I: Source, O: Sink>(
+    alloc: Global,
+    input: &mut I,
+    out: &mut O,
+) -> Result<Ending, Refusal>
+    ensures { IsSolveRun (I.state input.old) (I.state input.new) (O.state out.old) (O.state out.new) result }
+{
+    let grid = read_grid(alloc, input)?;
+    let Ok(network) = trunk_network(alloc, &grid) else {
+        return Err(Refusal::OutOfMemory);
+    };
+    match write_answer(out, &grid, &network) {
+        Ok(()) if length(grid.graph(), &network) == 0 => Ok(Ending::Optimal),
+        Ok(()) => Ok(Ending::Stopped),
+        Err(PutFault) => Err(Refusal::CannotWrite),
+    }
+}
+
+// The grid of the points that the input lists.
+fn read_grid<I: Source>(alloc: Global, input: &mut I) -> Result<Grid, Refusal>
+    ensures { ReadsGrid (I.state input.old) (I.state input.new) result }
+{
+    let bytes = take_whole(alloc, input)?;
+    let points = terminals_in(alloc, bytes.as_slice())?;
+    grid_of(alloc, &points)
+}
+
+// All bytes of the input.
+fn take_whole<I: Source>(alloc: Global, input: &mut I) -> Result<Vec<u8>, Refusal>
+    ensures { TakesWhole (I.state input.old) (I.state input.new) result }
+{
+    match take_all(alloc, input, INPUT_LIMIT) {
+        Ok(bytes) => Ok(bytes),
+        Err(TakeFault::Failed) => Err(Refusal::CannotRead),
+        Err(TakeFault::TooLong) => Err(Refusal::TooManyBytes),
+        Err(TakeFault::Memory(_)) => Err(Refusal::OutOfMemory),
+    }
+}
+
+// The terminals of a plain list of points.
+fn terminals_in(alloc: Global, bytes: &[u8]) -> Result<Points, Refusal>
+    ensures { ReadsTerminals bytes.now result }
+{
+    match read_points(alloc, bytes) {
+        Ok(points) => Ok(points),
+        Err(PointFault::NotPlain) => Err(Refusal::NotPlain),
+        Err(PointFault::Memory(_)) => Err(Refusal::OutOfMemory),
+    }
+}
+
+// The grid of terminals.
+fn grid_of(alloc: Global, points: &Points) -> Result<Grid, Refusal>
+    ensures { MakesGrid points.now result }
+{
+    match Grid::new(alloc, points) {
+        Ok(grid) => Ok(grid),
+        Err(GridFault::TooLong { total }) => Err(Refusal::GridTooLong { total }),
+        Err(GridFault::Memory(_)) => Err(Refusal::OutOfMemory),
+    }
+}
