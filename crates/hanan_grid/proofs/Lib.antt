@@ -1,4 +1,5 @@
 pub mod GraphFaults
+pub mod Readings
 pub mod Rows
 pub mod Spans
 pub mod Sorting

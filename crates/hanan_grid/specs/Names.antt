@@ -1,10 +1,19 @@
 -- The points of a grid's vertices, and the names of its edges.
-use Rattle.std.specs.Prelude.{ℕ, ◌/◌, ◌%◌, ℤ, List, length, slice_index_or}
+use Rattle.std.specs.Prelude.{ℕ, ◌/◌, ◌%◌, ℤ, List, length, Contains, slice_index_or}
 use Rattle.points_in.specs.declared.point.Point.{Point}
 use Rattle.net_graph.specs.declared.edge.Edge.{Edge}
 use Rattle.hanan_grid.specs.declared.name.EdgeName.{EdgeName}
 use Rattle.hanan_grid.specs.Lines.{line_at}
 use Rattle.hanan_grid.specs.Grid.{xs_of, ys_of, hanan_grid_of}
+
+-- both coordinates of the point are lines
+pub record IsCrossing (xs ys : List ℤ) (p : Point) : Type 0 where
+  pub x : Contains xs p.x
+  pub y : Contains ys p.y
+
+-- the crossing of a column and a row
+abbrev pub crossing : List ℤ → List ℤ → ℕ → ℕ → Point
+crossing xs ys i j = record { x = line_at xs i; y = line_at ys j }
 
 -- the point of a vertex: where its column crosses its row
 abbrev pub point_of_vertex : List ℤ → List ℤ → ℕ → Point

@@ -1,14 +1,17 @@
 //! Hanan's grid of a list of points.
 
-ghost use Rattle.std.specs.Prelude.{◌≡◌, ◌<◌, ◌≤◌, ◌^◌, length, IfOk, IfErr, OnOk};
+ghost use Rattle.std.specs.Prelude.{◌≡◌, ℕ, ◌+◌, ◌<◌, ◌≤◌, ◌^◌, length, slice_get, Some, IfOk, IfErr, OnOk};
 ghost use Rattle.points_in.specs.declared.point.Point.{Point};
 ghost use Rattle.net_graph.specs.Graph.{IsGraph, total_of};
-ghost use Rattle.hanan_grid.specs.Grid.{xs_of, ys_of, hanan_grid_of};
+ghost use Rattle.hanan_grid.specs.Grid.{xs_of, ys_of, vertex_number, vertex_of, horizontal, vertical, hanan_grid_of};
+ghost use Rattle.hanan_grid.specs.Names.{IsCrossing, crossing, point_of_vertex, name_of_edge};
 ghost use Rattle.hanan_grid.specs.Fault.{IsFaultOf};
 
 use crate::edges::{line_edges, point_vertices};
 use crate::fault::{GridFault, grid_fault};
 use crate::lines::{x_lines, y_lines};
+use crate::name::{EdgeName, name_between};
+use crate::place::{Place, crossing_at};
 use net_graph::{EdgeList, NetGraph, VertexList};
 use points_in::{MAX_POINTS, Point, Points};
 use std::alloc::Global;
@@ -57,6 +60,122 @@ impl Grid {
             ys,
             graph,
         })
+    }
+
+    /// The terminals, in their order.
+    pub fn points(&self) -> &Points
+        ensures { result.now ≡ self.now }
+    {
+        &self.points
+    }
+
+    /// The graph of the grid. Vertices are numbered row by row; edges too, the horizontal ones before the
+    /// vertical ones. Its terminals are the vertices of the grid's terminals, in their order.
+    pub fn graph(&self) -> &NetGraph
+        ensures graph { result.now ≡ hanan_grid_of self.now }
+        ensures sound { IsGraph (hanan_grid_of self.now) }
+    {
+        &self.graph
+    }
+
+    /// How many columns there are, which is how many distinct x the terminals have: 1 to 50.
+    pub fn columns(&self) -> u32
+        ensures columns { result ≡ length (xs_of self.now) }
+        ensures some { 0 < result }
+        ensures few { result ≤ 50 }
+    {
+        self.xs.len() as u32
+    }
+
+    /// How many rows there are, which is how many distinct y the terminals have: 1 to 50.
+    pub fn rows(&self) -> u32
+        ensures rows { result ≡ length (ys_of self.now) }
+        ensures some { 0 < result }
+        ensures few { result ≤ 50 }
+    {
+        self.ys.len() as u32
+    }
+
+    /// The column and the row of a vertex.
+    pub fn place(&self, vertex: u32) -> Place
+        requires { vertex < (hanan_grid_of self.now).vertices }
+        ensures column { result.column < length (xs_of self.now) }
+        ensures row { result.row < length (ys_of self.now) }
+        ensures vertex { vertex_number (length (xs_of self.now)) result.column result.row ≡ vertex }
+    {
+        let columns = self.xs.len() as u32;
+        Place {
+            column: vertex % columns,
+            row: vertex / columns,
+        }
+    }
+
+    /// The column and the row of the terminal at a place of the list, counted from 0.
+    pub fn terminal_place(&self, terminal: usize) -> Place
+        requires { terminal < length self.now }
+        ensures column { result.column < length (xs_of self.now) }
+        ensures row { result.row < length (ys_of self.now) }
+        ensures point { slice_get self.now terminal ≡ Some (crossing (xs_of self.now) (ys_of self.now) result.column result.row) }
+        ensures vertex { slice_get (hanan_grid_of self.now).terminals terminal
+            ≡ Some (vertex_number (length (xs_of self.now)) result.column result.row) }
+    {
+        self.place(self.graph.terminal(terminal))
+    }
+
+    /// The vertex of a column and a row.
+    pub fn vertex(&self, place: Place) -> u32
+        requires column { place.column < length (xs_of self.now) }
+        requires row { place.row < length (ys_of self.now) }
+        ensures vertex { result ≡ vertex_number (length (xs_of self.now)) place.column place.row }
+        ensures below { result < (hanan_grid_of self.now).vertices }
+    {
+        let columns = self.xs.len() as u32;
+        place.row * columns + place.column
+    }
+
+    /// The point of a vertex.
+    pub fn vertex_point(&self, vertex: u32) -> Point
+        requires { vertex < (hanan_grid_of self.now).vertices }
+        ensures point { result ≡ point_of_vertex (xs_of self.now) (ys_of self.now) vertex }
+        ensures crossing { IsCrossing (xs_of self.now) (ys_of self.now) result }
+        ensures vertex { vertex_of (xs_of self.now) (ys_of self.now) result ≡ vertex }
+    {
+        crossing_at(&self.xs, &self.ys, self.place(vertex))
+    }
+
+    /// The number of the edge from a crossing to the next one to the right.
+    pub fn horizontal_edge(&self, column: u32, row: u32) -> u32
+        requires column { column + 1 < length (xs_of self.now) }
+        requires row { row < length (ys_of self.now) }
+        ensures edge { slice_get (hanan_grid_of self.now).edges result ≡ Some (horizontal (xs_of self.now) row column) }
+        ensures below { result < length (hanan_grid_of self.now).edges }
+    {
+        let columns = self.xs.len() as u32;
+        row * (columns - 1) + column
+    }
+
+    /// The number of the edge from a crossing to the next one above.
+    pub fn vertical_edge(&self, column: u32, row: u32) -> u32
+        requires column { column < length (xs_of self.now) }
+        requires row { row + 1 < length (ys_of self.now) }
+        ensures edge { slice_get (hanan_grid_of self.now).edges result
+            ≡ Some (vertical (length (xs_of self.now)) (ys_of self.now) row column) }
+        ensures below { result < length (hanan_grid_of self.now).edges }
+    {
+        let columns = self.xs.len() as u32;
+        let rows = self.ys.len() as u32;
+        rows * (columns - 1) + row * columns + column
+    }
+
+    /// The name of an edge, by its number.
+    pub fn edge_name(&self, edge: u32) -> EdgeName
+        requires { edge < length (hanan_grid_of self.now).edges }
+        ensures name { result ≡ name_of_edge self.now edge }
+        ensures alone { (other : ℕ) → other < length (hanan_grid_of self.now).edges
+            → name_of_edge self.now other ≡ result → other ≡ edge }
+    {
+        let ends = self.graph.edge(edge);
+        name_between(self.vertex_point(ends.a), self.vertex_point(ends.b))
     }
 }
 

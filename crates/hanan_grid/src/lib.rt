@@ -6,7 +6,9 @@ mod fault;
 mod grid;
 mod lines;
 mod name;
+mod place;
 
 pub use fault::GridFault;
 pub use grid::Grid;
 pub use name::EdgeName;
+pub use place::Place;
