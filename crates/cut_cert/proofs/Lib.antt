@@ -4,3 +4,5 @@ pub mod Lines
 pub mod Readings
 pub mod TreeLemmas
 pub mod Lengths
+pub mod NetworkLemmas
+pub mod NodesText

@@ -7,7 +7,7 @@ use Rattle.net_graph.specs.declared.packing.Cut.{Cut}
 use Rattle.hanan_grid.specs.declared.name.EdgeName.{EdgeName}
 use Rattle.cut_cert.specs.Value.{Tree, WrittenAnswer}
 use Rattle.cut_cert.specs.Value.Tree.{Leaf, Split}
-use Rattle.cut_cert.specs.Text.{cut_line, edge_line, leaf_text, tree_text, head_text, network_text, answer_text}
+use Rattle.cut_cert.specs.Text.{cut_line, edge_line, leaf_text, tree_text, head_text, network_text, proof_text, answer_text}
 use Rattle.cut_cert.specs.Spelling.{FitsName, FitsCut, FitsTree, FitsAnswer, OneReading}
 use Rattle.cut_cert.proofs.Pieces.{number_front, texts_front, first_apart, IsToldByFront}
 use Rattle.cut_cert.proofs.Lines.{cut_front, edge_front, head_front}
@@ -55,14 +55,14 @@ tree_front V (Split d o i) (Split d' o' i') p q f g e =
 abbrev from_tree : WrittenAnswer → List ℕ → List ℕ
 from_tree a p = codes "tree\n" ++ (tree_text a.tree ++ (codes "end\n" ++ p))
 
--- the same where the head's and the tree's text are any
-any_pieces : (head tree : List ℕ) (edges : List EdgeName) (p : List ℕ) → head ++ network_text edges ++ codes "tree\n" ++ tree ++ codes "end\n" ++ p
-    ≡ head ++ (codes "edges " ++ from_count edge_line edges (codes "tree\n" ++ (tree ++ (codes "end\n" ++ p))))
-any_pieces head tree edges p = simp append_assoc
+-- the same where the head's text and the tree are any
+any_pieces : (head : List ℕ) (edges : List EdgeName) (tree : Tree EdgeName) (p : List ℕ) → head ++ network_text edges ++ proof_text tree ++ p
+    ≡ head ++ (codes "edges " ++ from_count edge_line edges (codes "tree\n" ++ (tree_text tree ++ (codes "end\n" ++ p))))
+any_pieces head edges tree p = simp append_assoc
 
 -- an answer and what follows it, piece by piece
 answer_pieces : (a : WrittenAnswer) (p : List ℕ) → answer_text a ++ p ≡ head_text a.head ++ (codes "edges " ++ from_count edge_line a.edges (from_tree a p))
-answer_pieces a p = any_pieces (head_text a.head) (tree_text a.tree) a.edges p
+answer_pieces a p = any_pieces (head_text a.head) a.edges a.tree p
 
 -- the text of an answer
 pub answer_front : (V : ℕ) → IsToldByFront (FitsAnswer V) answer_text

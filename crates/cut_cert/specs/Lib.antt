@@ -4,3 +4,4 @@ pub mod Spelling
 pub mod Kept
 pub mod Bound
 pub mod SetLaws
+pub mod Answers

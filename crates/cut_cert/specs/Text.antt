@@ -72,9 +72,16 @@ abbrev pub head_text : AnswerHead → List ℕ
 head_text h = result_text h ++ search_text h
 
 -- the network: how many edges it has, and the edges
-abbrev pub network_text : List EdgeName → List ℕ
-network_text edges = codes "edges " ++ decimal (length edges) ++ codes "\n" ++ flat_map edge_line edges
+abbrev pub edge_lines : List EdgeName → List ℕ
+edge_lines edges = flat_map edge_line edges
 
--- the head, the network, the tree, and the line that ends it all
+abbrev pub network_text : List EdgeName → List ℕ
+network_text edges = codes "edges " ++ decimal (length edges) ++ codes "\n" ++ edge_lines edges
+
+-- the tree between the line before it and the line that ends it all
+abbrev pub proof_text : Tree EdgeName → List ℕ
+proof_text tree = codes "tree\n" ++ tree_text tree ++ codes "end\n"
+
+-- the head, the network and the tree
 abbrev pub answer_text : WrittenAnswer → List ℕ
-answer_text a = head_text a.head ++ network_text a.edges ++ codes "tree\n" ++ tree_text a.tree ++ codes "end\n"
+answer_text a = head_text a.head ++ network_text a.edges ++ proof_text a.tree

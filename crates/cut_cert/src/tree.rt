@@ -1,9 +1,9 @@
 //! The tree of cuts that an answer's bound rests on.
 
-ghost use Rattle.std.specs.Prelude.{◌≡◌, ◌<◌, length, slice_get, sum_by, Some, IfOk};
+ghost use Rattle.std.specs.Prelude.{◌≡◌, ◌<◌, ◌≤◌, ◌^◌, length, slice_get, sum_by, Some, IfOk};
 ghost use Rattle.net_graph.specs.Decision.{nothing_decided};
 ghost use Rattle.cut_cert.specs.Value.Tree.{Leaf};
-ghost use Rattle.cut_cert.specs.Kept.{packings_of, split_count};
+ghost use Rattle.cut_cert.specs.Kept.{nodes_of, packings_of, split_count};
 ghost use Rattle.cut_cert.specs.Bound.{tree_value};
 
 use item_list::ItemList;
@@ -60,6 +60,14 @@ impl CertTree {
         ensures { result ≡ length (packings_of self.now) }
     {
         self.packings.len() as u32
+    }
+
+    // The nodes in preorder: None for a leaf, the edge for a split.
+    pub(crate) fn nodes(&self) -> &[Option<u32>]
+        ensures nodes { result.now ≡ nodes_of self.now }
+        ensures few { length (packings_of self.now) ≤ 2 ^ 31 }
+    {
+        self.nodes.as_slice()
     }
 
     /// The packing of a leaf, which is given by its place among the leaves in preorder.
