@@ -6,3 +6,4 @@ pub mod TreeLemmas
 pub mod Lengths
 pub mod NetworkLemmas
 pub mod NodesText
+pub mod PackingLemmas

@@ -1,5 +1,5 @@
 -- The lines of a network's edges, one flag after another.
-use Rattle.std.proofs.Common.{ℕ, ◌≡◌, ◌+◌, ◌<◌, Bool, true, false, cond, List, [], ◌∷◌, ◌++◌, length, take, ap, sym, ◌∙◌, length-append, append_assoc}
+use Rattle.std.proofs.Common.{arith, ℕ, ◌≡◌, ◌+◌, ◌<◌, Bool, true, false, cond, List, [], ◌∷◌, ◌++◌, length, take, ap, sym, ◌∙◌, length-append, append_assoc}
 use Rattle.std.specs.Prelude.{codes}
 use Rattle.std.specs.Fmt.{decimal}
 use Rattle.std.proofs.lemmas.List.{append-nil, map-append, length-map}
@@ -58,3 +58,14 @@ count-names ps numbers count is = is ∙ sym (length-map numbers (name_of_edge p
 pub network_pieces : (edges : List EdgeName) (count : ℕ) → count ≡ length edges
     → codes "edges " ++ (decimal count ++ (codes "\n" ++ edge_lines edges)) ≡ network_text edges
 network_pieces edges count is = rw is (simp append_assoc)
+
+-- a member's line adds its length
+pub lines_length-member : (ps : List Point) (set : List Bool) (e sum : ℕ) → e < length set → has set e ≡ true
+    → sum ≡ length (edge_lines (names_of ps (members_of (take e set)))) → sum + length (edge_line (name_of_edge ps e)) ≡ length (edge_lines (names_of ps (members_of (take (e + 1) set))))
+lines_length-member ps set e sum inside is so_far =
+    ap (λ n. n + length (edge_line (name_of_edge ps e))) so_far ∙ sym (length-append (edge_lines (names_of ps (members_of (take e set)))) (edge_line (name_of_edge ps e)))
+    ∙ ap length (lines-member ps set e inside is)
+
+-- the length of a network's text
+pub length-network_text : (edges : List EdgeName) → length (network_text edges) ≡ 7 + length (decimal (length edges)) + length (edge_lines edges)
+length-network_text edges = simp length-append (omega arith)

@@ -1,5 +1,5 @@
 -- The text of a tree, one node after another in preorder.
-use Rattle.std.proofs.Common.{ℕ, suc, ◌≡◌, ◌+◌, ◌<◌, ◌≤◌, List, [], ◌∷◌, ◌++◌, length, take, drop, get_or, refl, ap, sym, ◌∙◌, arith, append_assoc, length-append, Option, Some, None}
+use Rattle.std.proofs.Common.{ℕ, suc, ◌≡◌, ◌+◌, ◌*◌, ◌<◌, ◌≤◌, List, [], ◌∷◌, ◌++◌, length, take, drop, get_or, refl, ap, sym, ◌∙◌, arith, append_assoc, length-append, Option, Some, None}
 use Rattle.std.proofs.lemmas.List.{append-nil, take_more, take-append-drop}
 use Rattle.std.proofs.lemmas.Option.{slice_get-get_or}
 use Rattle.std.specs.Prelude.{slice_get}
@@ -42,8 +42,12 @@ tree_then : (ps : List Point) (t : Tree ℕ) (nodes : List (Option ℕ)) (packin
     → nodes_text ps (nodes_of t ++ nodes) (packings_of t ++ packings) ≡ tree_text (named ps t) ++ nodes_text ps nodes packings
 tree_then ps (Leaf cuts) nodes packings = refl
 tree_then ps (Split e o i) nodes packings =
-    rw (append_assoc (nodes_of o) (nodes_of i) nodes, append_assoc (packings_of o) (packings_of i) packings,
-        tree_then ps o (nodes_of i ++ nodes) (packings_of i ++ packings), tree_then ps i nodes packings)
+    rw (
+      append_assoc (nodes_of o) (nodes_of i) nodes,
+      append_assoc (packings_of o) (packings_of i) packings,
+      tree_then ps o (nodes_of i ++ nodes) (packings_of i ++ packings),
+      tree_then ps i nodes packings,
+    )
     (sym (append_assoc (split_line (name_of_edge ps e)) (tree_text (named ps o)) (tree_text (named ps i) ++ nodes_text ps nodes packings)) ∙ sym (append_assoc (split_line (name_of_edge ps e) ++ tree_text (named ps o)) (tree_text (named ps i)) (nodes_text ps nodes packings)))
 
 -- the nodes of a tree have its text
@@ -113,3 +117,18 @@ pub leaf_below : (t : Tree ℕ) (nodes : List (Option ℕ)) (i leaf : ℕ) → n
 leaf_below t nodes i leaf same inside is count =
     let all : leaves_in nodes ≡ length (packings_of t) = ap leaves_in same ∙ leaves_in-nodes_of t in
     omega (arith, leaf_leaves nodes i inside is, leaves_in-take nodes (i + 1))
+
+-- no more leaves were passed than there are
+pub leaf_within : (t : Tree ℕ) (nodes : List (Option ℕ)) (i leaf : ℕ) → nodes ≡ nodes_of t → leaf ≡ leaves_in (take i nodes) → leaf ≤ length (packings_of t)
+leaf_within t nodes i leaf same count =
+    let all : leaves_in nodes ≡ length (packings_of t) = ap leaves_in same ∙ leaves_in-nodes_of t in
+    omega (arith, leaves_in-take nodes i)
+
+-- the nodes are the leaves and, one fewer, the splits
+pub length-nodes_of : (t : Tree ℕ) → length (nodes_of t) + 1 ≡ 2 * length (packings_of t)
+length-nodes_of (Leaf cuts) = omega arith
+length-nodes_of (Split e o i) =
+    omega (arith, length-append (nodes_of o) (nodes_of i), length-append (packings_of o) (packings_of i), length-nodes_of o, length-nodes_of i)
+
+pub nodes_count : (t : Tree ℕ) (nodes : List (Option ℕ)) → nodes ≡ nodes_of t → length nodes + 1 ≡ 2 * length (packings_of t)
+nodes_count t nodes same = ap (λ x. length x + 1) same ∙ length-nodes_of t

@@ -51,7 +51,7 @@ fn write_network<S: Sink>(block: &mut Block, sink: &mut S, grid: &Grid, network:
 }
 
 // How many edges the set has.
-fn count_of(set: &EdgeSet) -> u32
+pub(crate) fn count_of(set: &EdgeSet) -> u32
     ensures { result ≡ length (members_of set.now) }
 {
     let mut count = 0;

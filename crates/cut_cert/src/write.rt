@@ -136,8 +136,15 @@ fn digit_at(set: &VertexSet, place: u32) -> u8
     ensures { result ≡ digit_at_place set.now place }
 {
     let first = 4 * u64::from(place);
-    let value = 8 * flag_at(set, first) + 4 * flag_at(set, first + 1) + 2 * flag_at(set, first + 2) + flag_at(set, first + 3);
-    if value < 10 { b'0' + value } else { b'a' + (value - 10) }
+    let value = 8 * flag_at(set, first)
+        + 4 * flag_at(set, first + 1)
+        + 2 * flag_at(set, first + 2)
+        + flag_at(set, first + 3);
+    if value < 10 {
+        b'0' + value
+    } else {
+        b'a' + (value - 10)
+    }
 }
 
 // 1 for a member, and else 0, also past the end of the set.

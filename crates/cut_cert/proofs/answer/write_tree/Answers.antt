@@ -22,18 +22,18 @@ loop-node-preserved g c =
     let packings = packings_of c.args.tree.now in
     let i = c.loop-node.node-index in
     elim c.match-node.branch [
-      in-Some w ↦ record {
+      | in-Some w ↦ record {
         leaf = w.leaf-is ∙ c.loop-node.invariant.leaf ∙ split_leaves nodes i w.in-Some.edge c.loop-node-test.true w.in-Some.is;
         text =
-          let text = ap (λ name. nodes_text c.args.grid.now (take i nodes) packings ++ split_line name) w.edge_name.ensures.name ∙ split_step c.args.grid.now nodes packings i w.in-Some.edge c.loop-node-test.true w.in-Some.is in
-          rw (w.sink-is, w.block-is) (gathers_two _ _ _ _ _ _ _ _ _ c.loop-node.invariant.text w.write_split.ensures text);
+            let text = ap (λ name. nodes_text c.args.grid.now (take i nodes) packings ++ split_line name) w.edge_name.ensures.name ∙ split_step c.args.grid.now nodes packings i w.in-Some.edge c.loop-node-test.true w.in-Some.is in
+            rw (w.sink-is, w.block-is) (gathers_two _ _ _ _ _ _ _ _ _ c.loop-node.invariant.text w.write_split.ensures text);
       }
-    | in-None w ↦ record {
+      | in-None w ↦ record {
         leaf = w.leaf-is ∙ ap (λ n. n + 1) c.loop-node.invariant.leaf ∙ leaf_leaves nodes i c.loop-node-test.true w.in-None.is;
         text =
-          let below = leaf_below c.args.tree.now nodes i c.loop-node.leaf c.nodes-node-items.ensures.nodes c.loop-node-test.true w.in-None.is c.loop-node.invariant.leaf in
-          let text = leaf_step c.args.grid.now nodes packings i c.loop-node.leaf w.packing.result.now c.loop-node-test.true w.in-None.is c.loop-node.invariant.leaf below w.packing.ensures in
-          rw (w.sink-is, w.block-is) (gathers_two _ _ _ _ _ _ _ _ _ c.loop-node.invariant.text w.write_leaf.ensures text);
+            let below = leaf_below c.args.tree.now nodes i c.loop-node.leaf c.nodes-node-items.ensures.nodes c.loop-node-test.true w.in-None.is c.loop-node.invariant.leaf in
+            let text = leaf_step c.args.grid.now nodes packings i c.loop-node.leaf w.packing.result.now c.loop-node-test.true w.in-None.is c.loop-node.invariant.leaf below w.packing.ensures in
+            rw (w.sink-is, w.block-is) (gathers_two _ _ _ _ _ _ _ _ _ c.loop-node.invariant.text w.write_leaf.ensures text);
       }
     ]
 

@@ -8,5 +8,5 @@ use Rattle.cut_cert.proofs.answer.write_tree.Given as goal
 abbrev pub invariant-loop-node : goal.invariant-loop-node
 invariant-loop-node g l = record {
   leaf : l.leaf ≡ leaves_in (take l.node-index l.node-items);
-  text : Gathers (g.S.Sink.state l.initial.sink) l.initial.block (nodes_text l.grid (take l.node-index l.node-items) (packings_of l.tree)) (g.S.Sink.state l.sink) l.block
+  text : Gathers (g.S.Sink.state l.initial.sink) l.initial.block (nodes_text l.grid (take l.node-index l.node-items) (packings_of l.tree)) (g.S.Sink.state l.sink) l.block;
 }

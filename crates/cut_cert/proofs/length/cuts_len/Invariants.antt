@@ -4,4 +4,4 @@ use Rattle.cut_cert.proofs.length.cuts_len.Given as goal
 
 -- the length of the lines of the cuts passed
 abbrev pub invariant-loop-cut : goal.invariant-loop-cut
-invariant-loop-cut l = record { length : l.sum ≡ length (cut_lines (take l.cut-index l.cuts)); short : l.sum ≤ 2546 * l.cut-index }
+invariant-loop-cut l = record { length : l.sum ≡ length (cut_lines (take l.cut-index l.cuts)); short : l.sum ≤ 651 * l.cut-index }
