@@ -1,3 +1,4 @@
+pub mod Found
 pub mod GraphFaults
 pub mod Readings
 pub mod Rows

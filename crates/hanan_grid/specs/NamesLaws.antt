@@ -94,7 +94,7 @@ edge_cases xs ys e inside =
     ]
 
 -- the names between points that are one are one
-same_between : (p p' q q' : Point) → p ≡ p' → q ≡ q' → name_between p q ≡ name_between p' q'
+pub same_between : (p p' q q' : Point) → p ≡ p' → q ≡ q' → name_between p q ≡ name_between p' q'
 same_between p p' q q' from to = cc
 
 -- a horizontal edge is named by its crossings

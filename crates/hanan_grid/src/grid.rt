@@ -1,16 +1,18 @@
 //! Hanan's grid of a list of points.
 
-ghost use Rattle.std.specs.Prelude.{◌≡◌, ℕ, ◌+◌, ◌<◌, ◌≤◌, ◌^◌, length, slice_get, Some, IfOk, IfErr, OnOk};
+ghost use Rattle.std.specs.Prelude.{◌≡◌, ℕ, ◌+◌, ◌<◌, ◌≤◌, ◌^◌, length, slice_get, Some, IfOk, IfErr, IfSome, IfNone, OnOk};
 ghost use Rattle.points_in.specs.declared.point.Point.{Point};
 ghost use Rattle.net_graph.specs.Graph.{IsGraph, total_of};
 ghost use Rattle.hanan_grid.specs.Grid.{xs_of, ys_of, vertex_number, vertex_of, horizontal, vertical, hanan_grid_of};
-ghost use Rattle.hanan_grid.specs.Names.{IsCrossing, crossing, point_of_vertex, name_of_edge};
+ghost use Rattle.hanan_grid.specs.Names.{IsCrossing, crossing, point_of_vertex, name_of_edge, name_of_crossings, NamesNoEdge};
+ghost use Rattle.hanan_grid.specs.Distance.{distance_of};
 ghost use Rattle.hanan_grid.specs.Fault.{IsFaultOf};
 
+use crate::distance::distance_between;
 use crate::edges::{line_edges, point_vertices};
 use crate::fault::{GridFault, grid_fault};
-use crate::lines::{x_lines, y_lines};
-use crate::name::{EdgeName, name_between};
+use crate::lines::{found_in, x_lines, y_lines};
+use crate::name::{EdgeName, name_between, named_points};
 use crate::place::{Place, crossing_at};
 use net_graph::{EdgeList, NetGraph, VertexList};
 use points_in::{MAX_POINTS, Point, Points};
@@ -176,6 +178,75 @@ impl Grid {
     {
         let ends = self.graph.edge(edge);
         name_between(self.vertex_point(ends.a), self.vertex_point(ends.b))
+    }
+
+    /// The column and the row of a point, where it is a crossing.
+    pub fn place_at(&self, point: Point) -> Option<Place>
+        ensures column { IfSome result (λ place. place.column < length (xs_of self.now)) }
+        ensures row { IfSome result (λ place. place.row < length (ys_of self.now)) }
+        ensures point { IfSome result (λ place. crossing (xs_of self.now) (ys_of self.now) place.column place.row ≡ point) }
+        ensures none { IfNone result (¬ IsCrossing (xs_of self.now) (ys_of self.now) point) }
+    {
+        let column = found_in(&self.xs, point.x)?;
+        let row = found_in(&self.ys, point.y)?;
+        Some(Place { column, row })
+    }
+
+    /// The vertex of a point, where it is a crossing.
+    pub fn vertex_at(&self, point: Point) -> Option<u32>
+        ensures below { IfSome result (λ v. v < (hanan_grid_of self.now).vertices) }
+        ensures vertex { IfSome result (λ v. v ≡ vertex_of (xs_of self.now) (ys_of self.now) point) }
+        ensures point { IfSome result (λ v. point_of_vertex (xs_of self.now) (ys_of self.now) v ≡ point) }
+        ensures none { IfNone result (¬ IsCrossing (xs_of self.now) (ys_of self.now) point) }
+    {
+        let place = self.place_at(point)?;
+        Some(self.vertex(place))
+    }
+
+    /// The number of the edge of a name, where there is one.
+    pub fn edge_named(&self, name: &EdgeName) -> Option<u32>
+        ensures below { IfSome result (λ e. e < length (hanan_grid_of self.now).edges) }
+        ensures name { IfSome result (λ e. name_of_edge self.now e ≡ name.now) }
+        ensures none { IfNone result (NamesNoEdge self.now name.now) }
+    {
+        let (from, to) = named_points(name);
+        let from = self.place_at(from)?;
+        let to = self.place_at(to)?;
+        self.edge_between(from, to)
+    }
+
+    // The number of the edge between two crossings, where there is one from the first to the second.
+    fn edge_between(&self, from: Place, to: Place) -> Option<u32>
+        requires from_column { from.column < length (xs_of self.now) }
+        requires from_row { from.row < length (ys_of self.now) }
+        requires to_column { to.column < length (xs_of self.now) }
+        requires to_row { to.row < length (ys_of self.now) }
+        ensures below { IfSome result (λ e. e < length (hanan_grid_of self.now).edges) }
+        ensures name { IfSome result (λ e. name_of_edge self.now e ≡ name_of_crossings self.now from to) }
+        ensures none { IfNone result (NamesNoEdge self.now (name_of_crossings self.now from to)) }
+    {
+        let columns = self.columns();
+        let rows = self.rows();
+        prove!(from.column < columns && from.row < rows);
+        if to.is_right_of(from) {
+            Some(self.horizontal_edge(from.column, from.row))
+        } else if to.is_above(from) {
+            Some(self.vertical_edge(from.column, from.row))
+        } else {
+            None
+        }
+    }
+
+    /// How far it is along x and along y between the terminals at two places of the list, counted from 0.
+    /// It is at most the graph's total, which is below 2^63.
+    pub fn distance(&self, i: usize, j: usize) -> u64
+        requires first { i < length self.now }
+        requires second { j < length self.now }
+        ensures distance { result ≡ distance_of self.now i j }
+        ensures within { result ≤ total_of (hanan_grid_of self.now) }
+        ensures fits { result < 2 ^ 63 }
+    {
+        distance_between(self.points.get(i), self.points.get(j))
     }
 }
 

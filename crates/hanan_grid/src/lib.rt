@@ -1,6 +1,7 @@
 //! Hanan's grid of a list of points.
 #![tactic(auto)]
 
+mod distance;
 mod edges;
 mod fault;
 mod grid;

@@ -25,3 +25,18 @@ pub fn name_between(from: Point, to: Point) -> EdgeName
         y2: to.y,
     }
 }
+
+// The two points of a name.
+pub fn named_points(name: &EdgeName) -> (Point, Point)
+    ensures { name_between result.0 result.1 ≡ name.now }
+{
+    let from = Point {
+        x: name.x1,
+        y: name.y1,
+    };
+    let to = Point {
+        x: name.x2,
+        y: name.y2,
+    };
+    (from, to)
+}

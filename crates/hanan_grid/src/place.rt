@@ -1,7 +1,8 @@
 //! Where a vertex of a grid is.
 
-ghost use Rattle.std.specs.Prelude.{◌≡◌, ◌<◌, length};
+ghost use Rattle.std.specs.Prelude.{◌≡◌, ◌<◌, length, IsTrue, ◌↔◌};
 ghost use Rattle.hanan_grid.specs.Names.{crossing};
+ghost use Rattle.hanan_grid.specs.Neighbours.{IsRightOf, IsAbove};
 
 use crate::lines::line;
 use points_in::Point;
@@ -13,6 +14,24 @@ pub struct Place {
     pub column: u32,
     /// The place of its y among the distinct y of the terminals, from below and counted from 0.
     pub row: u32,
+}
+
+impl Place {
+    // Whether this is the next crossing to the right of another one.
+    pub fn is_right_of(self, other: Place) -> bool
+        requires { other.column < 50 }
+        ensures { IsTrue result ↔ IsRightOf self other }
+    {
+        self.row == other.row && self.column == other.column + 1
+    }
+
+    // Whether this is the next crossing above another one.
+    pub fn is_above(self, other: Place) -> bool
+        requires { other.row < 50 }
+        ensures { IsTrue result ↔ IsAbove self other }
+    {
+        self.column == other.column && self.row == other.row + 1
+    }
 }
 
 // The point where a column and a row cross.

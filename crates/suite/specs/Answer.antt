@@ -2,6 +2,7 @@
 use Rattle.std.specs.Prelude.{ℕ, ℤ, ◌==◌, Bool, List, [], ◌∷◌, ◌++◌, flat_map, codes, decimal, length, if◌then◌else◌}
 use Rattle.std.specs.Fmt.{signed_decimal}
 use Rattle.points_in.specs.declared.point.Point.{Point}
+use Rattle.net_graph.specs.Flags.{has}
 use Rattle.net_graph.specs.Members.{members_of}
 use Rattle.net_graph.specs.Network.{length_of}
 use Rattle.hanan_grid.specs.declared.name.EdgeName.{EdgeName}
@@ -33,6 +34,10 @@ point_words x y = signed_decimal x ++ codes " " ++ signed_decimal y
 -- x1 y1 x2 y2
 abbrev pub edge_line : EdgeName → List ℕ
 edge_line name = point_words name.x1 name.y1 ++ codes " " ++ point_words name.x2 name.y2 ++ codes "\n"
+
+-- the line of an edge of a number, where it is in the set
+abbrev pub member_line : List Point → List Bool → ℕ → List ℕ
+member_line ps set n = if has set n then edge_line (name_of_edge ps n) else []
 
 -- a line for each of the edges with these numbers
 abbrev pub edge_lines : List Point → List ℕ → List ℕ

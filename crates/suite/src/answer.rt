@@ -5,7 +5,7 @@ ghost use Rattle.rst_outside.specs.Sink.{Writes};
 ghost use Rattle.text_out.specs.Gathers.{Gathers};
 ghost use Rattle.net_graph.specs.Members.{members_of};
 ghost use Rattle.hanan_grid.specs.Grid.{hanan_grid_of};
-ghost use Rattle.suite.specs.Answer.{answer_text, counts_text, edge_line, edge_lines, head_text, lengths_text, point_words, status_word};
+ghost use Rattle.suite.specs.Answer.{answer_text, counts_text, edge_line, edge_lines, head_text, lengths_text, member_line, point_words, status_word};
 
 use hanan_grid::{EdgeName, Grid};
 use net_graph::{EdgeSet, length};
@@ -19,12 +19,29 @@ pub fn write_answer<O: Sink>(out: &mut O, grid: &Grid, network: &EdgeSet) -> Res
     ensures { Writes (O.state out.old) (answer_text grid.now network.now) (O.state out.new) result }
 {
     let mut block = Block::new();
-    let network_length = length(grid.graph(), network);
-    write_lengths(&mut block, out, network_length);
-    write_counts(&mut block, out, network_length, count_of(network));
-    write_edges(&mut block, out, grid, network);
-    literal(&mut block, out, b"tree\nleaf 0\nend\n");
+    write_text(&mut block, out, grid, network);
     finish(block, out)
+}
+
+// The text, of which the last bytes wait in the block.
+#[tactic(auto, using(text_out::specs::GatherLaws::pieces))]
+fn write_text<O: Sink>(block: &mut Block, out: &mut O, grid: &Grid, network: &EdgeSet)
+    requires { length network.now ≡ length (hanan_grid_of grid.now).edges }
+    ensures { Gathers (O.state out.old) block.old (answer_text grid.now network.now) (O.state out.new) block.new }
+{
+    let network_length = length(grid.graph(), network);
+    write_head(block, out, network_length, count_of(network));
+    write_edges(block, out, grid, network);
+    literal(block, out, b"tree\nleaf 0\nend\n");
+}
+
+// The lines before the edges.
+#[tactic(auto, using(text_out::specs::GatherLaws::pieces))]
+fn write_head<O: Sink>(block: &mut Block, out: &mut O, length: u64, count: u32)
+    ensures { Gathers (O.state out.old) block.old (head_text length count) (O.state out.new) block.new }
+{
+    write_lengths(block, out, length);
+    write_counts(block, out, length, count);
 }
 
 // The lines up to the status.
@@ -35,6 +52,13 @@ fn write_lengths<O: Sink>(block: &mut Block, out: &mut O, length: u64)
     literal(block, out, b"rst answer 1\nlength ");
     number(block, out, length);
     literal(block, out, b"\nbound 0\nstatus ");
+    write_word(block, out, length);
+}
+
+// The word of the status.
+fn write_word<O: Sink>(block: &mut Block, out: &mut O, length: u64)
+    ensures { Gathers (O.state out.old) block.old (status_word length) (O.state out.new) block.new }
+{
     literal(block, out, word_of(length));
 }
 
@@ -58,6 +82,7 @@ fn word_of(length: u64) -> &'static [u8]
 }
 
 // How many edges the set has.
+#[tactic(auto, using(crate::proofs::EdgeLines::members))]
 fn count_of(set: &EdgeSet) -> u32
     ensures { result ≡ length (members_of set.now) }
 {
@@ -71,14 +96,30 @@ fn count_of(set: &EdgeSet) -> u32
 }
 
 // A line for each edge of the set, in ascending number.
+#[tactic(auto, using(crate::proofs::EdgeLines::gathers_member))]
 fn write_edges<O: Sink>(block: &mut Block, out: &mut O, grid: &Grid, network: &EdgeSet)
     requires { length network.now ≡ length (hanan_grid_of grid.now).edges }
     ensures { Gathers (O.state out.old) block.old (edge_lines grid.now (members_of network.now)) (O.state out.new) block.new }
 {
     for e in 0..network.len() {
-        if network.has(e) {
-            write_edge(block, out, &grid.edge_name(e));
-        }
+        write_member(block, out, grid, network, e);
+    }
+}
+
+// The line of an edge, where it is in the set.
+fn write_member<O: Sink>(
+    block: &mut Block,
+    out: &mut O,
+    grid: &Grid,
+    network: &EdgeSet,
+    e: u32,
+)
+    requires size { length network.now ≡ length (hanan_grid_of grid.now).edges }
+    requires edge { e < length network.now }
+    ensures { Gathers (O.state out.old) block.old (member_line grid.now network.now e) (O.state out.new) block.new }
+{
+    if network.has(e) {
+        write_edge(block, out, &grid.edge_name(e));
     }
 }
 
