@@ -5,6 +5,8 @@ mod answer;
 mod head;
 mod length;
 mod reading;
+#[cfg(test)]
+mod tests;
 mod tree;
 mod write;
 

@@ -123,7 +123,7 @@ fn write_cut<S: Sink>(block: &mut Block, sink: &mut S, cut: &Cut)
 
 // The digits of a set.
 #[tactic(auto, using(text_out::specs::GatherLaws::pieces))]
-fn write_set<S: Sink>(block: &mut Block, sink: &mut S, set: &VertexSet)
+pub(crate) fn write_set<S: Sink>(block: &mut Block, sink: &mut S, set: &VertexSet)
     ensures { Gathers (S.state sink.old) block.old (set_text set.now) (S.state sink.new) block.new }
 {
     for place in 0..set.len().div_ceil(4) {
