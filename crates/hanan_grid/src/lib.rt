@@ -13,3 +13,6 @@ pub use fault::GridFault;
 pub use grid::Grid;
 pub use name::EdgeName;
 pub use place::Place;
+
+#[cfg(test)]
+mod tests;

@@ -5,3 +5,4 @@ pub mod NetworkLemmas
 pub mod FlagWords
 pub mod LengthLemmas
 pub mod DecisionLemmas
+pub mod PackingLemmas

@@ -13,3 +13,4 @@ pub mod Joins
 pub mod Decision
 pub mod Packing
 pub mod LengthLaws
+pub mod PackingLaws

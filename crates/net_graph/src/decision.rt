@@ -47,6 +47,13 @@ impl Decision {
         self.states[e as usize]
     }
 
+    // Whether the edge of this number is inside. There is none past the last.
+    pub(crate) fn is_inside(&self, n: usize) -> bool
+        ensures { IsTrue result ↔ (slice_get self.now n ≡ Some EdgeState.Inside) }
+    {
+        matches!(self.states.get(n), Some(EdgeState::Inside))
+    }
+
     /// The states of all edges, by number.
     pub fn states(&self) -> &[EdgeState]
         ensures { result.now ≡ self.now }
@@ -83,16 +90,9 @@ fn ends_inside(g: &NetGraph, d: &Decision, v: u32) -> bool
     ensures { IsTrue result ↔ EndsInside g.now d.now v }
 {
     for (n, e) in g.edges().iter().enumerate() {
-        if is_inside(d.states(), n) && (e.a == v || e.b == v) {
+        if d.is_inside(n) && (e.a == v || e.b == v) {
             return true;
         }
     }
     false
-}
-
-// Whether the edge of this number is inside.
-pub(crate) fn is_inside(states: &[EdgeState], n: usize) -> bool
-    ensures { IsTrue result ↔ (slice_get states.now n ≡ Some EdgeState.Inside) }
-{
-    matches!(states.get(n), Some(EdgeState::Inside))
 }

@@ -11,6 +11,8 @@ mod lengths;
 mod network;
 mod packing;
 mod search;
+#[cfg(test)]
+mod search_tests;
 mod sets;
 
 pub use arcs::{Arc, partner};
@@ -19,6 +21,6 @@ pub use edge::{Edge, EdgeList, VertexList};
 pub use graph::{GraphFault, NetGraph};
 pub use lengths::length;
 pub use network::{joins, reached};
-pub use packing::{Cut, EdgeState};
+pub use packing::{Cut, EdgeState, Packing, value};
 pub use search::{Passage, leading_to, reached_from};
 pub use sets::{EdgeSet, VertexSet};

@@ -1,6 +1,14 @@
 //! Weighted directed cuts, and what is decided of edges.
 
+ghost use Rattle.std.specs.Prelude.{◌≡◌, ◌+◌, ◌<◌, ◌≤◌, ◌^◌, [], ◌∷◌, ◌++◌, length, slice_get, sum_by, Some, IfOk, OnOk, OnErr};
+ghost use Rattle.net_graph.specs.Packing.{inside_length, packing_value};
+
+use crate::decision::Decision;
+use crate::edge::Edge;
+use crate::graph::NetGraph;
 use crate::sets::VertexSet;
+use std::alloc::{AllocError, Global};
+use std::marker::Model;
 
 /// What a decision says of an edge.
 #[derive(Clone, Copy, Debug, PartialEq, Eq)]
@@ -15,4 +23,172 @@ pub enum EdgeState {
 pub struct Cut {
     pub weight: u64,
     pub members: VertexSet,
+}
+
+impl Cut {
+    /// The same cut again. An error comes where memory is short.
+    pub fn copy(&self) -> Result<Cut, AllocError>
+        ensures { IfOk result (λ c. c ≡ self.now) }
+    {
+        let members = self.members.copy()?;
+        Ok(Cut {
+            weight: self.weight,
+            members,
+        })
+    }
+}
+
+/// A list of cuts. Contracts see the list itself.
+#[derive(Debug, Drop)]
+pub struct Packing {
+    cuts: Vec<Cut>,
+}
+
+impl Model for Packing {
+    ghost use Rattle.std.specs.Prelude.{List};
+    ghost use Rattle.net_graph.specs.declared.packing.Cut.{Cut};
+
+    ghost Value = { List Cut };
+
+    ghost view = { λ p. p.cuts.items };
+}
+
+impl Packing {
+    /// The packing with no cut. It takes no memory; a later `push` takes it from `alloc`.
+    pub fn empty(alloc: Global) -> Packing
+        ensures { result ≡ [] }
+    {
+        Packing {
+            cuts: Vec::new(alloc),
+        }
+    }
+
+    /// How many cuts there are.
+    pub fn len(&self) -> usize
+        ensures { result ≡ length self.now }
+    {
+        self.cuts.len()
+    }
+
+    /// The cut at a place, counted from 0.
+    pub fn get(&self, place: usize) -> &Cut
+        requires { place < length self.now }
+        ensures { slice_get self.now place ≡ Some result.now }
+    {
+        &self.cuts[place]
+    }
+
+    /// All cuts, in order.
+    pub fn cuts(&self) -> &[Cut]
+        ensures { result.now ≡ self.now }
+    {
+        self.cuts.as_slice()
+    }
+
+    /// Appends a cut. An `Err` is want of memory, and leaves the packing as it was.
+    pub fn push(&mut self, cut: Cut) -> Result<(), AllocError>
+        ensures ok { OnOk result (self.new ≡ self.old ++ cut ∷ []) }
+        ensures err { OnErr result (self.new ≡ self.old) }
+    {
+        self.cuts.push(cut)?;
+        Ok(())
+    }
+
+    /// The same packing again. An error comes where memory is short.
+    pub fn copy(&self) -> Result<Packing, AllocError>
+        ensures { IfOk result (λ p. p ≡ self.now) }
+    {
+        let mut cuts = Vec::with_capacity(self.cuts.allocator().clone()?, self.cuts.len())?;
+        for cut in &self.cuts {
+            cuts.push_reserved(cut.copy()?);
+        }
+        Ok(Packing { cuts })
+    }
+}
+
+/// The value of a packing under a decision: the length of the inside edges and the weights of the cuts, below 2^97.
+pub fn value(g: &NetGraph, d: &Decision, p: &Packing) -> u128
+    requires { length p.now ≤ 2 ^ 32 }
+    ensures value { result ≡ packing_value g.now d.now p.now }
+    ensures small { result < 2 ^ 97 }
+{
+    u128::from(length_inside(g.edges(), d)) + total_weight(p.cuts())
+}
+
+// The sum of the lengths of the inside edges.
+fn length_inside(edges: &[Edge], d: &Decision) -> u64
+    requires { sum_by (λ e. e.length) edges.now < 2 ^ 63 }
+    ensures { result ≡ inside_length edges.now d.now }
+{
+    let mut sum = 0;
+    for (n, e) in edges.iter().enumerate() {
+        if d.is_inside(n) {
+            sum += e.length;
+        }
+    }
+    sum
+}
+
+// The sum of the weights.
+fn total_weight(cuts: &[Cut]) -> u128
+    requires { length cuts.now ≤ 2 ^ 32 }
+    ensures sum { result ≡ sum_by (λ c. c.weight) cuts.now }
+    ensures small { result < 2 ^ 96 }
+{
+    let mut sum = 0;
+    for cut in cuts {
+        sum += u128::from(cut.weight);
+    }
+    sum
+}
+
+#[cfg(test)]
+mod tests {
+    use super::*;
+    use crate::decision::required;
+    use item_list::ItemList;
+    use std::test::Fail;
+
+    // Edges of the lengths 5 and 7 in a row, between the terminals 0 and 2.
+    fn two_edges(alloc: Global) -> Result<NetGraph, Fail>
+        ensures { IfOk result (λ g. length g.edges ≡ 2) }
+    {
+        let first = Edge {
+            a: 0,
+            b: 1,
+            length: 5,
+        };
+        let second = Edge {
+            a: 1,
+            b: 2,
+            length: 7,
+        };
+        let edges = ItemList::from_vec(vec![in alloc; first, second]?);
+        let terminals = ItemList::from_vec(vec![in alloc; 0, 2]?);
+        let g = NetGraph::new(alloc, 3, edges, terminals)?;
+        Ok(g)
+    }
+
+    #[test]
+    fn an_inside_edge_requires_its_ends(rt: HostRuntime) -> Result<(), Fail> {
+        let g = two_edges(rt.alloc())?;
+        let mut d = Decision::none(rt.alloc(), &g)?;
+        let before = required(&g, &d, 1);
+        d.decide(0, EdgeState::Inside);
+        let d = d.copy()?;
+        assert_eq!(rt; [before, required(&g, &d, 1)], [false, true]);
+        Ok(())
+    }
+
+    #[test]
+    fn a_cut_and_its_copy_weigh_the_same(rt: HostRuntime) -> Result<(), Fail> {
+        let g = two_edges(rt.alloc())?;
+        let d = Decision::none(rt.alloc(), &g)?;
+        let members = VertexSet::empty(rt.alloc(), 3)?;
+        let mut p = Packing::empty(rt.alloc());
+        p.push(Cut { weight: 7, members })?;
+        let p = p.copy()?;
+        assert_eq!(rt; value(&g, &d, &p), 7);
+        Ok(())
+    }
 }

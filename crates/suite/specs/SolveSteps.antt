@@ -1,16 +1,19 @@
 -- The steps of `solve` before it writes, each with the cause of its refusals.
-use Rattle.std.specs.Prelude.{ℕ, ◌≡◌, ◌<◌, ◌≤◌, ◌^◌, List, length, Result, Ok, Err}
+use Rattle.std.specs.Prelude.{ℕ, ◌≡◌, ◌<◌, ◌≤◌, ◌^◌, Bool, List, Result, Ok, Err}
 use Rattle.std.specs.Global.{Vec}
 use Rattle.rst_outside.specs.Source.{SourceState}
-use Rattle.rst_outside.specs.Sink.{SinkState}
+use Rattle.rst_outside.specs.Sink.{SinkState, Wrote, CutShort}
 use Rattle.points_in.specs.declared.point.Point.{Point}
 use Rattle.points_in.specs.Terminals.{terminals_of}
 use Rattle.points_in.specs.Text.{IsPlainList}
 use Rattle.net_graph.specs.Graph.{total_of}
+use Rattle.net_graph.specs.Network.{length_of}
 use Rattle.hanan_grid.specs.Grid.{hanan_grid_of}
+use Rattle.suite.specs.declared.solve.Ending.{Ending}
+use Rattle.suite.specs.Answer.{answer_text}
 use Rattle.suite.specs.declared.refusal.Refusal.{Refusal}
 use Rattle.suite.specs.declared.refusal.Refusal.TheVariants.{NotPlain, GridTooLong, TooManyBytes, CannotRead, CannotWrite, OutOfMemory}
-use Rattle.suite.specs.Solve.{HasCause, KeepsOut, IsWholeInput, ListsPoints}
+use Rattle.suite.specs.Solve.{HasCause, KeepsOut, IsWholeInput, ListsPoints, status_of_ending, status_of_length}
 
 -- The refusal has its cause, whatever `out` is, which is left as it was.
 abbrev pub HasCauseBefore : Refusal → SourceState → SourceState → Type 0
@@ -54,3 +57,9 @@ abbrev pub ReadsGrid : SourceState → SourceState → Result (List Point) Refus
 ReadsGrid input input' (Ok grid) =
     (ps : List Point) × ListsPoints input input' ps × (grid ≡ terminals_of ps) × (total_of (hanan_grid_of grid) < 2 ^ 63)
 ReadsGrid input input' (Err refusal) = HasCauseBefore refusal input input'
+
+-- The answer of the network was written whole, and this is how the tool ends; or it was cut short.
+abbrev pub PrintsNetwork : {E : Type 0} → List Point → List Bool → SinkState → SinkState → Result Ending E → Type 0
+PrintsNetwork grid network out out' (Ok ending) =
+    Wrote out (answer_text grid network) out' × (status_of_ending ending ≡ status_of_length (length_of (hanan_grid_of grid) network))
+PrintsNetwork grid network out out' (Err fault) = CutShort out (answer_text grid network) out'

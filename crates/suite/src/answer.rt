@@ -107,13 +107,7 @@ fn write_edges<O: Sink>(block: &mut Block, out: &mut O, grid: &Grid, network: &E
 }
 
 // The line of an edge, where it is in the set.
-fn write_member<O: Sink>(
-    block: &mut Block,
-    out: &mut O,
-    grid: &Grid,
-    network: &EdgeSet,
-    e: u32,
-)
+fn write_member<O: Sink>(block: &mut Block, out: &mut O, grid: &Grid, network: &EdgeSet, e: u32)
     requires size { length network.now ≡ length (hanan_grid_of grid.now).edges }
     requires edge { e < length network.now }
     ensures { Gathers (O.state out.old) block.old (member_line grid.now network.now e) (O.state out.new) block.new }

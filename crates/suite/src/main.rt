@@ -5,10 +5,9 @@ mod answer;
 mod refusal;
 mod run;
 mod solve;
-mod tool;
-
 #[cfg(test)]
 mod tests;
+mod tool;
 
 use crate::run::run;
 use rst_outside::{DirShelf, StdSink, StdSource};
@@ -18,8 +17,8 @@ use std::{env, io};
 /// The status where memory to hold the words is wanting.
 const NO_MEMORY: u8 = 7;
 
-/// The words after the program's name. None where memory to hold them is wanting. Where one of them is no
-/// text there are no words.
+// The words after the program's name. None where memory to hold them is wanting. Where one of them is no text
+// there are no words.
 fn words_of(rt: &HostRuntime) -> Option<Vec<String>> {
     match env::args(rt) {
         Ok(args) => args.skip(1).collect(rt.alloc()).ok(),
@@ -35,7 +34,7 @@ fn main(rt: HostRuntime) -> ExitCode {
     let mut input = StdSource::new(rt.stdin());
     let mut out = StdSink::new(rt.stdout());
     let mut err = StdSink::new(rt.stderr());
-    let mut shelf = DirShelf::new(rt.clone());
+    let mut shelf = DirShelf::new(&rt);
     ExitCode::from(run(
         rt.alloc(),
         words.as_slice(),

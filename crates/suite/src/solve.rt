@@ -1,13 +1,14 @@
 //! The tool `solve`: points come in, the answer of a network that joins them goes out.
 
 ghost use Rattle.std.specs.Prelude.{◌≡◌, ◌<◌, ◌≤◌, ◌^◌, length};
+ghost use Rattle.hanan_grid.specs.Grid.{hanan_grid_of};
 ghost use Rattle.suite.specs.Solve.{IsSolveRun};
-ghost use Rattle.suite.specs.SolveSteps.{TakesWhole, ReadsTerminals, MakesGrid, ReadsGrid};
+ghost use Rattle.suite.specs.SolveSteps.{TakesWhole, ReadsTerminals, MakesGrid, ReadsGrid, PrintsNetwork};
 
 use crate::answer::write_answer;
 use crate::refusal::Refusal;
 use hanan_grid::{Grid, GridFault};
-use net_graph::length;
+use net_graph::{EdgeSet, length};
 use points_in::{PointFault, Points, read_points};
 use rst_outside::{PutFault, Sink, Source, TakeFault, take_all};
 use std::alloc::Global;
@@ -38,10 +39,22 @@ pub fn solve<I: Source, O: Sink>(
     let Ok(network) = trunk_network(alloc, &grid) else {
         return Err(Refusal::OutOfMemory);
     };
-    match write_answer(out, &grid, &network) {
-        Ok(()) if length(grid.graph(), &network) == 0 => Ok(Ending::Optimal),
-        Ok(()) => Ok(Ending::Stopped),
+    match print_network(out, &grid, &network) {
+        Ok(ending) => Ok(ending),
         Err(PutFault) => Err(Refusal::CannotWrite),
+    }
+}
+
+// Writes the answer of a network, and tells how the tool then ends.
+fn print_network<O: Sink>(out: &mut O, grid: &Grid, network: &EdgeSet) -> Result<Ending, PutFault>
+    requires { length network.now ≡ length (hanan_grid_of grid.now).edges }
+    ensures { PrintsNetwork grid.now network.now (O.state out.old) (O.state out.new) result }
+{
+    write_answer(out, grid, network)?;
+    if length(grid.graph(), network) == 0 {
+        Ok(Ending::Optimal)
+    } else {
+        Ok(Ending::Stopped)
     }
 }
 
