@@ -11,11 +11,11 @@ ghost use Rattle.cut_cert.specs.Answers.{IsAnswerOn, IsNodeOn, IsPackingOn, name
 
 use crate::answer::{Answer, count_of};
 use crate::head::AnswerHead;
-use crate::tree::{CertTree, Packing};
+use crate::tree::CertTree;
 use crate::write::{kind_of, status_of};
 use hanan_grid::{EdgeName, Grid};
 use itoa::Buffer;
-use net_graph::{Cut, EdgeSet};
+use net_graph::{Cut, EdgeSet, Packing};
 
 /// The length of the text that `write_answer` writes, which is below 2^32. It takes no memory.
 pub fn answer_len(grid: &Grid, answer: &Answer) -> u64
@@ -133,7 +133,7 @@ fn leaf_len(packing: &Packing) -> u64
     ensures length { result ≡ length (leaf_text packing.now) }
     ensures short { result ≤ 46 + 651 * length packing.now }
 {
-    6 + number_len(packing.len() as u128) + cuts_len(packing.as_slice())
+    6 + number_len(packing.len() as u128) + cuts_len(packing.cuts())
 }
 
 // The length of the lines of cuts.

@@ -14,4 +14,4 @@ pub use answer::{Answer, write_answer};
 pub use head::{AnswerHead, ConcatNote};
 pub use length::answer_len;
 pub use reading::one_reading;
-pub use tree::{CertTree, Packing};
+pub use tree::CertTree;

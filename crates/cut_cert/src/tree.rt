@@ -6,13 +6,9 @@ ghost use Rattle.cut_cert.specs.Value.Tree.{Leaf};
 ghost use Rattle.cut_cert.specs.Kept.{nodes_of, packings_of, split_count};
 ghost use Rattle.cut_cert.specs.Bound.{tree_value};
 
-use item_list::ItemList;
-use net_graph::{Cut, NetGraph};
+use net_graph::{Cut, NetGraph, Packing};
 use std::alloc::{AllocError, Global};
 use std::marker::Model;
-
-/// The cuts of a leaf.
-pub type Packing = ItemList<Cut>;
 
 /// A tree whose leaves have packings and whose splits have edges, by their numbers. It is kept in preorder: a split,
 /// then the part where its edge is outside, then the part where it is inside.
@@ -83,7 +79,7 @@ impl CertTree {
         requires { split_count self.now ≡ 0 }
         ensures { result ≡ tree_value _graph.now (nothing_decided _graph.now) self.now }
     {
-        total_weight(self.packing(0).as_slice())
+        total_weight(self.packing(0).cuts())
     }
 }
 

@@ -7,9 +7,8 @@ ghost use Rattle.cut_cert.specs.SetLaws.{digit_at_place};
 ghost use Rattle.cut_cert.specs.Text.{flag_value, set_text, cut_line, cut_lines, leaf_text, status_word, concat_word, head_text, result_text, search_text, edge_line, split_line};
 
 use crate::head::AnswerHead;
-use crate::tree::Packing;
 use hanan_grid::EdgeName;
-use net_graph::{Cut, VertexSet};
+use net_graph::{Cut, Packing, VertexSet};
 use rst_outside::Sink;
 use text_out::{Block, literal, number, signed};
 
@@ -96,7 +95,7 @@ pub(crate) fn write_leaf<S: Sink>(block: &mut Block, sink: &mut S, packing: &Pac
     literal(block, sink, b"leaf ");
     number(block, sink, packing.len());
     literal(block, sink, b"\n");
-    write_cuts(block, sink, packing.as_slice());
+    write_cuts(block, sink, packing.cuts());
 }
 
 // The lines of cuts.

@@ -8,4 +8,4 @@ packing-requires c = omega (arith, length-packings_of c.args.self.now)
 pub returns : goal.returns
 returns c =
     let leaf = leaf_of_packing c.args.self.now c.packing.result.now c.requires c.packing.ensures in
-    c.total_weight.ensures ∙ (rw c.as_slice.ensures (tree_value-leaf c.args._graph.now c.args.self.now c.packing.result.now leaf))
+    c.total_weight.ensures ∙ (rw c.cuts.ensures (tree_value-leaf c.args._graph.now c.args.self.now c.packing.result.now leaf))
