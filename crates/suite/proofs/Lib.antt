@@ -1,3 +1,3 @@
 pub mod RunLaws
-pub mod EdgeLines
+pub mod LeafLaws
 pub mod SolveLaws

@@ -66,7 +66,7 @@ fn prints_whole_answers(rt: HostRuntime) -> Result<(), Fail> {
         (
             b"0 0\n2 0\n1 1\n",
             3,
-            b"rst answer 1\nlength 4\nbound 0\nstatus stopped\nopenings 100\nconcat spent 4\nedges 4\n0 0 1 0\n1 0 2 0\n0 1 1 1\n0 0 0 1\ntree\nleaf 0\nend\n",
+            b"rst answer 1\nlength 4\nbound 3\nstatus stopped\nopenings 100\nconcat spent 4\nedges 4\n0 0 1 0\n1 0 2 0\n0 1 1 1\n0 0 0 1\ntree\nleaf 3\ncut 1 20\ncut 1 08\ncut 1 64\nend\n",
         ),
     ];
     for (input, status, text) in rows {

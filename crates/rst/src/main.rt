@@ -1,18 +1,10 @@
 //! The program `rst`: it joins points of the plane by horizontal and vertical lines.
 #![tactic(auto)]
 
-mod answer;
-mod refusal;
-mod run;
-mod solve;
-#[cfg(test)]
-mod tests;
-mod tool;
-
-use crate::run::run;
 use rst_outside::{DirShelf, StdSink, StdSource};
 use std::process::ExitCode;
 use std::{env, io};
+use suite::run;
 
 /// The status where memory to hold the words is wanting.
 const NO_MEMORY: u8 = 7;

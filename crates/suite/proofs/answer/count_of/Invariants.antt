@@ -1,9 +1,0 @@
-use Rattle.std.proofs.Common.{◌≡◌, ◌≤◌, length, take}
-use Rattle.net_graph.specs.Members.{members_of}
-use Rattle.suite.proofs.answer.count_of.Given as goal
-
-abbrev pub invariant-loop-e : goal.invariant-loop-e
-invariant-loop-e l = record {
-  counted : l.count ≡ length (members_of (take l.e l.set));
-  few : l.count ≤ l.e;
-}
