@@ -147,7 +147,7 @@ fn enters(members: &VertexSet, u: u32, v: u32) -> bool
 mod tests {
     use super::*;
     use item_list::ItemList;
-    use std::alloc::Global;
+    use std::alloc::{AllocError, Global};
     use std::test::Fail;
 
     // Two rows of three vertices, with edges of the length 1 and the terminals 0, 2 and 4.
