@@ -2,12 +2,12 @@
 #![tactic(auto)]
 
 mod bound;
+mod program;
 mod refusal;
-mod run;
 mod solution;
 mod solve;
 #[cfg(test)]
 mod tests;
 mod tool;
 
-pub use run::run;
+pub use program::run;

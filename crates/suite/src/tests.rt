@@ -1,6 +1,6 @@
 //! The worked rows, on `run`.
 
-use crate::run::run;
+use crate::program::run;
 use rst_outside::{DirShelf, MemSink, MemSource};
 use std::test::Fail;
 
