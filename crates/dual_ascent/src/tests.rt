@@ -47,11 +47,8 @@ fn graph_of(
 // Whether the packing's cuts are these: each a weight and its members.
 fn are_cuts(packing: &Packing, wanted: &[(u64, &[u32])]) -> bool {
     packing.len() == wanted.len()
-        && packing
-            .cuts()
-            .iter()
-            .zip(wanted)
-            .all(|(cut, (weight, members))| cut.weight == *weight && is_set(&cut.members, members))
+        && packing.cuts().iter().zip(wanted).all(|(cut, (weight, members))| cut.weight == *weight
+            && is_set(&cut.members, members))
 }
 
 // Whether the set has these members and no other.
