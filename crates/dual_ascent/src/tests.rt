@@ -8,7 +8,7 @@ use crate::candidate::Candidate;
 use crate::chooser::{Chooser, Rule};
 use crate::maximality::maximal;
 use item_list::ItemList;
-use net_graph::{Cut, Decision, Edge, EdgeState, NetGraph, Packing};
+use net_graph::{Decision, Edge, EdgeState, NetGraph, Packing, VertexSet};
 use std::alloc::{AllocError, Global};
 use std::test::Fail;
 
@@ -21,7 +21,7 @@ fn graph_of(
     vertices: u32,
     ends: &[(u32, u32)],
     each: u64,
-    terminals: Vec<u32>,
+    terminals: &[u32],
 ) -> Result<NetGraph, Fail>
     requires few_vertices { vertices ≤ 2500 }
     requires few_edges { length ends.now ≤ 4900 }
@@ -34,17 +34,29 @@ fn graph_of(
             length: each,
         })
         .collect(alloc)?;
-    let terminals = ItemList::from_vec(terminals);
-    let g = NetGraph::new(alloc, vertices, ItemList::from_vec(edges), terminals)?;
+    let terminals = Vec::from_slice(alloc, terminals)?;
+    let g = NetGraph::new(
+        alloc,
+        vertices,
+        ItemList::from_vec(edges),
+        ItemList::from_vec(terminals),
+    )?;
     Ok(g)
 }
 
-// A cut's weight, and its members.
-fn parts_of(alloc: Global, cut: &Cut) -> Result<(u64, Vec<u32>), AllocError> {
-    let members = (0..cut.members.len())
-        .filter(|v| cut.members.has(*v))
-        .collect(alloc)?;
-    Ok((cut.weight, members))
+// Whether the packing's cuts are these: each a weight and its members.
+fn are_cuts(packing: &Packing, wanted: &[(u64, &[u32])]) -> bool {
+    packing.len() == wanted.len()
+        && packing
+            .cuts()
+            .iter()
+            .zip(wanted)
+            .all(|(cut, (weight, members))| cut.weight == *weight && is_set(&cut.members, members))
+}
+
+// Whether the set has these members and no other.
+fn is_set(set: &VertexSet, members: &[u32]) -> bool {
+    (0..set.len()).all(|v| set.has(v) == members.contains(&v))
 }
 
 // The ascent from no cut.
@@ -61,32 +73,18 @@ fn ascent_by<F: Rule>(
     ascend(alloc, g, d, Packing::empty(alloc), &Chooser::new(rule))
 }
 
-// The cuts of a packing.
-fn cuts_of(alloc: Global, packing: &Packing) -> Result<Vec<(u64, Vec<u32>)>, AllocError> {
-    let mut cuts = Vec::new(alloc);
-    for cut in packing.cuts() {
-        cuts.push(parts_of(alloc, cut)?)?;
-    }
-    Ok(cuts)
-}
-
 #[test]
 fn the_first_candidate_each_time(rt: HostRuntime) -> Result<(), Fail> {
-    let g = graph_of(rt.alloc(), 6, &GRID, 1, vec![in rt.alloc(); 0, 2, 4]?)?;
+    let g = graph_of(rt.alloc(), 6, &GRID, 1, &[0, 2, 4])?;
     let d = Decision::none(rt.alloc(), &g)?;
     let ascent = ascent_by(rt.alloc(), &g, &d, |_list: &[Candidate]| 0)?;
-    let wanted = vec![in rt.alloc();
-        (1, vec![in rt.alloc(); 2]?),
-        (1, vec![in rt.alloc(); 1, 2, 5]?),
-        (1, vec![in rt.alloc(); 4]?),
-    ]?;
-    assert_eq!(rt; cuts_of(rt.alloc(), &ascent.packing)?, wanted);
+    assert!(rt; are_cuts(&ascent.packing, &[(1, &[2]), (1, &[1, 2, 5]), (1, &[4])]));
     Ok(())
 }
 
 #[test]
 fn the_least_candidate_each_time(rt: HostRuntime) -> Result<(), Fail> {
-    let g = graph_of(rt.alloc(), 6, &GRID, 1, vec![in rt.alloc(); 0, 2, 4]?)?;
+    let g = graph_of(rt.alloc(), 6, &GRID, 1, &[0, 2, 4])?;
     let rule = |list: &[Candidate]| -> usize
         requires { 0 < length list.now }
         ensures { result < length list.now }
@@ -98,50 +96,30 @@ fn the_least_candidate_each_time(rt: HostRuntime) -> Result<(), Fail> {
     };
     let d = Decision::none(rt.alloc(), &g)?;
     let ascent = ascent_by(rt.alloc(), &g, &d, rule)?;
-    let wanted = vec![in rt.alloc();
-        (1, vec![in rt.alloc(); 2]?),
-        (1, vec![in rt.alloc(); 4]?),
-        (1, vec![in rt.alloc(); 1, 2, 5]?),
-    ]?;
-    assert_eq!(rt; cuts_of(rt.alloc(), &ascent.packing)?, wanted);
+    assert!(rt; are_cuts(&ascent.packing, &[(1, &[2]), (1, &[4]), (1, &[1, 2, 5])]));
     Ok(())
 }
 
 #[test]
 fn one_edge_is_cut_at_its_length(rt: HostRuntime) -> Result<(), Fail> {
-    let g = graph_of(rt.alloc(), 2, &[(0, 1)], 3, vec![in rt.alloc(); 0, 1]?)?;
+    let g = graph_of(rt.alloc(), 2, &[(0, 1)], 3, &[0, 1])?;
     let d = Decision::none(rt.alloc(), &g)?;
-    assert_eq!(rt;
-        maximal(rt.alloc(), &g, &d, &Packing::empty(rt.alloc()))?,
-        false
-    );
     let ascent = ascent_by(rt.alloc(), &g, &d, |_list: &[Candidate]| 0)?;
-    let wanted = vec![in rt.alloc(); (3, vec![in rt.alloc(); 1]?)]?;
-    assert_eq!(rt; cuts_of(rt.alloc(), &ascent.packing)?, wanted);
-    assert_eq!(rt; maximal(rt.alloc(), &g, &d, &ascent.packing)?, true);
+    assert!(rt; are_cuts(&ascent.packing, &[(3, &[1])]));
+    assert!(rt; !maximal(rt.alloc(), &g, &d, &Packing::empty(rt.alloc()))?);
+    assert!(rt; maximal(rt.alloc(), &g, &d, &ascent.packing)?);
     Ok(())
 }
 
 #[test]
 fn an_outside_edge_closes(rt: HostRuntime) -> Result<(), Fail> {
-    let g = graph_of(
-        rt.alloc(),
-        3,
-        &[(0, 1), (1, 2)],
-        3,
-        vec![in rt.alloc(); 0, 2]?,
-    )?;
+    let g = graph_of(rt.alloc(), 3, &[(0, 1), (1, 2)], 3, &[0, 2])?;
     let mut d = Decision::none(rt.alloc(), &g)?;
-    let edges = g.edge_count();
-    if 0 < edges {
+    if 0 < g.edge_count() {
         d.decide(0, EdgeState::Outside);
     }
     let ascent = ascent_by(rt.alloc(), &g, &d, |_list: &[Candidate]| 0)?;
-    let wanted = vec![in rt.alloc();
-        (3, vec![in rt.alloc(); 2]?),
-        (6, vec![in rt.alloc(); 1, 2]?),
-    ]?;
-    assert_eq!(rt; cuts_of(rt.alloc(), &ascent.packing)?, wanted);
-    assert_eq!(rt; ascent.closed, true);
+    assert!(rt; are_cuts(&ascent.packing, &[(3, &[2]), (6, &[1, 2])]));
+    assert!(rt; ascent.closed);
     Ok(())
 }

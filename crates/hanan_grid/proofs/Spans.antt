@@ -14,7 +14,7 @@ use Rattle.hanan_grid.specs.Distance.{distance_between}
 use Rattle.hanan_grid.specs.LinesLaws.{IsRising, gap_after-is, line_at-rises, place_of-below, line_at-place_of}
 use Rattle.hanan_grid.specs.Tables.{table_from}
 use Rattle.hanan_grid.specs.GridLaws.{IsRising-xs_of, IsRising-ys_of}
-use Rattle.hanan_grid.specs.NamesLaws.{IsCrossing}
+use Rattle.hanan_grid.specs.Names.{IsCrossing}
 
 -- the gaps from a line on
 gaps_from : List ℤ → ℕ → ℕ → ℕ

@@ -1,6 +1,7 @@
 pub mod Lines
 pub mod Grid
 pub mod Names
+pub mod Neighbours
 pub mod Distance
 pub mod Fault
 pub mod LinesLaws

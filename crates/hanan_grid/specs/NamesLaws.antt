@@ -1,25 +1,16 @@
 -- Laws of points and names: vertices and their points, and edges and their names, answer to each other.
-use Rattle.std.specs.Prelude.{ℕ, ◌+◌, ◌-◌, ◌*◌, ◌/◌, ◌%◌, ◌≡◌, ◌<◌, ℤ, List, length, Contains, slice_index_or, refl, ◌⊎◌}
+use Rattle.std.specs.Prelude.{ℕ, ◌+◌, ◌-◌, ◌*◌, ◌/◌, ◌%◌, ◌≡◌, ◌<◌, ℤ, List, length, slice_index_or, refl, ◌⊎◌}
 use Rattle.std.proofs.Common.{arith, ap, inl, inr, ◌∙◌, sym}
 use Rattle.std.proofs.lemmas.Bool.{cases_lt}
 use Rattle.std.proofs.lemmas.Nat.{div-mul-add, mod-mul-add, div-add-mod', div_below, mod_below, mul-add-lt}
 use Rattle.points_in.specs.declared.point.Point.{Point}
-use Rattle.hanan_grid.specs.Lines.{line_at, place_of}
+use Rattle.hanan_grid.specs.Lines.{place_of}
 use Rattle.hanan_grid.specs.Grid.{xs_of, ys_of, vertex_number, vertex_of, hanan_grid_of}
 use Rattle.hanan_grid.specs.LinesLaws.{IsRising, place_of-below, line_at-place_of, place_of-line_at, Contains-line_at, same_place}
 use Rattle.hanan_grid.specs.GridLaws.{edges_of_lines, horizontal_number, vertical_number, length-edges_of_lines, get_or-horizontal, get_or-vertical, IsRising-xs_of, IsRising-ys_of}
-use Rattle.hanan_grid.specs.Names.{point_of_vertex, name_between, name_of, no_edge, name_of_edge}
+use Rattle.hanan_grid.specs.Names.{IsCrossing, crossing, point_of_vertex, name_between, name_of, no_edge, name_of_edge}
 
 -- ---- vertices and points
-
--- both coordinates of the point are lines
-pub record IsCrossing (xs ys : List ℤ) (p : Point) : Type 0 where
-  pub x : Contains xs p.x
-  pub y : Contains ys p.y
-
--- the crossing of a column and a row
-abbrev pub crossing : List ℤ → List ℤ → ℕ → ℕ → Point
-crossing xs ys i j = record { x = line_at xs i; y = line_at ys j }
 
 -- the point of the vertex of column i and row j is their crossing
 pub point_of_vertex-at : (xs ys : List ℤ) (i j : ℕ) → i < length xs → point_of_vertex xs ys (vertex_number (length xs) i j) ≡ crossing xs ys i j
@@ -103,7 +94,7 @@ edge_cases xs ys e inside =
     ]
 
 -- the names between points that are one are one
-same_between : (p p' q q' : Point) → p ≡ p' → q ≡ q' → name_between p q ≡ name_between p' q'
+pub same_between : (p p' q q' : Point) → p ≡ p' → q ≡ q' → name_between p q ≡ name_between p' q'
 same_between p p' q q' from to = cc
 
 -- a horizontal edge is named by its crossings

@@ -33,7 +33,8 @@ fn push_horizontals(edges: &mut Vec<Edge>, xs: &[i64], ys: &[i64])
     requires columns { 0 < length xs.now }
     requires few_columns { length xs.now ≤ 50 }
     requires few_rows { length ys.now ≤ 50 }
-    requires room { vec_len edges.old + length ys.now * (length xs.now - 1) ≤ vec_capacity edges.old }
+    requires room { vec_len edges.old + length ys.now * (length xs.now - 1)
+        ≤ vec_capacity edges.old }
     ensures edges { edges.new.items ≡ edges.old.items ++ horizontals xs.now ys.now }
     ensures len { vec_len edges.new ≡ vec_len edges.old + length ys.now * (length xs.now - 1) }
     ensures capacity { vec_capacity edges.new ≡ vec_capacity edges.old }
@@ -49,7 +50,8 @@ fn push_horizontal_row(edges: &mut Vec<Edge>, xs: &[i64], row: u32)
     requires few_columns { length xs.now ≤ 50 }
     requires few_rows { row < 50 }
     requires room { vec_len edges.old + (length xs.now - 1) ≤ vec_capacity edges.old }
-    ensures edges { edges.new.items ≡ edges.old.items ++ map (horizontal xs.now row) (range_with_len 0 (length xs.now - 1)) }
+    ensures edges { edges.new.items
+        ≡ edges.old.items ++ map (horizontal xs.now row) (range_with_len 0 (length xs.now - 1)) }
     ensures len { vec_len edges.new ≡ vec_len edges.old + (length xs.now - 1) }
     ensures capacity { vec_capacity edges.new ≡ vec_capacity edges.old }
 {
@@ -68,7 +70,8 @@ fn push_verticals(edges: &mut Vec<Edge>, xs: &[i64], ys: &[i64])
     requires rows { 0 < length ys.now }
     requires few_columns { length xs.now ≤ 50 }
     requires few_rows { length ys.now ≤ 50 }
-    requires room { vec_len edges.old + (length ys.now - 1) * length xs.now ≤ vec_capacity edges.old }
+    requires room { vec_len edges.old + (length ys.now - 1) * length xs.now
+        ≤ vec_capacity edges.old }
     ensures edges { edges.new.items ≡ edges.old.items ++ verticals xs.now ys.now }
     ensures len { vec_len edges.new ≡ vec_len edges.old + (length ys.now - 1) * length xs.now }
     ensures capacity { vec_capacity edges.new ≡ vec_capacity edges.old }
@@ -84,7 +87,8 @@ fn push_vertical_row(edges: &mut Vec<Edge>, columns: u32, ys: &[i64], row: usize
     requires few_columns { columns ≤ 50 }
     requires few_rows { length ys.now ≤ 50 }
     requires room { vec_len edges.old + columns ≤ vec_capacity edges.old }
-    ensures edges { edges.new.items ≡ edges.old.items ++ map (vertical columns ys.now row) (range_with_len 0 columns) }
+    ensures edges { edges.new.items
+        ≡ edges.old.items ++ map (vertical columns ys.now row) (range_with_len 0 columns) }
     ensures len { vec_len edges.new ≡ vec_len edges.old + columns }
     ensures capacity { vec_capacity edges.new ≡ vec_capacity edges.old }
 {

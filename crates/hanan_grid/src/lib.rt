@@ -1,12 +1,18 @@
 //! Hanan's grid of a list of points.
 #![tactic(auto)]
 
+mod distance;
 mod edges;
 mod fault;
 mod grid;
 mod lines;
 mod name;
+mod place;
 
 pub use fault::GridFault;
 pub use grid::Grid;
 pub use name::EdgeName;
+pub use place::Place;
+
+#[cfg(test)]
+mod tests;

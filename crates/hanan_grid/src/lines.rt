@@ -1,7 +1,7 @@
 //! The lines of a grid: the distinct coordinates of points, in ascending order.
 
-ghost use Rattle.std.specs.Prelude.{◌≡◌, ◌+◌, ◌<◌, ◌≤◌, length, IfOk};
-ghost use Rattle.hanan_grid.specs.Lines.{ascending, gap_after, place_of};
+ghost use Rattle.std.specs.Prelude.{◌≡◌, ◌+◌, ◌<◌, ◌≤◌, length, Contains, IfOk, IfSome, IfNone};
+ghost use Rattle.hanan_grid.specs.Lines.{ascending, gap_after, line_at, place_of};
 ghost use Rattle.hanan_grid.specs.LinesLaws.{IsRising};
 ghost use Rattle.hanan_grid.specs.Grid.{xs_of, ys_of};
 
@@ -47,6 +47,29 @@ pub fn place_in(lines: &[i64], value: i64) -> u32
     ensures within { result ≤ length lines.now }
 {
     lines.partition_point(|line| *line < value) as u32
+}
+
+// The place of a value among the lines, where it is one.
+pub fn found_in(lines: &[i64], value: i64) -> Option<u32>
+    requires rising { IsRising lines.now }
+    requires few { length lines.now ≤ 50 }
+    ensures place { IfSome result (λ place. place < length lines.now) }
+    ensures line { IfSome result (λ place. line_at lines.now place ≡ value) }
+    ensures none { IfNone result (¬ Contains lines.now value) }
+{
+    let place = place_in(lines, value);
+    match lines.get(place as usize) {
+        Some(line) if *line == value => Some(place),
+        _ => None,
+    }
+}
+
+// The line at a place.
+pub fn line(lines: &[i64], place: u32) -> i64
+    requires { place < length lines.now }
+    ensures { result ≡ line_at lines.now place }
+{
+    lines[place as usize]
 }
 
 // How far it is from a line to the next one.

@@ -6,3 +6,5 @@ pub mod FlagWords
 pub mod LengthLemmas
 pub mod DecisionLemmas
 pub mod PackingLemmas
+pub mod RootedLemmas
+pub mod FeasibleLemmas

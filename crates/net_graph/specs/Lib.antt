@@ -12,6 +12,7 @@ pub mod Network
 pub mod Joins
 pub mod Decision
 pub mod Packing
+pub mod Feasible
 pub mod Saturation
 pub mod LengthLaws
 pub mod PackingLaws

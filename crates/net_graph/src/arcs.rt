@@ -12,12 +12,15 @@ use std::marker::Model;
 /// 2n + 1, from b to a.
 #[derive(Clone, Copy, Debug, PartialEq, Eq)]
 pub struct Arc {
+    /// Its number among the arcs, below twice the number of edges.
     pub number: u32,
+    /// The vertex that it leads from.
     pub from: u32,
+    /// The vertex that it leads to.
     pub to: u32,
 }
 
-/// The number of the other arc of an arc's edge.
+/// The number of the other arc of an arc's edge, which leads the other way.
 pub fn partner(arc: u32) -> u32
     ensures { result ≡ partner_of arc }
 {
@@ -45,7 +48,7 @@ impl Model for ArcTable {
 }
 
 impl ArcTable {
-    /// The arcs of these edges, of a graph with so many vertices.
+    /// The arcs of these edges, of a graph with so many vertices. An `Err` is want of memory.
     pub fn of(alloc: Global, vertices: u32, edges: &[Edge]) -> Result<ArcTable, AllocError>
         requires few_vertices { vertices ≤ 2500 }
         requires few_edges { length edges.now ≤ 4900 }
@@ -58,7 +61,7 @@ impl ArcTable {
         Ok(ArcTable { arcs, starts })
     }
 
-    /// The arcs that lead from a vertex.
+    /// The arcs that lead from a vertex, in no order.
     pub fn leaving(&self, vertex: u32) -> &[Arc]
         requires { vertex < self.now.vertices }
         ensures { AreArcsFrom (Contains self.now.all) vertex result.now }

@@ -28,7 +28,10 @@ pub enum GraphFault {
     TerminalOutOfRange(usize),
     /// The lengths sum to more than 2^63 - 1.
     #[error("the lengths sum to {total}, which is above 2^63 - 1")]
-    TooLong { total: u128 },
+    TooLong {
+        /// The sum of the lengths.
+        total: u128,
+    },
     /// Want of memory.
     #[error("there is not enough memory for the graph")]
     Memory(AllocError),
@@ -239,4 +242,78 @@ fn total_length(edges: &[Edge]) -> u128
     ensures { result ≡ sum_by (λ e. e.length) edges.now }
 {
     edges.iter().map(|e| u128::from(e.length)).sum()
+}
+
+#[cfg(test)]
+mod tests {
+    use super::*;
+    use item_list::ItemList;
+    use std::test::Fail;
+
+    #[test]
+    fn names_the_first_fault(rt: HostRuntime) -> Result<(), Fail> {
+        let cases: [(u32, u64, &[u32], &str); 5] = [
+            (3, 0, &[3], "edge 1 has an end that is no vertex"),
+            (2, 0, &[], "edge 1 has no length"),
+            (2, 5, &[], "there is no terminal"),
+            (2, 5, &[0, 3], "terminal 1 is no vertex"),
+            (
+                2,
+                i64::MAX as u64,
+                &[0],
+                "the lengths sum to 9223372036854775808, which is above 2^63 - 1",
+            ),
+        ];
+        for (b, length, terminals, text) in cases {
+            let first = Edge {
+                a: 0,
+                b: 1,
+                length: 1,
+            };
+            let second = Edge { a: 1, b, length };
+            let edges = ItemList::from_vec(vec![in rt.alloc(); first, second]?);
+            let terminals = ItemList::from_vec(terminals.to_vec(rt.alloc())?);
+            match NetGraph::new(rt.alloc(), 3, edges, terminals) {
+                Ok(_) => assert!(rt; false, "no fault for: {text}"),
+                Err(fault) => {
+                    assert_eq!(rt; format!(in rt.alloc(); "{fault}")?.as_str(), text);
+                }
+            }
+        }
+        Ok(())
+    }
+
+    #[test]
+    fn reads_its_parts(rt: HostRuntime) -> Result<(), Fail> {
+        let first = Edge {
+            a: 0,
+            b: 1,
+            length: 1,
+        };
+        let second = Edge {
+            a: 2,
+            b: 0,
+            length: i64::MAX as u64 - 1,
+        };
+        let edges = ItemList::from_vec(vec![in rt.alloc(); first, second]?);
+        let terminals = ItemList::from_vec(vec![in rt.alloc(); 2, 0, 2]?);
+        let g = NetGraph::new(rt.alloc(), 3, edges, terminals)?;
+        assert_eq!(rt;
+            [g.vertex_count(), g.edge_count(), g.root(), g.terminal(1)],
+            [3, 2, 2, 0]
+        );
+        assert_eq!(rt; g.terminal_count(), 3);
+        assert_eq!(rt; g.total(), i64::MAX as u64);
+        assert_eq!(rt; g.edge(1), second);
+        assert_eq!(rt; g.edges(), [first, second].as_slice());
+        assert_eq!(rt; g.terminals(), [2, 0, 2].as_slice());
+        let leaving = [Arc {
+            number: 2,
+            from: 2,
+            to: 0,
+        }];
+        assert_eq!(rt; g.arcs_from(2), leaving.as_slice());
+        assert_eq!(rt; g.arcs_from(0).len(), 2);
+        Ok(())
+    }
 }

@@ -5,22 +5,28 @@ mod arcs;
 mod counted;
 mod decision;
 mod edge;
+mod feasibility;
 mod flag_set;
 mod found;
 mod graph;
 mod lengths;
 mod network;
 mod packing;
+mod rooted;
 mod search;
+#[cfg(test)]
+mod search_tests;
 mod sets;
 
 pub use arcs::{Arc, partner};
 pub use counted::{CountedSet, counted_leading_to};
 pub use decision::{Decision, required};
 pub use edge::{Edge, EdgeList, VertexList};
+pub use feasibility::feasible;
 pub use graph::{GraphFault, NetGraph};
 pub use lengths::length;
 pub use network::{joins, reached};
 pub use packing::{Cut, EdgeState, Packing, value};
+pub use rooted::root_part;
 pub use search::{Passage, leading_to, reached_from};
 pub use sets::{EdgeSet, VertexSet};

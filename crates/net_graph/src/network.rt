@@ -46,3 +46,53 @@ fn has_all(set: &VertexSet, vertices: &[u32]) -> bool
 {
     vertices.iter().all(|v| set.has(*v))
 }
+
+#[cfg(test)]
+mod tests {
+    use super::*;
+    use crate::edge::Edge;
+    use item_list::ItemList;
+    use std::test::Fail;
+
+    // A triangle, and an edge apart from it.
+    fn triangle(alloc: Global) -> Result<NetGraph, Fail>
+        ensures { IfOk result (λ g. (g.vertices ≡ 5) × (length g.edges ≡ 4)) }
+    {
+        let edge = |a: u32, b: u32| Edge { a, b, length: 1 };
+        let edges = vec![in alloc; edge(0, 1), edge(2, 1), edge(0, 2), edge(3, 4)]?;
+        let terminals = vec![in alloc; 1, 0, 2]?;
+        Ok(NetGraph::new(
+            alloc,
+            5,
+            ItemList::from_vec(edges),
+            ItemList::from_vec(terminals),
+        )?)
+    }
+
+    #[test]
+    fn joins_a_triangle(rt: HostRuntime) -> Result<(), Fail> {
+        let g = triangle(rt.alloc())?;
+        let mut set = EdgeSet::empty(rt.alloc(), 4)?;
+        set.add(0);
+        set.add(3);
+        assert_eq!(rt; joins(rt.alloc(), &g, &set)?, false);
+        let marks = reached(rt.alloc(), &g, &set)?;
+        assert_eq!(rt;
+            [marks.has(0), marks.has(1), marks.has(2), marks.has(3)],
+            [true, true, false, false]
+        );
+        set.add(2);
+        assert_eq!(rt; joins(rt.alloc(), &g, &set)?, true);
+        Ok(())
+    }
+
+    #[test]
+    fn joins_one_vertex(rt: HostRuntime) -> Result<(), Fail> {
+        let none = ItemList::empty(rt.alloc());
+        let one = ItemList::from_vec(vec![in rt.alloc(); 0]?);
+        let g = NetGraph::new(rt.alloc(), 1, none, one)?;
+        let set = EdgeSet::empty(rt.alloc(), 0)?;
+        assert_eq!(rt; joins(rt.alloc(), &g, &set)?, true);
+        Ok(())
+    }
+}

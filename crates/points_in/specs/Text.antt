@@ -10,6 +10,10 @@ pub record IsPoint (p : Point) : Type 0 where
   pub x : FitsSigned w64 p.x
   pub y : FitsSigned w64 p.y
 
+-- x, a blank and y
+abbrev pub point_words : Point → List ℕ
+point_words p = signed_decimal p.x ++ 32 ∷ signed_decimal p.y
+
 -- x, a blank, y and a line feed
 abbrev pub point_line : Point → List ℕ
 point_line p = signed_decimal p.x ++ 32 ∷ signed_decimal p.y ++ 10 ∷ []

@@ -1,5 +1,5 @@
 pub mod Words
-pub mod Answer
+pub mod Solution
 pub mod Told
 pub mod Refusal
 pub mod Solve

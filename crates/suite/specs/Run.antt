@@ -1,17 +1,19 @@
 -- A run of the program, by the order of work: the words, the input, the computing, the writing.
-use Rattle.std.specs.Prelude.{ℕ, ◌≡◌, List, Bool, Option, Some, None, Result, Ok, Err, ◌⊎◌, ◌↔◌}
+use Rattle.std.specs.Prelude.{ℕ, ◌≡◌, ◌≤◌, List, Bool, Option, Some, None, Result, Ok, Err, ◌⊎◌, ◌↔◌}
 use Rattle.rst_outside.specs.Source.{SourceState, CameToTheEnd}
 use Rattle.rst_outside.specs.Sink.{SinkState, Appended}
 use Rattle.rst_outside.specs.Shelf.{ShelfState}
 use Rattle.points_in.specs.declared.point.Point.{Point}
 use Rattle.points_in.specs.Text.{IsPlainList}
-use Rattle.net_graph.specs.Network.{length_of}
+use Rattle.net_graph.specs.declared.packing.Cut.{Cut}
+use Rattle.net_graph.specs.Network.{IsNetwork, length_of}
 use Rattle.suite.specs.Told.{Told}
 use Rattle.suite.specs.declared.tool.Tool.{Tool}
 use Rattle.suite.specs.declared.tool.Tool.TheVariants.{Solve}
 use Rattle.suite.specs.declared.refusal.Refusal.{Refusal}
 use Rattle.suite.specs.Refusal.{status_of, refusal_text, usage_text}
-use Rattle.suite.specs.Solve.{PrintsAnswer, HasCause, KeepsOut, IsNetworkOf, grid_of_points, solve_text}
+use Rattle.suite.specs.Solve.{PrintsAnswer, HasCause, KeepsOut, grid_of_points, solve_text}
+use Rattle.suite.specs.Solution.{IsNetworkOf, IsLeafFor, bound_of}
 
 -- all that a run can change
 pub record Outside : Type 0 where
@@ -47,14 +49,17 @@ abbrev pub IsRun : Option Tool → Outside → Outside → ℕ → Type 0
 IsRun None before after status = IsMisused before after status
 IsRun (Some Solve) before after status = IsAnswered before after status ⊎ ((refusal : Refusal) × IsRefused Solve before after status refusal)
 
--- What is printed is true: the input was read to its end, it is the written text of points, and the bytes that
--- went out are the answer of a network of their grid with its plain length. The status is 0 exactly where the
--- length is 0, which is the bound.
+-- What is printed is true: the input was read to its end, it is the written text of points, and the bytes that went out
+-- are the answer of a network of their grid with its plain length and of a packing, its one leaf, which is feasible, has
+-- at most 4 E + 1 cuts, is maximal where its value is below the length, and gives the bound. No network of the grid is
+-- shorter than the bound. The status is 0 exactly where the bound is the length.
 abbrev pub Headline : Outside → Outside → ℕ → Type 0
 Headline before after status = (status ≡ 0) ⊎ (status ≡ 3) →
-    (bytes : List ℕ) × (ps : List Point) × (network : List Bool)
+    (bytes : List ℕ) × (ps : List Point) × (network : List Bool) × (packing : List Cut)
     × CameToTheEnd before.input.rest bytes after.input.rest
     × IsPlainList bytes ps
     × IsNetworkOf (grid_of_points ps) network
-    × Appended before.out.taken (solve_text ps network) after.out.taken
-    × ((status ≡ 0) ↔ (length_of (grid_of_points ps) network ≡ 0))
+    × IsLeafFor (grid_of_points ps) network packing
+    × Appended before.out.taken (solve_text ps network packing) after.out.taken
+    × ((other : List Bool) → IsNetwork (grid_of_points ps) other → bound_of (grid_of_points ps) network packing ≤ length_of (grid_of_points ps) other)
+    × ((status ≡ 0) ↔ (bound_of (grid_of_points ps) network packing ≡ length_of (grid_of_points ps) network))

@@ -7,13 +7,15 @@ use Rattle.points_in.specs.declared.point.Point.{Point}
 use Rattle.points_in.specs.Terminals.{terminals_of}
 use Rattle.points_in.specs.Text.{IsPlainList}
 use Rattle.net_graph.specs.Graph.{Graph, total_of}
-use Rattle.net_graph.specs.Network.{IsNetwork, length_of}
+use Rattle.net_graph.specs.declared.packing.Cut.{Cut}
+use Rattle.net_graph.specs.Network.{length_of}
 use Rattle.hanan_grid.specs.Grid.{hanan_grid_of}
 use Rattle.suite.specs.declared.refusal.Refusal.{Refusal}
 use Rattle.suite.specs.declared.refusal.Refusal.TheVariants.{NotPlain, GridTooLong, TooManyBytes, CannotRead, CannotWrite, OutOfMemory}
 use Rattle.suite.specs.declared.solve.Ending.{Ending}
 use Rattle.suite.specs.declared.solve.Ending.TheVariants.{Optimal, Stopped}
-use Rattle.suite.specs.Answer.{answer_text}
+use Rattle.cut_cert.specs.Text.{answer_text}
+use Rattle.suite.specs.Solution.{IsNetworkOf, IsLeafFor, bound_of, solution}
 
 -- the greatest number of bytes of an input that is taken whole
 abbrev pub input_limit : ℕ
@@ -32,24 +34,21 @@ ListsPoints before after ps = (bytes : List ℕ) × IsWholeInput before after by
 abbrev pub grid_of_points : List Point → Graph
 grid_of_points ps = hanan_grid_of (terminals_of ps)
 
--- the edge set is a network of a graph
-pub record IsNetworkOf (g : Graph) (set : List Bool) : Type 0 where
-  pub size : length set ≡ length g.edges
-  pub joins : IsNetwork g set
-
--- The input lists these points, their grid isn't too long, and the edge set is a network of it.
-pub record IsSolved (before after : SourceState) (ps : List Point) (set : List Bool) : Type 0 where
+-- The input lists these points, their grid isn't too long, the edge set is a network of it, and the packing is a leaf
+-- that bounds every network from below.
+pub record IsSolved (before after : SourceState) (ps : List Point) (set : List Bool) (packing : List Cut) : Type 0 where
   pub points : ListsPoints before after ps
   pub short : total_of (grid_of_points ps) < 2 ^ 63
   pub network : IsNetworkOf (grid_of_points ps) set
+  pub leaf : IsLeafFor (grid_of_points ps) set packing
 
--- the answer for the points and the network
-abbrev pub solve_text : List Point → List Bool → List ℕ
-solve_text ps set = answer_text (terminals_of ps) set
+-- the answer for the points, the network and the packing
+abbrev pub solve_text : List Point → List Bool → List Cut → List ℕ
+solve_text ps set packing = answer_text (solution (terminals_of ps) set packing)
 
--- the status of an answer with this length and the bound 0
-abbrev pub status_of_length : ℕ → ℕ
-status_of_length length = if length == 0 then 0 else 3
+-- the status of an answer: 0 where the bound is the length
+abbrev pub status_of_bound : ℕ → ℕ → ℕ
+status_of_bound bound length = if bound == length then 0 else 3
 
 abbrev pub status_of_ending : Ending → ℕ
 status_of_ending Optimal = 0
@@ -65,7 +64,7 @@ HasCause TooManyBytes input input' out out' =
     (bytes : List ℕ) × (input_limit < length bytes) × Came input.rest bytes input'.rest
 HasCause CannotRead input input' out out' = Rose input.faults input'.faults
 HasCause CannotWrite input input' out out' =
-    (ps : List Point) × (set : List Bool) × IsSolved input input' ps set × CutShort out (solve_text ps set) out'
+    (ps : List Point) × (set : List Bool) × (packing : List Cut) × IsSolved input input' ps set packing × CutShort out (solve_text ps set packing) out'
 HasCause OutOfMemory input input' out out' = Unit {0}
 
 -- Only a write that fails leaves a part of a text on `out`.
@@ -80,8 +79,8 @@ KeepsOut OutOfMemory out out' = out' ≡ out
 -- The whole text of an answer for the input's points was written, and this is its status.
 abbrev pub PrintsAnswer : SourceState → SourceState → SinkState → SinkState → ℕ → Type 0
 PrintsAnswer input input' out out' status =
-    (ps : List Point) × (set : List Bool) × IsSolved input input' ps set × Wrote out (solve_text ps set) out'
-    × (status ≡ status_of_length (length_of (grid_of_points ps) set))
+    (ps : List Point) × (set : List Bool) × (packing : List Cut) × IsSolved input input' ps set packing × Wrote out (solve_text ps set packing) out'
+    × (status ≡ status_of_bound (bound_of (grid_of_points ps) set packing) (length_of (grid_of_points ps) set))
 
 -- A run of `solve` that ends so.
 abbrev pub IsSolveRun : SourceState → SourceState → SinkState → SinkState → Result Ending Refusal → Type 0

@@ -1,17 +1,18 @@
 //! The tool `solve`: points come in, the answer of a network that joins them goes out.
 
 ghost use Rattle.std.specs.Prelude.{◌≡◌, ◌<◌, ◌≤◌, ◌^◌, length};
+ghost use Rattle.hanan_grid.specs.Grid.{hanan_grid_of};
+ghost use Rattle.cut_cert.specs.Answers.{IsAnswerOn};
 ghost use Rattle.suite.specs.Solve.{IsSolveRun};
-ghost use Rattle.suite.specs.SolveSteps.{TakesWhole, ReadsTerminals, MakesGrid, ReadsGrid};
+ghost use Rattle.suite.specs.SolveSteps.{TakesWhole, ReadsTerminals, MakesGrid, ReadsGrid, PrintsSolution};
 
-use crate::answer::write_answer;
 use crate::refusal::Refusal;
+use crate::solution::solution_of;
+use cut_cert::{Answer, write_answer};
 use hanan_grid::{Grid, GridFault};
-use net_graph::length;
 use points_in::{PointFault, Points, read_points};
 use rst_outside::{PutFault, Sink, Source, TakeFault, take_all};
 use std::alloc::Global;
-use trunk_network::trunk_network;
 
 /// The greatest number of bytes of an input that is taken whole.
 const INPUT_LIMIT: u64 = 1 << 26;
@@ -35,13 +36,25 @@ pub fn solve<I: Source, O: Sink>(
     ensures { IsSolveRun (I.state input.old) (I.state input.new) (O.state out.old) (O.state out.new) result }
 {
     let grid = read_grid(alloc, input)?;
-    let Ok(network) = trunk_network(alloc, &grid) else {
+    let Ok(answer) = solution_of(alloc, &grid) else {
         return Err(Refusal::OutOfMemory);
     };
-    match write_answer(out, &grid, &network) {
-        Ok(()) if length(grid.graph(), &network) == 0 => Ok(Ending::Optimal),
-        Ok(()) => Ok(Ending::Stopped),
+    match print_answer(out, &grid, &answer) {
+        Ok(ending) => Ok(ending),
         Err(PutFault) => Err(Refusal::CannotWrite),
+    }
+}
+
+// Writes an answer, and tells how the tool then ends.
+fn print_answer<O: Sink>(out: &mut O, grid: &Grid, answer: &Answer) -> Result<Ending, PutFault>
+    requires { IsAnswerOn (hanan_grid_of grid.now) answer.now }
+    ensures { PrintsSolution grid.now answer.now (O.state out.old) (O.state out.new) result }
+{
+    write_answer(out, grid, answer)?;
+    if answer.head.optimal {
+        Ok(Ending::Optimal)
+    } else {
+        Ok(Ending::Stopped)
     }
 }
 

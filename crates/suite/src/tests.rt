@@ -1,11 +1,12 @@
 //! The worked rows, on `run`.
 
-use crate::run::run;
+use crate::program::run;
 use rst_outside::{DirShelf, MemSink, MemSource};
 use std::test::Fail;
 
 /// What a run left behind.
-struct Ran {
+#[derive(Drop)]
+struct Outcome {
     status: u8,
     out: Vec<u8>,
     err: Vec<u8>,
@@ -22,7 +23,7 @@ fn ran(
     input: &[u8],
     step: usize,
     failing: (&[u64], &[u64]),
-) -> Result<Ran, Fail> {
+) -> Result<Outcome, Fail> {
     let alloc = rt.alloc();
     let mut owned = Vec::new(alloc);
     for word in words {
@@ -33,7 +34,7 @@ fn ran(
     let mut source = MemSource::new(bytes, step, Vec::from_slice(alloc, failing.0)?);
     let mut out = MemSink::with_room(alloc, ROOM, step, Vec::from_slice(alloc, failing.1)?)?;
     let mut err = MemSink::with_room(alloc, ROOM, step, Vec::new(alloc))?;
-    let mut shelf = DirShelf::new(rt.clone());
+    let mut shelf = DirShelf::new(rt);
     let status = run(
         alloc,
         owned.as_slice(),
@@ -42,7 +43,7 @@ fn ran(
         &mut err,
         &mut shelf,
     );
-    Ok(Ran {
+    Ok(Outcome {
         status,
         out: Vec::from_slice(alloc, out.bytes())?,
         err: Vec::from_slice(alloc, err.bytes())?,
@@ -50,7 +51,7 @@ fn ran(
 }
 
 /// Runs `solve` where no call fails.
-fn solved(rt: &HostRuntime, input: &[u8]) -> Result<Ran, Fail> {
+fn solved(rt: &HostRuntime, input: &[u8]) -> Result<Outcome, Fail> {
     ran(rt, &["solve"], input, 4096, (&[], &[]))
 }
 
@@ -65,7 +66,7 @@ fn prints_whole_answers(rt: HostRuntime) -> Result<(), Fail> {
         (
             b"0 0\n2 0\n1 1\n",
             3,
-            b"rst answer 1\nlength 4\nbound 0\nstatus stopped\nopenings 100\nconcat spent 4\nedges 4\n0 0 1 0\n1 0 2 0\n0 1 1 1\n0 0 0 1\ntree\nleaf 0\nend\n",
+            b"rst answer 1\nlength 4\nbound 3\nstatus stopped\nopenings 100\nconcat spent 4\nedges 4\n0 0 1 0\n1 0 2 0\n0 1 1 1\n0 0 0 1\ntree\nleaf 3\ncut 1 20\ncut 1 08\ncut 1 64\nend\n",
         ),
     ];
     for (input, status, text) in rows {
@@ -134,7 +135,10 @@ fn takes_no_other_words(rt: HostRuntime) -> Result<(), Fail> {
         let left = ran(&rt, words, b"5 5\n", 4096, (&[], &[]))?;
         assert_eq!(rt; left.status, 2);
         assert_eq!(rt; left.out.len(), 0);
-        assert_eq!(rt; left.err.as_slice(), b"usage: rst solve [WORDS]\n".as_slice());
+        assert_eq!(rt;
+            left.err.as_slice(),
+            b"usage: rst solve [WORDS]\n".as_slice()
+        );
     }
     Ok(())
 }
@@ -145,11 +149,17 @@ fn tells_of_failing_reads_and_writes(rt: HostRuntime) -> Result<(), Fail> {
     let unread = ran(&rt, &["solve"], square, 4, (&[2], &[]))?;
     assert_eq!(rt; unread.status, 5);
     assert_eq!(rt; unread.out.len(), 0);
-    assert_eq!(rt; unread.err.as_slice(), b"rst: solve: cannot read input\n".as_slice());
+    assert_eq!(rt;
+        unread.err.as_slice(),
+        b"rst: solve: cannot read input\n".as_slice()
+    );
     let unwritten = ran(&rt, &["solve"], square, 4, (&[], &[2]))?;
     assert_eq!(rt; unwritten.status, 6);
     assert_eq!(rt; unwritten.out.as_slice(), b"rst answ".as_slice());
-    assert_eq!(rt; unwritten.err.as_slice(), b"rst: solve: cannot write\n".as_slice());
+    assert_eq!(rt;
+        unwritten.err.as_slice(),
+        b"rst: solve: cannot write\n".as_slice()
+    );
     Ok(())
 }
 
@@ -159,6 +169,9 @@ fn takes_no_more_bytes_than_the_limit(rt: HostRuntime) -> Result<(), Fail> {
     let left = solved(&rt, bytes.as_slice())?;
     assert_eq!(rt; left.status, 8);
     assert_eq!(rt; left.out.len(), 0);
-    assert_eq!(rt; left.err.as_slice(), b"rst: solve: more than 67108864 bytes\n".as_slice());
+    assert_eq!(rt;
+        left.err.as_slice(),
+        b"rst: solve: more than 67108864 bytes\n".as_slice()
+    );
     Ok(())
 }

@@ -14,7 +14,8 @@ use std::io::{ErrorKind, Read, Seek, SeekFrom};
 use std::marker::Model;
 use std::rt::Files;
 
-/// The files of the system, named from the working folder. Contracts see it as its count of faults.
+/// The files of the system, named from the working folder. Contracts see what reaches them and a count
+/// of faults.
 #[derive(Drop)]
 pub struct DirShelf<R: Files + Drop> {
     files: R,
@@ -22,17 +23,17 @@ pub struct DirShelf<R: Files + Drop> {
 }
 
 impl<R: Files + Drop> Model for DirShelf<R> {
-    ghost use Rattle.std.specs.Prelude.{ℕ};
+    ghost use Rattle.rst_outside.specs.Untold.{Counted};
 
-    ghost Value = { ℕ };
+    ghost Value = { Counted R };
 
-    ghost view = { λ s. s.faults };
+    ghost view = { λ s. record { inner = s.files; faults = s.faults } };
 }
 
 impl<R: Files + Drop> DirShelf<R> {
     /// The files that the runtime reaches, as a shelf that has not failed yet. It may be lent, as `&rt`.
     pub fn new(files: R) -> Self
-        ensures { result ≡ 0 }
+        ensures { result ≡ record { inner = files; faults = 0 } }
     {
         DirShelf { files, faults: 0 }
     }
@@ -46,16 +47,17 @@ impl<R: Files + Drop> Shelf for DirShelf<R> {
         ensures within { IfOk result (λ n. n ≤ length into.new) }
         ensures bytes { IfOk result (λ n. OfFile (untold_shelf self.old).files name.now
             (λ file. take n into.new ≡ take n (drop at file))) }
-        ensures end { IfOk result (λ n. 0 < length into.new → OfFile (untold_shelf self.old).files name.now
-            (λ file. (n ≡ 0) ↔ (length file ≤ at))) }
+        ensures end { IfOk result (λ n. 0 < length into.new →
+            OfFile (untold_shelf self.old).files name.now (λ file. (n ≡ 0) ↔ (length file ≤ at))) }
         ensures files { (untold_shelf self.new).files ≡ (untold_shelf self.old).files }
-        ensures count { self.old ≤ self.new }
-        ensures failed { OnErr result (Rose self.old self.new) }
+        ensures count { self.old.faults ≤ self.new.faults }
+        ensures failed { OnErr result (Rose self.old.faults self.new.faults) }
 
         // No file has an empty name, and a fault raises the count by one.
         ensures named { length name.now ≡ 0 → IsErr result }
         ensures after { OnOk result (self.new ≡ self.old) }
-        ensures after_fault { OnErr result (self.new ≡ next_count self.old) }
+        ensures after_fault { OnErr result
+            (self.new ≡ record self.old { faults = next_count self.old.faults }) }
     {
         match read_file_at(&self.files, name, at, into) {
             Ok(n) => Ok(n),

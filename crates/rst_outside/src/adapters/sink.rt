@@ -1,6 +1,7 @@
 //! A writer of the system as a sink.
 
 ghost use Rattle.std.specs.Prelude.{◌≡◌, ◌+◌, ◌<◌, ◌≤◌, length, take, IfOk, OnOk, OnErr};
+ghost use Rattle.std.specs.Io.KnownBytes.{WriteAppends};
 ghost use Rattle.rst_outside.specs.Counts.{Rose, next_count};
 ghost use Rattle.rst_outside.specs.Sink.{Appended};
 ghost use Rattle.rst_outside.specs.Untold.{untold_sink};
@@ -11,7 +12,7 @@ use crate::source::Failed;
 use std::io::Write;
 use std::marker::Model;
 
-/// A writer as a sink, as standard output or standard error. Contracts see it as its count of faults.
+/// A writer as a sink, as standard output or standard error. Contracts see the writer and a count of faults.
 #[derive(Drop)]
 pub struct StdSink<W: Write + Drop> {
     writer: W,
@@ -19,18 +20,18 @@ pub struct StdSink<W: Write + Drop> {
 }
 
 impl<W: Write + Drop> Model for StdSink<W> {
-    ghost use Rattle.std.specs.Prelude.{ℕ};
+    ghost use Rattle.rst_outside.specs.Untold.{Counted};
 
-    ghost Value = { ℕ };
+    ghost Value = { Counted W };
 
-    ghost view = { λ s. s.faults };
+    ghost view = { λ s. record { inner = s.writer; faults = s.faults } };
 }
 
 impl<W: Write + Drop> StdSink<W> {
-    /// The writer as a sink that has not failed yet. It is never flushed, so give one that holds nothing back, as
-    /// `stdout()` and `stderr()` of `HostRuntime`.
+    /// The writer as a sink that has not failed yet. It is never flushed, so give one that holds nothing
+    /// back, as `stdout()` and `stderr()` of `HostRuntime`.
     pub fn new(writer: W) -> Self
-        ensures { result ≡ 0 }
+        ensures { result ≡ record { inner = writer; faults = 0 } }
     {
         StdSink { writer, faults: 0 }
     }
@@ -46,15 +47,17 @@ impl<W: Write + Drop> Sink for StdSink<W> {
         ensures appended { IfOk result
             (λ n. Appended (untold_sink self.old).taken (take n from.now) (untold_sink self.new).taken) }
         ensures room { IfOk result (λ n. (untold_sink self.old).sure ≤ (untold_sink self.new).sure + n) }
-        ensures count { self.old ≤ self.new }
-        ensures failed { OnErr result (Rose self.old self.new) }
+        ensures count { self.old.faults ≤ self.new.faults }
+        ensures failed { OnErr result (Rose self.old.faults self.new.faults) }
         ensures kept { OnErr result ((untold_sink self.new).taken ≡ (untold_sink self.old).taken) }
         ensures no_room { OnErr result
             (((untold_sink self.old).sure ≡ 0) × ((untold_sink self.new).sure ≡ 0)) }
 
-        // A fault raises the count by one.
-        ensures after { OnOk result (self.new ≡ self.old) }
-        ensures after_fault { OnErr result (self.new ≡ next_count self.old) }
+        // The writer has what was taken, and a fault raises the count by one.
+        ensures written { WriteAppends (W.contents self.old.inner) (W.contents self.new.inner) result
+            from.now }
+        ensures after { OnOk result (self.new.faults ≡ self.old.faults) }
+        ensures after_fault { OnErr result (self.new.faults ≡ next_count self.old.faults) }
     {
         match self.writer.write(from) {
             Ok(n) if n > 0 || from.is_empty() => Ok(n),

@@ -1,6 +1,7 @@
 //! A reader of the system as a source.
 
 ghost use Rattle.std.specs.Prelude.{◌≡◌, ◌<◌, ◌≤◌, length, take, IfOk, OnOk, OnErr};
+ghost use Rattle.std.specs.Io.KnownBytes.{ReadConsumes};
 ghost use Rattle.rst_outside.specs.Counts.{Rose, next_count};
 ghost use Rattle.rst_outside.specs.Source.{Came, IsAtEnd};
 ghost use Rattle.rst_outside.specs.Untold.{untold_source};
@@ -10,7 +11,7 @@ use crate::source::{Failed, Source};
 use std::io::Read;
 use std::marker::Model;
 
-/// A reader as a source, as standard input. Contracts see it as its count of faults.
+/// A reader as a source, as standard input. Contracts see the reader and a count of faults.
 #[derive(Drop)]
 pub struct StdSource<R: Read + Drop> {
     reader: R,
@@ -18,17 +19,17 @@ pub struct StdSource<R: Read + Drop> {
 }
 
 impl<R: Read + Drop> Model for StdSource<R> {
-    ghost use Rattle.std.specs.Prelude.{ℕ};
+    ghost use Rattle.rst_outside.specs.Untold.{Counted};
 
-    ghost Value = { ℕ };
+    ghost Value = { Counted R };
 
-    ghost view = { λ s. s.faults };
+    ghost view = { λ s. record { inner = s.reader; faults = s.faults } };
 }
 
 impl<R: Read + Drop> StdSource<R> {
     /// The reader as a source that has not failed yet. `HostRuntime` has standard input as `stdin()`.
     pub fn new(reader: R) -> Self
-        ensures { result ≡ 0 }
+        ensures { result ≡ record { inner = reader; faults = 0 } }
     {
         StdSource { reader, faults: 0 }
     }
@@ -44,13 +45,15 @@ impl<R: Read + Drop> Source for StdSource<R> {
             (λ n. Came (untold_source self.old).rest (take n into.new) (untold_source self.new).rest) }
         ensures end { IfOk result
             (λ n. n ≡ 0 → 0 < length into.new → IsAtEnd (untold_source self.old).rest) }
-        ensures count { self.old ≤ self.new }
-        ensures failed { OnErr result (Rose self.old self.new) }
+        ensures count { self.old.faults ≤ self.new.faults }
+        ensures failed { OnErr result (Rose self.old.faults self.new.faults) }
         ensures kept { OnErr result ((untold_source self.new).rest ≡ (untold_source self.old).rest) }
 
-        // A fault raises the count by one.
-        ensures after { OnOk result (self.new ≡ self.old) }
-        ensures after_fault { OnErr result (self.new ≡ next_count self.old) }
+        // It gives what the reader gives, and a fault raises the count by one.
+        ensures read { ReadConsumes (R.remaining self.old.inner) (R.remaining self.new.inner) result
+            into.new }
+        ensures after { OnOk result (self.new.faults ≡ self.old.faults) }
+        ensures after_fault { OnErr result (self.new.faults ≡ next_count self.old.faults) }
     {
         match self.reader.read(into) {
             Ok(n) => Ok(n),

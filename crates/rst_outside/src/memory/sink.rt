@@ -42,9 +42,9 @@ impl Model for MemSink {
 }
 
 impl MemSink {
-    /// An empty sink. It takes at most `step` bytes in a call and `room` bytes in all, and fails at the calls whose
-    /// numbers, counted from 0, stand in `failing`. The number of calls stops at 2^64-1, as does the count of faults.
-    /// Its memory is reserved here, so that no write lacks it.
+    /// An empty sink. It takes at most `step` bytes in a call and `room` bytes in all, and fails at the calls
+    /// whose numbers, counted from 0, stand in `failing`, in any order. The number of calls stops at 2^64-1,
+    /// as does the count of faults. Its memory is reserved here, so that no write lacks it.
     pub fn with_room(
         alloc: Global,
         room: usize,
@@ -86,9 +86,8 @@ impl Sink for MemSink {
         ensures appended { IfOk result
             (λ n. Appended (sink_state_of self.old).taken (take n from.now) (sink_state_of self.new).taken) }
         ensures room { IfOk result (λ n. (sink_state_of self.old).sure ≤ (sink_state_of self.new).sure + n) }
-        ensures count { (sink_state_of self.old).faults ≤ (sink_state_of self.new).faults }
-        ensures failed { OnErr result
-            (Rose (sink_state_of self.old).faults (sink_state_of self.new).faults) }
+        ensures count { self.old.faults ≤ self.new.faults }
+        ensures failed { OnErr result (Rose self.old.faults self.new.faults) }
         ensures kept { OnErr result ((sink_state_of self.new).taken ≡ (sink_state_of self.old).taken) }
         ensures no_room { OnErr result
             (((sink_state_of self.old).sure ≡ 0) × ((sink_state_of self.new).sure ≡ 0)) }

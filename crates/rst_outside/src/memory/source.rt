@@ -40,10 +40,17 @@ impl Model for MemSource {
 
 impl MemSource {
     /// A source of the bytes. It gives at most `step` of them in a call, and fails at the calls whose numbers,
-    /// counted from 0, stand in `failing`. The number of calls stops at 2^64-1, as does the count of faults.
+    /// counted from 0, stand in `failing`, in any order. The number of calls stops at 2^64-1, as does the
+    /// count of faults.
     pub fn new(bytes: Vec<u8>, step: usize, failing: Vec<u64>) -> Self
         requires { 1 ≤ step }
-        ensures { result ≡ record { rest = bytes.items; step = step; failing = failing.items; calls = 0; faults = 0 } }
+        ensures { result ≡ record {
+          rest = bytes.items;
+          step = step;
+          failing = failing.items;
+          calls = 0;
+          faults = 0;
+        } }
     {
         MemSource {
             bytes,
@@ -61,9 +68,10 @@ impl Source for MemSource {
         ensures within { IfOk result (λ n. n ≤ length into.new) }
         ensures came { IfOk result
             (λ n. Came (source_state_of self.old).rest (take n into.new) (source_state_of self.new).rest) }
-        ensures end { IfOk result (λ n. n ≡ 0 → 0 < length into.new → IsAtEnd (source_state_of self.old).rest) }
-        ensures count { (source_state_of self.old).faults ≤ (source_state_of self.new).faults }
-        ensures failed { OnErr result (Rose (source_state_of self.old).faults (source_state_of self.new).faults) }
+        ensures end { IfOk result
+            (λ n. n ≡ 0 → 0 < length into.new → IsAtEnd (source_state_of self.old).rest) }
+        ensures count { self.old.faults ≤ self.new.faults }
+        ensures failed { OnErr result (Rose self.old.faults self.new.faults) }
         ensures kept { OnErr result ((source_state_of self.new).rest ≡ (source_state_of self.old).rest) }
 
         // It fails where it was told to, and else gives as much as it can.

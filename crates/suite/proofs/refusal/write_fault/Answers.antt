@@ -1,7 +1,6 @@
 -- In each arm the text of the refusal is the one that was written.
 use Rattle.suite.proofs.refusal.write_fault.Goals as goal
 
-
 pub returns-in-TooManyBytes : goal.returns-in-TooManyBytes
 returns-in-TooManyBytes g c = rw c.in-TooManyBytes.is c.write_line-in-TooManyBytes.ensures
 

@@ -1,0 +1,62 @@
+-- Pieces of a text that are determined by a list that begins with them.
+use Rattle.std.proofs.Common.{ℕ, ◌≡◌, ◌≢◌, ◌^◌, ◌<◌, Bool, true, false, List, [], ◌∷◌, ◌++◌, length, get_or, refl, sym, ap, ◌∙◌, arith, append_assoc}
+use Rattle.std.specs.Prelude.{All, flat_map}
+use Rattle.std.specs.Fmt.{decimal}
+use Rattle.std.specs.Str.Parse.{digits_value}
+use Rattle.std.proofs.lemmas.Fmt.{decimal_is_IsNumeral_wide}
+use Rattle.std.proofs.lemmas.Str.Parse.{digit_at}
+use Rattle.std.proofs.lemmas.List.Elements.{All-from_get_or, All-head, All-tail}
+use Rattle.spelled.specs.Words.{Lacks}
+use Rattle.spelled.specs.Fronts.{front_unique}
+use Rattle.cut_cert.specs.Text.{status_word, concat_word}
+
+-- No digit is a byte below the digits.
+number-lacks : (n byte : ℕ) → n < 2 ^ 128 → byte < 48 → Lacks (decimal n) byte
+number-lacks n byte fits low = All-from_get_or (λ b. b ≢ byte) (decimal n) 0
+    (λ i inside. let digit = digit_at (decimal n) i ((decimal_is_IsNumeral_wide n (omega arith)).0.1) inside in omega arith)
+
+-- A number is told by its digits.
+number_one : (m n : ℕ) → m < 2 ^ 128 → n < 2 ^ 128 → decimal m ≡ decimal n → m ≡ n
+number_one m n p q e =
+    sym ((decimal_is_IsNumeral_wide m (omega arith)).1) ∙ ap (digits_value 10) e ∙ (decimal_is_IsNumeral_wide n (omega arith)).1
+
+-- A number is told by a list that begins with its digits and a byte below the digits.
+pub number_front : (byte m n : ℕ) (p q : List ℕ) → byte < 48 → m < 2 ^ 128 → n < 2 ^ 128
+    → decimal m ++ byte ∷ p ≡ decimal n ++ byte ∷ q → (m ≡ n) × (p ≡ q)
+number_front byte m n p q low f g e =
+    let same = front_unique byte (decimal m) (decimal n) p q (number-lacks m byte f low) (number-lacks n byte g low) e in
+    (number_one m n f g same.0, same.1)
+
+-- Lists that begin with two bytes are two.
+pub first_apart : {x y : List ℕ} (a b : ℕ) → a ≢ b → a ∷ x ≡ b ∷ y → ⊥
+first_apart a b apart e = apart (ap (λ s. get_or s 0 0) e)
+
+-- A status is told by a list that begins with its word.
+pub status_front : (a b : Bool) (p q : List ℕ) → status_word a ++ p ≡ status_word b ++ q → (a ≡ b) × (p ≡ q)
+status_front true true p q e = (refl, cc)
+status_front true false p q e = absurd (first_apart 111 115 (omega arith) e)
+status_front false true p q e = absurd (first_apart 115 111 (omega arith) e)
+status_front false false p q e = (refl, cc)
+
+-- So is what a total is.
+pub concat_front : (a b : Bool) (p q : List ℕ) → concat_word a ++ p ≡ concat_word b ++ q → (a ≡ b) × (p ≡ q)
+concat_front true true p q e = (refl, cc)
+concat_front true false p q e = absurd (first_apart 108 115 (omega arith) e)
+concat_front false true p q e = absurd (first_apart 115 108 (omega arith) e)
+concat_front false false p q e = (refl, cc)
+
+-- Texts of which each is determined by a list that begins with it.
+abbrev pub IsToldByFront : {A : Type 0} → (A → Type 0) → (A → List ℕ) → Type 0
+IsToldByFront {A} Fits text = (x y : A) (p q : List ℕ) → Fits x → Fits y → text x ++ p ≡ text y ++ q → (x ≡ y) × (p ≡ q)
+
+-- As many of them one after another are so too.
+pub texts_front : {A : Type 0} (Fits : A → Type 0) (text : A → List ℕ) → IsToldByFront Fits text → (xs ys : List A) (p q : List ℕ)
+    → length xs ≡ length ys → All Fits xs → All Fits ys → flat_map text xs ++ p ≡ flat_map text ys ++ q → (xs ≡ ys) × (p ≡ q)
+texts_front Fits text one [] [] p q size f g e = (refl, e)
+texts_front Fits text one [] (y ∷ ys) p q size f g e = absurd (omega arith)
+texts_front Fits text one (x ∷ xs) [] p q size f g e = absurd (omega arith)
+texts_front Fits text one (x ∷ xs) (y ∷ ys) p q size f g e =
+    let first = one x y (flat_map text xs ++ p) (flat_map text ys ++ q) (All-head Fits x xs f) (All-head Fits y ys g)
+    (sym (append_assoc (text x) (flat_map text xs) p) ∙ e ∙ append_assoc (text y) (flat_map text ys) q) in
+    let rest = texts_front Fits text one xs ys p q (omega arith) (All-tail Fits x xs f) (All-tail Fits y ys g) first.1 in
+    (cc, rest.1)

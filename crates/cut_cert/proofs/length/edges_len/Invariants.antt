@@ -1,0 +1,9 @@
+use Rattle.std.proofs.Common.{◌≡◌, ◌*◌, ◌≤◌, length, take}
+use Rattle.net_graph.specs.Members.{members_of}
+use Rattle.cut_cert.specs.Text.{edge_lines}
+use Rattle.cut_cert.specs.Answers.{names_of}
+use Rattle.cut_cert.proofs.length.edges_len.Given as goal
+
+-- the length of the lines of the members among the numbers passed
+abbrev pub invariant-loop-e : goal.invariant-loop-e
+invariant-loop-e l = record { length : l.sum ≡ length (edge_lines (names_of l.grid (members_of (take l.e l.network)))); short : l.sum ≤ 164 * l.e }

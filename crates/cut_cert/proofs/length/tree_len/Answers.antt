@@ -1,0 +1,78 @@
+use Rattle.std.proofs.Common.{◌≡◌, ◌+◌, ◌++◌, length, take, ◌∙◌, ap, arith}
+use Rattle.std.proofs.lemmas.List.{take_all}
+use Rattle.hanan_grid.specs.Grid.{hanan_grid_of}
+use Rattle.cut_cert.specs.Text.{split_line, leaf_text}
+use Rattle.cut_cert.specs.Kept.{packings_of}
+use Rattle.cut_cert.proofs.Lengths.{length-split_line, sum_more}
+use Rattle.cut_cert.proofs.PackingLemmas.{packing-few, packing-small}
+use Rattle.cut_cert.proofs.NodesText.{nodes_text, nodes_text-tree, split_step, split_leaves, leaf_step, leaf_leaves, leaf_below, leaf_within, nodes_count}
+use Rattle.cut_cert.proofs.length.tree_len.Goals as goal
+use Rattle.cut_cert.proofs.length.tree_len.Goals.{in-Some, in-None}
+
+pub overflow_add-sum-in-Some : goal.overflow_add-sum-in-Some
+overflow_add-sum-in-Some c =
+    let within = leaf_within c.args.tree.now c.nodes-node-items.result.now c.loop-node.node-index c.loop-node.leaf c.nodes-node-items.ensures.nodes c.loop-node.invariant.leaf in
+    let count = nodes_count c.args.tree.now c.nodes-node-items.result.now c.nodes-node-items.ensures.nodes in
+    omega arith
+
+pub packing-requires : goal.packing-requires
+packing-requires c =
+    leaf_below c.args.tree.now c.nodes-node-items.result.now c.loop-node.node-index c.loop-node.leaf c.nodes-node-items.ensures.nodes c.loop-node-test.true c.in-None.is c.loop-node.invariant.leaf
+
+pub leaf_len-sum-requires-clause-few : goal.leaf_len-sum-requires-clause-few
+leaf_len-sum-requires-clause-few c =
+    packing-few (hanan_grid_of c.args.grid.now) (packings_of c.args.tree.now) c.loop-node.leaf c.packing.result.now c.requires.sound c.requires.packings c.packing.ensures
+
+pub leaf_len-sum-requires-clause-small : goal.leaf_len-sum-requires-clause-small
+leaf_len-sum-requires-clause-small c =
+    packing-small (hanan_grid_of c.args.grid.now) (packings_of c.args.tree.now) c.loop-node.leaf c.packing.result.now c.requires.sound c.requires.packings c.packing.ensures
+
+pub overflow_add-sum-in-None : goal.overflow_add-sum-in-None
+overflow_add-sum-in-None c =
+    let few = packing-few (hanan_grid_of c.args.grid.now) (packings_of c.args.tree.now) c.loop-node.leaf c.packing.result.now c.requires.sound c.requires.packings c.packing.ensures in
+    let within = leaf_within c.args.tree.now c.nodes-node-items.result.now c.loop-node.node-index c.loop-node.leaf c.nodes-node-items.ensures.nodes c.loop-node.invariant.leaf in
+    let count = nodes_count c.args.tree.now c.nodes-node-items.result.now c.nodes-node-items.ensures.nodes in
+    omega arith
+
+pub overflow_add-leaf : goal.overflow_add-leaf
+overflow_add-leaf c =
+    let within = leaf_within c.args.tree.now c.nodes-node-items.result.now c.loop-node.node-index c.loop-node.leaf c.nodes-node-items.ensures.nodes c.loop-node.invariant.leaf in
+    omega arith
+
+pub loop-node-preserved : goal.loop-node-preserved
+loop-node-preserved c =
+    let nodes = c.nodes-node-items.result.now in
+    let packings = packings_of c.args.tree.now in
+    let i = c.loop-node.node-index in
+    elim c.match-node.branch [
+      | in-Some w ↦ record {
+        leaf = w.leaf-is ∙ c.loop-node.invariant.leaf ∙ split_leaves nodes i w.in-Some.edge c.loop-node-test.true w.in-Some.is;
+        length =
+            let name = w.edge_name.ensures.name in
+            let line : 6 + w.edge_len.result ≡ length (split_line w.edge_name.result) = omega (arith, length-split_line w.edge_name.result) in
+            let text = ap (λ name. nodes_text c.args.grid.now (take i nodes) packings ++ split_line name) name ∙ split_step c.args.grid.now nodes packings i w.in-Some.edge c.loop-node-test.true w.in-Some.is in
+            w.sum-is ∙ sum_more _ (split_line w.edge_name.result) _ c.loop-node.sum (6 + w.edge_len.result) c.loop-node.invariant.length line text;
+        short = omega arith;
+      }
+      | in-None w ↦ record {
+        leaf = w.leaf-is ∙ ap (λ n. n + 1) c.loop-node.invariant.leaf ∙ leaf_leaves nodes i c.loop-node-test.true w.in-None.is;
+        length =
+            let below = leaf_below c.args.tree.now nodes i c.loop-node.leaf c.nodes-node-items.ensures.nodes c.loop-node-test.true w.in-None.is c.loop-node.invariant.leaf in
+            let text = leaf_step c.args.grid.now nodes packings i c.loop-node.leaf w.packing.result.now c.loop-node-test.true w.in-None.is c.loop-node.invariant.leaf below w.packing.ensures in
+            w.sum-is ∙ sum_more _ (leaf_text w.packing.result.now) _ c.loop-node.sum w.leaf_len-sum.result c.loop-node.invariant.length w.leaf_len-sum.ensures.length text;
+        short =
+            let few = packing-few (hanan_grid_of c.args.grid.now) packings c.loop-node.leaf w.packing.result.now c.requires.sound c.requires.packings w.packing.ensures in
+            omega arith;
+      }
+    ]
+
+pub returns-clause-length : goal.returns-clause-length
+returns-clause-length c =
+    let all = take_all c.loop-node.node-index c.nodes-node-items.result.now c.loop-node-test.false in
+    rw (all, c.nodes-node-items.ensures.nodes, nodes_text-tree) at c.loop-node.invariant.length
+
+pub returns-clause-short : goal.returns-clause-short
+returns-clause-short c =
+    let within = leaf_within c.args.tree.now c.nodes-node-items.result.now c.loop-node.node-index c.loop-node.leaf c.nodes-node-items.ensures.nodes c.loop-node.invariant.leaf in
+    let same = ap length c.nodes-node-items.ensures.nodes in
+    omega arith

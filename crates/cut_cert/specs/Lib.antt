@@ -1,0 +1,7 @@
+pub mod Value
+pub mod Text
+pub mod Spelling
+pub mod Kept
+pub mod Bound
+pub mod SetLaws
+pub mod Answers

@@ -1,0 +1,104 @@
+//! An answer: a network, what bounds it from below, and what is told of both.
+
+ghost use Rattle.std.specs.Prelude.{◌≡◌, ◌++◌, ◌<◌, ◌^◌, length, All, codes};
+ghost use Rattle.rst_outside.specs.Sink.{Writes};
+ghost use Rattle.text_out.specs.Gathers.{Gathers};
+ghost use Rattle.net_graph.specs.Members.{members_of};
+ghost use Rattle.hanan_grid.specs.Grid.{hanan_grid_of};
+ghost use Rattle.cut_cert.specs.Text.{answer_text, edge_lines, network_text, proof_text, tree_text};
+ghost use Rattle.cut_cert.specs.Kept.{nodes_of};
+ghost use Rattle.cut_cert.specs.Answers.{IsAnswerOn, IsNodeOn, names_of, named, value_of};
+
+use crate::head::AnswerHead;
+use crate::tree::CertTree;
+use crate::write::{write_edge, write_head, write_leaf, write_split};
+use hanan_grid::Grid;
+use net_graph::EdgeSet;
+use rst_outside::{PutFault, Sink};
+use text_out::{Block, finish, literal, number};
+
+/// An answer on a grid.
+#[derive(Debug, Drop)]
+pub struct Answer {
+    pub head: AnswerHead,
+    pub network: EdgeSet,
+    pub tree: CertTree,
+}
+
+/// Writes the text of an answer. It takes no memory; on an `Err` the sink failed, and the text was cut short.
+#[tactic(auto, using(text_out::specs::GatherLaws::pieces))]
+pub fn write_answer<S: Sink>(sink: &mut S, grid: &Grid, answer: &Answer) -> Result<(), PutFault>
+    requires { IsAnswerOn (hanan_grid_of grid.now) answer.now }
+    ensures { Writes (S.state sink.old) (answer_text (value_of grid.now answer.now)) (S.state sink.new) result }
+{
+    let mut block = Block::new();
+    write_head(&mut block, sink, &answer.head);
+    write_network(&mut block, sink, grid, &answer.network);
+    write_proof(&mut block, sink, grid, &answer.tree);
+    finish(block, sink)
+}
+
+// The network: how many edges it has, and the edges.
+#[tactic(auto, using(text_out::specs::GatherLaws::pieces))]
+fn write_network<S: Sink>(block: &mut Block, sink: &mut S, grid: &Grid, network: &EdgeSet)
+    requires { length network.now ≡ length (hanan_grid_of grid.now).edges }
+    ensures { Gathers (S.state sink.old) block.old (network_text (names_of grid.now (members_of network.now))) (S.state sink.new) block.new }
+{
+    literal(block, sink, b"edges ");
+    number(block, sink, count_of(network));
+    literal(block, sink, b"\n");
+    write_edges(block, sink, grid, network);
+}
+
+// How many edges the set has.
+pub(crate) fn count_of(set: &EdgeSet) -> u32
+    ensures { result ≡ length (members_of set.now) }
+{
+    let mut count = 0;
+    for e in 0..set.len() {
+        if set.has(e) {
+            count += 1;
+        }
+    }
+    count
+}
+
+// A line for each edge of the set, in ascending number.
+fn write_edges<S: Sink>(block: &mut Block, sink: &mut S, grid: &Grid, network: &EdgeSet)
+    requires { length network.now ≡ length (hanan_grid_of grid.now).edges }
+    ensures { Gathers (S.state sink.old) block.old (edge_lines (names_of grid.now (members_of network.now))) (S.state sink.new) block.new }
+{
+    for e in 0..network.len() {
+        if network.has(e) {
+            write_edge(block, sink, &grid.edge_name(e));
+        }
+    }
+}
+
+// The tree between the lines before it and after it.
+#[tactic(auto, using(text_out::specs::GatherLaws::pieces))]
+fn write_proof<S: Sink>(block: &mut Block, sink: &mut S, grid: &Grid, tree: &CertTree)
+    requires { All (IsNodeOn (hanan_grid_of grid.now)) (nodes_of tree.now) }
+    ensures { Gathers (S.state sink.old) block.old (proof_text (named grid.now tree.now)) (S.state sink.new) block.new }
+{
+    literal(block, sink, b"tree\n");
+    write_tree(block, sink, grid, tree);
+    literal(block, sink, b"end\n");
+}
+
+// The nodes of a tree in preorder.
+fn write_tree<S: Sink>(block: &mut Block, sink: &mut S, grid: &Grid, tree: &CertTree)
+    requires { All (IsNodeOn (hanan_grid_of grid.now)) (nodes_of tree.now) }
+    ensures { Gathers (S.state sink.old) block.old (tree_text (named grid.now tree.now)) (S.state sink.new) block.new }
+{
+    let mut leaf = 0;
+    for node in tree.nodes() {
+        match node {
+            Some(edge) => write_split(block, sink, &grid.edge_name(*edge)),
+            None => {
+                write_leaf(block, sink, tree.packing(leaf));
+                leaf += 1;
+            }
+        }
+    }
+}

@@ -1,0 +1,151 @@
+//! The lengths of the parts of an answer's text.
+
+ghost use Rattle.std.specs.Prelude.{◌≡◌, ◌+◌, ◌*◌, ◌/◌, ◌<◌, ◌≤◌, ◌^◌, length, All};
+ghost use Rattle.std.specs.Fmt.{decimal, signed_decimal};
+ghost use Rattle.net_graph.specs.Graph.{IsGraph};
+ghost use Rattle.net_graph.specs.Members.{members_of};
+ghost use Rattle.hanan_grid.specs.Grid.{hanan_grid_of};
+ghost use Rattle.cut_cert.specs.Text.{answer_text, head_text, edge_line, edge_lines, network_text, cut_line, cut_lines, leaf_text, tree_text};
+ghost use Rattle.cut_cert.specs.Kept.{nodes_of, packings_of};
+ghost use Rattle.cut_cert.specs.Answers.{IsAnswerOn, IsNodeOn, IsPackingOn, names_of, named, value_of};
+
+use crate::answer::{Answer, count_of};
+use crate::head::AnswerHead;
+use crate::tree::CertTree;
+use crate::write::{kind_of, status_of};
+use hanan_grid::{EdgeName, Grid};
+use itoa::Buffer;
+use net_graph::{Cut, EdgeSet, Packing};
+
+/// The length of the text that `write_answer` writes, which is below 2^32. It takes no memory.
+pub fn answer_len(grid: &Grid, answer: &Answer) -> u64
+    requires { IsAnswerOn (hanan_grid_of grid.now) answer.now }
+    ensures length { result ≡ length (answer_text (value_of grid.now answer.now)) }
+    ensures short { result < 2 ^ 32 }
+{
+    let edges = grid.graph().edge_count();
+    prove!(edges <= 4900);
+    head_len(&answer.head)
+        + network_len(grid, &answer.network)
+        + b"tree\nend\n".len() as u64
+        + tree_len(grid, &answer.tree)
+}
+
+// The length of the network's part.
+fn network_len(grid: &Grid, network: &EdgeSet) -> u64
+    requires size { length network.now ≡ length (hanan_grid_of grid.now).edges }
+    requires few { length network.now ≤ 4900 }
+    ensures length { result ≡ length (network_text (names_of grid.now (members_of network.now))) }
+    ensures short { result ≤ 50 + 164 * 4900 }
+{
+    7 + number_len(u128::from(count_of(network))) + edges_len(grid, network)
+}
+
+// The length of the lines of its edges.
+fn edges_len(grid: &Grid, network: &EdgeSet) -> u64
+    requires size { length network.now ≡ length (hanan_grid_of grid.now).edges }
+    requires few { length network.now ≤ 4900 }
+    ensures length { result ≡ length (edge_lines (names_of grid.now (members_of network.now))) }
+    ensures short { result ≤ 164 * 4900 }
+{
+    let mut sum = 0;
+    for e in 0..network.len() {
+        if network.has(e) {
+            sum += edge_len(&grid.edge_name(e));
+        }
+    }
+    sum
+}
+
+// The length of a tree, of which no node has more than 12,760,297 bytes: a leaf's 19601 cuts have 651 each.
+fn tree_len(grid: &Grid, tree: &CertTree) -> u64
+    requires sound { IsGraph (hanan_grid_of grid.now) }
+    requires nodes { All (IsNodeOn (hanan_grid_of grid.now)) (nodes_of tree.now) }
+    requires packings { All (IsPackingOn (hanan_grid_of grid.now)) (packings_of tree.now) }
+    ensures length { result ≡ length (tree_text (named grid.now tree.now)) }
+    ensures short { result ≤ 170 * length (nodes_of tree.now) + 12760297 * length (packings_of tree.now) }
+{
+    let mut leaf = 0;
+    let mut sum = 0;
+    for node in tree.nodes() {
+        match node {
+            Some(edge) => sum += 6 + edge_len(&grid.edge_name(*edge)),
+            None => {
+                sum += leaf_len(tree.packing(leaf));
+                leaf += 1;
+            }
+        }
+    }
+    sum
+}
+
+// How many digits a number has.
+fn number_len(number: u128) -> u64
+    ensures length { result ≡ length (decimal number) }
+    ensures short { result ≤ 40 }
+    ensures shorter { number < 2 ^ 64 → result ≤ 20 }
+{
+    Buffer::new().format(number).len() as u64
+}
+
+// How many bytes a signed number has.
+fn signed_len(number: &i64) -> u64
+    ensures length { result ≡ length (signed_decimal number.now) }
+    ensures short { result ≤ 40 }
+{
+    Buffer::new().format(*number).len() as u64
+}
+
+// The length of the first six lines.
+fn head_len(head: &AnswerHead) -> u64
+    ensures length { result ≡ length (head_text head.now) }
+    ensures short { result ≤ 300 }
+{
+    let numbers = number_len(u128::from(head.length))
+        + number_len(u128::from(head.bound))
+        + number_len(u128::from(head.openings))
+        + number_len(head.concat.total);
+    let words = status_of(head.optimal).len() as u64 + kind_of(head.concat.least).len() as u64;
+    55 + numbers + words
+}
+
+// The length of an edge's line.
+fn edge_len(name: &EdgeName) -> u64
+    ensures length { result ≡ length (edge_line name.now) }
+    ensures short { result ≤ 164 }
+{
+    4 + signed_len(&name.x1) + signed_len(&name.y1) + signed_len(&name.x2) + signed_len(&name.y2)
+}
+
+// The length of a cut's line.
+fn cut_len(cut: &Cut) -> u64
+    ensures length { result ≡ length (cut_line cut.now) }
+    ensures short { result ≤ 26 + (length cut.now.members + 3) / 4 }
+{
+    let digits = u64::from(cut.members.len().div_ceil(4));
+    6 + number_len(u128::from(cut.weight)) + digits
+}
+
+// The length of a leaf with its cuts, of which there are few of few vertices.
+fn leaf_len(packing: &Packing) -> u64
+    requires few { length packing.now ≤ 19601 }
+    requires small { All (λ c. length c.members ≤ 2500) packing.now }
+    ensures length { result ≡ length (leaf_text packing.now) }
+    ensures short { result ≤ 46 + 651 * length packing.now }
+{
+    6 + number_len(packing.len() as u128) + cuts_len(packing.cuts())
+}
+
+// The length of the lines of cuts.
+fn cuts_len(cuts: &[Cut]) -> u64
+    requires few { length cuts.now ≤ 19601 }
+    requires small { All (λ c. length c.members ≤ 2500) cuts.now }
+    ensures length { result ≡ length (cut_lines cuts.now) }
+    ensures short { result ≤ 651 * length cuts.now }
+{
+    let mut sum = 0;
+    for cut in cuts {
+        sum += cut_len(cut);
+    }
+    sum
+}

@@ -1,0 +1,17 @@
+//! Answers: a network with the cuts that bound it from below, and the text that tells one.
+#![tactic(auto)]
+
+mod answer;
+mod head;
+mod length;
+mod reading;
+#[cfg(test)]
+mod tests;
+mod tree;
+mod write;
+
+pub use answer::{Answer, write_answer};
+pub use head::{AnswerHead, ConcatNote};
+pub use length::answer_len;
+pub use reading::one_reading;
+pub use tree::CertTree;

@@ -1,0 +1,138 @@
+//! A worked answer, and sets whose digits were worked out by hand.
+
+ghost use Rattle.std.specs.Prelude.{◌≡◌, ◌<◌, ◌≤◌, [], ◌∷◌, length, All, IfOk};
+ghost use Rattle.net_graph.specs.declared.packing.Cut.{Cut};
+ghost use Rattle.hanan_grid.specs.Grid.{hanan_grid_of};
+ghost use Rattle.cut_cert.specs.Kept.{split_count};
+ghost use Rattle.cut_cert.specs.Answers.{IsAnswerOn};
+
+use crate::answer::{Answer, write_answer};
+use crate::head::{AnswerHead, ConcatNote};
+use crate::length::answer_len;
+use crate::tree::CertTree;
+use crate::write::write_set;
+use hanan_grid::{Grid, GridFault};
+use net_graph::{Cut, EdgeSet, Packing, VertexSet};
+use points_in::{Point, Points};
+use rst_outside::MemSink;
+use std::alloc::{AllocError, Global};
+use std::test::Fail;
+use text_out::{Block, finish};
+
+/// A set of these vertices among those below a size.
+fn set_of(alloc: Global, size: u32, members: &[u32]) -> Result<VertexSet, AllocError>
+    ensures { IfOk result (λ set. length set ≡ size) }
+{
+    let mut set = VertexSet::empty(alloc, size)?;
+    for v in members {
+        if *v < set.len() {
+            set.add(*v);
+        }
+    }
+    Ok(set)
+}
+
+/// Three cuts of weight 1 of six vertices: {2}, {4} and {1, 2, 5}.
+fn three_cuts(alloc: Global) -> Result<Packing, AllocError>
+    ensures few { IfOk result (λ packing. length packing ≡ 3) }
+    ensures each { IfOk result (λ packing. All (λ c. (c.weight ≡ 1) × (length c.members ≡ 6)) packing) }
+{
+    let mut packing = Packing::empty(alloc);
+    packing.push(Cut {
+        weight: 1,
+        members: set_of(alloc, 6, &[2])?,
+    })?;
+    packing.push(Cut {
+        weight: 1,
+        members: set_of(alloc, 6, &[4])?,
+    })?;
+    packing.push(Cut {
+        weight: 1,
+        members: set_of(alloc, 6, &[1, 2, 5])?,
+    })?;
+    Ok(packing)
+}
+
+/// The network of the edges 0, 1 and 5 of seven.
+fn three_edges(alloc: Global) -> Result<EdgeSet, AllocError>
+    ensures { IfOk result (λ network. length network ≡ 7) }
+{
+    let mut network = EdgeSet::empty(alloc, 7)?;
+    network.add(0);
+    network.add(1);
+    network.add(5);
+    Ok(network)
+}
+
+/// The answer of those edges, whose bound those cuts are.
+fn worked_answer(alloc: Global, grid: &Grid) -> Result<Answer, AllocError>
+    requires vertices { (hanan_grid_of grid.now).vertices ≡ 6 }
+    requires edges { length (hanan_grid_of grid.now).edges ≡ 7 }
+    ensures fits { IfOk result (λ answer. IsAnswerOn (hanan_grid_of grid.now) answer) }
+    ensures leaf { IfOk result (λ answer. split_count answer.tree ≡ 0) }
+{
+    let network = three_edges(alloc)?;
+    let tree = CertTree::leaf(alloc, three_cuts(alloc)?)?;
+    Ok(Answer {
+        head: AnswerHead {
+            length: 3,
+            bound: 3,
+            optimal: true,
+            openings: 100,
+            concat: ConcatNote {
+                least: true,
+                total: 3,
+            },
+        },
+        network,
+        tree,
+    })
+}
+
+#[test]
+fn writes_the_worked_answer(rt: HostRuntime) -> Result<(), Fail> {
+    let alloc = rt.alloc();
+    let mut points = Points::begin(alloc, Point { x: 0, y: 0 })?;
+    points
+        .add(Point { x: 2, y: 0 })
+        .expect(&rt, "there is room");
+    points
+        .add(Point { x: 1, y: 1 })
+        .expect(&rt, "there is room");
+    let grid = Grid::new(alloc, &points).expect(&rt, "the grid is short");
+    assert!(rt; grid.graph().vertex_count() == 6);
+    assert!(rt; grid.graph().edge_count() == 7);
+    let answer = worked_answer(alloc, &grid)?;
+    let mut sink = MemSink::with_room(alloc, 1000, 7, Vec::new(alloc))?;
+    let written = write_answer(&mut sink, &grid, &answer);
+    assert_eq!(rt; written, Ok(()));
+    let text = b"rst answer 1\nlength 3\nbound 3\nstatus optimal\nopenings 100\nconcat least 3\n\
+        edges 3\n0 0 1 0\n1 0 2 0\n1 0 1 1\ntree\nleaf 3\ncut 1 20\ncut 1 08\ncut 1 64\nend\n";
+    assert_eq!(rt; sink.bytes(), text.as_slice());
+    assert_eq!(rt; answer_len(&grid, &answer), text.len() as u64);
+    assert_eq!(rt; answer.tree.value(grid.graph()), 3);
+    assert_eq!(rt; (answer.tree.leaves(), answer.tree.splits()), (1, 0));
+    Ok(())
+}
+
+#[test]
+fn writes_the_digits_of_sets(rt: HostRuntime) -> Result<(), Fail> {
+    let alloc = rt.alloc();
+    let rows: [(u32, &[u32], &[u8]); 5] = [
+        (6, &[2], b"20"),
+        (6, &[4], b"08"),
+        (6, &[1, 2, 5], b"64"),
+        (9, &[0, 3, 4, 6], b"9a0"),
+        (8, &[0, 1, 2, 3, 7], b"f1"),
+    ];
+    for (size, members, digits) in rows {
+        let set = set_of(alloc, size, members)?;
+        let mut sink = MemSink::with_room(alloc, 100, 100, Vec::new(alloc))?;
+        let mut block = Block::new();
+        write_set(&mut block, &mut sink, &set);
+        let written = finish(block, &mut sink);
+        assert_eq!(rt; written, Ok(()));
+        assert_eq!(rt; sink.bytes(), digits);
+    }
+    Ok(())
+}

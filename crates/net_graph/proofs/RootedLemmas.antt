@@ -1,0 +1,71 @@
+-- A set that is filled in the order of its numbers.
+use Rattle.std.proofs.Common.{ℕ, ◌≡◌, ◌≢◌, ◌+◌, ◌<◌, ◌↔◌, Bool, true, false, List, length, replicate, slice_get, slice_set, Some, sym, ap, ◌∙◌, inl, inr, arith, length-set}
+use Rattle.std.proofs.lemmas.Bool.{cases_eq, cases_lt}
+use Rattle.std.proofs.lemmas.Option.{slice_get-get_or, slice_get_within, slice_get_past}
+use Rattle.std.proofs.lemmas.List.{get_or-set_same, get_or-set_other, get_or-replicate, length-replicate}
+
+-- of the first numbers the set holds those with P, and it holds no others
+pub record HoldsBelow (P : ℕ → Type 0) (bound : ℕ) (set : List Bool) : Type 0 where
+  pub put : (k : ℕ) → k < bound → P k → slice_get set k ≡ Some true
+  pub below : (k : ℕ) → slice_get set k ≡ Some true → k < bound
+  pub only : (k : ℕ) → slice_get set k ≡ Some true → P k
+
+-- the flag that was written
+slice_get-set_same : (set : List Bool) (n : ℕ) → n < length set → slice_get (slice_set set n true) n ≡ Some true
+slice_get-set_same set n within =
+    slice_get-get_or (slice_set set n true) n false (omega (arith, length-set set n true)) ∙ ap Some (get_or-set_same set n true false within)
+
+-- a flag that was not
+slice_get-set_other : (set : List Bool) (n k : ℕ) → k ≢ n → slice_get (slice_set set n true) k ≡ slice_get set k
+slice_get-set_other set n k apart = elim (cases_lt k (length set)) [
+  | inl within ↦ slice_get-get_or (slice_set set n true) k false (omega (arith, length-set set n true)) ∙ ap Some (get_or-set_other set n k true false apart) ∙ sym (slice_get-get_or set k false within)
+  | inr past ↦ slice_get_past (slice_set set n true) k (omega (arith, length-set set n true)) ∙ sym (slice_get_past set k past)
+]
+
+-- nothing is in the empty set
+none_inside : (size k : ℕ) → slice_get (replicate size false) k ≡ Some true → ⊥
+none_inside size k inside =
+    let within = slice_get_within (replicate size false) k true inside in
+    let outside : slice_get (replicate size false) k ≡ Some false =
+    slice_get-get_or (replicate size false) k false within ∙ ap Some (get_or-replicate size k false false (omega (arith, length-replicate size false))) in
+    cc
+
+-- no number was looked at
+pub HoldsBelow-none : (P : ℕ → Type 0) (size : ℕ) → HoldsBelow P 0 (replicate size false)
+HoldsBelow-none P size = record {
+  put = λ k low is. absurd (omega arith);
+  below = λ k inside. absurd (none_inside size k inside);
+  only = λ k inside. absurd (none_inside size k inside);
+}
+
+-- the next number has P and was put in
+pub HoldsBelow-yes : (P : ℕ → Type 0) (n : ℕ) (set : List Bool) → n < length set → P n → HoldsBelow P n set → HoldsBelow P (n + 1) (slice_set set n true)
+HoldsBelow-yes P n set within is so_far = record {
+  put = λ k low holds. elim (cases_eq k n) [
+    | inl here ↦ (ap (slice_get (slice_set set n true)) here ∙ slice_get-set_same set n within)
+    | inr apart ↦ (slice_get-set_other set n k apart ∙ so_far.put k (omega arith) holds)
+  ];
+  below = λ k inside. elim (cases_eq k n) [
+    | inl here ↦ omega arith
+    | inr apart ↦ omega (arith, so_far.below k (sym (slice_get-set_other set n k apart) ∙ inside))
+  ];
+  only = λ k inside. elim (cases_eq k n) [
+    | inl here ↦ rw here is
+    | inr apart ↦ so_far.only k (sym (slice_get-set_other set n k apart) ∙ inside)
+  ];
+}
+
+-- the next number has no P
+pub HoldsBelow-no : (P : ℕ → Type 0) (n : ℕ) (set : List Bool) → (P n → ⊥) → HoldsBelow P n set → HoldsBelow P (n + 1) set
+HoldsBelow-no P n set out so_far = record {
+  put = λ k low holds. elim (cases_eq k n) [
+    | inl here ↦ absurd (out (rw (← here) holds))
+    | inr apart ↦ so_far.put k (omega arith) holds
+  ];
+  below = λ k inside. omega (arith, so_far.below k inside);
+  only = so_far.only;
+}
+
+-- where P holds of no later number, the set holds the numbers with P
+pub HoldsBelow-all : (P : ℕ → Type 0) (bound : ℕ) (set : List Bool) → ((k : ℕ) → P k → k < bound) → HoldsBelow P bound set → (k : ℕ) → (slice_get set k ≡ Some true) ↔ P k
+HoldsBelow-all P bound set low all k = (all.only k, λ is. all.put k (low k is) is)

@@ -1,0 +1,216 @@
+//! Whether a packing of cuts is feasible.
+
+ghost use Rattle.std.specs.Prelude.{◌≡◌, ◌<◌, ◌≤◌, ◌^◌, ◌↔◌, ℕ, true, length, All, Contains, IfOk, IsTrue};
+ghost use Rattle.net_graph.specs.Flags.{has};
+ghost use Rattle.net_graph.specs.Decision.{IsRequired, EndsInside};
+ghost use Rattle.net_graph.specs.Packing.{IsCut, IsWithinRoom, IsFeasible};
+ghost use Rattle.net_graph.specs.Packing as packing;
+ghost use Rattle.net_graph.specs.Feasible.{KeepsRoom};
+
+use crate::decision::Decision;
+use crate::edge::Edge;
+use crate::graph::NetGraph;
+use crate::packing::{Cut, EdgeState, Packing};
+use crate::sets::VertexSet;
+use std::alloc::{AllocError, Global};
+
+/// Whether a packing is feasible: each member is a cut with a weight of at least 1, and no arc is loaded above its
+/// room. The time grows with the number of edges times that of cuts. An `Err` is want of memory.
+pub fn feasible(_alloc: Global, g: &NetGraph, d: &Decision, p: &Packing) -> Result<bool, AllocError>
+    requires decision { length d.now ≡ length g.now.edges }
+    requires members { All (λ c. length c.members ≡ g.now.vertices) p.now }
+    requires few_cuts { length p.now ≤ 2 ^ 32 }
+    ensures { IfOk result (λ yes. IsTrue yes ↔ IsFeasible g.now d.now p.now) }
+{
+    Ok(is_feasible(g, d, p.cuts()))
+}
+
+// The same. It takes no memory.
+fn is_feasible(g: &NetGraph, d: &Decision, cuts: &[Cut]) -> bool
+    requires decision { length d.now ≡ length g.now.edges }
+    requires members { All (λ c. length c.members ≡ g.now.vertices) cuts.now }
+    requires few_cuts { length cuts.now ≤ 2 ^ 32 }
+    ensures { IsTrue result ↔ IsFeasible g.now d.now cuts.now }
+{
+    are_cuts(g, d, cuts) && edges_within_room(g, d, cuts)
+}
+
+// Whether each member is a cut with a weight of at least 1.
+fn are_cuts(g: &NetGraph, d: &Decision, cuts: &[Cut]) -> bool
+    requires { All (λ c. length c.members ≡ g.now.vertices) cuts.now }
+    ensures { IsTrue result ↔ All (λ c. (0 < c.weight) × IsCut g.now d.now c.members) cuts.now }
+{
+    for cut in cuts {
+        if !is_cut(g, d, cut) {
+            return false;
+        }
+    }
+    true
+}
+
+// Whether the member is a cut with a weight of at least 1.
+fn is_cut(g: &NetGraph, d: &Decision, cut: &Cut) -> bool
+    requires { length cut.now.members ≡ g.now.vertices }
+    ensures { IsTrue result ↔ ((0 < cut.now.weight) × IsCut g.now d.now cut.now.members) }
+{
+    cut.weight >= 1 && !cut.members.has(g.root()) && holds_required(g, d, &cut.members)
+}
+
+// Whether the set holds a required vertex.
+fn holds_required(g: &NetGraph, d: &Decision, members: &VertexSet) -> bool
+    requires { length members.now ≡ g.now.vertices }
+    ensures { IsTrue result ↔ ((v : ℕ) × IsRequired g.now d.now v × (has members.now v ≡ true)) }
+{
+    holds_terminal(g, members) || holds_inside_end(g, d, members)
+}
+
+// Whether the set holds a terminal.
+fn holds_terminal(g: &NetGraph, members: &VertexSet) -> bool
+    requires { length members.now ≡ g.now.vertices }
+    ensures { IsTrue result ↔ ((v : ℕ) × Contains g.now.terminals v × (has members.now v ≡ true)) }
+{
+    for terminal in g.terminals() {
+        if members.has(*terminal) {
+            return true;
+        }
+    }
+    false
+}
+
+// Whether the set holds an end of an inside edge.
+fn holds_inside_end(g: &NetGraph, d: &Decision, members: &VertexSet) -> bool
+    requires { length members.now ≡ g.now.vertices }
+    ensures { IsTrue result ↔ ((v : ℕ) × EndsInside g.now d.now v × (has members.now v ≡ true)) }
+{
+    for (n, e) in g.edges().iter().enumerate() {
+        if d.is_inside(n) && (members.has(e.a) || members.has(e.b)) {
+            return true;
+        }
+    }
+    false
+}
+
+// Whether no arc is loaded above its room.
+fn edges_within_room(g: &NetGraph, d: &Decision, cuts: &[Cut]) -> bool
+    requires decision { length d.now ≡ length g.now.edges }
+    requires members { All (λ c. length c.members ≡ g.now.vertices) cuts.now }
+    requires few_cuts { length cuts.now ≤ 2 ^ 32 }
+    ensures { IsTrue result ↔ ((n : ℕ) → KeepsRoom g.now d.now cuts.now n) }
+{
+    for n in 0..g.edge_count() {
+        if !edge_within_room(g, d, cuts, n) {
+            return false;
+        }
+    }
+    true
+}
+
+// Whether neither arc of the edge is loaded above its room.
+fn edge_within_room(g: &NetGraph, d: &Decision, cuts: &[Cut], n: u32) -> bool
+    requires edge { n < length g.now.edges }
+    requires decision { length d.now ≡ length g.now.edges }
+    requires members { All (λ c. length c.members ≡ g.now.vertices) cuts.now }
+    requires few_cuts { length cuts.now ≤ 2 ^ 32 }
+    ensures { IsTrue result ↔ KeepsRoom g.now d.now cuts.now n }
+{
+    let e = g.edge(n);
+    let state = d.state(n);
+    within_room(state, e, load(cuts, e.a, e.b)) && within_room(state, e, load(cuts, e.b, e.a))
+}
+
+// Whether the load is no more than the room of the edge's arcs.
+fn within_room(state: EdgeState, e: Edge, load: u128) -> bool
+    ensures { IsTrue result ↔ IsWithinRoom state e load }
+{
+    match state {
+        EdgeState::Undecided => load <= u128::from(e.length),
+        EdgeState::Inside => load == 0,
+        EdgeState::Outside => true,
+    }
+}
+
+// The sum of the weights of the cuts that the arc from `u` to `v` enters.
+fn load(cuts: &[Cut], u: u32, v: u32) -> u128
+    requires from { All (λ c. u < length c.members) cuts.now }
+    requires to { All (λ c. v < length c.members) cuts.now }
+    requires few_cuts { length cuts.now ≤ 2 ^ 32 }
+    ensures { result ≡ packing.load cuts.now u v }
+{
+    let mut sum = 0;
+    for cut in cuts {
+        if enters(&cut.members, u, v) {
+            sum += u128::from(cut.weight);
+        }
+    }
+    sum
+}
+
+// Whether the arc from `u` to `v` enters the set.
+fn enters(members: &VertexSet, u: u32, v: u32) -> bool
+    requires from { u < length members.now }
+    requires to { v < length members.now }
+    ensures { result ≡ packing.enters members.now u v }
+{
+    members.has(v) && !members.has(u)
+}
+
+#[cfg(test)]
+mod tests {
+    use super::*;
+    use item_list::ItemList;
+    use std::test::Fail;
+
+    // Two rows of three vertices, with edges of the length 1 and the terminals 0, 2 and 4.
+    fn two_rows(alloc: Global) -> Result<NetGraph, Fail>
+        ensures { IfOk result (λ g. (g.vertices ≡ 6) × (length g.edges ≡ 7)) }
+    {
+        let edge = |a: u32, b: u32| Edge { a, b, length: 1 };
+        let edges = vec![in alloc;
+            edge(0, 1),
+            edge(1, 2),
+            edge(3, 4),
+            edge(4, 5),
+            edge(0, 3),
+            edge(1, 4),
+            edge(2, 5),
+        ]?;
+        let terminals = vec![in alloc; 0, 2, 4]?;
+        Ok(NetGraph::new(
+            alloc,
+            6,
+            ItemList::from_vec(edges),
+            ItemList::from_vec(terminals),
+        )?)
+    }
+
+    // The cut of weight 1 around one vertex.
+    fn around(alloc: Global, v: u32) -> Result<Cut, AllocError>
+        requires { v < 6 }
+        ensures { IfOk result (λ c. length c.members ≡ 6) }
+    {
+        let mut members = VertexSet::empty(alloc, 6)?;
+        members.add(v);
+        Ok(Cut { weight: 1, members })
+    }
+
+    // The packing of a cut around one vertex.
+    fn one_cut(alloc: Global, v: u32) -> Result<Packing, AllocError>
+        requires { v < 6 }
+        ensures { IfOk result (λ p. (length p ≡ 1) × All (λ c. length c.members ≡ 6) p) }
+    {
+        let mut p = Packing::empty(alloc);
+        p.push(around(alloc, v)?)?;
+        Ok(p)
+    }
+
+    #[test]
+    fn leaves_the_root_out(rt: HostRuntime) -> Result<(), Fail> {
+        let g = two_rows(rt.alloc())?;
+        let d = Decision::none(rt.alloc(), &g)?;
+        let apart = one_cut(rt.alloc(), 2)?;
+        assert_eq!(rt; feasible(rt.alloc(), &g, &d, &apart)?, true);
+        let with_root = one_cut(rt.alloc(), 0)?;
+        assert_eq!(rt; feasible(rt.alloc(), &g, &d, &with_root)?, false);
+        Ok(())
+    }
+}

@@ -1,0 +1,38 @@
+//! The program `rst`: it joins points of the plane by horizontal and vertical lines.
+#![tactic(auto)]
+
+use rst_outside::{DirShelf, StdSink, StdSource};
+use std::process::ExitCode;
+use std::{env, io};
+use suite::run;
+
+/// The status where memory to hold the words is wanting.
+const NO_MEMORY: u8 = 7;
+
+// The words after the program's name. None where memory to hold them is wanting. Where one of them is no text
+// there are no words.
+fn words_of(rt: &HostRuntime) -> Option<Vec<String>> {
+    match env::args(rt) {
+        Ok(args) => args.skip(1).collect(rt.alloc()).ok(),
+        Err(e) if e.kind() == io::ErrorKind::OutOfMemory => None,
+        Err(_) => Some(Vec::new(rt.alloc())),
+    }
+}
+
+fn main(rt: HostRuntime) -> ExitCode {
+    let Some(words) = words_of(&rt) else {
+        return ExitCode::from(NO_MEMORY);
+    };
+    let mut input = StdSource::new(rt.stdin());
+    let mut out = StdSink::new(rt.stdout());
+    let mut err = StdSink::new(rt.stderr());
+    let mut shelf = DirShelf::new(&rt);
+    ExitCode::from(run(
+        rt.alloc(),
+        words.as_slice(),
+        &mut input,
+        &mut out,
+        &mut err,
+        &mut shelf,
+    ))
+}

@@ -1,0 +1,73 @@
+-- From the steps of `solve` to its run.
+use Rattle.std.proofs.Common.{ℕ, ◌≡◌, ◌+◌, ◌*◌, ◌<◌, ◌≤◌, ◌^◌, Bool, List, [], ◌∷◌, length, Option, None, Result, Ok, Err, cond, refl, sym, subst, ap, ◌∙◌, arith}
+use Rattle.std.proofs.lemmas.List.Elements.{All-cons, All-nil, All-weaker}
+use Rattle.rst_outside.specs.Source.{SourceState}
+use Rattle.rst_outside.specs.Sink.{SinkState, Wrote, CutShort}
+use Rattle.points_in.specs.declared.point.Point.{Point}
+use Rattle.points_in.specs.Terminals.{terminals_of}
+use Rattle.net_graph.specs.declared.packing.Cut.{Cut}
+use Rattle.net_graph.specs.Graph.{total_of}
+use Rattle.net_graph.specs.Network.{length_of}
+use Rattle.net_graph.specs.Decision.{nothing_decided}
+use Rattle.net_graph.specs.Packing.{IsCut, IsFeasible}
+use Rattle.hanan_grid.specs.Grid.{hanan_grid_of}
+use Rattle.cut_cert.specs.declared.answer.Answer.{Answer}
+use Rattle.cut_cert.specs.Value.{WrittenAnswer}
+use Rattle.cut_cert.specs.Text.{answer_text}
+use Rattle.cut_cert.specs.Answers.{IsCutOn, IsPackingOn, IsNodeOn, value_of}
+use Rattle.net_graph.specs.Graph.{Graph}
+use Rattle.suite.specs.declared.refusal.Refusal.{Refusal}
+use Rattle.suite.specs.declared.refusal.Refusal.TheVariants.{CannotWrite}
+use Rattle.suite.specs.declared.solve.Ending.{Ending}
+use Rattle.suite.specs.Solution.{IsNetworkOf, IsLeafFor, solution}
+use Rattle.suite.specs.Solve.{ListsPoints, IsSolved, PrintsAnswer, IsSolveRun, status_of_ending}
+use Rattle.suite.specs.SolveSteps.{ReadsGrid, Solves, PrintsSolution}
+
+-- a feasible packing with few cuts can be told
+pub packing_fits : (g : Graph) (packing : List Cut) → IsFeasible g (nothing_decided g) packing → length packing ≤ 4 * length g.edges + 1 → IsPackingOn g packing
+packing_fits g packing feasible few = record {
+  few = few;
+  each = All-weaker (λ (c : Cut). (0 < c.weight) × IsCut g (nothing_decided g) c.members) (IsCutOn g) (λ c h. record { some = h.0; size = h.1.size }) packing feasible.cuts;
+}
+
+-- the solved input that a grid and its answer are
+solved_input : (input input' : SourceState) (grid : List Point) (answer : Answer) (reads : ReadsGrid input input' (Ok grid)) (solves : Solves grid answer) →
+    IsSolved input input' reads.0 answer.network solves.packing
+solved_input input input' grid answer (ps, lists, is, short) solves = record {
+  points = lists;
+  short = subst (λ (h : List Point). total_of (hanan_grid_of h) < 2 ^ 63) is short;
+  network = subst (λ (h : List Point). IsNetworkOf (hanan_grid_of h) answer.network) is solves.network;
+  leaf = subst (λ (h : List Point). IsLeafFor (hanan_grid_of h) answer.network solves.packing) is solves.leaf;
+}
+
+-- the text of the answer is that of the input's points
+told_text : (grid : List Point) (answer : Answer) (ps : List Point) (solves : Solves grid answer) → grid ≡ terminals_of ps →
+    answer_text (value_of grid answer) ≡ answer_text (solution (terminals_of ps) answer.network solves.packing)
+told_text grid answer ps solves is =
+    ap answer_text solves.told ∙ ap (λ h. answer_text (solution h answer.network solves.packing)) is
+
+-- A grid that was read and an answer for it that was written whole are a run that prints it.
+pub solved_run : (E : Type 0) (input input' : SourceState) (out out' : SinkState) (grid : List Point) (answer : Answer) (ending : Ending) →
+    ReadsGrid input input' (Ok grid) → Solves grid answer → PrintsSolution {E = E} grid answer out out' (Ok ending) → IsSolveRun input input' out out' (Ok ending)
+solved_run E input input' out out' grid answer ending (ps, lists, is, short) solves (wrote, status) = (
+  ps,
+  answer.network,
+  solves.packing,
+  solved_input input input' grid answer (ps, lists, is, short) solves,
+  subst (λ text. Wrote out text out') (told_text grid answer ps solves is) wrote,
+  status ∙ ap (λ (w : WrittenAnswer). cond w.head.optimal 0 3) (solves.told ∙ ap (λ h. solution h answer.network solves.packing) is),
+)
+
+-- The same where the text was cut short.
+pub cut_run : {E : Type 0} (fault : E) (input input' : SourceState) (out out' : SinkState) (grid : List Point) (answer : Answer) →
+    ReadsGrid input input' (Ok grid) → Solves grid answer → PrintsSolution {E = E} grid answer out out' (Err fault) → IsSolveRun input input' out out' (Err CannotWrite)
+cut_run fault input input' out out' grid answer (ps, lists, is, short) solves cut = (
+  (
+    ps,
+    answer.network,
+    solves.packing,
+    solved_input input input' grid answer (ps, lists, is, short) solves,
+    subst (λ text. CutShort out text out') (told_text grid answer ps solves is) cut,
+  ),
+  tt,
+)

@@ -1,0 +1,3 @@
+pub mod AddsLaws
+pub mod Steps
+pub mod Walks

@@ -1,0 +1,2 @@
+pub mod Trunk
+pub mod Adds

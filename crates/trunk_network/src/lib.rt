@@ -1,0 +1,6 @@
+//! The trunk network of a grid.
+#![tactic(auto)]
+
+mod trunk;
+
+pub use trunk::trunk_network;
