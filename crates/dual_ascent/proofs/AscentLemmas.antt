@@ -1,9 +1,8 @@
 -- What an ascent keeps from step to step, and what it ends with.
-use Rattle.std.proofs.Common.{ℕ, ◌≡◌, ◌+◌, ◌*◌, ◌≤◌, ◌<◌, Bool, true, false, eqb, eqb-true, List, [], ◌∷◌, ◌++◌, map, length, sum_by, All, Contains, Some, None, ◌↔◌, IsTrue, get_or, refl, sym, ap, subst, ◌∙◌, arith, length-append, append_assoc, append-nil}
+use Rattle.std.proofs.Common.{ℕ, ◌≡◌, ◌+◌, ◌*◌, ◌≤◌, ◌<◌, Bool, true, eqb, eqb-true, List, [], ◌∷◌, ◌++◌, map, length, All, None, ◌↔◌, IsTrue, get_or, sym, ap, subst, ◌∙◌, arith, length-append, append_assoc, append-nil}
 use Rattle.std.proofs.lemmas.Bool.{cond_both, eqb-false}
 use Rattle.std.proofs.lemmas.List.Elements.{All-contains}
 use Rattle.std.proofs.lemmas.List.Sums.{sum_by_push}
-use Rattle.net_graph.specs.declared.edge.Edge.{Edge}
 use Rattle.net_graph.specs.declared.packing.EdgeState.{EdgeState}
 use Rattle.net_graph.specs.declared.packing.Cut.{Cut}
 use Rattle.net_graph.specs.Flags.{has}
@@ -11,7 +10,7 @@ use Rattle.net_graph.specs.Graph.{Graph, root_of, total_of}
 use Rattle.net_graph.specs.Decision.{IsRequired}
 use Rattle.net_graph.specs.Search.{OpenStep, Leads}
 use Rattle.net_graph.specs.SearchLaws.{Leads-weaker}
-use Rattle.net_graph.specs.Packing.{IsCut, IsFeasible, inside_length, packing_value}
+use Rattle.net_graph.specs.Packing.{IsCut, IsFeasible, packing_value}
 use Rattle.net_graph.specs.Saturation.{SaturatedStep, IsMaximal}
 use Rattle.dual_ascent.specs.declared.rooms.EdgeRoom.{EdgeRoom}
 use Rattle.dual_ascent.specs.Ascending.{BeginsWith, closed_with}

@@ -1,7 +1,7 @@
 -- Arcs of which nothing is left are the saturated arcs.
-use Rattle.std.proofs.Common.{ℕ, suc, ◌≡◌, ◌+◌, ◌*◌, ◌/◌, ◌%◌, ◌<◌, Bool, true, false, eqb, List, map, length, get_or, slice_get, Contains, Option, Some, None, ◌⊎◌, ◌↔◌, inl, inr, ⊎_elim, refl, sym, ap, subst, ◌∙◌, eqb-true, arith}
+use Rattle.std.proofs.Common.{ℕ, ◌≡◌, ◌+◌, ◌*◌, ◌/◌, ◌%◌, ◌<◌, Bool, true, List, map, length, get_or, slice_get, Option, Some, None, ◌↔◌, inl, inr, ⊎_elim, refl, sym, ap, ◌∙◌, eqb-true, arith}
 use Rattle.std.specs.Option.{option_map}
-use Rattle.std.proofs.lemmas.Option.{same_Some, slice_get_within, slice_get-get_or, slice_get-map}
+use Rattle.std.proofs.lemmas.Option.{slice_get_within, slice_get-get_or, slice_get-map}
 use Rattle.net_graph.specs.declared.edge.Edge.{Edge}
 use Rattle.net_graph.specs.declared.packing.EdgeState.{EdgeState}
 use Rattle.net_graph.specs.declared.packing.EdgeState.TheVariants.{Undecided}
@@ -12,7 +12,7 @@ use Rattle.net_graph.specs.Search.{OpenStep}
 use Rattle.net_graph.specs.Packing.{enters, load}
 use Rattle.net_graph.specs.Saturation.{room_of, SaturatedStep}
 use Rattle.dual_ascent.specs.declared.rooms.EdgeRoom.{EdgeRoom}
-use Rattle.dual_ascent.specs.Rooms.{left_of, rooms_of, is_used_up, is_full, EntersWith, Entering}
+use Rattle.dual_ascent.specs.Rooms.{left_of, rooms_of, is_used_up, is_full, Entering}
 use Rattle.dual_ascent.proofs.LoadLemmas.{left_after-same, left_after-none, slice_get-rooms_of}
 
 -- nothing is left exactly where the amount left is 0

@@ -1,12 +1,10 @@
 -- The candidates of a step, and the cut of a candidate.
-use Rattle.std.proofs.Common.{ℕ, zero, suc, ◌≡◌, ◌+◌, ◌<◌, ◌≤◌, Bool, true, false, not, cond, List, [], ◌∷◌, ◌++◌, map, length, get_or, take, filter, All, Contains, Option, Some, None, ◌↔◌, ⊎_elim, refl, sym, ap, subst, ◌∙◌, arith, append-nil}
-use Rattle.std.proofs.lemmas.Bool.{cases_Bool, both_ways, and_parts, not-true, not-false, not_from_true, not_from_false, false_from_ne_true}
+use Rattle.std.proofs.Common.{ℕ, zero, suc, ◌≡◌, ◌+◌, ◌<◌, Bool, true, false, not, cond, List, [], ◌∷◌, ◌++◌, map, length, get_or, take, filter, All, Contains, Some, None, ◌↔◌, ⊎_elim, refl, sym, ap, subst, ◌∙◌, arith, append-nil}
+use Rattle.std.proofs.lemmas.Bool.{cases_Bool, both_ways, and_parts, not-true, not-false, false_from_ne_true}
 use Rattle.std.proofs.lemmas.List.{map-append}
 use Rattle.std.proofs.lemmas.List.Elements.{All-cons, All-nil, All-filter, All-contains_itself, filter_passes, filter_more}
-use Rattle.net_graph.specs.declared.packing.Cut.{Cut}
 use Rattle.net_graph.specs.Flags.{has}
 use Rattle.net_graph.specs.Graph.{Graph, root_of}
-use Rattle.net_graph.specs.Packing.{enters}
 use Rattle.net_graph.specs.Search.{OpenStep, Leads}
 use Rattle.net_graph.specs.SearchLaws.{Leads-start, Leads-more, Leads-trans}
 use Rattle.dual_ascent.specs.declared.candidate.Candidate.{Candidate}
@@ -14,7 +12,7 @@ use Rattle.dual_ascent.specs.declared.rooms.EdgeRoom.{EdgeRoom}
 use Rattle.dual_ascent.specs.declared.step.Step.{Step}
 use Rattle.dual_ascent.specs.declared.step.Step.TheVariants.{Done, Pack, Close}
 use Rattle.dual_ascent.specs.Rooms.{is_full, Entering, IsLeastOf}
-use Rattle.dual_ascent.specs.Steps.{FullyLeads, LeadTo, Parts, IsNextCut, IsStepAt, IsNextStep}
+use Rattle.dual_ascent.specs.Steps.{FullyLeads, LeadTo, Parts, IsStepAt, IsNextStep}
 use Rattle.dual_ascent.proofs.FullLemmas.{OpenStep-from_entering}
 
 -- the numbers of candidates

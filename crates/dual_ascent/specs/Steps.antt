@@ -1,6 +1,5 @@
 -- The steps of a dual ascent (after Wong 1984), by what is left of the arcs' rooms.
 use Rattle.std.specs.Prelude.{ℕ, ◌≡◌, ◌<◌, Bool, true, false, List, length, count_by, All, Contains, Some, None, ◌↔◌}
-use Rattle.net_graph.specs.declared.edge.Edge.{Edge}
 use Rattle.net_graph.specs.declared.packing.EdgeState.{EdgeState}
 use Rattle.net_graph.specs.declared.packing.Cut.{Cut}
 use Rattle.net_graph.specs.Flags.{has}

@@ -1,16 +1,12 @@
-use Rattle.std.proofs.Common.{◌≡◌, ◌∙◌, ◌≤◌, List, Bool, ap, sym, subst, map, length, arith}
+use Rattle.std.proofs.Common.{◌∙◌, ap, sym, subst, map}
 use Rattle.std.proofs.lemmas.Result.{IfOk-weaker}
-use Rattle.net_graph.specs.declared.packing.Cut.{Cut}
 use Rattle.dual_ascent.specs.declared.ascent.Ascent.{Ascent}
 use Rattle.dual_ascent.specs.declared.rooms.EdgeRoom.{EdgeRoom}
-use Rattle.dual_ascent.specs.declared.step.Step.{Step}
-use Rattle.dual_ascent.specs.declared.step.Step.TheVariants.{Done, Pack, Close}
-use Rattle.dual_ascent.specs.Ascending.{closed_with}
-use Rattle.dual_ascent.specs.Rooms.{unfilled}
+use Rattle.dual_ascent.specs.declared.step.Step.TheVariants.{Done, Close}
 use Rattle.dual_ascent.specs.Steps.{IsNextStep, IsNextCut}
 use Rattle.dual_ascent.proofs.LoadLemmas.{edges-rooms_of}
 use Rattle.dual_ascent.proofs.PackLemmas.{unfilled-lowered_by}
-use Rattle.dual_ascent.proofs.AscentLemmas.{IsUnderWay, IsUnderWay-none, IsUnderWay-pack, IsMaximal-iff, IsClosed, IsClosed-from_under_way}
+use Rattle.dual_ascent.proofs.AscentLemmas.{IsUnderWay-none, IsUnderWay-pack, IsMaximal-iff, IsClosed, IsClosed-from_under_way}
 use Rattle.dual_ascent.proofs.ascent.ascend.Goals as goal
 
 pub loop-packing-init : goal.loop-packing-init

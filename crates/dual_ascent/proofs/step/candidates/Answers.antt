@@ -1,6 +1,5 @@
-use Rattle.std.proofs.Common.{ℕ, ◌≡◌, ◌∙◌, Bool, true, false, not, length, get_or, All, sym, ap, refl, arith}
-use Rattle.std.proofs.lemmas.Bool.{not_from_true, not_from_false, not-true, not-false}
-use Rattle.std.proofs.lemmas.List.{take_all}
+use Rattle.std.proofs.Common.{ℕ, ◌≡◌, ◌∙◌, Bool, true, false, not, get_or, sym, refl, arith}
+use Rattle.std.proofs.lemmas.Bool.{not_from_true, not_from_false}
 use Rattle.std.proofs.lemmas.List.Elements.{All-push}
 use Rattle.net_graph.specs.Flags.{has}
 use Rattle.dual_ascent.specs.declared.candidate.Candidate.{Candidate}

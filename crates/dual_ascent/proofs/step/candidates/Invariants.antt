@@ -1,4 +1,4 @@
-use Rattle.std.proofs.Common.{◌≡◌, ◌≤◌, ℕ, Bool, not, map, take, length, filter, All, vec_len, vec_capacity}
+use Rattle.std.proofs.Common.{◌≡◌, ◌≤◌, not, map, take, length, filter, All, vec_len, vec_capacity}
 use Rattle.net_graph.specs.Flags.{has}
 use Rattle.dual_ascent.specs.declared.candidate.Candidate.{Candidate}
 use Rattle.dual_ascent.specs.Steps.{HasItsSize}

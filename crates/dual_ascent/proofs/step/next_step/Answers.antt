@@ -1,4 +1,4 @@
-use Rattle.std.proofs.Common.{ℕ, ◌≡◌, ◌∙◌, ◌<◌, List, length, get_or, vec_len, subst, sym, eqb-true, arith}
+use Rattle.std.proofs.Common.{◌≡◌, ◌∙◌, ◌<◌, List, length, vec_len, subst, sym, eqb-true, arith}
 use Rattle.std.proofs.lemmas.List.Elements.{All-contains}
 use Rattle.dual_ascent.specs.declared.candidate.Candidate.{Candidate}
 use Rattle.dual_ascent.proofs.StepLemmas.{all_reached, candidates_unreached, IsUnreached, IsNextStep-at}

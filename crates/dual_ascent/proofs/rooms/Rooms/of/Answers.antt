@@ -1,4 +1,4 @@
-use Rattle.std.proofs.Common.{◌≡◌, ◌∙◌, ap, sym, get_or, map, take}
+use Rattle.std.proofs.Common.{◌∙◌, ap, map, take}
 use Rattle.net_graph.specs.declared.packing.Cut.{Cut}
 use Rattle.dual_ascent.specs.Rooms.{lowered_by, rooms_of}
 use Rattle.dual_ascent.proofs.RoomLemmas.{rooms_of-take}
