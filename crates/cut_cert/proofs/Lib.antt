@@ -7,3 +7,5 @@ pub mod Lengths
 pub mod NetworkLemmas
 pub mod NodesText
 pub mod PackingLemmas
+pub mod Machine
+pub mod Due

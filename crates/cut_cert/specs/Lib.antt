@@ -5,3 +5,4 @@ pub mod Kept
 pub mod Bound
 pub mod SetLaws
 pub mod Answers
+pub mod Lines

@@ -4,6 +4,7 @@
 mod answer;
 mod head;
 mod length;
+mod line;
 mod reading;
 #[cfg(test)]
 mod tests;
