@@ -9,3 +9,4 @@ pub mod NodesText
 pub mod PackingLemmas
 pub mod Machine
 pub mod Due
+pub mod LineTexts

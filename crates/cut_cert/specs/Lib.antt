@@ -6,3 +6,4 @@ pub mod Bound
 pub mod SetLaws
 pub mod Answers
 pub mod Lines
+pub mod Reading
