@@ -10,3 +10,4 @@ pub mod PackingLemmas
 pub mod Machine
 pub mod Due
 pub mod LineTexts
+pub mod WordLemmas

@@ -9,6 +9,7 @@ mod reading;
 #[cfg(test)]
 mod tests;
 mod tree;
+mod words;
 mod write;
 
 pub use answer::{Answer, write_answer};
