@@ -7,3 +7,4 @@ pub mod SetLaws
 pub mod Answers
 pub mod Lines
 pub mod Reading
+pub mod Events

@@ -2,10 +2,12 @@
 #![tactic(auto)]
 
 mod answer;
+mod event;
 mod head;
 mod length;
 mod line;
 mod reading;
+mod set_read;
 #[cfg(test)]
 mod tests;
 mod tree;
@@ -13,6 +15,7 @@ mod words;
 mod write;
 
 pub use answer::{Answer, write_answer};
+pub use event::{AnswerEvent, Event};
 pub use head::{AnswerHead, ConcatNote};
 pub use length::answer_len;
 pub use reading::one_reading;
