@@ -11,3 +11,4 @@ pub mod Machine
 pub mod Due
 pub mod LineTexts
 pub mod WordLemmas
+pub mod NoLine

@@ -8,7 +8,9 @@ use Rattle.std.proofs.lemmas.List.{append_cancel_left}
 use Rattle.spelled.specs.Numbers.{signed_front_unique}
 use Rattle.hanan_grid.specs.declared.name.EdgeName.{EdgeName}
 use Rattle.cut_cert.specs.Text.{concat_word}
-use Rattle.cut_cert.proofs.Pieces.{number_one, concat_front}
+use Rattle.spelled.specs.Words.{Lacks}
+use Rattle.spelled.specs.Fronts.{front_unique}
+use Rattle.cut_cert.proofs.Pieces.{number_one, number-lacks, number_front, concat_front}
 use Rattle.cut_cert.specs.Lines.{name_words}
 use Rattle.cut_cert.specs.Spelling.{FitsName}
 
@@ -80,3 +82,21 @@ pub no_kind : (words : List ℕ) → ((rest : List ℕ) → words ≡ codes "lea
     → (least : Bool) (total : ℕ) → words ≡ concat_word least ++ codes " " ++ decimal total → ⊥
 no_kind words least spent true total is = least (decimal total) is
 no_kind words least spent false total is = spent (decimal total) is
+
+-- the words of a cut, one after another
+weight_pieces : (weight : ℕ) (digits : List ℕ) → codes "cut " ++ decimal weight ++ codes " " ++ digits ≡ codes "cut " ++ (decimal weight ++ 32 ∷ digits)
+weight_pieces weight digits = ap (λ x. codes "cut " ++ x) (append_assoc (decimal weight) (codes " ") digits)
+
+-- where the word behind the first one was split off, it is the weight's
+pub weight_word : (bytes words word rest digits : List ℕ) (weight : ℕ) → weight < 2 ^ 64 → bytes ≡ codes "cut " ++ words → words ≡ word ++ 32 ∷ rest → Lacks word 32
+    → bytes ≡ codes "cut " ++ decimal weight ++ codes " " ++ digits → word ≡ decimal weight
+weight_word bytes words word rest digits weight fits first split lacks is =
+    let whole = append_cancel_left (codes "cut ") words (decimal weight ++ 32 ∷ digits) (sym first ∙ is ∙ weight_pieces weight digits) in
+    (front_unique 32 word (decimal weight) rest digits lacks (number-lacks weight 32 (omega arith) (omega arith)) (sym split ∙ whole)).0
+
+-- where the weight was read, the digits are left
+pub digits_read : (bytes digits rest : List ℕ) (weight other : ℕ) → weight < 2 ^ 64 → other < 2 ^ 64
+    → bytes ≡ codes "cut " ++ decimal weight ++ codes " " ++ digits → bytes ≡ codes "cut " ++ decimal other ++ codes " " ++ rest → digits ≡ rest
+digits_read bytes digits rest weight other f g one two =
+    let whole = append_cancel_left (codes "cut ") (decimal weight ++ 32 ∷ digits) (decimal other ++ 32 ∷ rest) (sym (weight_pieces weight digits) ∙ sym one ∙ two ∙ weight_pieces other rest) in
+    (number_front 32 weight other digits rest (omega arith) (omega arith) (omega arith) whole).1

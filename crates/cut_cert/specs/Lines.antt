@@ -92,3 +92,24 @@ step s l = None
 abbrev pub run : Stage → List Line → Option Stage
 run s [] = Some s
 run s (l ∷ ls) = option_and_then (λ s'. run s' ls) (step s l)
+
+-- these bytes are a line that is due, and that is due behind it
+pub record IsLineRead (V : ℕ) (s : Stage) (bytes : List ℕ) (l : Line) (s' : Stage) : Type 0 where
+  pub told : bytes ≡ line_bytes l
+  pub fits : FitsLine V l
+  pub due : step s l ≡ Some s'
+
+-- these bytes are no line that is due
+abbrev pub IsNoLine : ℕ → Stage → List ℕ → Type 0
+IsNoLine V s bytes = (l : Line) (s' : Stage) → FitsLine V l → step s l ≡ Some s' → bytes ≡ line_bytes l → ⊥
+
+-- how many nodes are due behind the cuts of a leaf
+abbrev pub nodes_due : Stage → ℕ
+nodes_due (stage.Body cuts nodes) = nodes
+nodes_due s = 0
+
+-- neither edges nor nodes are due
+abbrev pub IsHeadStage : Stage → Type 0
+IsHeadStage (stage.Edges edges) = ⊥
+IsHeadStage (stage.Body cuts nodes) = ⊥
+IsHeadStage s = Unit {0}

@@ -6,6 +6,7 @@ mod event;
 mod head;
 mod length;
 mod line;
+mod line_read;
 mod reading;
 mod set_read;
 #[cfg(test)]

@@ -1,6 +1,6 @@
 //! The words of a line: numbers and names behind a first word.
 
-ghost use Rattle.std.specs.Prelude.{◌≡◌, ℕ, ◌<◌, ◌^◌, ℤ, FitsSigned, ◌∷◌, ◌++◌, List, Bool, IfSome, IfNone, codes};
+ghost use Rattle.std.specs.Prelude.{◌≡◌, ℕ, ◌<◌, ◌^◌, ℤ, FitsSigned, ◌∷◌, ◌++◌, List, Bool, IfSome, IfNone, IsTrue, ◌↔◌, codes};
 ghost use Rattle.std.specs.Int.{w64};
 ghost use Rattle.std.specs.Fmt.{decimal, signed_decimal};
 ghost use Rattle.hanan_grid.specs.declared.name.EdgeName.{EdgeName};
@@ -12,6 +12,13 @@ use crate::head::ConcatNote;
 use hanan_grid::EdgeName;
 use itoa::Buffer;
 use spelled::{signed_spelled, split_word, unsigned_spelled};
+
+// Whether the bytes are the word.
+pub(crate) fn is_word(bytes: &[u8], word: &[u8]) -> bool
+    ensures { IsTrue result ↔ (bytes.now ≡ word.now) }
+{
+    bytes == word
+}
 
 // What stands behind a word at the front.
 pub(crate) fn behind<'a>(line: &'a [u8], word: &[u8]) -> Option<&'a [u8]>
