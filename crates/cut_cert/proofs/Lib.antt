@@ -12,3 +12,5 @@ pub mod Due
 pub mod LineTexts
 pub mod WordLemmas
 pub mod NoLine
+pub mod EventLaws
+pub mod ReadLaws
