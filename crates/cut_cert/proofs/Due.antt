@@ -1,6 +1,6 @@
 -- The lines of an answer are due, and lines of which each was due can be gone on with to the end of an answer.
-use Rattle.std.proofs.Common.{ℕ, suc, zero, ◌≡◌, ◌+◌, ◌<◌, List, [], ◌∷◌, ◌++◌, length, map, refl, sym, ap, ◌∙◌, arith, append_assoc, Option, Some, None, replicate, false, rules}
-use Rattle.std.specs.Prelude.{All, ◌^◌, pos, FitsSigned}
+use Rattle.std.proofs.Common.{ℕ, suc, zero, ◌≡◌, List, [], ◌∷◌, ◌++◌, length, map, refl, ap, ◌∙◌, arith, append_assoc, Some, replicate, false, rules}
+use Rattle.std.specs.Prelude.{All, pos, FitsSigned}
 use Rattle.std.specs.Int.{w64}
 use Rattle.std.proofs.lemmas.List.{length-replicate}
 use Rattle.std.proofs.lemmas.List.Elements.{All-cons, All-nil, All-append, All-map, All-replicate, All-from_recursion}
@@ -13,8 +13,8 @@ use Rattle.cut_cert.specs.declared.line.Stage.{Stage}
 use Rattle.cut_cert.specs.declared.line.Stage.TheVariants as stage
 use Rattle.cut_cert.specs.Value.{Tree, WrittenAnswer}
 use Rattle.cut_cert.specs.Value.Tree.{Leaf, Split}
-use Rattle.cut_cert.specs.Spelling.{FitsHead, FitsName, FitsCut, FitsTree, FitsAnswer}
-use Rattle.cut_cert.specs.Lines.{FitsLine, tree_lines, head_lines, body_lines, answer_lines, step, run}
+use Rattle.cut_cert.specs.Spelling.{FitsHead, FitsTree, FitsAnswer}
+use Rattle.cut_cert.specs.Lines.{FitsLine, tree_lines, head_lines, body_lines, answer_lines, run}
 
 -- ---- the lines of an answer
 

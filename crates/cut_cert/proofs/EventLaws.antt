@@ -1,5 +1,5 @@
 -- The events of an answer are those of its lines, one after another.
-use Rattle.std.proofs.Common.{ℕ, suc, zero, ◌≡◌, ◌+◌, ◌-◌, ◌<◌, Bool, List, [], ◌∷◌, ◌++◌, length, map, take, refl, sym, ap, ◌∙◌, arith, append_assoc, length-append, Option, Some, None}
+use Rattle.std.proofs.Common.{ℕ, suc, zero, ◌≡◌, ◌+◌, ◌-◌, List, [], ◌∷◌, ◌++◌, length, map, take, refl, sym, ap, ◌∙◌, arith, append_assoc, Some, None}
 use Rattle.std.proofs.Math.Seq.{take-append_seam}
 use Rattle.net_graph.specs.declared.packing.Cut.{Cut}
 use Rattle.hanan_grid.specs.declared.name.EdgeName.{EdgeName}
@@ -8,13 +8,11 @@ use Rattle.cut_cert.specs.declared.line.Line.{Line}
 use Rattle.cut_cert.specs.declared.line.Line.TheVariants as line
 use Rattle.cut_cert.specs.declared.line.Stage.{Stage}
 use Rattle.cut_cert.specs.declared.line.Stage.TheVariants as stage
-use Rattle.cut_cert.specs.declared.event.Event.{Event}
 use Rattle.cut_cert.specs.declared.event.Event.TheVariants as event
-use Rattle.cut_cert.specs.declared.event.AnswerEvent.{AnswerEvent}
 use Rattle.cut_cert.specs.Value.{Tree, WrittenAnswer}
 use Rattle.cut_cert.specs.Value.Tree.{Leaf, Split}
-use Rattle.cut_cert.specs.Lines.{tree_lines, head_lines, body_lines, answer_lines, step, run}
-use Rattle.cut_cert.specs.Events.{Told, cut_told, tree_told, answer_told, numbered, events_of, head_with, line_told, event_at, events_from, no_head, head_from}
+use Rattle.cut_cert.specs.Lines.{tree_lines, body_lines, answer_lines, run}
+use Rattle.cut_cert.specs.Events.{Told, cut_told, tree_told, numbered, events_of, head_with, line_told, event_at, events_from, no_head, head_from}
 
 -- ---- lines one after another
 
@@ -23,7 +21,7 @@ pub events_from-append : (h : AnswerHead) (n : ℕ) (xs ys : List Line) → even
 events_from-append h n [] ys = ap (λ m. events_from h m ys) (omega arith)
 events_from-append h n (x ∷ xs) ys =
     ap (λ z. event_at n (line_told (head_with h x) x) ++ z) (events_from-append (head_with h x) (suc n) xs ys
-      ∙ ap (λ m. events_from (head_with h x) (suc n) xs ++ events_from (head_from (head_with h x) xs) m ys) (omega arith))
+    ∙ ap (λ m. events_from (head_with h x) (suc n) xs ++ events_from (head_from (head_with h x) xs) m ys) (omega arith))
     ∙ sym (append_assoc (event_at n (line_told (head_with h x) x)) (events_from (head_with h x) (suc n) xs) (events_from (head_from h (x ∷ xs)) (n + length (x ∷ xs)) ys))
 
 -- the head that two runs of lines tell

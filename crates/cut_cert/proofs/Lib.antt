@@ -14,3 +14,4 @@ pub mod WordLemmas
 pub mod NoLine
 pub mod EventLaws
 pub mod ReadLaws
+pub mod ReadSoFar

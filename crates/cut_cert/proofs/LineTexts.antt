@@ -1,6 +1,6 @@
 -- The bytes of lines: none holds a line feed, they tell the line, and an answer's lines have an answer's text.
-use Rattle.std.proofs.Common.{ℕ, suc, zero, ◌≡◌, ◌≢◌, ◌+◌, ◌<◌, ◌≤◌, Bool, true, false, List, [], ◌∷◌, ◌++◌, length, map, refl, sym, ap, ◌∙◌, arith, append_assoc, Option, Some, None, cond, eqb}
-use Rattle.std.specs.Prelude.{All, flat_map, codes, ◌^◌, ◌==◌, FitsSigned}
+use Rattle.std.proofs.Common.{ℕ, suc, zero, ◌≡◌, ◌≢◌, ◌+◌, ◌<◌, ◌≤◌, Bool, true, false, List, [], ◌∷◌, ◌++◌, length, map, refl, sym, ap, ◌∙◌, arith, append_assoc, Some, cond, eqb}
+use Rattle.std.specs.Prelude.{All, codes, ◌^◌}
 use Rattle.std.specs.Fmt.{decimal, signed_decimal, digit_glyph}
 use Rattle.std.proofs.lemmas.Bool.Decides.{nat_tests}
 use Rattle.std.proofs.lemmas.List.{append-nil, append_cancel_left}
@@ -18,11 +18,11 @@ use Rattle.cut_cert.specs.declared.line.Stage.{Stage}
 use Rattle.cut_cert.specs.declared.line.Stage.TheVariants as stage
 use Rattle.cut_cert.specs.Value.{Tree, WrittenAnswer}
 use Rattle.cut_cert.specs.Value.Tree.{Leaf, Split}
-use Rattle.cut_cert.specs.Text.{four_value, four_digit, set_text, status_word, concat_word, cut_line, cut_lines, edge_line, edge_lines, leaf_text, split_line, tree_text, result_text, search_text, head_text, network_text, proof_text, answer_text}
+use Rattle.cut_cert.specs.Text.{four_value, four_digit, set_text, status_word, concat_word, cut_line, cut_lines, edge_line, edge_lines, tree_text, result_text, search_text, head_text, network_text, proof_text, answer_text}
 use Rattle.cut_cert.specs.Spelling.{FitsName, FitsCut}
-use Rattle.cut_cert.specs.Lines.{name_words, line_bytes, line_text, lines_text, FitsLine, tree_lines, head_lines, body_lines, answer_lines, step}
+use Rattle.cut_cert.specs.Lines.{name_words, line_bytes, line_text, lines_text, FitsLine, tree_lines, head_lines, answer_lines, step}
 use Rattle.cut_cert.specs.Reading.{line_feeds}
-use Rattle.cut_cert.proofs.Pieces.{number-lacks, number_one, number_front, status_front, concat_front, first_apart}
+use Rattle.cut_cert.proofs.Pieces.{number-lacks, number_one, status_front, concat_front, first_apart}
 use Rattle.cut_cert.proofs.Lines.{cut_front, edge_front, result_pieces, search_pieces}
 
 -- ---- no line feed within a line
@@ -168,8 +168,8 @@ result_lines-text h =
     let behind_bound = codes "status " ++ ((status_word h.optimal ++ 10 ∷ []) ++ []) in
     let behind_length = codes "bound " ++ ((decimal h.bound ++ 10 ∷ []) ++ behind_bound) in
     ap (λ x. codes "rst answer 1\nlength " ++ x) (append_assoc (decimal h.length) (10 ∷ []) behind_length
-      ∙ ap (λ x. decimal h.length ++ 10 ∷ (codes "bound " ++ x)) (append_assoc (decimal h.bound) (10 ∷ []) behind_bound
-      ∙ ap (λ x. decimal h.bound ++ 10 ∷ (codes "status " ++ x)) (append-nil (status_word h.optimal ++ 10 ∷ []))))
+    ∙ ap (λ x. decimal h.length ++ 10 ∷ (codes "bound " ++ x)) (append_assoc (decimal h.bound) (10 ∷ []) behind_bound
+    ∙ ap (λ x. decimal h.bound ++ 10 ∷ (codes "status " ++ x)) (append-nil (status_word h.optimal ++ 10 ∷ []))))
     ∙ sym (result_pieces h []) ∙ append-nil (result_text h)
 
 -- and the next two
@@ -177,8 +177,8 @@ search_lines-text : (h : AnswerHead) → lines_text (line.Openings h.openings �
 search_lines-text h =
     let behind_openings = line_text (line.Concat h.concat) ++ [] in
     ap (λ x. codes "openings " ++ x) (append_assoc (decimal h.openings) (10 ∷ []) behind_openings
-      ∙ ap (λ x. decimal h.openings ++ 10 ∷ x) (append-nil (line_text (line.Concat h.concat)) ∙ ap (λ x. x ++ 10 ∷ []) (concat_pieces h.concat)
-      ∙ ap (λ x. codes "concat " ++ x) (append_assoc (concat_word h.concat.least) (32 ∷ decimal h.concat.total) (10 ∷ []))))
+    ∙ ap (λ x. decimal h.openings ++ 10 ∷ x) (append-nil (line_text (line.Concat h.concat)) ∙ ap (λ x. x ++ 10 ∷ []) (concat_pieces h.concat)
+    ∙ ap (λ x. codes "concat " ++ x) (append_assoc (concat_word h.concat.least) (32 ∷ decimal h.concat.total) (10 ∷ []))))
     ∙ sym (search_pieces h []) ∙ append-nil (search_text h)
 
 -- the lines of a head

@@ -1,8 +1,8 @@
 -- Lines of which each was due, up to the end, are the lines of an answer; and lines of an answer are due.
-use Rattle.std.proofs.Common.{ℕ, suc, zero, ◌≡◌, ◌+◌, ◌<◌, List, [], ◌∷◌, ◌++◌, length, map, refl, sym, ap, ◌∙◌, arith, append_assoc, Option, Some, None, replicate, false}
+use Rattle.std.proofs.Common.{ℕ, suc, zero, ◌≡◌, ◌<◌, List, [], ◌∷◌, ◌++◌, length, map, refl, sym, ap, ◌∙◌, arith, append_assoc, Option, Some, None}
 use Rattle.std.specs.Prelude.{All, flat_map, option_and_then, ◌^◌}
 use Rattle.std.proofs.lemmas.List.{append-nil}
-use Rattle.std.proofs.lemmas.List.Elements.{All-head, All-tail, All-cons, All-nil, All-append}
+use Rattle.std.proofs.lemmas.List.Elements.{All-head, All-tail, All-cons, All-nil}
 use Rattle.net_graph.specs.declared.packing.Cut.{Cut}
 use Rattle.hanan_grid.specs.declared.name.EdgeName.{EdgeName}
 use Rattle.cut_cert.specs.declared.line.Line.{Line}
@@ -11,8 +11,8 @@ use Rattle.cut_cert.specs.declared.line.Stage.{Stage}
 use Rattle.cut_cert.specs.declared.line.Stage.TheVariants as stage
 use Rattle.cut_cert.specs.Value.{Tree, WrittenAnswer}
 use Rattle.cut_cert.specs.Value.Tree.{Leaf, Split}
-use Rattle.cut_cert.specs.Spelling.{FitsHead, FitsName, FitsCut, FitsLeaf, FitsTree, FitsAnswer}
-use Rattle.cut_cert.specs.Lines.{FitsLine, tree_lines, head_lines, body_lines, answer_lines, step, run}
+use Rattle.cut_cert.specs.Spelling.{FitsName, FitsCut, FitsTree, FitsAnswer}
+use Rattle.cut_cert.specs.Lines.{FitsLine, tree_lines, answer_lines, step, run}
 
 -- ---- lines one after another
 

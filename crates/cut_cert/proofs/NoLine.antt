@@ -1,17 +1,15 @@
 -- Bytes that could not be read as what is due are no line that is due.
-use Rattle.std.proofs.Common.{ℕ, suc, zero, ◌≡◌, ◌+◌, ◌<◌, ◌^◌, Bool, List, [], ◌∷◌, ◌++◌, length, refl, sym, ap, ◌∙◌, arith, append_assoc, Option, Some, None}
+use Rattle.std.proofs.Common.{ℕ, suc, zero, ◌≡◌, ◌<◌, ◌^◌, Bool, List, ◌++◌, refl, ap, arith}
 use Rattle.std.specs.Prelude.{codes}
 use Rattle.std.specs.Fmt.{decimal}
 use Rattle.net_graph.specs.declared.packing.Cut.{Cut}
 use Rattle.hanan_grid.specs.declared.name.EdgeName.{EdgeName}
 use Rattle.cut_cert.specs.declared.head.ConcatNote.{ConcatNote}
-use Rattle.cut_cert.specs.declared.line.Line.{Line}
 use Rattle.cut_cert.specs.declared.line.Line.TheVariants as line
-use Rattle.cut_cert.specs.declared.line.Stage.{Stage}
 use Rattle.cut_cert.specs.declared.line.Stage.TheVariants as stage
-use Rattle.cut_cert.specs.Text.{set_text, status_word, concat_word}
+use Rattle.cut_cert.specs.Text.{status_word, concat_word}
 use Rattle.cut_cert.specs.Spelling.{FitsName}
-use Rattle.cut_cert.specs.Lines.{name_words, line_bytes, FitsLine, step, IsNoLine}
+use Rattle.cut_cert.specs.Lines.{name_words, line_bytes, FitsLine, IsNoLine}
 
 pub no_title : (V : ℕ) (bytes : List ℕ) → (bytes ≡ codes "rst answer 1" → ⊥) → IsNoLine V stage.Title bytes
 no_title V bytes none line.Title s' f d e = none e

@@ -1,19 +1,14 @@
 -- What lines that were read one after another say of the bytes that they stand at the front of.
-use Rattle.std.proofs.Common.{ℕ, suc, zero, ◌≡◌, ◌≢◌, ◌+◌, ◌-◌, ◌<◌, ◌≤◌, List, [], ◌∷◌, ◌++◌, length, take, refl, sym, ap, subst, ◌∙◌, arith, append_assoc, length-append, Option, Some, None, inl, inr, ⊎_elim}
+use Rattle.std.proofs.Common.{ℕ, ◌≡◌, ◌+◌, ◌-◌, ◌<◌, List, [], ◌∷◌, ◌++◌, length, take, refl, sym, ap, subst, ◌∙◌, arith, append_assoc, length-append, Option, Some, None, inl, inr, ⊎_elim}
 use Rattle.std.specs.Prelude.{All, option_and_then, ◌⊎◌}
-use Rattle.std.proofs.lemmas.Bool.{cases_lt}
-use Rattle.std.proofs.lemmas.List.{append-nil}
 use Rattle.std.proofs.lemmas.List.Concat.{flat_map-append}
 use Rattle.std.proofs.lemmas.List.Elements.{All-head, All-tail, All-append}
 use Rattle.spelled.specs.Words.{Lacks}
 use Rattle.spelled.specs.Fronts.{front_unique, separator_missing}
 use Rattle.cut_cert.specs.declared.line.Line.{Line}
-use Rattle.cut_cert.specs.declared.line.Line.TheVariants as line
 use Rattle.cut_cert.specs.declared.line.Stage.{Stage}
 use Rattle.cut_cert.specs.declared.line.Stage.TheVariants as stage
-use Rattle.cut_cert.specs.declared.event.AnswerEvent.{AnswerEvent}
 use Rattle.cut_cert.specs.Value.{WrittenAnswer}
-use Rattle.cut_cert.specs.Text.{answer_text}
 use Rattle.cut_cert.specs.Spelling.{FitsAnswer, SpellsAnswer}
 use Rattle.cut_cert.specs.Lines.{line_bytes, line_text, lines_text, FitsLine, answer_lines, step, run, IsNoLine}
 use Rattle.cut_cert.specs.Events.{events_of, events_from, no_head}
@@ -149,8 +144,8 @@ pub stops_unended : (V : ℕ) (s : Stage) (ls : List Line) (bytes rest : List �
     → ((rest ≡ []) → (s ≡ stage.Done) → ⊥) → StopsAt V bytes (length ls + 1) (events_from no_head 1 ls)
 stops_unended V s ls bytes rest due fits parts lacks open_end = stops V s ls bytes rest due fits parts
     (λ longer more split begins.
-      let one = ap line_feeds (sym split ∙ parts) in
-      omega (arith, line_feeds-append longer more, line_feeds-append (lines_text ls) rest, line_feeds-lines V ls fits, line_feeds-lacks rest lacks))
+    let one = ap line_feeds (sym split ∙ parts) in
+    omega (arith, line_feeds-append longer more, line_feeds-append (lines_text ls) rest, line_feeds-lines V ls fits, line_feeds-lacks rest lacks))
     (λ a spells. let both = ended V s ls bytes rest a due fits parts lacks spells in open_end both.0 both.1)
 
 -- ---- bytes with a line that was not due
@@ -196,12 +191,12 @@ pub stops_at_line : (V : ℕ) (s : Stage) (ls : List Line) (bytes line after : L
     → Lacks line 10 → IsNoLine V s line → StopsAt V bytes (length ls + 1) (events_from no_head 1 ls)
 stops_at_line V s ls bytes line after due fits parts lacks none = stops V s ls bytes (line ++ 10 ∷ after) due fits parts
     (λ longer more split begins. ⊎_elim
-      (λ (sooner : (x : List ℕ) × (lines_text ls ++ line ≡ longer ++ x)).
-        let feeds = ap line_feeds sooner.1 in
-        omega (arith, line_feeds-append longer sooner.0, line_feeds-append (lines_text ls) line, line_feeds-lines V ls fits, line_feeds-lacks line lacks))
-      (λ (later : (x : List ℕ) × (longer ≡ (lines_text ls ++ line) ++ 10 ∷ x)).
-        let whole : longer ++ begins.rest ≡ lines_text ls ++ (line ++ 10 ∷ (later.0 ++ begins.rest)) =
-        ap (λ x. x ++ begins.rest) later.1 ∙ append_assoc (lines_text ls ++ line) (10 ∷ later.0) begins.rest ∙ append_assoc (lines_text ls) line (10 ∷ (later.0 ++ begins.rest)) in
-        absurd (no_answer V s ls (longer ++ begins.rest) line (later.0 ++ begins.rest) begins.answer due fits begins.spells whole lacks none))
-      (front_cases 10 longer more (lines_text ls ++ line) after (sym split ∙ parts ∙ sym (append_assoc (lines_text ls) line (10 ∷ after)))))
+    (λ (sooner : (x : List ℕ) × (lines_text ls ++ line ≡ longer ++ x)).
+    let feeds = ap line_feeds sooner.1 in
+    omega (arith, line_feeds-append longer sooner.0, line_feeds-append (lines_text ls) line, line_feeds-lines V ls fits, line_feeds-lacks line lacks))
+    (λ (later : (x : List ℕ) × (longer ≡ (lines_text ls ++ line) ++ 10 ∷ x)).
+    let whole : longer ++ begins.rest ≡ lines_text ls ++ (line ++ 10 ∷ (later.0 ++ begins.rest)) =
+    ap (λ x. x ++ begins.rest) later.1 ∙ append_assoc (lines_text ls ++ line) (10 ∷ later.0) begins.rest ∙ append_assoc (lines_text ls) line (10 ∷ (later.0 ++ begins.rest)) in
+    absurd (no_answer V s ls (longer ++ begins.rest) line (later.0 ++ begins.rest) begins.answer due fits begins.spells whole lacks none))
+    (front_cases 10 longer more (lines_text ls ++ line) after (sym split ∙ parts ∙ sym (append_assoc (lines_text ls) line (10 ∷ after)))))
     (λ a spells. no_answer V s ls bytes line after a due fits spells parts lacks none)

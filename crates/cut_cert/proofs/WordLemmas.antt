@@ -1,5 +1,5 @@
 -- What was read at the front of a line, and what could not be read.
-use Rattle.std.proofs.Common.{ℕ, ◌≡◌, ◌^◌, ◌<◌, ◌≤◌, ℤ, Result, Ok, Err, Bool, true, false, List, [], ◌∷◌, ◌++◌, refl, sym, ap, ◌∙◌, arith, append_assoc, Option, Some, None, Bor, length, take, drop}
+use Rattle.std.proofs.Common.{ℕ, ◌≡◌, ◌^◌, ◌<◌, ◌≤◌, ℤ, Result, Ok, Err, Bool, true, false, List, ◌∷◌, ◌++◌, sym, ap, ◌∙◌, arith, append_assoc, Option, Some, None}
 use Rattle.std.specs.Prelude.{MatchOption, IfSome, IfNone, codes, FitsSigned}
 use Rattle.std.specs.Int.{w64}
 use Rattle.std.specs.Fmt.{decimal, signed_decimal}
@@ -100,3 +100,8 @@ pub digits_read : (bytes digits rest : List ℕ) (weight other : ℕ) → weight
 digits_read bytes digits rest weight other f g one two =
     let whole = append_cancel_left (codes "cut ") (decimal weight ++ 32 ∷ digits) (decimal other ++ 32 ∷ rest) (sym (weight_pieces weight digits) ∙ sym one ∙ two ∙ weight_pieces other rest) in
     (number_front 32 weight other digits rest (omega arith) (omega arith) (omega arith) whole).1
+
+-- what follows from two facts for Some holds for Some
+pub some_both : {X : Type 0} {P Q R : X → Type 0} (r : Option X) → IfSome r P → IfSome r Q → ((x : X) → P x → Q x → R x) → IfSome r R
+some_both None p q f = tt
+some_both (Some x) p q f = f x p q

@@ -7,6 +7,7 @@ mod head;
 mod length;
 mod line;
 mod line_read;
+mod read;
 mod reading;
 mod set_read;
 #[cfg(test)]
@@ -19,5 +20,6 @@ pub use answer::{Answer, write_answer};
 pub use event::{AnswerEvent, Event};
 pub use head::{AnswerHead, ConcatNote};
 pub use length::answer_len;
+pub use read::{EventList, read_events};
 pub use reading::one_reading;
 pub use tree::CertTree;

@@ -39,11 +39,20 @@ fn head_line(bytes: &[u8], stage: Stage) -> Option<(Line, Stage)>
 {
     match stage {
         Stage::Title => title_line(bytes),
-        Stage::Length => Some((Line::Length(number_behind(bytes, b"length ")?), Stage::Bound)),
+        Stage::Length => Some((
+            Line::Length(number_behind(bytes, b"length ")?),
+            Stage::Bound,
+        )),
         Stage::Bound => Some((Line::Bound(number_behind(bytes, b"bound ")?), Stage::Status)),
         Stage::Status => Some((Line::Status(status_behind(bytes)?), Stage::Openings)),
-        Stage::Openings => Some((Line::Openings(byte_behind(bytes, b"openings ")?), Stage::Concat)),
-        Stage::Concat => Some((Line::Concat(concat_in(behind(bytes, b"concat ")?)?), Stage::Count)),
+        Stage::Openings => Some((
+            Line::Openings(byte_behind(bytes, b"openings ")?),
+            Stage::Concat,
+        )),
+        Stage::Concat => Some((
+            Line::Concat(concat_in(behind(bytes, b"concat ")?)?),
+            Stage::Count,
+        )),
         Stage::Count => count_line(bytes),
         _ => None,
     }
@@ -145,14 +154,16 @@ fn cut_line(
 fn weight_behind(bytes: &[u8]) -> Option<(u64, &[u8])>
     ensures found { IfSome result (λ r. bytes.now ≡ codes "cut " ++ decimal r.0 ++ codes " " ++ r.1.now) }
     ensures fits { IfSome result (λ r. (0 < r.0) × (r.0 < 2 ^ 64)) }
-    ensures none {
-        IfNone result ((weight : ℕ) (digits : List ℕ) → 0 < weight → weight < 2 ^ 64
-            → bytes.now ≡ codes "cut " ++ decimal weight ++ codes " " ++ digits → ⊥)
-    }
+    ensures none { IfNone result ((weight : ℕ) (digits : List ℕ) → 0 < weight → weight < 2 ^ 64
+        → bytes.now ≡ codes "cut " ++ decimal weight ++ codes " " ++ digits → ⊥) }
 {
     let (word, digits) = split_word(behind(bytes, b"cut ")?)?;
     let weight = unsigned_spelled(word)?;
-    if weight > 0 { Some((weight, digits)) } else { None }
+    if weight > 0 {
+        Some((weight, digits))
+    } else {
+        None
+    }
 }
 
 // A node, behind which so many nodes are due.

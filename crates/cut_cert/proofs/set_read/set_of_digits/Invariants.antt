@@ -8,5 +8,5 @@ abbrev pub invariant-loop-v : goal.invariant-loop-v
 invariant-loop-v l = record {
   size : length l.set ≡ l.vertices;
   told : (k : ℕ) → k < l.v → has l.set k ≡ flag_told l.digits k;
-  none : (k : ℕ) → l.v ≤ k → has l.set k ≡ false
+  none : (k : ℕ) → l.v ≤ k → has l.set k ≡ false;
 }

@@ -12,5 +12,5 @@ returns-in_err-word-clause-none c =
 pub returns-in_err-number-clause-none : goal.returns-in_err-number-clause-none
 returns-in_err-number-clause-none c =
     rw c.from_residual-in_err-number.ensures (λ z rest fits e.
-      let same = front_unique 32 c.in_ok-word.word.now (signed_decimal z) c.in_ok-word.rest.now rest c.in_ok-word.ensures.first (signed_decimal-lacks z 32 fits (omega arith)) (sym c.in_ok-word.ensures.parts ∙ e) in
-      c.in_err-number.ensures.none z fits same.0)
+    let same = front_unique 32 c.in_ok-word.word.now (signed_decimal z) c.in_ok-word.rest.now rest c.in_ok-word.ensures.first (signed_decimal-lacks z 32 fits (omega arith)) (sym c.in_ok-word.ensures.parts ∙ e) in
+    c.in_err-number.ensures.none z fits same.0)
