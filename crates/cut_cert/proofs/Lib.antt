@@ -7,3 +7,11 @@ pub mod Lengths
 pub mod NetworkLemmas
 pub mod NodesText
 pub mod PackingLemmas
+pub mod Machine
+pub mod Due
+pub mod LineTexts
+pub mod WordLemmas
+pub mod NoLine
+pub mod EventLaws
+pub mod ReadLaws
+pub mod ReadSoFar

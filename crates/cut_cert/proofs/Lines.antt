@@ -62,14 +62,14 @@ same_head h k length bound optimal openings least total =
     λ i. record { length = length i; bound = bound i; optimal = optimal i; openings = openings i; concat = record { least = least i; total = total i } }
 
 -- what stands from a part of the first four lines on
-abbrev from_status : AnswerHead → List ℕ → List ℕ
+abbrev pub from_status : AnswerHead → List ℕ → List ℕ
 from_status h p = codes "status " ++ (status_word h.optimal ++ 10 ∷ p)
 
-abbrev from_bound : AnswerHead → List ℕ → List ℕ
+abbrev pub from_bound : AnswerHead → List ℕ → List ℕ
 from_bound h p = codes "bound " ++ (decimal h.bound ++ 10 ∷ from_status h p)
 
 -- these lines and what follows them, piece by piece
-result_pieces : (h : AnswerHead) (p : List ℕ) → result_text h ++ p ≡ codes "rst answer 1\nlength " ++ (decimal h.length ++ 10 ∷ from_bound h p)
+pub result_pieces : (h : AnswerHead) (p : List ℕ) → result_text h ++ p ≡ codes "rst answer 1\nlength " ++ (decimal h.length ++ 10 ∷ from_bound h p)
 result_pieces h p = simp append_assoc
 
 -- the first four lines
@@ -85,14 +85,14 @@ result_front h k p q f g e =
     (length.0, bound.0, optimal.0, append_cancel_left (codes "\n") p q optimal.1)
 
 -- what stands from a part of the next two lines on
-abbrev from_total : AnswerHead → List ℕ → List ℕ
+abbrev pub from_total : AnswerHead → List ℕ → List ℕ
 from_total h p = decimal h.concat.total ++ 10 ∷ p
 
-abbrev from_concat : AnswerHead → List ℕ → List ℕ
+abbrev pub from_concat : AnswerHead → List ℕ → List ℕ
 from_concat h p = codes "concat " ++ (concat_word h.concat.least ++ 32 ∷ from_total h p)
 
 -- these lines and what follows them, piece by piece
-search_pieces : (h : AnswerHead) (p : List ℕ) → search_text h ++ p ≡ codes "openings " ++ (decimal h.openings ++ 10 ∷ from_concat h p)
+pub search_pieces : (h : AnswerHead) (p : List ℕ) → search_text h ++ p ≡ codes "openings " ++ (decimal h.openings ++ 10 ∷ from_concat h p)
 search_pieces h p = simp append_assoc
 
 -- the next two lines

@@ -11,12 +11,12 @@ use Rattle.spelled.specs.Fronts.{front_unique}
 use Rattle.cut_cert.specs.Text.{status_word, concat_word}
 
 -- No digit is a byte below the digits.
-number-lacks : (n byte : ℕ) → n < 2 ^ 128 → byte < 48 → Lacks (decimal n) byte
+pub number-lacks : (n byte : ℕ) → n < 2 ^ 128 → byte < 48 → Lacks (decimal n) byte
 number-lacks n byte fits low = All-from_get_or (λ b. b ≢ byte) (decimal n) 0
     (λ i inside. let digit = digit_at (decimal n) i ((decimal_is_IsNumeral_wide n (omega arith)).0.1) inside in omega arith)
 
 -- A number is told by its digits.
-number_one : (m n : ℕ) → m < 2 ^ 128 → n < 2 ^ 128 → decimal m ≡ decimal n → m ≡ n
+pub number_one : (m n : ℕ) → m < 2 ^ 128 → n < 2 ^ 128 → decimal m ≡ decimal n → m ≡ n
 number_one m n p q e =
     sym ((decimal_is_IsNumeral_wide m (omega arith)).1) ∙ ap (digits_value 10) e ∙ (decimal_is_IsNumeral_wide n (omega arith)).1
 

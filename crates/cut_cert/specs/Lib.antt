@@ -5,3 +5,6 @@ pub mod Kept
 pub mod Bound
 pub mod SetLaws
 pub mod Answers
+pub mod Lines
+pub mod Reading
+pub mod Events

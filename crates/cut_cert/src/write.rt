@@ -131,7 +131,7 @@ pub(crate) fn write_set<S: Sink>(block: &mut Block, sink: &mut S, set: &VertexSe
 }
 
 // The digit at a place, which stands for the four flags from there on.
-fn digit_at(set: &VertexSet, place: u32) -> u8
+pub(crate) fn digit_at(set: &VertexSet, place: u32) -> u8
     ensures { result ≡ digit_at_place set.now place }
 {
     let first = 4 * u64::from(place);

@@ -1,0 +1,228 @@
+-- The bytes of lines: none holds a line feed, they tell the line, and an answer's lines have an answer's text.
+use Rattle.std.proofs.Common.{ℕ, suc, zero, ◌≡◌, ◌≢◌, ◌+◌, ◌<◌, ◌≤◌, Bool, true, false, List, [], ◌∷◌, ◌++◌, length, map, refl, sym, ap, ◌∙◌, arith, append_assoc, Some, cond, eqb}
+use Rattle.std.specs.Prelude.{All, codes, ◌^◌}
+use Rattle.std.specs.Fmt.{decimal, signed_decimal, digit_glyph}
+use Rattle.std.proofs.lemmas.Bool.Decides.{nat_tests}
+use Rattle.std.proofs.lemmas.List.{append-nil, append_cancel_left}
+use Rattle.std.proofs.lemmas.List.Concat.{flat_map-append}
+use Rattle.std.proofs.lemmas.List.Elements.{All-head, All-tail, All-cons, All-nil, All-append}
+use Rattle.spelled.specs.Words.{Lacks}
+use Rattle.spelled.specs.Numbers.{signed_decimal-lacks}
+use Rattle.net_graph.specs.declared.packing.Cut.{Cut}
+use Rattle.hanan_grid.specs.declared.name.EdgeName.{EdgeName}
+use Rattle.cut_cert.specs.declared.head.AnswerHead.{AnswerHead}
+use Rattle.cut_cert.specs.declared.head.ConcatNote.{ConcatNote}
+use Rattle.cut_cert.specs.declared.line.Line.{Line}
+use Rattle.cut_cert.specs.declared.line.Line.TheVariants as line
+use Rattle.cut_cert.specs.declared.line.Stage.{Stage}
+use Rattle.cut_cert.specs.declared.line.Stage.TheVariants as stage
+use Rattle.cut_cert.specs.Value.{Tree, WrittenAnswer}
+use Rattle.cut_cert.specs.Value.Tree.{Leaf, Split}
+use Rattle.cut_cert.specs.Text.{four_value, four_digit, set_text, status_word, concat_word, cut_line, cut_lines, edge_line, edge_lines, tree_text, result_text, search_text, head_text, network_text, proof_text, answer_text}
+use Rattle.cut_cert.specs.Spelling.{FitsName, FitsCut}
+use Rattle.cut_cert.specs.Lines.{name_words, line_bytes, line_text, lines_text, FitsLine, tree_lines, head_lines, answer_lines, step}
+use Rattle.cut_cert.specs.Reading.{line_feeds}
+use Rattle.cut_cert.proofs.Pieces.{number-lacks, number_one, status_front, concat_front, first_apart}
+use Rattle.cut_cert.proofs.Lines.{cut_front, edge_front, result_pieces, search_pieces}
+
+-- ---- no line feed within a line
+
+-- whether a list lacks a byte
+abbrev all_apart : ℕ → List ℕ → Bool
+all_apart byte [] = true
+all_apart byte (b ∷ bytes) = cond (eqb b byte) false (all_apart byte bytes)
+
+-- a list that was tested lacks the byte
+lacks_by : (byte : ℕ) (bytes : List ℕ) → all_apart byte bytes ≡ true → Lacks bytes byte
+lacks_by byte [] e = All-nil (λ b. b ≢ byte)
+lacks_by byte (b ∷ bytes) e =
+    All-cons (λ b. b ≢ byte) b bytes (grind (arith, nat_tests)) (lacks_by byte bytes (grind (arith, nat_tests)))
+
+-- a digit is no line feed
+digit_glyph-high : (n : ℕ) → 48 ≤ digit_glyph false n
+digit_glyph-high n = grind (arith, nat_tests)
+
+four_digit-apart : (a b c d : Bool) → four_digit a b c d ≢ 10
+four_digit-apart a b c d = let high = digit_glyph-high (four_value a b c d) in λ e. omega arith
+
+-- a set has none
+set_text-lacks : (set : List Bool) → Lacks (set_text set) 10
+set_text-lacks [] = All-nil (λ b. b ≢ 10)
+set_text-lacks (a ∷ []) = All-cons (λ b. b ≢ 10) (four_digit a false false false) [] (four_digit-apart a false false false) (All-nil (λ b. b ≢ 10))
+set_text-lacks (a ∷ b ∷ []) = All-cons (λ b. b ≢ 10) (four_digit a b false false) [] (four_digit-apart a b false false) (All-nil (λ b. b ≢ 10))
+set_text-lacks (a ∷ b ∷ c ∷ []) = All-cons (λ b. b ≢ 10) (four_digit a b c false) [] (four_digit-apart a b c false) (All-nil (λ b. b ≢ 10))
+set_text-lacks (a ∷ b ∷ c ∷ d ∷ set) = All-cons (λ b. b ≢ 10) (four_digit a b c d) (set_text set) (four_digit-apart a b c d) (set_text-lacks set)
+
+-- two lists that have none have none together
+both_lack : (xs ys : List ℕ) → Lacks xs 10 → Lacks ys 10 → Lacks (xs ++ ys) 10
+both_lack xs ys p q = All-append (λ b. b ≢ 10) xs ys p q
+
+-- a word and a number have none
+word_number-lacks : (word : List ℕ) (n : ℕ) → Lacks word 10 → n < 2 ^ 128 → Lacks (word ++ decimal n) 10
+word_number-lacks word n p fits = both_lack word (decimal n) p (number-lacks n 10 fits (omega arith))
+
+-- the words of a name have none
+name_words-lacks : (e : EdgeName) → FitsName e → Lacks (name_words e) 10
+name_words-lacks e f =
+    let blank : Lacks (codes " ") 10 = lacks_by 10 (codes " ") refl in
+    both_lack _ (signed_decimal e.y2) (both_lack _ (codes " ") (both_lack _ (signed_decimal e.x2) (both_lack _ (codes " ") (both_lack _ (signed_decimal e.y1) (both_lack _ (codes " ")
+    (signed_decimal-lacks e.x1 10 f.x1 (omega arith)) blank) (signed_decimal-lacks e.y1 10 f.y1 (omega arith))) blank) (signed_decimal-lacks e.x2 10 f.x2 (omega arith))) blank) (signed_decimal-lacks e.y2 10 f.y2 (omega arith))
+
+-- nor has a line that fits
+pub line_bytes-lacks : (V : ℕ) (l : Line) → FitsLine V l → Lacks (line_bytes l) 10
+line_bytes-lacks V line.Title f = lacks_by 10 (codes "rst answer 1") refl
+line_bytes-lacks V (line.Length n) f = word_number-lacks (codes "length ") n (lacks_by 10 (codes "length ") refl) (omega arith)
+line_bytes-lacks V (line.Bound n) f = word_number-lacks (codes "bound ") n (lacks_by 10 (codes "bound ") refl) (omega arith)
+line_bytes-lacks V (line.Status true) f = lacks_by 10 (codes "status optimal") refl
+line_bytes-lacks V (line.Status false) f = lacks_by 10 (codes "status stopped") refl
+line_bytes-lacks V (line.Openings n) f = word_number-lacks (codes "openings ") n (lacks_by 10 (codes "openings ") refl) (omega arith)
+line_bytes-lacks V (line.Concat c) f = both_lack (codes "concat " ++ concat_word c.least ++ codes " ") (decimal c.total) (concat_lacks c.least) (number-lacks c.total 10 f (omega arith))
+  where
+    concat_lacks : (least : Bool) → Lacks (codes "concat " ++ concat_word least ++ codes " ") 10
+    concat_lacks true = lacks_by 10 (codes "concat least ") refl
+    concat_lacks false = lacks_by 10 (codes "concat spent ") refl
+line_bytes-lacks V (line.Count n) f = word_number-lacks (codes "edges ") n (lacks_by 10 (codes "edges ") refl) (omega arith)
+line_bytes-lacks V (line.Edge e) f = name_words-lacks e f
+line_bytes-lacks V line.Tree f = lacks_by 10 (codes "tree") refl
+line_bytes-lacks V (line.Split e) f = both_lack (codes "split ") (name_words e) (lacks_by 10 (codes "split ") refl) (name_words-lacks e f)
+line_bytes-lacks V (line.Leaf n) f = word_number-lacks (codes "leaf ") n (lacks_by 10 (codes "leaf ") refl) (omega arith)
+line_bytes-lacks V (line.Cut c) f =
+    both_lack (codes "cut " ++ decimal c.weight ++ codes " ") (set_text c.members)
+    (both_lack (codes "cut " ++ decimal c.weight) (codes " ") (word_number-lacks (codes "cut ") c.weight (lacks_by 10 (codes "cut ") refl) (omega arith)) (lacks_by 10 (codes " ") refl))
+    (set_text-lacks c.members)
+line_bytes-lacks V line.End f = lacks_by 10 (codes "end") refl
+
+-- ---- a line is told by its bytes, where another might be due
+
+-- numbers behind one word
+same_number : (word : List ℕ) (m n : ℕ) → m < 2 ^ 128 → n < 2 ^ 128 → word ++ decimal m ≡ word ++ decimal n → m ≡ n
+same_number word m n p q e = number_one m n p q (append_cancel_left word (decimal m) (decimal n) e)
+
+-- names behind no word or one
+same_name_words : (d e : EdgeName) → FitsName d → FitsName e → name_words d ≡ name_words e → d ≡ e
+same_name_words d e f g same = (edge_front d e [] [] f g (ap (λ x. (x ++ codes "\n") ++ []) same)).0
+
+same_split_words : (d e : EdgeName) → FitsName d → FitsName e → codes "split " ++ name_words d ≡ codes "split " ++ name_words e → d ≡ e
+same_split_words d e f g same = same_name_words d e f g (append_cancel_left (codes "split ") (name_words d) (name_words e) same)
+
+-- cuts
+same_cut_words : (V : ℕ) (c d : Cut) → FitsCut V c → FitsCut V d → line_bytes (line.Cut c) ≡ line_bytes (line.Cut d) → c ≡ d
+same_cut_words V c d f g same = (cut_front V c d [] [] f g (ap (λ x. (x ++ codes "\n") ++ []) same)).0
+
+-- the status
+same_status : (a b : Bool) → codes "status " ++ status_word a ≡ codes "status " ++ status_word b → a ≡ b
+same_status a b same = (status_front a b [] [] (ap (λ x. x ++ []) (append_cancel_left (codes "status ") (status_word a) (status_word b) same))).0
+
+-- the note on the concatenation
+concat_pieces : (c : ConcatNote) → line_bytes (line.Concat c) ≡ codes "concat " ++ (concat_word c.least ++ 32 ∷ decimal c.total)
+concat_pieces c = simp append_assoc
+
+same_concat : (c k : ConcatNote) → c.total < 2 ^ 128 → k.total < 2 ^ 128 → line_bytes (line.Concat c) ≡ line_bytes (line.Concat k) → c ≡ k
+same_concat c k f g same =
+    let words = append_cancel_left (codes "concat ") (concat_word c.least ++ 32 ∷ decimal c.total) (concat_word k.least ++ 32 ∷ decimal k.total) (sym (concat_pieces c) ∙ same ∙ concat_pieces k) in
+    let least = concat_front c.least k.least (32 ∷ decimal c.total) (32 ∷ decimal k.total) words in
+    let total = number_one c.total k.total f g (append_cancel_left (codes " ") (decimal c.total) (decimal k.total) least.1) in
+    λ i. record { least = least.0 i; total = total i }
+
+-- two lines that are due at one stage and have the same bytes are the same
+pub same_line : (V : ℕ) (s : Stage) (l m : Line) (s' s'' : Stage) → step s l ≡ Some s' → step s m ≡ Some s'' → FitsLine V l → FitsLine V m → line_bytes l ≡ line_bytes m → l ≡ m
+same_line V stage.Title line.Title line.Title s' s'' d e f g same = refl
+same_line V stage.Length (line.Length m) (line.Length n) s' s'' d e f g same = ap line.Length (same_number (codes "length ") m n (omega arith) (omega arith) same)
+same_line V stage.Bound (line.Bound m) (line.Bound n) s' s'' d e f g same = ap line.Bound (same_number (codes "bound ") m n (omega arith) (omega arith) same)
+same_line V stage.Status (line.Status a) (line.Status b) s' s'' d e f g same = ap line.Status (same_status a b same)
+same_line V stage.Openings (line.Openings m) (line.Openings n) s' s'' d e f g same = ap line.Openings (same_number (codes "openings ") m n (omega arith) (omega arith) same)
+same_line V stage.Concat (line.Concat c) (line.Concat k) s' s'' d e f g same = ap line.Concat (same_concat c k f g same)
+same_line V stage.Count (line.Count m) (line.Count n) s' s'' d e f g same = ap line.Count (same_number (codes "edges ") m n (omega arith) (omega arith) same)
+same_line V (stage.Edges zero) line.Tree line.Tree s' s'' d e f g same = refl
+same_line V (stage.Edges (suc k)) (line.Edge a) (line.Edge b) s' s'' d e f g same = ap line.Edge (same_name_words a b f g same)
+same_line V (stage.Body zero zero) line.End line.End s' s'' d e f g same = refl
+same_line V (stage.Body zero (suc p)) (line.Leaf m) (line.Leaf n) s' s'' d e f g same = ap line.Leaf (same_number (codes "leaf ") m n (omega arith) (omega arith) same)
+same_line V (stage.Body zero (suc p)) (line.Leaf n) (line.Split a) s' s'' d e f g same = absurd (first_apart 108 115 (omega arith) same)
+same_line V (stage.Body zero (suc p)) (line.Split a) (line.Leaf n) s' s'' d e f g same = absurd (first_apart 115 108 (omega arith) same)
+same_line V (stage.Body zero (suc p)) (line.Split a) (line.Split b) s' s'' d e f g same = ap line.Split (same_split_words a b f g same)
+same_line V (stage.Body (suc c) p) (line.Cut a) (line.Cut b) s' s'' d e f g same = ap line.Cut (same_cut_words V a b f g same)
+same_line V s l m s' s'' d e f g same = absurd cc
+
+-- ---- the text of an answer is that of its lines
+
+-- the lines of cuts and of edges
+cut_lines-text : (cuts : List Cut) → lines_text (map line.Cut cuts) ≡ cut_lines cuts
+cut_lines-text [] = refl
+cut_lines-text (c ∷ cuts) = ap (λ x. cut_line c ++ x) (cut_lines-text cuts)
+
+edge_lines-text : (edges : List EdgeName) → lines_text (map line.Edge edges) ≡ edge_lines edges
+edge_lines-text [] = refl
+edge_lines-text (e ∷ edges) = ap (λ x. edge_line e ++ x) (edge_lines-text edges)
+
+-- the lines of a tree
+tree_lines-text : (t : Tree EdgeName) → lines_text (tree_lines t) ≡ tree_text t
+tree_lines-text (Leaf cuts) = ap (λ x. (codes "leaf " ++ decimal (length cuts)) ++ codes "\n" ++ x) (cut_lines-text cuts)
+tree_lines-text (Split e o i) =
+    ap (λ x. line_text (line.Split e) ++ x) (flat_map-append line_text (tree_lines o) (tree_lines i))
+    ∙ ap (λ x. line_text (line.Split e) ++ x) (λ k. tree_lines-text o k ++ tree_lines-text i k)
+    ∙ sym (append_assoc (line_text (line.Split e)) (tree_text o) (tree_text i))
+
+-- the first four lines of a head
+result_lines-text : (h : AnswerHead) → lines_text (line.Title ∷ line.Length h.length ∷ line.Bound h.bound ∷ line.Status h.optimal ∷ []) ≡ result_text h
+result_lines-text h =
+    let behind_bound = codes "status " ++ ((status_word h.optimal ++ 10 ∷ []) ++ []) in
+    let behind_length = codes "bound " ++ ((decimal h.bound ++ 10 ∷ []) ++ behind_bound) in
+    ap (λ x. codes "rst answer 1\nlength " ++ x) (append_assoc (decimal h.length) (10 ∷ []) behind_length
+    ∙ ap (λ x. decimal h.length ++ 10 ∷ (codes "bound " ++ x)) (append_assoc (decimal h.bound) (10 ∷ []) behind_bound
+    ∙ ap (λ x. decimal h.bound ++ 10 ∷ (codes "status " ++ x)) (append-nil (status_word h.optimal ++ 10 ∷ []))))
+    ∙ sym (result_pieces h []) ∙ append-nil (result_text h)
+
+-- and the next two
+search_lines-text : (h : AnswerHead) → lines_text (line.Openings h.openings ∷ line.Concat h.concat ∷ []) ≡ search_text h
+search_lines-text h =
+    let behind_openings = line_text (line.Concat h.concat) ++ [] in
+    ap (λ x. codes "openings " ++ x) (append_assoc (decimal h.openings) (10 ∷ []) behind_openings
+    ∙ ap (λ x. decimal h.openings ++ 10 ∷ x) (append-nil (line_text (line.Concat h.concat)) ∙ ap (λ x. x ++ 10 ∷ []) (concat_pieces h.concat)
+    ∙ ap (λ x. codes "concat " ++ x) (append_assoc (concat_word h.concat.least) (32 ∷ decimal h.concat.total) (10 ∷ []))))
+    ∙ sym (search_pieces h []) ∙ append-nil (search_text h)
+
+-- the lines of a head
+head_lines-text : (h : AnswerHead) → lines_text (head_lines h) ≡ head_text h
+head_lines-text h =
+    flat_map-append line_text (line.Title ∷ line.Length h.length ∷ line.Bound h.bound ∷ line.Status h.optimal ∷ []) (line.Openings h.openings ∷ line.Concat h.concat ∷ [])
+    ∙ (λ k. result_lines-text h k ++ search_lines-text h k)
+
+-- the lines of a network and of a tree with what surrounds it
+network_lines-text : (edges : List EdgeName) → lines_text (line.Count (length edges) ∷ map line.Edge edges) ≡ network_text edges
+network_lines-text edges = ap (λ x. line_text (line.Count (length edges)) ++ x) (edge_lines-text edges)
+
+proof_lines-text : (t : Tree EdgeName) → lines_text (line.Tree ∷ (tree_lines t ++ line.End ∷ [])) ≡ proof_text t
+proof_lines-text t =
+    ap (λ x. line_text line.Tree ++ x) (flat_map-append line_text (tree_lines t) (line.End ∷ []) ∙ ap (λ x. x ++ codes "end\n") (tree_lines-text t))
+
+-- the lines of an answer
+pub answer_lines-text : (a : WrittenAnswer) → lines_text (answer_lines a) ≡ answer_text a
+answer_lines-text a =
+    let network = line.Count (length a.edges) ∷ map line.Edge a.edges in
+    let proof = line.Tree ∷ (tree_lines a.tree ++ line.End ∷ []) in
+    flat_map-append line_text (head_lines a.head) (network ++ proof) ∙ ap (λ x. lines_text (head_lines a.head) ++ x) (flat_map-append line_text network proof)
+    ∙ sym (append_assoc (lines_text (head_lines a.head)) (lines_text network) (lines_text proof))
+    ∙ (λ k. head_lines-text a.head k ++ network_lines-text a.edges k ++ proof_lines-text a.tree k)
+
+-- ---- how many lines there are
+
+-- the line feeds of two lists
+pub line_feeds-append : (xs ys : List ℕ) → line_feeds (xs ++ ys) ≡ line_feeds xs + line_feeds ys
+line_feeds-append [] ys = omega arith
+line_feeds-append (x ∷ xs) ys = let rest = line_feeds-append xs ys in grind (arith, nat_tests)
+
+-- a list that lacks them has none
+pub line_feeds-lacks : (xs : List ℕ) → Lacks xs 10 → line_feeds xs ≡ 0
+line_feeds-lacks [] p = refl
+line_feeds-lacks (x ∷ xs) p =
+    let rest = line_feeds-lacks xs (All-tail (λ b. b ≢ 10) x xs p) in
+    let apart : x ≢ 10 = All-head (λ b. b ≢ 10) x xs p in
+    grind (arith, nat_tests)
+
+-- a list of lines that fit has one a line
+pub line_feeds-lines : (V : ℕ) (ls : List Line) → All (FitsLine V) ls → line_feeds (lines_text ls) ≡ length ls
+line_feeds-lines V [] f = refl
+line_feeds-lines V (l ∷ ls) f =
+    let none = line_feeds-lacks (line_bytes l) (line_bytes-lacks V l (All-head (FitsLine V) l ls f)) in
+    let rest = line_feeds-lines V ls (All-tail (FitsLine V) l ls f) in
+    omega (arith, line_feeds-append (line_text l) (lines_text ls), line_feeds-append (line_bytes l) (10 ∷ []))

@@ -1,0 +1,202 @@
+-- What lines that were read one after another say of the bytes that they stand at the front of.
+use Rattle.std.proofs.Common.{ℕ, ◌≡◌, ◌+◌, ◌-◌, ◌<◌, List, [], ◌∷◌, ◌++◌, length, take, refl, sym, ap, subst, ◌∙◌, arith, append_assoc, length-append, Option, Some, None, inl, inr, ⊎_elim}
+use Rattle.std.specs.Prelude.{All, option_and_then, ◌⊎◌}
+use Rattle.std.proofs.lemmas.List.Concat.{flat_map-append}
+use Rattle.std.proofs.lemmas.List.Elements.{All-head, All-tail, All-append}
+use Rattle.spelled.specs.Words.{Lacks}
+use Rattle.spelled.specs.Fronts.{front_unique, separator_missing}
+use Rattle.cut_cert.specs.declared.line.Line.{Line}
+use Rattle.cut_cert.specs.declared.line.Stage.{Stage}
+use Rattle.cut_cert.specs.declared.line.Stage.TheVariants as stage
+use Rattle.cut_cert.specs.Value.{WrittenAnswer}
+use Rattle.cut_cert.specs.Spelling.{FitsAnswer, SpellsAnswer}
+use Rattle.cut_cert.specs.Lines.{line_bytes, line_text, lines_text, FitsLine, answer_lines, step, run, IsNoLine}
+use Rattle.cut_cert.specs.Events.{events_of, events_from, no_head}
+use Rattle.cut_cert.specs.Reading.{BeginsAnswer, line_feeds, IsReadWhole, StopsAt}
+use Rattle.cut_cert.proofs.Machine.{run-append, answer_value}
+use Rattle.cut_cert.proofs.Due.{run-answer, answer_fits, end_of, run-end_of, end_of_fits}
+use Rattle.cut_cert.proofs.LineTexts.{line_bytes-lacks, same_line, answer_lines-text, line_feeds-append, line_feeds-lacks, line_feeds-lines}
+use Rattle.cut_cert.proofs.EventLaws.{events_from-answer, events_from-front}
+
+-- ---- the lines of a text are determined by what is due
+
+-- where something is due behind a line, the line was due
+first_step : (more : Stage → Option Stage) (due : Option Stage) (s : Stage) → option_and_then more due ≡ Some s → (s' : Stage) × (due ≡ Some s') × (more s' ≡ Some s)
+first_step more None s e = absurd cc
+first_step more (Some s') s e = (s', refl, e)
+
+-- lines behind others, and their text
+record Behind (ls ms : List Line) (bytes : List ℕ) : Type 0 where
+  rest : List Line
+  lines : ms ≡ ls ++ rest
+  text : bytes ≡ lines_text rest
+
+-- the first line of some, and what follows it
+line_split : (l : Line) (ls : List Line) (bytes : List ℕ) → lines_text (l ∷ ls) ++ bytes ≡ line_bytes l ++ 10 ∷ (lines_text ls ++ bytes)
+line_split l ls bytes = append_assoc (line_text l) (lines_text ls) bytes ∙ append_assoc (line_bytes l) (10 ∷ []) (lines_text ls ++ bytes)
+
+-- a line is not empty
+line_some : (l : Line) (ls : List Line) (bytes : List ℕ) → lines_text (l ∷ ls) ++ bytes ≡ [] → ⊥
+line_some l ls bytes none =
+    let short = ap length (sym (line_split l ls bytes) ∙ none) in
+    omega (arith, length-append (line_bytes l) (10 ∷ (lines_text ls ++ bytes)))
+
+-- lines that were due at the front of the text of lines that were due are the first of them
+lines_front : (V : ℕ) (s s' s'' : Stage) (ls ms : List Line) (bytes : List ℕ) → run s ls ≡ Some s' → run s ms ≡ Some s'' → All (FitsLine V) ls → All (FitsLine V) ms
+    → lines_text ls ++ bytes ≡ lines_text ms → Behind ls ms bytes
+lines_front V s s' s'' [] ms bytes d e f g same = record { rest = ms; lines = refl; text = same }
+lines_front V s s' s'' (l ∷ ls) [] bytes d e f g same = absurd (line_some l ls bytes same)
+lines_front V s s' s'' (l ∷ ls) (m ∷ ms) bytes d e f g same =
+    let (t, due, rest) = first_step (λ u. run u ls) (step s l) s' d in
+    let (u, due', rest') = first_step (λ u. run u ms) (step s m) s'' e in
+    let fits = All-head (FitsLine V) l ls f in
+    let fits' = All-head (FitsLine V) m ms g in
+    let regroup : line_bytes l ++ 10 ∷ (lines_text ls ++ bytes) ≡ line_bytes m ++ 10 ∷ lines_text ms =
+    sym (line_split l ls bytes) ∙ same ∙ append_assoc (line_bytes m) (10 ∷ []) (lines_text ms) in
+    let first = front_unique 10 (line_bytes l) (line_bytes m) (lines_text ls ++ bytes) (lines_text ms) (line_bytes-lacks V l fits) (line_bytes-lacks V m fits') regroup in
+    let here = same_line V s l m t u due due' fits fits' first.0 in
+    let stage_same : Some t ≡ Some u = sym due ∙ ap (step s) here ∙ due' in
+    let same_stage : t ≡ u = cc in
+    let behind = lines_front V t s' s'' ls ms bytes rest (ap (λ x. run x ms) same_stage ∙ rest') (All-tail (FitsLine V) l ls f) (All-tail (FitsLine V) m ms g) first.1 in
+    record { rest = behind.rest; lines = λ i. sym here i ∷ behind.lines i; text = behind.text }
+
+-- the lines of an answer whose text begins with lines that were due begin with them
+answer_front : (V : ℕ) (s : Stage) (ls : List Line) (bytes behind : List ℕ) (a : WrittenAnswer) → run stage.Title ls ≡ Some s → All (FitsLine V) ls
+    → SpellsAnswer V bytes a → bytes ≡ lines_text ls ++ behind → Behind ls (answer_lines a) behind
+answer_front V s ls bytes behind a due fits spells parts =
+    lines_front V stage.Title s stage.Done ls (answer_lines a) behind due (run-answer a) fits (answer_fits V a spells.fits) (sym parts ∙ spells.spelled ∙ sym (answer_lines-text a))
+
+-- what is due behind lines that begin others up to the end
+due_behind : (s : Stage) (ls rest ms : List Line) → run stage.Title ls ≡ Some s → run stage.Title ms ≡ Some stage.Done → ms ≡ ls ++ rest → run s rest ≡ Some stage.Done
+due_behind s ls rest ms due whole parts =
+    sym (ap (option_and_then (λ s'. run s' rest)) due) ∙ sym (run-append stage.Title ls rest) ∙ sym (ap (run stage.Title) parts) ∙ whole
+
+-- ---- lines that begin an answer
+
+-- they do
+begins_answer : (V : ℕ) (s : Stage) (ls : List Line) → run stage.Title ls ≡ Some s → All (FitsLine V) ls → BeginsAnswer V (lines_text ls)
+begins_answer V s ls due fits =
+    let more = end_of V s in
+    let whole : run stage.Title (ls ++ more) ≡ Some stage.Done =
+    run-append stage.Title ls more ∙ ap (option_and_then (λ s'. run s' more)) due ∙ run-end_of V s in
+    let told = answer_value V (ls ++ more) whole (All-append (FitsLine V) ls more fits (end_of_fits V s)) in
+    record {
+      rest = lines_text more;
+      answer = told.answer;
+      spells = record {
+        fits = told.fits;
+        spelled = sym (flat_map-append line_text ls more) ∙ ap lines_text told.lines ∙ answer_lines-text told.answer;
+      };
+    }
+
+-- their events are the first events of each answer that begins with them
+begun_events : (V : ℕ) (s : Stage) (ls : List Line) (rest : List ℕ) (a : WrittenAnswer) → run stage.Title ls ≡ Some s → All (FitsLine V) ls → SpellsAnswer V (lines_text ls ++ rest) a
+    → events_from no_head 1 ls ≡ take (length ls + 1 - 6) (events_of a)
+begun_events V s ls rest a due fits spells =
+    let behind = answer_front V s ls (lines_text ls ++ rest) rest a due fits spells refl in
+    events_from-front a s ls behind.rest due (sym behind.lines)
+
+-- up to the end they spell one
+pub read_whole : (V : ℕ) (ls : List Line) (bytes : List ℕ) → run stage.Title ls ≡ Some stage.Done → All (FitsLine V) ls → bytes ≡ lines_text ls
+    → IsReadWhole V bytes (events_from no_head 1 ls)
+read_whole V ls bytes due fits text =
+    let told = answer_value V ls due fits in
+    record {
+      answer = told.answer;
+      spells = record { fits = told.fits; spelled = text ∙ ap lines_text told.lines ∙ answer_lines-text told.answer };
+      told = ap (events_from no_head 1) told.lines ∙ events_from-answer told.answer;
+    }
+
+-- bytes that stop behind lines of an answer
+stops : (V : ℕ) (s : Stage) (ls : List Line) (bytes rest : List ℕ) → run stage.Title ls ≡ Some s → All (FitsLine V) ls → bytes ≡ lines_text ls ++ rest
+    → ((longer more : List ℕ) → bytes ≡ longer ++ more → BeginsAnswer V longer → line_feeds longer < length ls + 1)
+    → ((a : WrittenAnswer) → SpellsAnswer V bytes a → ⊥) → StopsAt V bytes (length ls + 1) (events_from no_head 1 ls)
+stops V s ls bytes rest due fits parts last unspelled = record {
+  front = lines_text ls;
+  back = rest;
+  parts = parts;
+  line = omega (arith, line_feeds-lines V ls fits);
+  begins = begins_answer V s ls due fits;
+  last = last;
+  unspelled = unspelled;
+  told = λ more a spells. begun_events V s ls more a due fits spells;
+}
+
+-- ---- bytes whose last line is not ended
+
+-- no line feed stands in an empty text only
+no_lines : (ls : List Line) → Lacks (lines_text ls) 10 → ls ≡ []
+no_lines [] lacks = refl
+no_lines (l ∷ ls) lacks = absurd (separator_missing 10 (lines_text (l ∷ ls)) (line_bytes l) (lines_text ls) lacks (append_assoc (line_bytes l) (10 ∷ []) (lines_text ls)))
+
+-- where they spell an answer, nothing is left and nothing is due
+ended : (V : ℕ) (s : Stage) (ls : List Line) (bytes rest : List ℕ) (a : WrittenAnswer) → run stage.Title ls ≡ Some s → All (FitsLine V) ls → bytes ≡ lines_text ls ++ rest → Lacks rest 10
+    → SpellsAnswer V bytes a → (rest ≡ []) × (s ≡ stage.Done)
+ended V s ls bytes rest a due fits parts lacks spells =
+    let behind = answer_front V s ls bytes rest a due fits spells parts in
+    let none = no_lines behind.rest (subst (λ x. Lacks x 10) behind.text lacks) in
+    let last = due_behind s ls behind.rest (answer_lines a) due (run-answer a) behind.lines in
+    let here : Some s ≡ Some stage.Done = sym (ap (run s) none) ∙ last in
+    (behind.text ∙ ap lines_text none, cc)
+
+-- the whole of them has as many line feeds as lines were read
+pub stops_unended : (V : ℕ) (s : Stage) (ls : List Line) (bytes rest : List ℕ) → run stage.Title ls ≡ Some s → All (FitsLine V) ls → bytes ≡ lines_text ls ++ rest → Lacks rest 10
+    → ((rest ≡ []) → (s ≡ stage.Done) → ⊥) → StopsAt V bytes (length ls + 1) (events_from no_head 1 ls)
+stops_unended V s ls bytes rest due fits parts lacks open_end = stops V s ls bytes rest due fits parts
+    (λ longer more split begins.
+    let one = ap line_feeds (sym split ∙ parts) in
+    omega (arith, line_feeds-append longer more, line_feeds-append (lines_text ls) rest, line_feeds-lines V ls fits, line_feeds-lacks rest lacks))
+    (λ a spells. let both = ended V s ls bytes rest a due fits parts lacks spells in open_end both.0 both.1)
+
+-- ---- bytes with a line that was not due
+
+-- a front of bytes with a mark in them ends before the mark or holds it
+front_cases : (mark : ℕ) (front back before after : List ℕ) → front ++ back ≡ before ++ mark ∷ after
+    → ((more : List ℕ) × (before ≡ front ++ more)) ⊎ ((more : List ℕ) × (front ≡ before ++ mark ∷ more))
+front_cases mark [] back before after e = inl (before, refl)
+front_cases mark (f ∷ front) back [] after e = let same : f ≡ mark = cc in inr (front, ap (λ x. x ∷ front) same)
+front_cases mark (f ∷ front) back (b ∷ before) after e =
+    let same : f ≡ b = cc in
+    ⊎_elim
+    (λ (sooner : (more : List ℕ) × (before ≡ front ++ more)). inl (sooner.0, λ i. sym same i ∷ sooner.1 i))
+    (λ (later : (more : List ℕ) × (front ≡ before ++ mark ∷ more)). inr (later.0, λ i. same i ∷ later.1 i))
+    (front_cases mark front back before after cc)
+
+-- what holds of all holds of one between others
+holds_between : {X : Type 0} (P : X → Type 0) (xs : List X) (y : X) (zs : List X) → All P (xs ++ y ∷ zs) → P y
+holds_between P [] y zs all = All-head P y zs all
+holds_between P (x ∷ xs) y zs all = holds_between P xs y zs (All-tail P x (xs ++ y ∷ zs) all)
+
+-- a line behind lines of an answer is one that was due
+line_behind : (V : ℕ) (s : Stage) (ls rest : List Line) (line after : List ℕ) (a : WrittenAnswer) → run stage.Title ls ≡ Some s → FitsAnswer V a → answer_lines a ≡ ls ++ rest
+    → line ++ 10 ∷ after ≡ lines_text rest → Lacks line 10 → IsNoLine V s line → ⊥
+line_behind V s ls [] line after a due fits lines text lacks none =
+    let short = ap length text in omega (arith, length-append line (10 ∷ after))
+line_behind V s ls (m ∷ ms) line after a due fits lines text lacks none =
+    let all = subst (All (FitsLine V)) lines (answer_fits V a fits) in
+    let fit = holds_between (FitsLine V) ls m ms all in
+    let (t, here, more) = first_step (λ u. run u ms) (step s m) stage.Done (due_behind s ls (m ∷ ms) (answer_lines a) due (run-answer a) lines) in
+    let first = front_unique 10 line (line_bytes m) after (lines_text ms) lacks (line_bytes-lacks V m fit) (text ∙ append_assoc (line_bytes m) (10 ∷ []) (lines_text ms)) in
+    none m t fit here first.0
+
+-- so no answer has the lines and then one that was not due
+no_answer : (V : ℕ) (s : Stage) (ls : List Line) (bytes line after : List ℕ) (a : WrittenAnswer) → run stage.Title ls ≡ Some s → All (FitsLine V) ls
+    → SpellsAnswer V bytes a → bytes ≡ lines_text ls ++ (line ++ 10 ∷ after) → Lacks line 10 → IsNoLine V s line → ⊥
+no_answer V s ls bytes line after a due fits spells parts lacks none =
+    let behind = answer_front V s ls bytes (line ++ 10 ∷ after) a due fits spells parts in
+    line_behind V s ls behind.rest line after a due spells.fits behind.lines behind.text lacks none
+
+-- the bytes stop in that line
+pub stops_at_line : (V : ℕ) (s : Stage) (ls : List Line) (bytes line after : List ℕ) → run stage.Title ls ≡ Some s → All (FitsLine V) ls → bytes ≡ lines_text ls ++ (line ++ 10 ∷ after)
+    → Lacks line 10 → IsNoLine V s line → StopsAt V bytes (length ls + 1) (events_from no_head 1 ls)
+stops_at_line V s ls bytes line after due fits parts lacks none = stops V s ls bytes (line ++ 10 ∷ after) due fits parts
+    (λ longer more split begins. ⊎_elim
+    (λ (sooner : (x : List ℕ) × (lines_text ls ++ line ≡ longer ++ x)).
+    let feeds = ap line_feeds sooner.1 in
+    omega (arith, line_feeds-append longer sooner.0, line_feeds-append (lines_text ls) line, line_feeds-lines V ls fits, line_feeds-lacks line lacks))
+    (λ (later : (x : List ℕ) × (longer ≡ (lines_text ls ++ line) ++ 10 ∷ x)).
+    let whole : longer ++ begins.rest ≡ lines_text ls ++ (line ++ 10 ∷ (later.0 ++ begins.rest)) =
+    ap (λ x. x ++ begins.rest) later.1 ∙ append_assoc (lines_text ls ++ line) (10 ∷ later.0) begins.rest ∙ append_assoc (lines_text ls) line (10 ∷ (later.0 ++ begins.rest)) in
+    absurd (no_answer V s ls (longer ++ begins.rest) line (later.0 ++ begins.rest) begins.answer due fits begins.spells whole lacks none))
+    (front_cases 10 longer more (lines_text ls ++ line) after (sym split ∙ parts ∙ sym (append_assoc (lines_text ls) line (10 ∷ after)))))
+    (λ a spells. no_answer V s ls bytes line after a due fits spells parts lacks none)

@@ -1,0 +1,80 @@
+-- What the lines of an answer tell.
+use Rattle.std.specs.Prelude.{ℕ, suc, Bool, false, List, [], ◌∷◌, ◌++◌, length, map, Option, Some, None}
+use Rattle.net_graph.specs.declared.packing.Cut.{Cut}
+use Rattle.hanan_grid.specs.declared.name.EdgeName.{EdgeName}
+use Rattle.cut_cert.specs.declared.head.AnswerHead.{AnswerHead}
+use Rattle.cut_cert.specs.declared.line.Line.{Line}
+use Rattle.cut_cert.specs.declared.line.Line.TheVariants as line
+use Rattle.cut_cert.specs.declared.event.Event.{Event}
+use Rattle.cut_cert.specs.declared.event.Event.TheVariants as event
+use Rattle.cut_cert.specs.declared.event.AnswerEvent.{AnswerEvent}
+use Rattle.cut_cert.specs.Value.{Tree, WrittenAnswer}
+use Rattle.cut_cert.specs.Value.Tree.{Leaf, Split}
+
+-- an event, and the members of its cut
+abbrev pub Told : Type 0
+Told = Event × Option (List Bool)
+
+-- what is told of a cut and of a tree
+abbrev pub cut_told : Cut → Told
+cut_told c = (event.Cut c.weight, Some c.members)
+
+abbrev pub tree_told : Tree EdgeName → List Told
+tree_told (Leaf cuts) = (event.Leaf (length cuts), None) ∷ map cut_told cuts
+tree_told (Split e outside inside) = (event.Split e, None) ∷ (tree_told outside ++ tree_told inside)
+
+-- what is told of an answer
+abbrev pub answer_told : WrittenAnswer → List Told
+answer_told a = (event.Head a.head, None) ∷ (event.EdgeCount (length a.edges), None)
+    ∷ (map (λ e. (event.Edge e, None)) a.edges ++ (event.Tree, None) ∷ (tree_told a.tree ++ (event.End, None) ∷ []))
+
+-- one line after another, from the line n on
+abbrev pub numbered : ℕ → List Told → List AnswerEvent
+numbered n [] = []
+numbered n (t ∷ ts) = record { line = n; event = t.0; members = t.1 } ∷ numbered (suc n) ts
+
+-- the events of an answer: the head ends with line 6, and each other event is one line
+abbrev pub events_of : WrittenAnswer → List AnswerEvent
+events_of a = numbered 6 (answer_told a)
+
+-- ---- one line after another
+
+-- a head with what a line tells of it
+abbrev pub head_with : AnswerHead → Line → AnswerHead
+head_with h (line.Length n) = record h { length = n }
+head_with h (line.Bound n) = record h { bound = n }
+head_with h (line.Status optimal) = record h { optimal = optimal }
+head_with h (line.Openings n) = record h { openings = n }
+head_with h (line.Concat c) = record h { concat = c }
+head_with h l = h
+
+-- what a line tells, where the head so far is h
+abbrev pub line_told : AnswerHead → Line → Option Told
+line_told h (line.Concat c) = Some (event.Head h, None)
+line_told h (line.Count n) = Some (event.EdgeCount n, None)
+line_told h (line.Edge e) = Some (event.Edge e, None)
+line_told h line.Tree = Some (event.Tree, None)
+line_told h (line.Split e) = Some (event.Split e, None)
+line_told h (line.Leaf n) = Some (event.Leaf n, None)
+line_told h (line.Cut c) = Some (cut_told c)
+line_told h line.End = Some (event.End, None)
+line_told h l = None
+
+-- the event of a line, if it is one
+abbrev pub event_at : ℕ → Option Told → List AnswerEvent
+event_at n None = []
+event_at n (Some t) = record { line = n; event = t.0; members = t.1 } ∷ []
+
+-- the events of lines from the line n on
+abbrev pub events_from : AnswerHead → ℕ → List Line → List AnswerEvent
+events_from h n [] = []
+events_from h n (l ∷ ls) = event_at n (line_told (head_with h l) l) ++ events_from (head_with h l) (suc n) ls
+
+-- a head of which nothing was told
+abbrev pub no_head : AnswerHead
+no_head = record { length = 0; bound = 0; optimal = false; openings = 0; concat = record { least = false; total = 0 } }
+
+-- the head that lines tell
+abbrev pub head_from : AnswerHead → List Line → AnswerHead
+head_from h [] = h
+head_from h (l ∷ ls) = head_from (head_with h l) ls

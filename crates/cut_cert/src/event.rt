@@ -1,0 +1,35 @@
+//! What a reader tells of an answer's text.
+
+use crate::head::AnswerHead;
+use hanan_grid::EdgeName;
+use net_graph::VertexSet;
+
+/// What a line of an answer tells. The lines of the head are told together.
+#[derive(Clone, Copy, Debug, PartialEq, Eq)]
+pub enum Event {
+    /// The first six lines.
+    Head(AnswerHead),
+    /// How many edges follow.
+    EdgeCount(u32),
+    /// An edge of the network.
+    Edge(EdgeName),
+    /// The tree follows.
+    Tree,
+    /// A split, with its edge: its part outside follows, and then its part inside.
+    Split(EdgeName),
+    /// A leaf, with how many cuts follow.
+    Leaf(u32),
+    /// A cut of a leaf, with its weight.
+    Cut(u64),
+    /// The last line.
+    End,
+}
+
+/// An event, with the number of the line that ends it, counted from 1, and the members of a cut.
+#[derive(Debug, Drop)]
+pub struct AnswerEvent {
+    pub line: u64,
+    pub event: Event,
+    /// The members of the cut where the event is one, and None else.
+    pub members: Option<VertexSet>,
+}
