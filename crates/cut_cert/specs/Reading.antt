@@ -22,9 +22,9 @@ pub record IsReadWhole (V : ℕ) (bytes : List ℕ) (events : List AnswerEvent) 
   pub spells : SpellsAnswer V bytes answer
   pub told : events ≡ events_of answer
 
--- The bytes spell no answer, and stop to begin one in the line n, or at its end: a front that ends before that line
--- begins an answer, and no front that holds more of the line feeds does. The events are those of the lines before n of
--- each answer that begins with that front.
+-- The bytes spell no answer, and n is the line in which they cease to begin one: a front with n - 1 line feeds begins
+-- an answer, and each front that begins one has fewer than n. The events are those of the lines before n, in each
+-- answer that begins with that front.
 pub record StopsAt (V : ℕ) (bytes : List ℕ) (n : ℕ) (events : List AnswerEvent) : Type 0 where
   pub front : List ℕ
   pub back : List ℕ

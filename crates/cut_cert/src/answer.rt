@@ -42,7 +42,9 @@ pub fn write_answer<S: Sink>(sink: &mut S, grid: &Grid, answer: &Answer) -> Resu
 #[tactic(auto, using(text_out::specs::GatherLaws::pieces))]
 fn write_network<S: Sink>(block: &mut Block, sink: &mut S, grid: &Grid, network: &EdgeSet)
     requires { length network.now ≡ length (hanan_grid_of grid.now).edges }
-    ensures { Gathers (S.state sink.old) block.old (network_text (names_of grid.now (members_of network.now))) (S.state sink.new) block.new }
+    ensures { Gathers (S.state sink.old) block.old
+        (network_text (names_of grid.now (members_of network.now)))
+        (S.state sink.new) block.new }
 {
     literal(block, sink, b"edges ");
     number(block, sink, count_of(network));
@@ -66,7 +68,9 @@ pub(crate) fn count_of(set: &EdgeSet) -> u32
 // A line for each edge of the set, in ascending number.
 fn write_edges<S: Sink>(block: &mut Block, sink: &mut S, grid: &Grid, network: &EdgeSet)
     requires { length network.now ≡ length (hanan_grid_of grid.now).edges }
-    ensures { Gathers (S.state sink.old) block.old (edge_lines (names_of grid.now (members_of network.now))) (S.state sink.new) block.new }
+    ensures { Gathers (S.state sink.old) block.old
+        (edge_lines (names_of grid.now (members_of network.now)))
+        (S.state sink.new) block.new }
 {
     for e in 0..network.len() {
         if network.has(e) {
@@ -79,7 +83,9 @@ fn write_edges<S: Sink>(block: &mut Block, sink: &mut S, grid: &Grid, network: &
 #[tactic(auto, using(text_out::specs::GatherLaws::pieces))]
 fn write_proof<S: Sink>(block: &mut Block, sink: &mut S, grid: &Grid, tree: &CertTree)
     requires { All (IsNodeOn (hanan_grid_of grid.now)) (nodes_of tree.now) }
-    ensures { Gathers (S.state sink.old) block.old (proof_text (named grid.now tree.now)) (S.state sink.new) block.new }
+    ensures { Gathers (S.state sink.old) block.old
+        (proof_text (named grid.now tree.now))
+        (S.state sink.new) block.new }
 {
     literal(block, sink, b"tree\n");
     write_tree(block, sink, grid, tree);
@@ -89,7 +95,9 @@ fn write_proof<S: Sink>(block: &mut Block, sink: &mut S, grid: &Grid, tree: &Cer
 // The nodes of a tree in preorder.
 fn write_tree<S: Sink>(block: &mut Block, sink: &mut S, grid: &Grid, tree: &CertTree)
     requires { All (IsNodeOn (hanan_grid_of grid.now)) (nodes_of tree.now) }
-    ensures { Gathers (S.state sink.old) block.old (tree_text (named grid.now tree.now)) (S.state sink.new) block.new }
+    ensures { Gathers (S.state sink.old) block.old
+        (tree_text (named grid.now tree.now))
+        (S.state sink.new) block.new }
 {
     let mut leaf = 0;
     for node in tree.nodes() {

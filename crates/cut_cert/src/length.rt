@@ -23,6 +23,7 @@ pub fn answer_len(grid: &Grid, answer: &Answer) -> u64
     ensures length { result ≡ length (answer_text (value_of grid.now answer.now)) }
     ensures short { result < 2 ^ 32 }
 {
+    // A grid is a graph, and a graph has few edges: so the sums stay within 64 bits.
     let edges = grid.graph().edge_count();
     prove!(edges <= 4900);
     head_len(&answer.head)

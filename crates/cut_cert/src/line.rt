@@ -22,8 +22,8 @@ pub(crate) enum Line {
     End,
 }
 
-// What is due: a line of the head, so many more edges before the tree, so many more cuts of a leaf and nodes behind
-// them before the end, or nothing.
+// What is due: a line of the head, so many more edges before the tree, so many more cuts of a leaf and
+// nodes behind them before the end, or nothing.
 #[derive(Clone, Copy)]
 pub(crate) enum Stage {
     Title,

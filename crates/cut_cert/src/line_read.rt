@@ -12,8 +12,8 @@ use net_graph::Cut;
 use spelled::{split_word, unsigned_spelled};
 use std::alloc::{AllocError, Global};
 
-// The line that is due and what is due behind it; None where the bytes are no line that is due. The line feed of the
-// line is not among the bytes. An `Err` is want of memory.
+// The line that is due and what is due behind it; None where the bytes are no line that is due. The line
+// feed of the line is not among the bytes. An `Err` is want of memory.
 pub(crate) fn read_line(
     alloc: Global,
     vertices: u32,
@@ -116,7 +116,8 @@ fn body_line(
     bytes: &[u8],
 ) -> Result<Option<(Line, Stage)>, AllocError>
     requires { due.1 < 2 ^ 64 - 1 }
-    ensures found { IfOk result (λ read. IfSome read (λ r. IsLineRead vertices (Stage.Body due.0 due.1) bytes.now r.0 r.1)) }
+    ensures found { IfOk result (λ read. IfSome read (λ r.
+        IsLineRead vertices (Stage.Body due.0 due.1) bytes.now r.0 r.1)) }
     ensures none { IfOk result (λ read. IfNone read (IsNoLine vertices (Stage.Body due.0 due.1) bytes.now)) }
 {
     let (cuts, nodes) = due;
@@ -137,8 +138,10 @@ fn cut_line(
     left: (u32, u64),
     bytes: &[u8],
 ) -> Result<Option<(Line, Stage)>, AllocError>
-    ensures found { IfOk result (λ read. IfSome read (λ r. IsLineRead vertices (Stage.Body (suc left.0) left.1) bytes.now r.0 r.1)) }
-    ensures none { IfOk result (λ read. IfNone read (IsNoLine vertices (Stage.Body (suc left.0) left.1) bytes.now)) }
+    ensures found { IfOk result (λ read. IfSome read (λ r.
+        IsLineRead vertices (Stage.Body (suc left.0) left.1) bytes.now r.0 r.1)) }
+    ensures none { IfOk result (λ read.
+        IfNone read (IsNoLine vertices (Stage.Body (suc left.0) left.1) bytes.now)) }
 {
     let Some((weight, digits)) = weight_behind(bytes) else {
         return Ok(None);

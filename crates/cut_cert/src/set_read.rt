@@ -17,7 +17,8 @@ pub(crate) fn set_in(
 ) -> Result<Option<VertexSet>, AllocError>
     ensures found { IfOk result (λ read. IfSome read (λ set. digits.now ≡ set_text set)) }
     ensures size { IfOk result (λ read. IfSome read (λ set. length set ≡ vertices)) }
-    ensures none { IfOk result (λ read. IfNone read ((set : List Bool) → length set ≡ vertices → digits.now ≡ set_text set → ⊥)) }
+    ensures none { IfOk result (λ read. IfNone read
+        ((set : List Bool) → length set ≡ vertices → digits.now ≡ set_text set → ⊥)) }
 {
     if digits.len() != vertices.div_ceil(4) as usize {
         return Ok(None);

@@ -7,11 +7,13 @@ ghost use Rattle.cut_cert.specs.Kept.{split_count};
 ghost use Rattle.cut_cert.specs.Answers.{IsAnswerOn};
 
 use crate::answer::{Answer, write_answer};
+use crate::event::Event;
 use crate::head::{AnswerHead, ConcatNote};
 use crate::length::answer_len;
+use crate::read::read_events;
 use crate::tree::CertTree;
 use crate::write::write_set;
-use hanan_grid::{Grid, GridFault};
+use hanan_grid::{EdgeName, Grid};
 use net_graph::{Cut, EdgeSet, Packing, VertexSet};
 use points_in::{Point, Points};
 use rst_outside::MemSink;
@@ -106,10 +108,8 @@ fn writes_the_worked_answer(rt: HostRuntime) -> Result<(), Fail> {
     let mut sink = MemSink::with_room(alloc, 1000, 7, Vec::new(alloc))?;
     let written = write_answer(&mut sink, &grid, &answer);
     assert_eq!(rt; written, Ok(()));
-    let text = b"rst answer 1\nlength 3\nbound 3\nstatus optimal\nopenings 100\nconcat least 3\n\
-        edges 3\n0 0 1 0\n1 0 2 0\n1 0 1 1\ntree\nleaf 3\ncut 1 20\ncut 1 08\ncut 1 64\nend\n";
-    assert_eq!(rt; sink.bytes(), text.as_slice());
-    assert_eq!(rt; answer_len(&grid, &answer), text.len() as u64);
+    assert_eq!(rt; sink.bytes(), WORKED);
+    assert_eq!(rt; answer_len(&grid, &answer), WORKED.len() as u64);
     assert_eq!(rt; answer.tree.value(grid.graph()), 3);
     assert_eq!(rt; (answer.tree.leaves(), answer.tree.splits()), (1, 0));
     Ok(())
@@ -133,6 +133,74 @@ fn writes_the_digits_of_sets(rt: HostRuntime) -> Result<(), Fail> {
         let written = finish(block, &mut sink);
         assert_eq!(rt; written, Ok(()));
         assert_eq!(rt; sink.bytes(), digits);
+    }
+    Ok(())
+}
+
+/// What a reader tells of a text: its faulty line, and how many events come before.
+fn read(rt: &HostRuntime, vertices: u32, text: &[u8]) -> Result<(Option<u64>, usize), Fail> {
+    let events = read_events(rt.alloc(), vertices, text)?;
+    Ok((events.fault(), events.len()))
+}
+
+/// The worked answer.
+const WORKED: &[u8] =
+    b"rst answer 1\nlength 3\nbound 3\nstatus optimal\nopenings 100\nconcat least 3\n\
+    edges 3\n0 0 1 0\n1 0 2 0\n1 0 1 1\ntree\nleaf 3\ncut 1 20\ncut 1 08\ncut 1 64\nend\n";
+
+#[test]
+fn reads_the_worked_answer(rt: HostRuntime) -> Result<(), Fail> {
+    let events = read_events(rt.alloc(), 6, WORKED)?;
+    assert_eq!(rt; events.fault(), None);
+    assert_eq!(rt; events.len(), 11);
+    assert!(rt; events.len() > 8);
+    let edge = events.get(2);
+    let name = EdgeName {
+        x1: 0,
+        y1: 0,
+        x2: 1,
+        y2: 0,
+    };
+    assert_eq!(rt; (edge.line, edge.event), (8, Event::Edge(name)));
+    let cut = events.get(8);
+    assert_eq!(rt; (cut.line, cut.event), (14, Event::Cut(1)));
+    let flags = cut
+        .members
+        .as_ref()
+        .map(|set| (set.len(), set.len() > 4 && set.has(4)));
+    assert_eq!(rt; flags, Some((6, true)));
+    Ok(())
+}
+
+#[test]
+fn names_the_line_of_the_first_fault(rt: HostRuntime) -> Result<(), Fail> {
+    let rows: [(&[u8], (Option<u64>, usize)); 8] = [
+        (b"", (Some(1), 0)),
+        (b"rst answer 2\n", (Some(1), 0)),
+        (b"rst answer 1\nlength 03\n", (Some(2), 0)),
+        (
+            b"rst answer 1\nlength 3\nbound 3\nstatus done\n",
+            (Some(4), 0),
+        ),
+        (
+            b"rst answer 1\nlength 3\nbound 3\nstatus stopped\nopenings 256\n",
+            (Some(5), 0),
+        ),
+        (
+            b"rst answer 1\nlength 3\nbound 3\nstatus stopped\nopenings 1\nconcat spent 0\nedges 0\ntree\nleaf 1\ncut 1 21\n",
+            (Some(10), 4),
+        ),
+        (
+            b"rst answer 1\nlength 3\nbound 3\nstatus stopped\nopenings 1\nconcat spent 0\nedges 0\ntree\nsplit 0 0 0 1\nleaf 0\nend\n",
+            (Some(11), 5),
+        ),
+        (
+            b"rst answer 1\nlength 3\nbound 3\nstatus stopped\nopenings 1\nconcat spent 0\nedges 0\ntree\nleaf 0\nend\n\n",
+            (Some(11), 5),
+        ),
+    ];
+    for (text, told) in rows {
+        assert_eq!(rt; read(&rt, 6, text)?, told);
     }
     Ok(())
 }

@@ -10,8 +10,8 @@ use net_graph::{Cut, NetGraph, Packing};
 use std::alloc::{AllocError, Global};
 use std::marker::Model;
 
-/// A tree whose leaves have packings and whose splits have edges, by their numbers. It is kept in preorder: a split,
-/// then the part where its edge is outside, then the part where it is inside.
+/// A tree whose leaves have packings and whose splits have edges, by their numbers. It is kept in preorder: a
+/// split, then the part where its edge is outside, then the part where it is inside.
 #[derive(Debug, Drop)]
 pub struct CertTree {
     nodes: Vec<Option<u32>>,
@@ -74,7 +74,8 @@ impl CertTree {
         &self.packings[leaf as usize]
     }
 
-    /// The value of a tree without splits where nothing is decided: the sum of its cuts' weights, whatever the graph.
+    /// The value of a tree without splits where nothing is decided: the sum of its cuts' weights, whatever the
+    /// graph.
     pub fn value(&self, _graph: &NetGraph) -> u128
         requires { split_count self.now ≡ 0 }
         ensures { result ≡ tree_value _graph.now (nothing_decided _graph.now) self.now }

@@ -80,7 +80,8 @@ fn total_spelled(word: &[u8]) -> Option<u128>
 pub(crate) fn concat_in(words: &[u8]) -> Option<ConcatNote>
     ensures found { IfSome result (λ c. words.now ≡ concat_word c.least ++ codes " " ++ decimal c.total) }
     ensures fits { IfSome result (λ c. c.total < 2 ^ 128) }
-    ensures none { IfNone result ((least : Bool) (total : ℕ) → total < 2 ^ 128 → words.now ≡ concat_word least ++ codes " " ++ decimal total → ⊥) }
+    ensures none { IfNone result ((least : Bool) (total : ℕ) → total < 2 ^ 128
+        → words.now ≡ concat_word least ++ codes " " ++ decimal total → ⊥) }
 {
     if let Some(total) = behind(words, b"least ") {
         let total = total_spelled(total)?;
@@ -97,7 +98,8 @@ pub(crate) fn concat_in(words: &[u8]) -> Option<ConcatNote>
 fn coordinate(words: &[u8]) -> Option<(i64, &[u8])>
     ensures found { IfSome result (λ p. words.now ≡ signed_decimal p.0 ++ 32 ∷ p.1.now) }
     ensures fits { IfSome result (λ p. FitsSigned w64 p.0) }
-    ensures none { IfNone result ((z : ℤ) (rest : List ℕ) → FitsSigned w64 z → words.now ≡ signed_decimal z ++ 32 ∷ rest → ⊥) }
+    ensures none { IfNone result ((z : ℤ) (rest : List ℕ) → FitsSigned w64 z
+        → words.now ≡ signed_decimal z ++ 32 ∷ rest → ⊥) }
 {
     let (word, rest) = split_word(words)?;
     let number = signed_spelled(word)?;
