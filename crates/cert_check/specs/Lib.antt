@@ -1,0 +1,9 @@
+pub mod Edges
+pub mod EdgesRead
+pub mod Networks
+pub mod Cuts
+pub mod Loads
+pub mod Ends
+pub mod Judged
+pub mod Standing
+pub mod Accepted

@@ -1,0 +1,72 @@
+//! The edges of an answer, as they are read.
+
+ghost use Rattle.std.specs.Prelude.{◌≡◌, ℕ, ◌<◌, length, replicate, slice_set, true, false, IfOk, IfSome, IfNone};
+ghost use Rattle.hanan_grid.specs.Grid.{hanan_grid_of};
+ghost use Rattle.cert_check.specs.Edges.{FollowsEdges, EdgeFault};
+
+use crate::verdict::Cause;
+use hanan_grid::{EdgeName, Grid};
+use net_graph::EdgeSet;
+use std::alloc::{AllocError, Global};
+use std::marker::Model;
+
+/// The edges that were read so far, whose numbers ascend. Contracts see their set.
+#[derive(Debug, Drop)]
+pub(crate) struct EdgesRead {
+    network: EdgeSet,
+    /// One more than the greatest number, or 0.
+    next: u32,
+}
+
+impl Model for EdgesRead {
+    ghost use Rattle.std.specs.Prelude.{List, Bool};
+    ghost use Rattle.cert_check.specs.EdgesRead.{IsNextOf};
+
+    ghost Value = { List Bool };
+
+    ghost view = { λ r. r.network };
+
+    ghost invariant = { λ r. IsNextOf r.network r.next };
+}
+
+impl EdgesRead {
+    /// No edge of a grid with so many of them. An `Err` is want of memory.
+    pub(crate) fn none(alloc: Global, size: u32) -> Result<EdgesRead, AllocError>
+        ensures { IfOk result (λ r. r ≡ replicate size false) }
+    {
+        let network = EdgeSet::empty(alloc, size)?;
+        Ok(EdgesRead { network, next: 0 })
+    }
+
+    /// The edges so far.
+    pub(crate) fn network(&self) -> &EdgeSet
+        ensures { result.now ≡ self.now }
+    {
+        &self.network
+    }
+
+    /// The edges, to be kept.
+    pub(crate) fn into_network(self) -> EdgeSet
+        ensures { result ≡ self }
+    {
+        self.network
+    }
+
+    /// Reads the name of one more edge, which stands in a line. Gives why the line is wrong, if it is.
+    pub(crate) fn read(&mut self, grid: &Grid, line: u64, name: &EdgeName) -> Option<Cause>
+        requires { length self.old ≡ length (hanan_grid_of grid.now).edges }
+        ensures passes { IfNone result ((e : ℕ) × FollowsEdges grid.now self.old name.now e × (self.new ≡ slice_set self.old e true)) }
+        ensures fault { IfSome result (EdgeFault grid.now self.old name.now line) }
+        ensures kept { IfSome result (λ _. self.new ≡ self.old) }
+    {
+        let Some(edge) = grid.edge_named(name) else {
+            return Some(Cause::OffGrid(line));
+        };
+        if edge < self.next {
+            return Some(Cause::EdgeOrder(line));
+        }
+        self.network.add(edge);
+        self.next = edge + 1;
+        None
+    }
+}

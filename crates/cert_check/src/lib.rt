@@ -1,0 +1,15 @@
+//! The checker of answers: it judges points and bytes alone, and rests on nothing that proposes or bounds.
+#![tactic(auto)]
+
+mod check;
+mod edges;
+mod end;
+mod judge;
+mod leaf;
+mod network;
+#[cfg(test)]
+mod tests;
+mod verdict;
+
+pub use check::check_whole;
+pub use verdict::{Cause, Finished, Verdict};

@@ -1,0 +1,55 @@
+//! What is said of an answer.
+
+use net_graph::EdgeSet;
+
+/// Why an answer is refused. Lines count from 1, edges and terminals from 0.
+#[derive(Clone, Copy, Debug, PartialEq, Eq)]
+pub enum Cause {
+    /// The line in which the text ceases to begin an answer's text.
+    NotAnswer(u64),
+    /// The line names no edge of the grid.
+    OffGrid(u64),
+    /// The line's edge doesn't have a higher number than the edges before it.
+    EdgeOrder(u64),
+    /// The edges don't join this terminal to the first one, though all those before it.
+    NotJoined(u8),
+    /// The answer says one length, and its edges have another.
+    WrongLength { printed: u64, found: u64 },
+    /// The line is a split: trees of more than one leaf are not judged yet.
+    SplitLine(u64),
+    /// The line's cut holds the root.
+    RootInCut(u64),
+    /// The line's cut holds no required vertex.
+    IdleCut(u64),
+    /// With the line's cut the edge is the lowest of which an arc is loaded above its room.
+    Overload {
+        line: u64,
+        edge: u32,
+        load: u128,
+        room: u64,
+    },
+    /// The answer says one bound, and the lesser of its packing's value and its length is another.
+    WrongBound { printed: u64, found: u64 },
+    /// The answer says optimal though bound and length differ, or stopped though they agree.
+    WrongStatus,
+}
+
+/// The verdict on an answer.
+#[derive(Clone, Copy, Debug, PartialEq, Eq)]
+pub enum Verdict {
+    /// It is accepted, and says this length, this bound and whether it is optimal.
+    Accepted {
+        length: u64,
+        bound: u64,
+        optimal: bool,
+    },
+    /// It is refused.
+    Refused(Cause),
+}
+
+/// The verdict on an answer, and the edges whose lines came before its first failing line.
+#[derive(Debug, Drop)]
+pub struct Finished {
+    pub verdict: Verdict,
+    pub network: EdgeSet,
+}
