@@ -65,6 +65,8 @@ impl EdgesRead {
         if edge < self.next {
             return Some(Cause::EdgeOrder(line));
         }
+        let size = self.network.len();
+        prove!(edge < size);
         self.network.add(edge);
         self.next = edge + 1;
         None
