@@ -1,1 +1,3 @@
 pub mod ApartLemmas
+pub mod ValueLemmas
+pub mod JudgeLemmas
