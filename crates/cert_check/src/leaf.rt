@@ -1,12 +1,14 @@
 //! The cuts of a leaf, as they are read.
 
-ghost use Rattle.std.specs.Prelude.{◌≡◌, ℕ, ◌<◌, List, [], ◌∷◌, ◌++◌, length, IfOk, IfSome, IfNone};
+ghost use Rattle.std.specs.Prelude.{◌≡◌, ◌+◌, ◌<◌, ◌≤◌, ◌↔◌, ◌⊎◌, ℕ, true, List, [], ◌∷◌, ◌++◌, length, Contains, IsTrue, IfOk, IfSome, IfNone};
 ghost use Rattle.net_graph.specs.declared.packing.Cut.{Cut};
-ghost use Rattle.net_graph.specs.Graph.{Graph};
+ghost use Rattle.net_graph.specs.Flags.{has};
+ghost use Rattle.net_graph.specs.Graph.{Graph, HasEndsBelow};
 ghost use Rattle.net_graph.specs.Decision.{nothing_decided};
 ghost use Rattle.net_graph.specs.Packing.{IsCut};
+ghost use Rattle.net_graph.specs.Packing as packing;
 ghost use Rattle.cert_check.specs.Cuts.{PacksCut, CutFault, cut_of};
-ghost use Rattle.cert_check.specs.Loads.{IsLeafOf, HasRows, weight_kept};
+ghost use Rattle.cert_check.specs.Loads.{IsLeafOf, HasRows, LoadsArc, OverloadsArc, weight_kept};
 
 use crate::verdict::Cause;
 use net_graph::{Edge, NetGraph, VertexSet};
@@ -78,21 +80,25 @@ impl LeafRead {
         if let Some(cause) = set_fault(g, line, members) {
             return Some(cause);
         }
-        if let Some(cause) = self.load_arcs(g, line, weight, members) {
-            return Some(cause);
-        }
-        self.weight = self.weight.saturating_add(weight);
-        None
+        self.load_arcs(g, line, weight, members)
     }
 
-    // Loads the arcs that enter the set, edge by edge, up to the first edge of which one is then loaded above its room.
+    // Loads the arcs that enter a cut, edge by edge, up to the first edge of which one is then loaded above its room.
     fn load_arcs(
         &mut self,
         g: &NetGraph,
         line: u64,
         weight: u64,
         members: &VertexSet,
-    ) -> Option<Cause> {
+    ) -> Option<Cause>
+        requires rows { HasRows g.now self.old }
+        requires cut { IsCut g.now (nothing_decided g.now) members.now }
+        ensures rows { HasRows g.now self.new }
+        ensures leaf { IfNone result ((cuts : List Cut) → IsLeafOf g.now cuts self.old
+            → IsLeafOf g.now (cuts ++ cut_of weight members.now ∷ []) self.new) }
+        ensures fault { IfSome result (λ cause. (cuts : List Cut) → IsLeafOf g.now cuts self.old
+            → CutFault g.now cuts (cut_of weight members.now) line cause) }
+    {
         for n in 0..g.edge_count() {
             let e = g.edge(n);
             if let Some(load) = self.load_edge(n as usize, e, weight, members) {
@@ -104,11 +110,22 @@ impl LeafRead {
                 });
             }
         }
+        self.weight = self.weight.saturating_add(weight);
         None
     }
 
     // Loads that arc of an edge which enters the set. Gives its load where that is above its room.
-    fn load_edge(&mut self, n: usize, e: Edge, weight: u64, members: &VertexSet) -> Option<u128> {
+    fn load_edge(&mut self, n: usize, e: Edge, weight: u64, members: &VertexSet) -> Option<u128>
+        requires there { n < length self.old.there.items }
+        requires back { n < length self.old.back.items }
+        requires ends { HasEndsBelow (length members.now) e }
+        ensures there { IfNone result (LoadsArc self.old.there.items self.new.there.items n (cut_of weight members.now) e.a e.b e.length) }
+        ensures back { IfNone result (LoadsArc self.old.back.items self.new.back.items n (cut_of weight members.now) e.b e.a e.length) }
+        ensures over { IfSome result (λ load. OverloadsArc self.old.there.items n (cut_of weight members.now) e.a e.b e.length load
+            ⊎ OverloadsArc self.old.back.items n (cut_of weight members.now) e.b e.a e.length load) }
+        ensures rows { (length self.new.there.items ≡ length self.old.there.items) × (length self.new.back.items ≡ length self.old.back.items) }
+        ensures weight { self.new.weight ≡ self.old.weight }
+    {
         if enters(members, e.a, e.b) {
             add_load(&mut self.there[n], weight, e.length)
         } else if enters(members, e.b, e.a) {
@@ -120,7 +137,13 @@ impl LeafRead {
 }
 
 // Adds a weight to a load. Gives the sum, and leaves the load, where the sum is above the room.
-fn add_load(load: &mut u64, weight: u64, room: u64) -> Option<u128> {
+fn add_load(load: &mut u64, weight: u64, room: u64) -> Option<u128>
+    ensures added { IfNone result (load.new ≡ load.old + weight) }
+    ensures fits { IfNone result (load.new ≤ room) }
+    ensures sum { IfSome result (λ sum. sum ≡ load.old + weight) }
+    ensures above { IfSome result (λ sum. room < sum) }
+    ensures kept { IfSome result (λ _. load.new ≡ load.old) }
+{
     let sum = u128::from(*load) + u128::from(weight);
     if sum > u128::from(room) {
         return Some(sum);
@@ -130,7 +153,11 @@ fn add_load(load: &mut u64, weight: u64, room: u64) -> Option<u128> {
 }
 
 // Whether the arc from `u` to `v` enters the set.
-fn enters(members: &VertexSet, u: u32, v: u32) -> bool {
+fn enters(members: &VertexSet, u: u32, v: u32) -> bool
+    requires from { u < length members.now }
+    requires to { v < length members.now }
+    ensures { result ≡ packing.enters members.now u v }
+{
     members.has(v) && !members.has(u)
 }
 
@@ -151,6 +178,9 @@ fn set_fault(g: &NetGraph, line: u64, members: &VertexSet) -> Option<Cause>
 }
 
 // Whether the set holds a terminal: where nothing is decided, a required vertex.
-fn holds_terminal(g: &NetGraph, members: &VertexSet) -> bool {
+fn holds_terminal(g: &NetGraph, members: &VertexSet) -> bool
+    requires { length members.now ≡ g.now.vertices }
+    ensures { IsTrue result ↔ ((v : ℕ) × Contains g.now.terminals v × (has members.now v ≡ true)) }
+{
     g.terminals().iter().any(|v| members.has(*v))
 }
