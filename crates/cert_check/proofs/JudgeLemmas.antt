@@ -1,14 +1,17 @@
 -- What a judge stands for behind one more line.
-use Rattle.std.proofs.Common.{ℕ, ◌≡◌, ◌-◌, Bool, true, List, refl, sym, ap, ◌∙◌, inl, inr, Some}
+use Rattle.std.proofs.Common.{ℕ, ◌≡◌, ◌-◌, Bool, true, List, [], ◌∷◌, ◌++◌, refl, sym, ap, ◌∙◌, inl, inr, Some}
 use Rattle.std.specs.Prelude.{Option, None, Result, Ok, Err, IfOk, IfSome, IfNone, slice_set}
 use Rattle.points_in.specs.declared.point.Point.{Point}
+use Rattle.net_graph.specs.declared.packing.Cut.{Cut}
 use Rattle.hanan_grid.specs.declared.name.EdgeName.{EdgeName}
 use Rattle.hanan_grid.specs.Grid.{hanan_grid_of}
 use Rattle.cut_cert.specs.declared.event.Event.TheVariants as event
 use Rattle.cert_check.specs.declared.verdict.Cause.{Cause}
 use Rattle.cert_check.specs.declared.judge.Judge.{Judge}
 use Rattle.cert_check.specs.Edges.{FollowsEdges, EdgeFault}
-use Rattle.cert_check.specs.Judged.{SoFar, Passes, Fails, IsNetworkRight, IsNetworkWrong, with_edge}
+use Rattle.cert_check.specs.Cuts.{PacksCut, CutFault, cut_of}
+use Rattle.cert_check.specs.Loads.{IsLeafOf}
+use Rattle.cert_check.specs.Judged.{SoFar, Passes, Fails, IsNetworkRight, IsNetworkWrong, with_edge, with_cut}
 use Rattle.cert_check.specs.Standing.{StandsFor}
 
 -- what follows where no fault was found, and where one was
@@ -58,3 +61,52 @@ edges_fail ps name line old new cause behind wrong s members stands =
 pub edge_fails : (ps : List Point) (name : EdgeName) (line : ℕ) (old new : Judge) (cause : Cause) → EdgeFault ps old.edges name line cause → new.edges ≡ old.edges
     → (s : SoFar) (members : Option (List Bool)) → StandsFor ps s old → Fails ps s line (event.Edge name) members cause new.edges
 edge_fails ps name line old new cause fault kept s members stands = inl (rw stands.network at fault, kept ∙ stands.network)
+
+-- the judge behind one more cut
+pub cut_passes : (ps : List Point) (old new : Judge) (weight : ℕ) (set : List Bool)
+    → ((cuts : List Cut) → IsLeafOf (hanan_grid_of ps) cuts old.leaf → PacksCut (hanan_grid_of ps) cuts (cut_of weight set) × IsLeafOf (hanan_grid_of ps) (cuts ++ cut_of weight set ∷ []) new.leaf)
+    → new.head ≡ old.head → new.due ≡ old.due → new.edges ≡ old.edges
+    → (s : SoFar) → StandsFor ps s old → (s' : SoFar) × Passes ps s (event.Cut weight) (Some set) s' × StandsFor ps s' new
+cut_passes ps old new weight set packs head due edges s stands =
+    let (packed, leaf) = packs s.cuts stands.leaf in
+    (with_cut s (cut_of weight set), (packed, refl), record { head = head ∙ stands.head; due = due ∙ stands.due; network = edges ∙ stands.network; leaf = leaf })
+
+-- or a cut that is wrong
+pub cut_fails : (ps : List Point) (old new : Judge) (weight line : ℕ) (set : List Bool) (cause : Cause)
+    → ((cuts : List Cut) → IsLeafOf (hanan_grid_of ps) cuts old.leaf → CutFault (hanan_grid_of ps) cuts (cut_of weight set) line cause) → new.edges ≡ old.edges
+    → (s : SoFar) → StandsFor ps s old → Fails ps s line (event.Cut weight) (Some set) cause new.edges
+cut_fails ps old new weight line set cause faulty edges s stands = (faulty s.cuts stands.leaf, edges ∙ stands.network)
+
+-- the judge behind the count of the edges
+pub record IsBehindCount (count : ℕ) (old new : Judge) : Type 0 where
+  pub due : new.due ≡ count
+  pub head : new.head ≡ old.head
+  pub edges : new.edges ≡ old.edges
+  pub leaf : new.leaf ≡ old.leaf
+
+-- it stands for that many edges
+stands_behind_count : (ps : List Point) (count : ℕ) (old new : Judge) (s : SoFar) → IsBehindCount count old new → StandsFor ps s old → StandsFor ps (record s { due = count }) new
+stands_behind_count ps count old new s behind stands = record {
+  head = behind.head ∙ stands.head;
+  due = behind.due;
+  network = behind.edges ∙ stands.network;
+  leaf = rw behind.leaf stands.leaf;
+}
+
+-- where none is due the edges are right or wrong at once
+pub count_passes : (ps : List Point) (count : ℕ) (old new : Judge) → IsBehindCount count old new → ((s : SoFar) → StandsFor ps s new → IsNetworkRight ps s)
+    → (members : Option (List Bool)) (s : SoFar) → StandsFor ps s old → (s' : SoFar) × Passes ps s (event.EdgeCount count) members s' × StandsFor ps s' new
+count_passes ps count old new behind right members s stands =
+    let after = stands_behind_count ps count old new s behind stands in
+    (record s { due = count }, (refl, right (record s { due = count }) after), after)
+
+pub count_fails : (ps : List Point) (count line : ℕ) (old new : Judge) (cause : Cause) → IsBehindCount count old new → ((s : SoFar) → StandsFor ps s new → IsNetworkWrong ps s cause)
+    → (members : Option (List Bool)) (s : SoFar) → StandsFor ps s old → Fails ps s line (event.EdgeCount count) members cause new.edges
+count_fails ps count line old new cause behind wrong members s stands =
+    let after = stands_behind_count ps count old new s behind stands in
+    (wrong (record s { due = count }) after, after.network)
+
+-- what follows where a line passed
+pub passed_gives : (fault : Option Cause) (P Q : Type 0) → (P → Q) → IfNone fault P → IfNone fault Q
+passed_gives None P Q gives is = gives is
+passed_gives (Some cause) P Q gives is = is
