@@ -1,6 +1,6 @@
 -- The events of bytes fit: a cut has members, which are a set of the grid's vertices.
 use Rattle.std.proofs.Common.{ℕ, suc, ◌≡◌, ◌-◌, List, [], ◌∷◌, ◌++◌, length, map, take, Option, Some, None, subst}
-use Rattle.std.specs.Prelude.{All, slice_get}
+use Rattle.std.specs.Prelude.{All, slice_get, IfNone, IfSome}
 use Rattle.std.proofs.lemmas.Option.{slice_get_within, get_or_from_slice_get}
 use Rattle.std.proofs.lemmas.List.Elements.{All-nil, All-cons, All-head, All-tail, All-same, All-append, All-weaker, All-take, All-map}
 use Rattle.net_graph.specs.declared.packing.Cut.{Cut}
@@ -10,6 +10,7 @@ use Rattle.cut_cert.specs.declared.event.AnswerEvent.{AnswerEvent}
 use Rattle.cut_cert.specs.Value.{Tree, WrittenAnswer}
 use Rattle.cut_cert.specs.Value.Tree.{Leaf, Split}
 use Rattle.cut_cert.specs.Events.{Told, cut_told, tree_told, answer_told, numbered, events_of}
+use Rattle.cut_cert.specs.Reading.{IsReadWhole, StopsAt}
 use Rattle.cut_cert.specs.Spelling.{FitsCut, FitsTree, FitsAnswer}
 use Rattle.cert_check.specs.Judged.{ReadsLines}
 use Rattle.cert_check.specs.Standing.{HasMembers, FitsEvent}
@@ -60,6 +61,12 @@ numbered_fits V n (t ∷ ts) fit =
 -- the events of an answer fit
 events_of_fit : (V : ℕ) (a : WrittenAnswer) → FitsAnswer V a → All (FitsEvent V) (events_of a)
 events_of_fit V a fit = numbered_fits V 6 (answer_told a) (answer_fits V a fit)
+
+-- what a reader says of the events and of the fault, in one
+pub reads_lines : (V : ℕ) (bytes : List ℕ) (events : List AnswerEvent) (fault : Option ℕ)
+    → IfNone fault (IsReadWhole V bytes events) → IfSome fault (λ n. StopsAt V bytes n events) → ReadsLines V bytes events fault
+reads_lines V bytes events None whole stopped = whole
+reads_lines V bytes events (Some n) whole stopped = stopped
 
 -- the events that are read fit
 pub events_fit : (V : ℕ) (bytes : List ℕ) (events : List AnswerEvent) (fault : Option ℕ) → ReadsLines V bytes events fault → All (FitsEvent V) events
