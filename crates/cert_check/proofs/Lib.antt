@@ -3,3 +3,9 @@ pub mod ValueLemmas
 pub mod JudgeLemmas
 pub mod LeafLemmas
 pub mod LeafCuts
+pub mod ToldParts
+pub mod EventFits
+pub mod LineSteps
+pub mod CompleteEdges
+pub mod CompleteCuts
+pub mod Complete
