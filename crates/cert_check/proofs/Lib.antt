@@ -1,0 +1,4 @@
+pub mod Runs
+pub mod EdgesTold
+pub mod CutsTold
+pub mod Sound
