@@ -2,3 +2,4 @@ pub mod Runs
 pub mod EdgesTold
 pub mod CutsTold
 pub mod Sound
+pub mod BoundLemmas
