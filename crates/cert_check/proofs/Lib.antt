@@ -9,3 +9,8 @@ pub mod LineSteps
 pub mod CompleteEdges
 pub mod CompleteCuts
 pub mod Complete
+pub mod Runs
+pub mod EdgesTold
+pub mod CutsTold
+pub mod Sound
+pub mod BoundLemmas

@@ -5,6 +5,7 @@ mod check;
 mod edges;
 mod end;
 mod judge;
+mod law;
 mod leaf;
 mod network;
 #[cfg(test)]
@@ -12,4 +13,5 @@ mod tests;
 mod verdict;
 
 pub use check::check_whole;
+pub use law::accepted_bound_holds;
 pub use verdict::{Cause, Finished, Verdict};

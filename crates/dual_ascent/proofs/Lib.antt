@@ -1,8 +1,3 @@
-pub mod Hops
-pub mod Crossing
-pub mod Exchange
-pub mod Reached
-pub mod DualityLemmas
 pub mod RoomLemmas
 pub mod LoadLemmas
 pub mod FullLemmas

@@ -1,4 +1,3 @@
-pub mod Duality
 pub mod Choosing
 pub mod Rooms
 pub mod Steps

@@ -9,10 +9,10 @@ ghost use Rattle.net_graph.specs.Saturation.{IsMaximal};
 ghost use Rattle.dual_ascent.specs.Ascending.{BeginsWith, closed_with};
 
 use crate::chooser::{Chooser, Rule};
-use crate::duality::weak_duality;
 use crate::required::required_vertices;
 use crate::rooms::Rooms;
 use crate::step::{Step, next_step};
+use duality::weak_duality;
 use net_graph::{Cut, Decision, NetGraph, Packing, VertexSet};
 use std::alloc::{AllocError, Global};
 

@@ -4,7 +4,6 @@
 mod ascent;
 mod candidate;
 mod chooser;
-mod duality;
 mod maximality;
 mod required;
 mod rooms;
@@ -15,5 +14,4 @@ mod tests;
 pub use ascent::{Ascent, ascend};
 pub use candidate::Candidate;
 pub use chooser::{Chooser, Rule};
-pub use duality::weak_duality;
 pub use maximality::maximal;

@@ -5,7 +5,7 @@ use Rattle.net_graph.specs.Flags.{has}
 use Rattle.net_graph.specs.Graph.{Graph, root_of}
 use Rattle.net_graph.specs.Network.{Links}
 use Rattle.net_graph.specs.Packing.{enters}
-use Rattle.dual_ascent.proofs.Hops.{is_within, is_away, last_step}
+use Rattle.duality.proofs.Hops.{is_within, is_away, last_step}
 
 -- an edge of the set has an arc that leads away from the root and enters the members
 pub record Entry (g : Graph) (set : List Bool) (hops : ℕ) (members : List Bool) : Type 0 where

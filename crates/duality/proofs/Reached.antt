@@ -10,8 +10,8 @@ use Rattle.net_graph.specs.Graph.{Graph}
 use Rattle.net_graph.specs.Network.{Links, Reaches, IsNetwork}
 use Rattle.net_graph.specs.Decision.{Agrees, InRootPart, EndsInside, IsRequired}
 use Rattle.net_graph.specs.Packing.{IsCut}
-use Rattle.dual_ascent.proofs.Hops.{is_within_later, is_within-from_walk}
-use Rattle.dual_ascent.proofs.Crossing.{Entry, Entry-from_within}
+use Rattle.duality.proofs.Hops.{is_within_later, is_within-from_walk}
+use Rattle.duality.proofs.Crossing.{Entry, Entry-from_within}
 
 -- a walk goes on along an edge of the set
 Reaches-from_link : (g : Graph) (set : List Bool) (v w : ℕ) → Links g set v w → Reaches g set v → Reaches g set w

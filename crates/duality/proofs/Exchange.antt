@@ -8,8 +8,8 @@ use Rattle.net_graph.specs.declared.packing.Cut.{Cut}
 use Rattle.net_graph.specs.Graph.{Graph}
 use Rattle.net_graph.specs.Network.{HasEnds}
 use Rattle.net_graph.specs.Packing.{enters, load}
-use Rattle.dual_ascent.proofs.Hops.{is_away}
-use Rattle.dual_ascent.proofs.Crossing.{Entry}
+use Rattle.duality.proofs.Hops.{is_away}
+use Rattle.duality.proofs.Crossing.{Entry}
 
 -- the load of an arc that passes the test, else nothing
 abbrev pub arc_load : (ℕ → ℕ → Bool) → List Cut → ℕ → ℕ → ℕ
