@@ -3,7 +3,7 @@ use Rattle.std.specs.Prelude.{ℕ, ◌≡◌, List, ◌++◌, length, take, drop
 use Rattle.std.proofs.Common.{ap, sym, ◌∙◌, append_assoc}
 use Rattle.std.proofs.lemmas.List.{take-append-drop}
 use Rattle.std.proofs.Math.Seq.{drop-append_seam}
-use Rattle.rst_outside.specs.Shelf.{file_named, OfFile, Begins}
+use Rattle.rst_outside.specs.Shelf.{OfFile, Begins}
 
 -- What follows of a fact of a file is a fact of it.
 pub of_file_so : (files : Option (List (List ℕ × List ℕ))) (name : List ℕ) (P Q : List ℕ → Type 0) →

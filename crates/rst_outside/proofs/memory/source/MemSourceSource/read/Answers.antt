@@ -1,4 +1,4 @@
-use Rattle.std.proofs.Common.{◌≡◌, ◌≤◌, take, drop, refl, ap, sym, ◌∙◌, length-take, arith}
+use Rattle.std.proofs.Common.{◌≡◌, ◌≤◌, drop, refl, ap, sym, ◌∙◌, length-take, arith}
 use Rattle.std.proofs.lemmas.List.{take_rest, take-take}
 use Rattle.rst_outside.specs.Memory.{MemSourceState}
 use Rattle.rst_outside.proofs.Copies.{copied_from}
