@@ -6,4 +6,5 @@ pub mod Sink
 pub mod SinkLaws
 pub mod Memory
 pub mod Shelf
+pub mod ShelfLaws
 pub mod Untold

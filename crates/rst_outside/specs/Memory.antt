@@ -1,8 +1,9 @@
--- What a source and a sink in memory show to contracts.
-use Rattle.std.specs.Prelude.{ℕ, List, [], ◌∷◌, Some, ◌-◌, drop, ◌++◌, length}
+-- What sources, sinks and a shelf in memory show to contracts.
+use Rattle.std.specs.Prelude.{ℕ, List, [], ◌∷◌, None, Some, ◌-◌, ◌^◌, drop, ◌++◌, length}
 use Rattle.rst_outside.specs.Counts.{next_count}
 use Rattle.rst_outside.specs.Source.{SourceState}
 use Rattle.rst_outside.specs.Sink.{SinkState}
+use Rattle.rst_outside.specs.Shelf.{ShelfState}
 
 -- The bytes that are still to come, how many come at most in one call, which calls fail, counted from 0,
 -- and how many calls there were and failed so far.
@@ -51,3 +52,32 @@ after_write s bytes = record s { taken = s.taken ++ bytes; room = s.room - lengt
 -- A sink in memory whose write failed.
 abbrev pub after_failed_write : MemSinkState → MemSinkState
 after_failed_write s = record s { calls = next_count s.calls; faults = next_count s.faults }
+
+-- The files with the bytes of their names, which calls fail, counted from 0, and how many calls there were and
+-- failed so far.
+pub record MemShelfState : Type 0 where
+  pub files : List (List ℕ × List ℕ)
+  pub failing : List ℕ
+  pub calls : ℕ
+  pub faults : ℕ
+
+-- What a shelf in memory shows as a shelf.
+abbrev pub shelf_state_of : MemShelfState → ShelfState
+shelf_state_of s = record { faults = s.faults; files = Some s.files }
+
+-- A shelf in memory after a read.
+abbrev pub after_read_at : MemShelfState → MemShelfState
+after_read_at s = record s { calls = next_count s.calls }
+
+-- A shelf in memory whose read failed.
+abbrev pub after_failed_read_at : MemShelfState → MemShelfState
+after_failed_read_at s = record s { calls = next_count s.calls; faults = next_count s.faults }
+
+-- What a source of these bytes shows that never fails.
+abbrev pub sure_source_state : List ℕ → SourceState
+sure_source_state rest = record { faults = 0; rest = Some rest }
+
+-- What a sink that takes all bytes shows: it surely has room for more than any slice has, and it doesn't tell what
+-- it took.
+abbrev pub sure_sink_state : {T : Type 0} → T → SinkState
+sure_sink_state s = record { faults = 0; sure = 2 ^ 64; taken = None }

@@ -12,8 +12,8 @@ mod take;
 mod tests;
 
 pub use adapters::{DirShelf, StdSink, StdSource};
-pub use memory::{MemSink, MemSource};
+pub use memory::{MemShelf, MemSink, MemSource, ShelfFile, SureSink, SureSource};
 pub use shelf::Shelf;
 pub use sink::{PutFault, Sink, put_all};
 pub use source::{Failed, Source};
-pub use take::{TakeFault, take_all};
+pub use take::{TakeFault, take_all, take_named};

@@ -1,6 +1,7 @@
-//! Each public function once, with sources and sinks in memory that fail where they are told to.
+//! Each public function once, with sources, sinks and shelves in memory that fail where they are told to.
 
 use super::*;
+use std::alloc::Global;
 use std::test::Fail;
 
 #[test]
@@ -28,6 +29,50 @@ fn failed_read_leaves_the_rest(rt: HostRuntime) -> Result<(), Fail> {
     );
     let bytes = take_all(alloc, &mut source, 7)?;
     assert_eq!(rt; bytes.as_slice(), b"iner".as_slice());
+    Ok(())
+}
+
+/// A shelf with two files of one name, which fails at the calls of these numbers.
+fn two_trees(alloc: Global, failing: &[u64]) -> Result<MemShelf, Fail> {
+    let mut files = Vec::new(alloc);
+    for bytes in [b"steiner".as_slice(), b"spanning".as_slice()] {
+        files.push(ShelfFile {
+            name: String::from_str(alloc, "tree")?,
+            bytes: Vec::from_slice(alloc, bytes)?,
+        })?;
+    }
+    Ok(MemShelf::new(files, Vec::from_slice(alloc, failing)?))
+}
+
+#[test]
+fn takes_the_first_file_of_a_name(rt: HostRuntime) -> Result<(), Fail> {
+    let alloc = rt.alloc();
+    let rows: [(&str, &[u64], u64, Result<&[u8], &TakeFault>); 4] = [
+        ("tree", &[], 7, Ok(b"steiner")),
+        ("tree", &[], 6, Err(&TakeFault::TooLong)),
+        ("tree", &[1], 7, Err(&TakeFault::Failed)),
+        ("forest", &[], 7, Err(&TakeFault::Failed)),
+    ];
+    for (name, failing, limit, wanted) in rows {
+        let mut shelf = two_trees(alloc, failing)?;
+        let taken = take_named(alloc, &mut shelf, name, limit);
+        assert_eq!(rt; taken.as_deref(), wanted);
+    }
+    Ok(())
+}
+
+#[test]
+fn sure_ones_never_fail(rt: HostRuntime) -> Result<(), Fail> {
+    let alloc = rt.alloc();
+    let mut source = SureSource::new(b"steiner".to_vec(alloc)?);
+    let mut block = [0u8; 4];
+    assert_eq!(rt; source.read(&mut block), Ok(4));
+    assert_eq!(rt; block.as_slice(), b"stei".as_slice());
+    let bytes = take_all(alloc, &mut source, 3)?;
+    assert_eq!(rt; bytes.as_slice(), b"ner".as_slice());
+
+    let mut sink = SureSink::new();
+    assert_eq!(rt; put_all(&mut sink, b"steiner"), Ok(()));
     Ok(())
 }
 

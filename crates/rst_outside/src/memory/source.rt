@@ -6,6 +6,7 @@ ghost use Rattle.rst_outside.specs.Counts.{Rose};
 ghost use Rattle.rst_outside.specs.Source.{Came, IsAtEnd};
 ghost use Rattle.rst_outside.specs.Memory.{source_state_of, after_read, after_failed_read};
 
+use super::copy::copy_front;
 use super::plan::Plan;
 use crate::faults::count_fault;
 use crate::source::{Failed, Source};
@@ -85,8 +86,7 @@ impl Source for MemSource {
             return Err(count_fault(&mut self.plan.faults));
         }
         let rest = &self.bytes[self.given..];
-        let n = self.step.min(into.len().min(rest.len()));
-        into[..n].copy_from_slice(&rest[..n]);
+        let n = copy_front(&rest[..self.step.min(rest.len())], into);
         self.given += n;
         Ok(n)
     }

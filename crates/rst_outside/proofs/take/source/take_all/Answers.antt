@@ -1,6 +1,6 @@
 use Rattle.std.proofs.lemmas.Result.{err_from_is_err_and}
 use Rattle.rst_outside.specs.SourceLaws.{came_more}
-use Rattle.rst_outside.proofs.take.take_all.Goals as goal
+use Rattle.rst_outside.proofs.take.source.take_all.Goals as goal
 
 -- What came in this turn came after what was gathered.
 pub returns-in_err-take_some-clause-refused : goal.returns-in_err-take_some-clause-refused

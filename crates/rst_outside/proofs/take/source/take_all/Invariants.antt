@@ -1,6 +1,6 @@
 use Rattle.std.proofs.Common.{◌≤◌, ◌-◌, vec_len}
 use Rattle.rst_outside.specs.Source.{Came}
-use Rattle.rst_outside.proofs.take.take_all.Given as goal
+use Rattle.rst_outside.proofs.take.source.take_all.Given as goal
 
 abbrev pub invariant-loop-bytes : goal.invariant-loop-bytes
 invariant-loop-bytes g l = record {
