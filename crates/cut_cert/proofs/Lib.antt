@@ -7,6 +7,7 @@ pub mod Lengths
 pub mod NetworkLemmas
 pub mod NodesText
 pub mod PackingLemmas
+pub mod FitLemmas
 pub mod Machine
 pub mod Due
 pub mod LineTexts

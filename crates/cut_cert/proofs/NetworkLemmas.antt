@@ -1,9 +1,10 @@
 -- The lines of a network's edges, one flag after another.
 use Rattle.std.proofs.Common.{arith, ℕ, ◌≡◌, ◌+◌, ◌<◌, Bool, true, false, cond, List, [], ◌∷◌, ◌++◌, length, take, ap, sym, ◌∙◌, length-append, append_assoc}
-use Rattle.std.specs.Prelude.{codes}
+use Rattle.std.specs.Prelude.{All, codes}
 use Rattle.std.specs.Fmt.{decimal}
 use Rattle.std.proofs.lemmas.List.{append-nil, map-append, length-map}
 use Rattle.std.proofs.lemmas.List.Concat.{flat_map-append}
+use Rattle.std.proofs.lemmas.List.Elements.{All-push, All-same}
 use Rattle.points_in.specs.declared.point.Point.{Point}
 use Rattle.net_graph.specs.Flags.{has}
 use Rattle.net_graph.specs.Members.{members_of}
@@ -11,6 +12,7 @@ use Rattle.net_graph.specs.MembersLaws.{members_of-more}
 use Rattle.hanan_grid.specs.declared.name.EdgeName.{EdgeName}
 use Rattle.hanan_grid.specs.Names.{name_of_edge}
 use Rattle.cut_cert.specs.Text.{edge_line, edge_lines, network_text}
+use Rattle.cut_cert.specs.Spelling.{FitsName}
 use Rattle.cut_cert.specs.Answers.{names_of}
 
 -- a member is one more number
@@ -28,6 +30,20 @@ edge_lines-more : (ps : List Point) (numbers : List ℕ) (e : ℕ)
 edge_lines-more ps numbers e =
     ap edge_lines (map-append (name_of_edge ps) numbers (e ∷ [])) ∙ flat_map-append edge_line (names_of ps numbers) (name_of_edge ps e ∷ [])
     ∙ ap (λ x. edge_lines (names_of ps numbers) ++ x) (append-nil (edge_line (name_of_edge ps e)))
+
+-- the name of a member is one more name
+pub names-member : (ps : List Point) (set : List Bool) (e : ℕ) → e < length set → has set e ≡ true → All FitsName (names_of ps (members_of (take e set))) → FitsName (name_of_edge ps e)
+    → All FitsName (names_of ps (members_of (take (e + 1) set)))
+names-member ps set e inside is names name =
+    let before = names_of ps (members_of (take e set)) in
+    let more = ap (names_of ps) (members-member set e inside is) ∙ map-append (name_of_edge ps) (members_of (take e set)) (e ∷ []) in
+    All-same FitsName (names_of ps (members_of (take (e + 1) set))) (before ++ name_of_edge ps e ∷ []) more (All-push FitsName before (name_of_edge ps e) names name)
+
+-- another number has none
+pub names-other : (ps : List Point) (set : List Bool) (e : ℕ) → e < length set → has set e ≡ false → All FitsName (names_of ps (members_of (take e set)))
+    → All FitsName (names_of ps (members_of (take (e + 1) set)))
+names-other ps set e inside is names =
+    All-same FitsName (names_of ps (members_of (take (e + 1) set))) (names_of ps (members_of (take e set))) (ap (names_of ps) (members-other set e inside is)) names
 
 -- a member has a line
 pub lines-member : (ps : List Point) (set : List Bool) (e : ℕ) → e < length set → has set e ≡ true

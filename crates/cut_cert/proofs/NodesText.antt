@@ -1,6 +1,6 @@
 -- The text of a tree, one node after another in preorder.
 use Rattle.std.proofs.Common.{ℕ, suc, ◌≡◌, ◌+◌, ◌*◌, ◌<◌, ◌≤◌, List, [], ◌∷◌, ◌++◌, length, take, drop, get_or, refl, ap, sym, ◌∙◌, arith, append_assoc, length-append, Option, Some, None}
-use Rattle.std.proofs.lemmas.List.{append-nil, take_more, take-append-drop}
+use Rattle.std.proofs.lemmas.List.{append-nil, take_more, take_all, take-append-drop}
 use Rattle.std.proofs.lemmas.Option.{slice_get-get_or}
 use Rattle.std.specs.Prelude.{slice_get}
 use Rattle.points_in.specs.declared.point.Point.{Point}
@@ -123,6 +123,12 @@ pub leaf_within : (t : Tree ℕ) (nodes : List (Option ℕ)) (i leaf : ℕ) → 
 leaf_within t nodes i leaf same count =
     let all : leaves_in nodes ≡ length (packings_of t) = ap leaves_in same ∙ leaves_in-nodes_of t in
     omega (arith, leaves_in-take nodes i)
+
+-- behind the last node all packings were passed
+pub leaf_last : (t : Tree ℕ) (nodes : List (Option ℕ)) (i leaf : ℕ) → nodes ≡ nodes_of t → length nodes ≤ i → leaf ≡ leaves_in (take i nodes) → length (packings_of t) ≤ leaf
+leaf_last t nodes i leaf same past count =
+    let all : leaves_in (take i nodes) ≡ length (packings_of t) = ap leaves_in (take_all i nodes past) ∙ ap leaves_in same ∙ leaves_in-nodes_of t in
+    omega arith
 
 -- the nodes are the leaves and, one fewer, the splits
 pub length-nodes_of : (t : Tree ℕ) → length (nodes_of t) + 1 ≡ 2 * length (packings_of t)

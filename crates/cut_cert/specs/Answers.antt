@@ -9,6 +9,7 @@ use Rattle.hanan_grid.specs.Names.{name_of_edge}
 use Rattle.cut_cert.specs.declared.answer.Answer.{Answer}
 use Rattle.cut_cert.specs.Value.{Tree, WrittenAnswer}
 use Rattle.cut_cert.specs.Value.Tree.{Leaf, Split}
+use Rattle.cut_cert.specs.Spelling.{FitsName}
 use Rattle.cut_cert.specs.Kept.{nodes_of, packings_of, split_count}
 
 -- a tree with its edges named
@@ -37,6 +38,10 @@ pub record IsPackingOn (g : Graph) (cuts : List Cut) : Type 0 where
 -- a node that is a split has an edge of the graph
 abbrev pub IsNodeOn : Graph → Option ℕ → Type 0
 IsNodeOn g node = IfSome node (λ e. e < length g.edges)
+
+-- a node that is a split has an edge whose name has 64-bit coordinates
+abbrev pub FitsNode : List Point → Option ℕ → Type 0
+FitsNode ps node = IfSome node (λ e. FitsName (name_of_edge ps e))
 
 -- the network is a set of the graph's edges, and the tree has at most 255 splits, each at one of the graph's edges
 pub record IsAnswerOn (g : Graph) (a : Answer) : Type 0 where

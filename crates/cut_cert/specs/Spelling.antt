@@ -22,6 +22,10 @@ pub record FitsName (e : EdgeName) : Type 0 where
   pub x2 : FitsSigned w64 e.x2
   pub y2 : FitsSigned w64 e.y2
 
+-- the weight of a cut is a 64-bit number
+abbrev pub FitsWeight : Cut → Type 0
+FitsWeight c = c.weight < 2 ^ 64
+
 -- a cut weighs at least 1, and its set is one of V vertices
 pub record FitsCut (V : ℕ) (c : Cut) : Type 0 where
   pub some : 0 < c.weight

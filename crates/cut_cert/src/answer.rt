@@ -6,8 +6,9 @@ ghost use Rattle.text_out.specs.Gathers.{Gathers};
 ghost use Rattle.net_graph.specs.Members.{members_of};
 ghost use Rattle.hanan_grid.specs.Grid.{hanan_grid_of};
 ghost use Rattle.cut_cert.specs.Text.{answer_text, edge_lines, network_text, proof_text, tree_text};
-ghost use Rattle.cut_cert.specs.Kept.{nodes_of};
-ghost use Rattle.cut_cert.specs.Answers.{IsAnswerOn, IsNodeOn, names_of, named, value_of};
+ghost use Rattle.cut_cert.specs.Kept.{nodes_of, packings_of};
+ghost use Rattle.cut_cert.specs.Spelling.{FitsName, FitsWeight, SpellsAnswer};
+ghost use Rattle.cut_cert.specs.Answers.{FitsNode, IsAnswerOn, IsNodeOn, names_of, named, value_of};
 
 use crate::head::AnswerHead;
 use crate::tree::CertTree;
@@ -25,12 +26,17 @@ pub struct Answer {
     pub tree: CertTree,
 }
 
-/// Writes the text of an answer. It takes no memory; on an `Err` the sink failed, and the text was cut short.
+/// Writes the text of an answer. It takes no memory; on an `Err` the sink failed, and the text was cut short. The
+/// whole text spells the answer, whatever the sink does.
 #[tactic(auto, using(text_out::specs::GatherLaws::pieces))]
 pub fn write_answer<S: Sink>(sink: &mut S, grid: &Grid, answer: &Answer) -> Result<(), PutFault>
     requires { IsAnswerOn (hanan_grid_of grid.now) answer.now }
-    ensures { Writes (S.state sink.old) (answer_text (value_of grid.now answer.now)) (S.state sink.new) result }
+    ensures text { Writes (S.state sink.old) (answer_text (value_of grid.now answer.now)) (S.state sink.new) result }
+    ensures spells { SpellsAnswer (hanan_grid_of grid.now).vertices (answer_text (value_of grid.now answer.now))
+        (value_of grid.now answer.now) }
 {
+    // Few edges, so a leaf has few cuts: their number is within 32 bits.
+    prove!(grid.graph().edge_count() <= 4900);
     let mut block = Block::new();
     write_head(&mut block, sink, &answer.head);
     write_network(&mut block, sink, grid, &answer.network);
@@ -42,9 +48,11 @@ pub fn write_answer<S: Sink>(sink: &mut S, grid: &Grid, answer: &Answer) -> Resu
 #[tactic(auto, using(text_out::specs::GatherLaws::pieces))]
 fn write_network<S: Sink>(block: &mut Block, sink: &mut S, grid: &Grid, network: &EdgeSet)
     requires { length network.now ≡ length (hanan_grid_of grid.now).edges }
-    ensures { Gathers (S.state sink.old) block.old
+    ensures text { Gathers (S.state sink.old) block.old
         (network_text (names_of grid.now (members_of network.now)))
         (S.state sink.new) block.new }
+    ensures count { length (names_of grid.now (members_of network.now)) < 2 ^ 32 }
+    ensures names { All FitsName (names_of grid.now (members_of network.now)) }
 {
     literal(block, sink, b"edges ");
     number(block, sink, count_of(network));
@@ -68,9 +76,10 @@ pub(crate) fn count_of(set: &EdgeSet) -> u32
 // A line for each edge of the set, in ascending number.
 fn write_edges<S: Sink>(block: &mut Block, sink: &mut S, grid: &Grid, network: &EdgeSet)
     requires { length network.now ≡ length (hanan_grid_of grid.now).edges }
-    ensures { Gathers (S.state sink.old) block.old
+    ensures text { Gathers (S.state sink.old) block.old
         (edge_lines (names_of grid.now (members_of network.now)))
         (S.state sink.new) block.new }
+    ensures names { All FitsName (names_of grid.now (members_of network.now)) }
 {
     for e in 0..network.len() {
         if network.has(e) {
@@ -83,9 +92,11 @@ fn write_edges<S: Sink>(block: &mut Block, sink: &mut S, grid: &Grid, network: &
 #[tactic(auto, using(text_out::specs::GatherLaws::pieces))]
 fn write_proof<S: Sink>(block: &mut Block, sink: &mut S, grid: &Grid, tree: &CertTree)
     requires { All (IsNodeOn (hanan_grid_of grid.now)) (nodes_of tree.now) }
-    ensures { Gathers (S.state sink.old) block.old
+    ensures text { Gathers (S.state sink.old) block.old
         (proof_text (named grid.now tree.now))
         (S.state sink.new) block.new }
+    ensures names { All (FitsNode grid.now) (nodes_of tree.now) }
+    ensures weights { All (All FitsWeight) (packings_of tree.now) }
 {
     literal(block, sink, b"tree\n");
     write_tree(block, sink, grid, tree);
@@ -95,9 +106,11 @@ fn write_proof<S: Sink>(block: &mut Block, sink: &mut S, grid: &Grid, tree: &Cer
 // The nodes of a tree in preorder.
 fn write_tree<S: Sink>(block: &mut Block, sink: &mut S, grid: &Grid, tree: &CertTree)
     requires { All (IsNodeOn (hanan_grid_of grid.now)) (nodes_of tree.now) }
-    ensures { Gathers (S.state sink.old) block.old
+    ensures text { Gathers (S.state sink.old) block.old
         (tree_text (named grid.now tree.now))
         (S.state sink.new) block.new }
+    ensures names { All (FitsNode grid.now) (nodes_of tree.now) }
+    ensures weights { All (All FitsWeight) (packings_of tree.now) }
 {
     let mut leaf = 0;
     for node in tree.nodes() {

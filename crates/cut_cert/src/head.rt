@@ -1,11 +1,11 @@
 //! What the first lines of an answer tell.
 
-/// How the cuts of an answer's leaf were joined to one packing.
+/// What is told of the concatenation: the full Steiner trees that were chosen to join all terminals together.
 #[derive(Clone, Copy, Debug, PartialEq, Eq)]
 pub struct ConcatNote {
-    /// Whether the total is the least that was found, and not what was spent.
+    /// Whether no concatenation has a smaller total. Else the search for one was stopped, its allowance spent.
     pub least: bool,
-    /// The total, below 2^128.
+    /// The total length of the chosen trees, below 2^128.
     pub total: u128,
 }
 
@@ -16,9 +16,9 @@ pub struct AnswerHead {
     pub length: u64,
     /// The bound: no network is said to be shorter.
     pub bound: u64,
-    /// Whether the search ended, and was not stopped.
+    /// Whether bound and length agree.
     pub optimal: bool,
-    /// How many openings the ascent had, from 0 to 255.
+    /// How many openings, which are splits of the tree, the search was allowed: 0 to 255.
     pub openings: u8,
     /// The note on the concatenation.
     pub concat: ConcatNote,

@@ -44,8 +44,9 @@ impl EventList {
         &self.events[place]
     }
 
-    /// The line of the first byte with which no answer's text begins, counted from 1, or the line behind the
-    /// last line feed of a text that ends too soon. None where the whole text is that of an answer.
+    /// The line, counted from 1, in which the text ceases to begin an answer's: some front of it with one line feed
+    /// less than that number begins an answer's text, and no front with as many does. None where the whole text is
+    /// that of an answer.
     pub fn fault(&self) -> Option<u64>
         ensures { result ≡ self.now.fault }
     {
@@ -53,8 +54,9 @@ impl EventList {
     }
 }
 
-/// Reads the text of an answer whose cuts are sets of so many vertices, up to its end or to its first fault.
-/// An `Err` is want of memory.
+/// Reads the text of an answer whose cuts are sets of so many vertices, up to its end or to its first fault: the
+/// line in which the text ceases to begin an answer's, since some front with one line feed less than that number
+/// begins one and no front with as many does. An `Err` is want of memory.
 pub fn read_events(alloc: Global, vertices: u32, bytes: &[u8]) -> Result<EventList, AllocError>
     ensures whole { IfOk result (λ read. IfNone read.fault (IsReadWhole vertices bytes.now read.events)) }
     ensures stopped { IfOk result (λ read. IfSome read.fault (λ n. StopsAt vertices bytes.now n read.events)) }

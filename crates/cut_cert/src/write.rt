@@ -1,9 +1,10 @@
 //! The parts of an answer's text that need no grid.
 
-ghost use Rattle.std.specs.Prelude.{◌≡◌};
+ghost use Rattle.std.specs.Prelude.{◌≡◌, ◌<◌, ◌^◌, All};
 ghost use Rattle.text_out.specs.Gathers.{Gathers};
 ghost use Rattle.net_graph.specs.Flags.{has};
 ghost use Rattle.cut_cert.specs.SetLaws.{digit_at_place};
+ghost use Rattle.cut_cert.specs.Spelling.{FitsHead, FitsWeight};
 ghost use Rattle.cut_cert.specs.Text.{flag_value, set_text, cut_line, cut_lines, leaf_text, status_word, concat_word, head_text, result_text, search_text, edge_line, split_line};
 
 use crate::head::AnswerHead;
@@ -15,7 +16,8 @@ use text_out::{Block, literal, number, signed};
 // The first six lines.
 #[tactic(auto, using(text_out::specs::GatherLaws::pieces))]
 pub(crate) fn write_head<S: Sink>(block: &mut Block, sink: &mut S, head: &AnswerHead)
-    ensures { Gathers (S.state sink.old) block.old (head_text head.now) (S.state sink.new) block.new }
+    ensures text { Gathers (S.state sink.old) block.old (head_text head.now) (S.state sink.new) block.new }
+    ensures fits { FitsHead head.now }
 {
     write_result(block, sink, head);
     write_search(block, sink, head);
@@ -24,7 +26,9 @@ pub(crate) fn write_head<S: Sink>(block: &mut Block, sink: &mut S, head: &Answer
 // The first four lines.
 #[tactic(auto, using(text_out::specs::GatherLaws::pieces))]
 fn write_result<S: Sink>(block: &mut Block, sink: &mut S, head: &AnswerHead)
-    ensures { Gathers (S.state sink.old) block.old (result_text head.now) (S.state sink.new) block.new }
+    ensures text { Gathers (S.state sink.old) block.old (result_text head.now) (S.state sink.new) block.new }
+    ensures length { head.now.length < 2 ^ 64 }
+    ensures bound { head.now.bound < 2 ^ 64 }
 {
     literal(block, sink, b"rst answer 1\nlength ");
     number(block, sink, head.length);
@@ -38,7 +42,9 @@ fn write_result<S: Sink>(block: &mut Block, sink: &mut S, head: &AnswerHead)
 // The next two lines.
 #[tactic(auto, using(text_out::specs::GatherLaws::pieces))]
 fn write_search<S: Sink>(block: &mut Block, sink: &mut S, head: &AnswerHead)
-    ensures { Gathers (S.state sink.old) block.old (search_text head.now) (S.state sink.new) block.new }
+    ensures text { Gathers (S.state sink.old) block.old (search_text head.now) (S.state sink.new) block.new }
+    ensures openings { head.now.openings < 2 ^ 8 }
+    ensures total { head.now.concat.total < 2 ^ 128 }
 {
     literal(block, sink, b"openings ");
     number(block, sink, head.openings);
@@ -90,7 +96,8 @@ pub(crate) fn write_split<S: Sink>(block: &mut Block, sink: &mut S, name: &EdgeN
 // A leaf with its cuts.
 #[tactic(auto, using(text_out::specs::GatherLaws::pieces))]
 pub(crate) fn write_leaf<S: Sink>(block: &mut Block, sink: &mut S, packing: &Packing)
-    ensures { Gathers (S.state sink.old) block.old (leaf_text packing.now) (S.state sink.new) block.new }
+    ensures text { Gathers (S.state sink.old) block.old (leaf_text packing.now) (S.state sink.new) block.new }
+    ensures weights { All FitsWeight packing.now }
 {
     literal(block, sink, b"leaf ");
     number(block, sink, packing.len());
@@ -101,7 +108,8 @@ pub(crate) fn write_leaf<S: Sink>(block: &mut Block, sink: &mut S, packing: &Pac
 // The lines of cuts.
 #[tactic(auto, using(text_out::specs::GatherLaws::pieces))]
 fn write_cuts<S: Sink>(block: &mut Block, sink: &mut S, cuts: &[Cut])
-    ensures { Gathers (S.state sink.old) block.old (cut_lines cuts.now) (S.state sink.new) block.new }
+    ensures text { Gathers (S.state sink.old) block.old (cut_lines cuts.now) (S.state sink.new) block.new }
+    ensures weights { All FitsWeight cuts.now }
 {
     for cut in cuts {
         write_cut(block, sink, cut);
@@ -111,7 +119,8 @@ fn write_cuts<S: Sink>(block: &mut Block, sink: &mut S, cuts: &[Cut])
 // The line of a cut.
 #[tactic(auto, using(text_out::specs::GatherLaws::pieces))]
 fn write_cut<S: Sink>(block: &mut Block, sink: &mut S, cut: &Cut)
-    ensures { Gathers (S.state sink.old) block.old (cut_line cut.now) (S.state sink.new) block.new }
+    ensures text { Gathers (S.state sink.old) block.old (cut_line cut.now) (S.state sink.new) block.new }
+    ensures weight { FitsWeight cut.now }
 {
     literal(block, sink, b"cut ");
     number(block, sink, cut.weight);

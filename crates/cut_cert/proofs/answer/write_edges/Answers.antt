@@ -1,19 +1,30 @@
-use Rattle.std.proofs.Common.{◌++◌, take, ap, sym, ◌∙◌, arith}
+use Rattle.std.proofs.Common.{◌++◌, take, ap, sym, ◌∙◌, arith, subst, rules}
 use Rattle.text_out.specs.GatherLaws.{gathers_two}
 use Rattle.net_graph.specs.Members.{members_of}
 use Rattle.cut_cert.specs.Text.{edge_line, edge_lines}
+use Rattle.cut_cert.specs.Spelling.{FitsName}
 use Rattle.cut_cert.specs.Answers.{names_of}
-use Rattle.cut_cert.proofs.NetworkLemmas.{lines-member, lines-other}
+use Rattle.cut_cert.proofs.NetworkLemmas.{lines-member, lines-other, names-member, names-other}
 use Rattle.cut_cert.proofs.answer.write_edges.Goals as goal
 use Rattle.cut_cert.proofs.answer.write_edges.Goals.{then-has, else-has}
 
 pub loop-e-preserved : goal.loop-e-preserved
 loop-e-preserved g c = elim c.if-has.branch [
   | then-has w ↦
-      let more = lines-member c.args.grid.now c.args.network.now c.loop-e.e (omega arith) (sym c.has.ensures.within ∙ w.if-has.true) in
-      let named = ap (λ name. edge_lines (names_of c.args.grid.now (members_of (take c.loop-e.e c.args.network.now))) ++ edge_line name) w.edge_name.ensures.name in
-      rw (w.sink-is, w.block-is) (gathers_two _ _ _ _ _ _ _ _ _ c.loop-e.invariant w.write_edge.ensures (named ∙ more))
+      let here = sym c.has.ensures.within ∙ w.if-has.true in
+      record {
+        text =
+            let more = lines-member c.args.grid.now c.args.network.now c.loop-e.e (omega arith) here in
+            let named = ap (λ name. edge_lines (names_of c.args.grid.now (members_of (take c.loop-e.e c.args.network.now))) ++ edge_line name) w.edge_name.ensures.name in
+            rw (w.sink-is, w.block-is) (gathers_two _ _ _ _ _ _ _ _ _ c.loop-e.invariant.text w.write_edge.ensures (named ∙ more));
+        names =
+            let fits : FitsName w.edge_name.result = search rules in
+            names-member c.args.grid.now c.args.network.now c.loop-e.e (omega arith) here c.loop-e.invariant.names (subst FitsName w.edge_name.ensures.name fits);
+      }
   | else-has w ↦
-      let same = lines-other c.args.grid.now c.args.network.now c.loop-e.e (omega arith) (sym c.has.ensures.within ∙ w.if-has.false) in
-      rw (w.sink-is, w.block-is, ← same) c.loop-e.invariant
+      let none = sym c.has.ensures.within ∙ w.if-has.false in
+      record {
+        text = rw (w.sink-is, w.block-is, ← (lines-other c.args.grid.now c.args.network.now c.loop-e.e (omega arith) none)) c.loop-e.invariant.text;
+        names = names-other c.args.grid.now c.args.network.now c.loop-e.e (omega arith) none c.loop-e.invariant.names;
+      }
 ]

@@ -1,9 +1,14 @@
-use Rattle.std.proofs.Common.{◌+◌, ◌++◌, take, ◌∙◌, ap, arith}
+use Rattle.std.proofs.Common.{◌+◌, ◌++◌, take, sym, ◌∙◌, ap, arith, subst, rules, None}
+use Rattle.std.specs.Prelude.{All}
 use Rattle.std.proofs.lemmas.List.{take_all}
+use Rattle.std.proofs.lemmas.List.Elements.{All-more}
 use Rattle.text_out.specs.GatherLaws.{gathers_two}
 use Rattle.cut_cert.specs.Text.{split_line}
+use Rattle.cut_cert.specs.Spelling.{FitsName, FitsWeight}
 use Rattle.cut_cert.specs.Kept.{packings_of}
-use Rattle.cut_cert.proofs.NodesText.{nodes_text, nodes_text-tree, split_step, split_leaves, leaf_step, leaf_leaves, leaf_below}
+use Rattle.cut_cert.specs.Answers.{FitsNode}
+use Rattle.cut_cert.proofs.PackingLemmas.{All-found_more}
+use Rattle.cut_cert.proofs.NodesText.{nodes_text, nodes_text-tree, split_step, split_leaves, leaf_step, leaf_leaves, leaf_below, leaf_last}
 use Rattle.cut_cert.proofs.answer.write_tree.Goals as goal
 use Rattle.cut_cert.proofs.answer.write_tree.Goals.{in-Some, in-None}
 
@@ -27,17 +32,33 @@ loop-node-preserved g c =
         text =
             let text = ap (λ name. nodes_text c.args.grid.now (take i nodes) packings ++ split_line name) w.edge_name.ensures.name ∙ split_step c.args.grid.now nodes packings i w.in-Some.edge c.loop-node-test.true w.in-Some.is in
             rw (w.sink-is, w.block-is) (gathers_two _ _ _ _ _ _ _ _ _ c.loop-node.invariant.text w.write_split.ensures text);
+        names =
+            let fits : FitsName w.edge_name.result = search rules in
+            All-more (FitsNode c.args.grid.now) nodes i None c.loop-node-test.true c.loop-node.invariant.names (subst (FitsNode c.args.grid.now) (sym w.in-Some.is) (subst FitsName w.edge_name.ensures.name fits));
+        weights = rw w.leaf-is c.loop-node.invariant.weights;
       }
       | in-None w ↦ record {
         leaf = w.leaf-is ∙ ap (λ n. n + 1) c.loop-node.invariant.leaf ∙ leaf_leaves nodes i c.loop-node-test.true w.in-None.is;
         text =
             let below = leaf_below c.args.tree.now nodes i c.loop-node.leaf c.nodes-node-items.ensures.nodes c.loop-node-test.true w.in-None.is c.loop-node.invariant.leaf in
             let text = leaf_step c.args.grid.now nodes packings i c.loop-node.leaf w.packing.result.now c.loop-node-test.true w.in-None.is c.loop-node.invariant.leaf below w.packing.ensures in
-            rw (w.sink-is, w.block-is) (gathers_two _ _ _ _ _ _ _ _ _ c.loop-node.invariant.text w.write_leaf.ensures text);
+            rw (w.sink-is, w.block-is) (gathers_two _ _ _ _ _ _ _ _ _ c.loop-node.invariant.text w.write_leaf.ensures.text text);
+        names = All-more (FitsNode c.args.grid.now) nodes i None c.loop-node-test.true c.loop-node.invariant.names (subst (FitsNode c.args.grid.now) (sym w.in-None.is) (search rules));
+        weights = rw w.leaf-is (All-found_more (All FitsWeight) packings c.loop-node.leaf w.packing.result.now c.loop-node.invariant.weights w.packing.ensures w.write_leaf.ensures.weights);
       }
     ]
 
-pub returns : goal.returns
-returns g c =
+pub returns-clause-text : goal.returns-clause-text
+returns-clause-text g c =
     let all = take_all c.loop-node.node-index c.nodes-node-items.result.now c.loop-node-test.false in
     rw (all, c.nodes-node-items.ensures.nodes, nodes_text-tree) at c.loop-node.invariant.text
+
+pub returns-clause-names : goal.returns-clause-names
+returns-clause-names g c =
+    let all = take_all c.loop-node.node-index c.nodes-node-items.result.now c.loop-node-test.false in
+    rw (all, c.nodes-node-items.ensures.nodes) at c.loop-node.invariant.names
+
+pub returns-clause-weights : goal.returns-clause-weights
+returns-clause-weights g c =
+    let past = leaf_last c.args.tree.now c.nodes-node-items.result.now c.loop-node.node-index c.loop-node.leaf c.nodes-node-items.ensures.nodes c.loop-node-test.false c.loop-node.invariant.leaf in
+    rw (take_all c.loop-node.leaf (packings_of c.args.tree.now) past) at c.loop-node.invariant.weights
