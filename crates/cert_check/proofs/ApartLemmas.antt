@@ -32,9 +32,9 @@ pub reached_more : (g : Graph) (network marks : List Bool) (terminals : List ℕ
 reached_more g network marks terminals place same reached marked before p v below at = ⊎_elim
     (λ (sooner : p < place). before p v sooner at)
     (λ (later : place ≤ p).
-      let here : place ≡ p = omega arith in
-      let is : get_or terminals place 0 ≡ v = get_or_from_slice_get terminals place v 0 (ap (λ ts. slice_get ts place) same ∙ ap (slice_get g.terminals) here ∙ at) in
-      (reached v).0 (ap (has marks) (sym is) ∙ marked))
+    let here : place ≡ p = omega arith in
+    let is : get_or terminals place 0 ≡ v = get_or_from_slice_get terminals place v 0 (ap (λ ts. slice_get ts place) same ∙ ap (slice_get g.terminals) here ∙ at) in
+    (reached v).0 (ap (has marks) (sym is) ∙ marked))
     (cases_lt p place)
 
 -- all of them

@@ -111,12 +111,7 @@ impl Judge {
         }
         let terminals = grid.points().len();
         prove!(terminals <= 50);
-        network_fault(
-            alloc,
-            grid.graph(),
-            self.head.length,
-            self.edges.network(),
-        )
+        network_fault(alloc, grid.graph(), self.head.length, self.edges.network())
     }
 
     // Judges a cut.

@@ -32,11 +32,7 @@ pub(crate) fn network_fault(
 }
 
 // The place of the first terminal that the edges don't join to the root. An `Err` is want of memory.
-fn first_apart(
-    alloc: Global,
-    g: &NetGraph,
-    network: &EdgeSet,
-) -> Result<Option<u8>, AllocError>
+fn first_apart(alloc: Global, g: &NetGraph, network: &EdgeSet) -> Result<Option<u8>, AllocError>
     requires size { length network.now ≡ length g.now.edges }
     requires few { length g.now.terminals ≤ 255 }
     ensures none { IfOk result (λ place. IfNone place (IsNetwork g.now network.now)) }

@@ -24,11 +24,24 @@ fn worked_grid(rt: &HostRuntime) -> Result<Grid, Fail> {
 fn accepts_right_answers(rt: HostRuntime) -> Result<(), Fail> {
     let grid = worked_grid(&rt)?;
     let rows: [(&[u8], (u64, u64, bool)); 2] = [
-        (b"rst answer 1\nlength 3\nbound 3\nstatus optimal\nopenings 100\nconcat least 3\nedges 3\n0 0 1 0\n1 0 2 0\n1 0 1 1\ntree\nleaf 3\ncut 1 20\ncut 1 08\ncut 1 64\nend\n", (3, 3, true)),
-        (b"rst answer 1\nlength 3\nbound 1\nstatus stopped\nopenings 0\nconcat least 3\nedges 3\n0 0 1 0\n1 0 2 0\n1 0 1 1\ntree\nleaf 1\ncut 1 20\nend\n", (3, 1, false)),
+        (
+            b"rst answer 1\nlength 3\nbound 3\nstatus optimal\nopenings 100\nconcat least 3\nedges 3\n0 0 1 0\n1 0 2 0\n1 0 1 1\ntree\nleaf 3\ncut 1 20\ncut 1 08\ncut 1 64\nend\n",
+            (3, 3, true),
+        ),
+        (
+            b"rst answer 1\nlength 3\nbound 1\nstatus stopped\nopenings 0\nconcat least 3\nedges 3\n0 0 1 0\n1 0 2 0\n1 0 1 1\ntree\nleaf 1\ncut 1 20\nend\n",
+            (3, 1, false),
+        ),
     ];
     for (text, (length, bound, optimal)) in rows {
-        assert_eq!(rt; verdict_on(&rt, &grid, text)?, Verdict::Accepted { length, bound, optimal });
+        assert_eq!(rt;
+            verdict_on(&rt, &grid, text)?,
+            Verdict::Accepted {
+                length,
+                bound,
+                optimal
+            }
+        );
     }
     Ok(())
 }
@@ -36,9 +49,7 @@ fn accepts_right_answers(rt: HostRuntime) -> Result<(), Fail> {
 #[test]
 fn names_the_first_wrong_line(rt: HostRuntime) -> Result<(), Fail> {
     let grid = worked_grid(&rt)?;
-    let rows: [(&[u8], Cause); 1] = [
-        (b"", Cause::NotAnswer(1)),
-    ];
+    let rows: [(&[u8], Cause); 1] = [(b"", Cause::NotAnswer(1))];
     for (text, cause) in rows {
         assert_eq!(rt; verdict_on(&rt, &grid, text)?, Verdict::Refused(cause));
     }

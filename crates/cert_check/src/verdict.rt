@@ -14,7 +14,10 @@ pub enum Cause {
     /// The edges don't join this terminal to the first one, though all those before it.
     NotJoined(u8),
     /// The answer says one length, and its edges have another.
-    WrongLength { printed: u64, found: u64 },
+    WrongLength {
+        printed: u64,
+        found: u64,
+    },
     /// The line is a split: trees of more than one leaf are not judged yet.
     SplitLine(u64),
     /// The line's cut holds the root.
@@ -29,7 +32,10 @@ pub enum Cause {
         room: u64,
     },
     /// The answer says one bound, and the lesser of its packing's value and its length is another.
-    WrongBound { printed: u64, found: u64 },
+    WrongBound {
+        printed: u64,
+        found: u64,
+    },
     /// The answer says optimal though bound and length differ, or stopped though they agree.
     WrongStatus,
 }
