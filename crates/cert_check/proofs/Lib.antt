@@ -14,3 +14,8 @@ pub mod EdgesTold
 pub mod CutsTold
 pub mod Sound
 pub mod BoundLemmas
+pub mod SameLines
+pub mod NetworkFaults
+pub mod EdgeFaults
+pub mod CutFaults
+pub mod OneVerdict

@@ -7,3 +7,4 @@ pub mod Ends
 pub mod Judged
 pub mod Standing
 pub mod Accepted
+pub mod VerdictLaw

@@ -1,7 +1,9 @@
-//! Laws of answers that are accepted.
+//! Laws of verdicts, and of answers that are accepted.
 
 ghost use Rattle.cert_check.specs.Accepted.{AcceptedBoundHolds};
+ghost use Rattle.cert_check.specs.VerdictLaw.{OneVerdict};
 
+use cut_cert::one_reading;
 use duality::weak_duality;
 
 /// No network of the terminals' grid is shorter than the bound of an accepted answer, and where it says optimal none
@@ -10,4 +12,12 @@ pub fn accepted_bound_holds()
     ensures { AcceptedBoundHolds }
 {
     weak_duality();
+}
+
+/// Terminals and bytes have one verdict at most, and one set of edges that came before it: so the cause that a verdict
+/// gives is the only one. A law: the call does nothing, and its caller knows the fact from there on.
+pub fn one_verdict()
+    ensures { OneVerdict }
+{
+    one_reading();
 }

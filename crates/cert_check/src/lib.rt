@@ -13,5 +13,5 @@ mod tests;
 mod verdict;
 
 pub use check::check_whole;
-pub use law::accepted_bound_holds;
+pub use law::{accepted_bound_holds, one_verdict};
 pub use verdict::{Cause, Finished, Verdict};

@@ -1,0 +1,142 @@
+-- A cut may stand behind those before it, or its line is wrong for one cause.
+use Rattle.std.proofs.Common.{ℕ, ◌≡◌, ◌<◌, Bool, true, false, not, ◌&&◌, List, [], ◌∷◌, ◌++◌, length, slice_get, Some, ◌⊎◌, inl, inr, sym, ap, ◌∙◌, subst, arith}
+use Rattle.std.proofs.lemmas.Bool.{cases_lt}
+use Rattle.std.proofs.lemmas.List.{length-replicate, get_or-replicate}
+use Rattle.std.proofs.lemmas.Option.{slice_get_within, slice_get-get_or}
+use Rattle.net_graph.specs.declared.edge.Edge.{Edge}
+use Rattle.net_graph.specs.declared.packing.Cut.{Cut}
+use Rattle.net_graph.specs.declared.packing.EdgeState.TheVariants.{Undecided}
+use Rattle.net_graph.specs.Flags.{has}
+use Rattle.net_graph.specs.Graph.{Graph, root_of}
+use Rattle.net_graph.specs.Decision.{nothing_decided}
+use Rattle.net_graph.specs.Packing.{IsCut}
+use Rattle.net_graph.specs.Feasible.{KeepsRoom}
+use Rattle.cert_check.specs.declared.verdict.Cause.{Cause}
+use Rattle.cert_check.specs.declared.verdict.Cause.TheVariants.{RootInCut, IdleCut, Overload}
+use Rattle.cert_check.specs.Cuts.{PacksCut, IsIdle, IsEntered, IsFirstOverload, CutFault}
+
+-- a line's cut overloads an edge
+record Overloads (g : Graph) (cuts : List Cut) (c : Cut) (n : ℕ) (cause : Cause) : Type 0 where
+  edge : ℕ
+  amount : ℕ
+  room : ℕ
+  is : cause ≡ Overload n edge amount room
+  cut : IsCut g (nothing_decided g) c.members
+  first : IsFirstOverload g (cuts ++ c ∷ []) c.members edge amount room
+
+-- the three causes
+cut_causes : (g : Graph) (cuts : List Cut) (c : Cut) (n : ℕ) (cause : Cause) → CutFault g cuts c n cause →
+    ((cause ≡ RootInCut n) × (has c.members (root_of g) ≡ true)) ⊎ (((cause ≡ IdleCut n) × IsIdle g c.members) ⊎ Overloads g cuts c n cause)
+cut_causes g cuts c n (RootInCut line) (is, rooted) = inl (cc, rooted)
+cut_causes g cuts c n (IdleCut line) (is, idle) = inr (inl (cc, idle))
+cut_causes g cuts c n (Overload line edge amount room) (is, cut, first) = inr (inr (record { edge = edge; amount = amount; room = room; is = cc; cut = cut; first = first }))
+cut_causes g cuts c n cause fault = absurd fault
+
+-- ---- loads
+
+-- every edge is undecided where nothing is decided
+undecided_at : (g : Graph) (n : ℕ) → n < length g.edges → slice_get (nothing_decided g) n ≡ Some Undecided
+undecided_at g n within =
+    let inside : n < length (nothing_decided g) = omega (arith, length-replicate (length g.edges) Undecided) in
+    slice_get-get_or (nothing_decided g) n Undecided inside ∙ ap (λ state. Some state) (get_or-replicate (length g.edges) n Undecided Undecided within)
+
+-- an overloaded edge does not keep its room
+overload_out_of_room : (g : Graph) (packing : List Cut) (members : List Bool) (edge amount room : ℕ) → IsFirstOverload g packing members edge amount room → KeepsRoom g (nothing_decided g) packing edge → ⊥
+overload_out_of_room g packing members edge amount room over keeps =
+    let kept = keeps over.is Undecided over.at (undecided_at g edge (slice_get_within g.edges edge over.is over.at)) in
+    elim over.entered [
+      | inl there ↦ omega (arith, kept.0, there.1, over.room_is, over.above)
+      | inr back ↦ omega (arith, kept.1, back.1, over.room_is, over.above)
+    ]
+
+-- an edge has one arc at most that enters a set
+one_way : (p q : Bool) → p && not q ≡ true → q && not p ≡ true → ⊥
+one_way true true there back = absurd cc
+one_way true false there back = absurd cc
+one_way false true there back = absurd cc
+one_way false false there back = absurd cc
+
+-- so its load is determined
+same_amount : (packing : List Cut) (members : List Bool) (u v amount amount' : ℕ) → IsEntered packing members u v amount ⊎ IsEntered packing members v u amount → IsEntered packing members u v amount' ⊎ IsEntered packing members v u amount' → amount ≡ amount'
+same_amount packing members u v amount amount' (inl there) (inl there') = there.1 ∙ sym there'.1
+same_amount packing members u v amount amount' (inl there) (inr back') = absurd (one_way (has members v) (has members u) there.0 back'.0)
+same_amount packing members u v amount amount' (inr back) (inl there') = absurd (one_way (has members v) (has members u) there'.0 back.0)
+same_amount packing members u v amount amount' (inr back) (inr back') = back.1 ∙ sym back'.1
+
+-- the first overloaded edge has one number
+same_first : (g : Graph) (packing : List Cut) (members : List Bool) (edge edge' amount amount' room room' : ℕ) → IsFirstOverload g packing members edge amount room → IsFirstOverload g packing members edge' amount' room' → edge ≡ edge'
+same_first g packing members edge edge' amount amount' room room' over over' =
+    elim (cases_lt edge edge') [
+      | inl sooner ↦ absurd (overload_out_of_room g packing members edge amount room over (over'.first edge sooner))
+      | inr later ↦ elim (cases_lt edge' edge) [
+        | inl sooner ↦ absurd (overload_out_of_room g packing members edge' amount' room' over' (over.first edge' sooner))
+        | inr no_later ↦ omega arith
+      ]
+    ]
+
+-- and one load and one room
+same_overload : (g : Graph) (packing : List Cut) (members : List Bool) (edge edge' amount amount' room room' : ℕ) → IsFirstOverload g packing members edge amount room → IsFirstOverload g packing members edge' amount' room' → (edge ≡ edge') × (amount ≡ amount') × (room ≡ room')
+same_overload g packing members edge edge' amount amount' room room' over over' =
+    let same = same_first g packing members edge edge' amount amount' room room' over over' in
+    let at' : slice_get g.edges edge ≡ Some over'.is = rw same over'.at in
+    let at = over.at in
+    let is : over'.is ≡ over.is = cc in
+    let entered' = subst (λ (e : Edge). IsEntered packing members e.a e.b amount' ⊎ IsEntered packing members e.b e.a amount') is over'.entered in (
+      same,
+      same_amount packing members over.is.a over.is.b amount amount' over.entered entered',
+      over.room_is ∙ sym (over'.room_is ∙ ap (λ (e : Edge). e.length) is),
+    )
+
+-- ---- faults
+
+-- a cut is not idle
+cut_not_idle : {P : Type 0} (g : Graph) (members : List Bool) → IsCut g (nothing_decided g) members → IsIdle g members → P
+cut_not_idle g members cut idle =
+    let v = cut.required.0 in
+    let out : has members v ≡ false = idle.idle v cut.required.1 in
+    let within = cut.required.2 in
+    absurd cc
+
+-- nor holds it the root
+root_out : {P : Type 0} (g : Graph) (members : List Bool) → has members (root_of g) ≡ false → has members (root_of g) ≡ true → P
+root_out g members out within = absurd cc
+
+-- a cut that may stand there has no fault
+pub packs_without_fault : {P : Type 0} (g : Graph) (cuts : List Cut) (c : Cut) (n : ℕ) (cause : Cause) → PacksCut g cuts c → CutFault g cuts c n cause → P
+packs_without_fault g cuts c n cause packs fault =
+    elim (cut_causes g cuts c n cause fault) [
+      | inl (_, rooted) ↦ root_out g c.members packs.cut.rootless rooted
+      | inr (inl (_, idle)) ↦ cut_not_idle g c.members packs.cut idle
+      | inr (inr over) ↦ absurd (overload_out_of_room g (cuts ++ c ∷ []) c.members over.edge over.amount over.room over.first (packs.room over.edge))
+    ]
+
+-- a cut overloads an edge in one way
+same_overloads : (g : Graph) (cuts : List Cut) (c : Cut) (n : ℕ) (cause cause' : Cause) → Overloads g cuts c n cause → Overloads g cuts c n cause' → cause ≡ cause'
+same_overloads g cuts c n cause cause' over over' =
+    let same = same_overload g (cuts ++ c ∷ []) c.members over.edge over'.edge over.amount over'.amount over.room over'.room over.first over'.first in
+    let edge = same.0 in
+    let amount = same.1 in
+    let room = same.2 in
+    let named : Overload n over.edge over.amount over.room ≡ Overload n over'.edge over'.amount over'.room = cc in
+    over.is ∙ named ∙ sym over'.is
+
+-- the line of one that may not has one
+pub same_cut_fault : (g : Graph) (cuts : List Cut) (c : Cut) (n : ℕ) (cause cause' : Cause) → CutFault g cuts c n cause → CutFault g cuts c n cause' → cause ≡ cause'
+same_cut_fault g cuts c n cause cause' fault fault' =
+    elim (cut_causes g cuts c n cause fault) [
+      | inl (is, rooted) ↦ elim (cut_causes g cuts c n cause' fault') [
+        | inl (is', _) ↦ is ∙ sym is'
+        | inr (inl (_, idle')) ↦ root_out g c.members idle'.rootless rooted
+        | inr (inr over') ↦ root_out g c.members over'.cut.rootless rooted
+      ]
+      | inr (inl (is, idle)) ↦ elim (cut_causes g cuts c n cause' fault') [
+        | inl (_, rooted') ↦ root_out g c.members idle.rootless rooted'
+        | inr (inl (is', _)) ↦ is ∙ sym is'
+        | inr (inr over') ↦ cut_not_idle g c.members over'.cut idle
+      ]
+      | inr (inr over) ↦ elim (cut_causes g cuts c n cause' fault') [
+        | inl (_, rooted') ↦ root_out g c.members over.cut.rootless rooted'
+        | inr (inl (_, idle')) ↦ cut_not_idle g c.members over.cut idle'
+        | inr (inr over') ↦ same_overloads g cuts c n cause cause' over over'
+      ]
+    ]
