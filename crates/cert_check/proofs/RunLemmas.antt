@@ -1,5 +1,5 @@
 -- How the verdict on the lines that are left becomes the verdict on all of them.
-use Rattle.std.proofs.Common.{ℕ, zero, suc, ◌≡◌, ◌+◌, ◌≤◌, List, [], ◌∷◌, length, refl, sym, ap, ◌∙◌, inl, inr, arith, Some}
+use Rattle.std.proofs.Common.{ℕ, zero, suc, ◌≡◌, ◌+◌, ◌≤◌, List, [], ◌∷◌, length, ap, ◌∙◌, inl, inr, arith, Some}
 use Rattle.std.specs.Prelude.{Option, slice_get, drop}
 use Rattle.std.proofs.lemmas.List.{drop_all}
 use Rattle.points_in.specs.declared.point.Point.{Point}

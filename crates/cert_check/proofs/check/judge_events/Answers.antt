@@ -1,4 +1,4 @@
-use Rattle.std.proofs.Common.{◌≡◌, ◌+◌, ◌≤◌, length, sym, ap, ◌∙◌, arith}
+use Rattle.std.proofs.Common.{arith}
 use Rattle.cert_check.proofs.RunLemmas.{judged_wrong, judged_more, judged_end}
 use Rattle.cert_check.proofs.check.judge_events.Goals as goal
 
@@ -7,7 +7,7 @@ returns-in-Some c =
     let (sizes, (s, stands, all)) = c.loop-place.invariant in
     let fails = (rw c.in-Some.is at c.in_ok-cause.ensures.fault) s stands in
     all c.refused.result (judged_wrong c.args.grid.now s c.args.events.now.events c.args.events.now.fault c.loop-place.place c.get.result.now c.in-Some.cause c.refused.result
-      c.get.ensures (rw c.refused.ensures.network fails) c.refused.ensures.verdict)
+    c.get.ensures (rw c.refused.ensures.network fails) c.refused.ensures.verdict)
 
 pub loop-place-preserved : goal.loop-place-preserved
 loop-place-preserved c =

@@ -1,4 +1,4 @@
-use Rattle.std.proofs.Common.{◌≡◌, ap, ◌∙◌}
+use Rattle.std.proofs.Common.{ap, ◌∙◌}
 use Rattle.std.proofs.lemmas.Result.{IfOk-weaker}
 use Rattle.cert_check.proofs.EventFits.{reads_lines, events_fit}
 use Rattle.cert_check.proofs.check.judge_whole.Goals as goal
