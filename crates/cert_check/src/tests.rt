@@ -54,56 +54,71 @@ fn accepts_right_answers(rt: HostRuntime) -> Result<(), Fail> {
     Ok(())
 }
 
+/// How many of the answers, from the first on, are refused for their causes.
+fn refused(rt: &HostRuntime, rows: &[([&[u8]; 3], Cause)]) -> Result<usize, Fail> {
+    let grid = worked_grid(rt)?;
+    for (place, (parts, cause)) in rows.iter().enumerate() {
+        if verdict_on(rt, &grid, *parts)? != Verdict::Refused(*cause) {
+            return Ok(place);
+        }
+    }
+    Ok(rows.len())
+}
+
 #[test]
-fn names_the_first_wrong_line(rt: HostRuntime) -> Result<(), Fail> {
-    let grid = worked_grid(&rt)?;
+fn names_the_first_wrong_edge(rt: HostRuntime) -> Result<(), Fail> {
     let longer: &[u8] =
         b"rst answer 1\nlength 4\nbound 3\nstatus optimal\nopenings 100\nconcat least 3\n";
-    let wrong_status: &[u8] =
-        b"rst answer 1\nlength 3\nbound 1\nstatus optimal\nopenings 0\nconcat least 3\n";
     let off_the_grid: &[u8] = b"edges 1\n0 0 2 0\n";
     let exchanged: &[u8] = b"edges 3\n1 0 2 0\n0 0 1 0\n1 0 1 1\n";
     let two_edges: &[u8] = b"edges 2\n0 0 1 0\n1 0 2 0\n";
+    let (printed, found) = (4, 3);
+    let rows = [
+        ([OPTIMAL, off_the_grid, TREE], Cause::OffGrid(8)),
+        ([OPTIMAL, exchanged, TREE], Cause::EdgeOrder(9)),
+        ([OPTIMAL, two_edges, TREE], Cause::NotJoined(2)),
+        ([longer, EDGES, TREE], Cause::WrongLength { printed, found }),
+    ];
+    assert_eq!(rt; refused(&rt, &rows)?, rows.len());
+    Ok(())
+}
+
+#[test]
+fn names_the_first_wrong_cut(rt: HostRuntime) -> Result<(), Fail> {
     let split: &[u8] = b"tree\nsplit 0 0 1 0\nleaf 0\nleaf 0\nend\n";
     let with_root: &[u8] = b"tree\nleaf 1\ncut 1 80\nend\n";
     let idle: &[u8] = b"tree\nleaf 1\ncut 1 10\nend\n";
     let overload: &[u8] = b"tree\nleaf 1\ncut 2 20\nend\n";
     let no_end: &[u8] = b"tree\nleaf 1\ncut 1 20\nend";
+    let loaded = Cause::Overload {
+        line: 13,
+        edge: 1,
+        load: 2,
+        room: 1,
+    };
     let rows = [
-        ([OPTIMAL, off_the_grid, TREE], Cause::OffGrid(8)),
-        ([OPTIMAL, exchanged, TREE], Cause::EdgeOrder(9)),
-        ([OPTIMAL, two_edges, TREE], Cause::NotJoined(2)),
-        (
-            [longer, EDGES, TREE],
-            Cause::WrongLength {
-                printed: 4,
-                found: 3,
-            },
-        ),
         ([OPTIMAL, EDGES, split], Cause::SplitLine(12)),
         ([OPTIMAL, EDGES, with_root], Cause::RootInCut(13)),
         ([OPTIMAL, EDGES, idle], Cause::IdleCut(13)),
-        (
-            [OPTIMAL, EDGES, overload],
-            Cause::Overload {
-                line: 13,
-                edge: 1,
-                load: 2,
-                room: 1,
-            },
-        ),
+        ([OPTIMAL, EDGES, overload], loaded),
         ([STOPPED, EDGES, no_end], Cause::NotAnswer(14)),
+    ];
+    assert_eq!(rt; refused(&rt, &rows)?, rows.len());
+    Ok(())
+}
+
+#[test]
+fn judges_the_bound_and_then_the_status(rt: HostRuntime) -> Result<(), Fail> {
+    let wrong_status: &[u8] =
+        b"rst answer 1\nlength 3\nbound 1\nstatus optimal\nopenings 0\nconcat least 3\n";
+    let (printed, found) = (3, 1);
+    let rows = [
         (
             [OPTIMAL, EDGES, ONE_CUT],
-            Cause::WrongBound {
-                printed: 3,
-                found: 1,
-            },
+            Cause::WrongBound { printed, found },
         ),
         ([wrong_status, EDGES, ONE_CUT], Cause::WrongStatus),
     ];
-    for (parts, cause) in rows {
-        assert_eq!(rt; verdict_on(&rt, &grid, parts)?, Verdict::Refused(cause));
-    }
+    assert_eq!(rt; refused(&rt, &rows)?, rows.len());
     Ok(())
 }

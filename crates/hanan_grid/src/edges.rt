@@ -11,7 +11,7 @@ use net_graph::Edge;
 use points_in::Point;
 use std::alloc::{AllocError, Global};
 
-// All edges, the horizontal ones first.
+/// All edges, the horizontal ones first.
 pub fn line_edges(alloc: Global, xs: &[i64], ys: &[i64]) -> Result<Vec<Edge>, AllocError>
     requires columns { 0 < length xs.now }
     requires rows { 0 < length ys.now }
@@ -103,7 +103,7 @@ fn push_vertical_row(edges: &mut Vec<Edge>, columns: u32, ys: &[i64], row: usize
     }
 }
 
-// The vertex of each point, in order.
+/// The vertex of each point, in order.
 pub fn point_vertices(
     alloc: Global,
     xs: &[i64],
@@ -123,7 +123,7 @@ pub fn point_vertices(
     Ok(vertices)
 }
 
-// The vertex of a point whose coordinates are lines.
+/// The vertex of a point whose coordinates are lines.
 pub fn point_vertex(xs: &[i64], ys: &[i64], point: Point) -> u32
     requires rising_columns { IsRising xs.now }
     requires rising_rows { IsRising ys.now }

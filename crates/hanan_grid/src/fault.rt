@@ -27,7 +27,7 @@ impl From<AllocError> for GridFault {
     }
 }
 
-// The fault of a grid's graph, which is sound but for its total.
+/// The fault of a grid's graph, which is sound but for its total.
 pub fn grid_fault(fault: GraphFault) -> GridFault
     requires { IsTotalOrMemory fault }
     ensures { ComesFrom fault result }

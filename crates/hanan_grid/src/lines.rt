@@ -8,7 +8,7 @@ ghost use Rattle.hanan_grid.specs.Grid.{xs_of, ys_of};
 use points_in::Point;
 use std::alloc::{AllocError, Global};
 
-// The vertical lines of points.
+/// The vertical lines of points.
 pub fn x_lines(alloc: Global, points: &[Point]) -> Result<Vec<i64>, AllocError>
     ensures { IfOk result (λ lines. lines.items ≡ xs_of points.now) }
 {
@@ -19,7 +19,7 @@ pub fn x_lines(alloc: Global, points: &[Point]) -> Result<Vec<i64>, AllocError>
     Ok(lines_of(values))
 }
 
-// The horizontal lines of points.
+/// The horizontal lines of points.
 pub fn y_lines(alloc: Global, points: &[Point]) -> Result<Vec<i64>, AllocError>
     ensures { IfOk result (λ lines. lines.items ≡ ys_of points.now) }
 {
@@ -39,7 +39,7 @@ fn lines_of(mut values: Vec<i64>) -> Vec<i64>
     values
 }
 
-// How many of the lines are below a value.
+/// How many of the lines are below a value.
 pub fn place_in(lines: &[i64], value: i64) -> u32
     requires rising { IsRising lines.now }
     requires few { length lines.now ≤ 50 }
@@ -49,7 +49,7 @@ pub fn place_in(lines: &[i64], value: i64) -> u32
     lines.partition_point(|line| *line < value) as u32
 }
 
-// The place of a value among the lines, where it is one.
+/// The place of a value among the lines, where it is one.
 pub fn found_in(lines: &[i64], value: i64) -> Option<u32>
     requires rising { IsRising lines.now }
     requires few { length lines.now ≤ 50 }
@@ -64,7 +64,7 @@ pub fn found_in(lines: &[i64], value: i64) -> Option<u32>
     }
 }
 
-// The line at a place.
+/// The line at a place.
 pub fn line(lines: &[i64], place: u32) -> i64
     requires { place < length lines.now }
     ensures { result ≡ line_at lines.now place }
@@ -72,7 +72,7 @@ pub fn line(lines: &[i64], place: u32) -> i64
     lines[place as usize]
 }
 
-// How far it is from a line to the next one.
+/// How far it is from a line to the next one.
 pub fn gap(lines: &[i64], place: usize) -> u64
     requires { place + 1 < length lines.now }
     ensures { result ≡ gap_after lines.now place }

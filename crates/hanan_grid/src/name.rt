@@ -14,7 +14,7 @@ pub struct EdgeName {
     pub y2: i64,
 }
 
-// The name of an edge between two points, of which the first has the lower-numbered vertex.
+/// The name of an edge between two points, of which the first has the lower-numbered vertex.
 pub fn name_between(from: Point, to: Point) -> EdgeName
     ensures { result ≡ name_between from to }
 {
@@ -26,7 +26,7 @@ pub fn name_between(from: Point, to: Point) -> EdgeName
     }
 }
 
-// The two points of a name.
+/// The two points of a name.
 pub fn named_points(name: &EdgeName) -> (Point, Point)
     ensures { name_between result.0 result.1 ≡ name.now }
 {

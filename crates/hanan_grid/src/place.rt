@@ -17,7 +17,7 @@ pub struct Place {
 }
 
 impl Place {
-    // Whether this is the next crossing to the right of another one.
+    /// Whether this is the next crossing to the right of another one.
     pub fn is_right_of(self, other: Place) -> bool
         requires { other.column < 50 }
         ensures { IsTrue result ↔ IsRightOf self other }
@@ -25,7 +25,7 @@ impl Place {
         self.row == other.row && self.column == other.column + 1
     }
 
-    // Whether this is the next crossing above another one.
+    /// Whether this is the next crossing above another one.
     pub fn is_above(self, other: Place) -> bool
         requires { other.row < 50 }
         ensures { IsTrue result ↔ IsAbove self other }
@@ -34,7 +34,7 @@ impl Place {
     }
 }
 
-// The point where a column and a row cross.
+/// The point where a column and a row cross.
 pub fn crossing_at(xs: &[i64], ys: &[i64], place: Place) -> Point
     requires column { place.column < length xs.now }
     requires row { place.row < length ys.now }
