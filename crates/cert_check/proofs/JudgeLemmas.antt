@@ -1,5 +1,5 @@
 -- What a judge stands for behind one more line.
-use Rattle.std.proofs.Common.{ℕ, ◌≡◌, ◌-◌, Bool, true, List, [], ◌∷◌, ◌++◌, refl, sym, ap, ◌∙◌, inl, inr, Some}
+use Rattle.std.proofs.Common.{ℕ, ◌≡◌, ◌-◌, Bool, true, List, [], ◌∷◌, ◌++◌, refl, ap, ◌∙◌, inl, inr, Some}
 use Rattle.std.specs.Prelude.{Option, None, Result, Ok, Err, IfOk, IfSome, IfNone, slice_set}
 use Rattle.points_in.specs.declared.point.Point.{Point}
 use Rattle.net_graph.specs.declared.packing.Cut.{Cut}

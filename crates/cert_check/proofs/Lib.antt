@@ -19,3 +19,4 @@ pub mod NetworkFaults
 pub mod EdgeFaults
 pub mod CutFaults
 pub mod OneVerdict
+pub mod RunLemmas

@@ -1,15 +1,17 @@
 //! The verdict on a whole answer.
 
-ghost use Rattle.std.specs.Prelude.{◌≡◌, ◌≤◌, ℕ, List, Bool, IfOk};
+ghost use Rattle.std.specs.Prelude.{◌≡◌, ◌≤◌, ℕ, List, Bool, All, IfOk};
 ghost use Rattle.net_graph.specs.Network.{IsNetwork, length_of};
 ghost use Rattle.hanan_grid.specs.Grid.{hanan_grid_of};
-ghost use Rattle.cert_check.specs.Judged.{IsVerdict};
+ghost use Rattle.cert_check.specs.declared.verdict.Finished.{Finished};
+ghost use Rattle.cert_check.specs.Judged.{IsVerdict, Judges, nothing_told};
+ghost use Rattle.cert_check.specs.Standing.{FitsEvent, IsJudgeOn, StandsFor};
 ghost use Rattle.cert_check.specs.Accepted.{IsAccepted, AcceptsAs, IsAccepting};
 
 use crate::judge::Judge;
-use crate::law::accepted_bound_holds;
+use crate::law::{accepted_bound_holds, one_verdict};
 use crate::verdict::{Finished, Verdict};
-use cut_cert::{one_reading, read_events};
+use cut_cert::{EventList, one_reading, read_events};
 use hanan_grid::Grid;
 use std::alloc::{AllocError, Global};
 
@@ -18,6 +20,7 @@ use std::alloc::{AllocError, Global};
 /// `Err` is want of memory.
 pub fn check_whole(alloc: Global, grid: &Grid, bytes: &[u8]) -> Result<Finished, AllocError>
     ensures verdict { IfOk result (IsVerdict grid.now bytes.now) }
+    ensures only { IfOk result (λ f. (f' : Finished) → IsVerdict grid.now bytes.now f' → f' ≡ f) }
     ensures accepted { IfOk result (λ f. (length bound : ℕ) (optimal : Bool)
         → f.verdict ≡ Verdict.Accepted length bound optimal
         → AcceptsAs grid.now bytes.now f.network length bound optimal) }
@@ -28,6 +31,7 @@ pub fn check_whole(alloc: Global, grid: &Grid, bytes: &[u8]) -> Result<Finished,
         → bound ≤ length_of (hanan_grid_of grid.now) other) }
 {
     one_reading();
+    one_verdict();
     accepted_bound_holds();
     judge_whole(alloc, grid, bytes)
 }
@@ -37,7 +41,23 @@ fn judge_whole(alloc: Global, grid: &Grid, bytes: &[u8]) -> Result<Finished, All
     ensures { IfOk result (IsVerdict grid.now bytes.now) }
 {
     let events = read_events(alloc, grid.graph().vertex_count(), bytes)?;
-    let mut judge = Judge::begin(alloc, grid)?;
+    let judge = Judge::begin(alloc, grid)?;
+    judge_events(alloc, grid, judge, &events)
+}
+
+// The verdict on lines of which nothing was told yet.
+fn judge_events(
+    alloc: Global,
+    grid: &Grid,
+    judge: Judge,
+    events: &EventList,
+) -> Result<Finished, AllocError>
+    requires sizes { IsJudgeOn grid.now judge }
+    requires nothing { StandsFor grid.now (nothing_told grid.now) judge }
+    requires fits { All (FitsEvent (hanan_grid_of grid.now).vertices) events.now.events }
+    ensures { IfOk result (Judges grid.now (nothing_told grid.now) events.now.events events.now.fault) }
+{
+    let mut judge = judge;
     for place in 0..events.len() {
         if let Some(cause) = judge.judge(alloc, grid, events.get(place))? {
             return Ok(judge.refused(cause));

@@ -123,7 +123,8 @@ impl LeafRead {
         ensures back { IfNone result (LoadsArc self.old.back.items self.new.back.items n (cut_of weight members.now) e.b e.a e.length) }
         ensures over { IfSome result (λ load. OverloadsArc self.old.there.items n (cut_of weight members.now) e.a e.b e.length load
             ⊎ OverloadsArc self.old.back.items n (cut_of weight members.now) e.b e.a e.length load) }
-        ensures rows { (length self.new.there.items ≡ length self.old.there.items) × (length self.new.back.items ≡ length self.old.back.items) }
+        ensures there_size { length self.new.there.items ≡ length self.old.there.items }
+        ensures back_size { length self.new.back.items ≡ length self.old.back.items }
         ensures weight { self.new.weight ≡ self.old.weight }
     {
         if enters(members, e.a, e.b) {

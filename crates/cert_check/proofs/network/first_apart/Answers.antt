@@ -1,4 +1,4 @@
-use Rattle.std.proofs.Common.{◌≡◌, ap, sym, ◌∙◌, arith, length}
+use Rattle.std.proofs.Common.{ap, sym, ◌∙◌, arith, length}
 use Rattle.cert_check.proofs.ApartLemmas.{first_unmarked, reached_more, reached_all}
 use Rattle.cert_check.proofs.network.first_apart.Goals as goal
 

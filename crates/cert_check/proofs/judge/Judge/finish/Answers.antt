@@ -1,4 +1,4 @@
-use Rattle.std.proofs.Common.{◌≡◌, sym, ap, ◌∙◌}
+use Rattle.std.proofs.Common.{◌∙◌}
 use Rattle.hanan_grid.specs.Grid.{hanan_grid_of}
 use Rattle.cert_check.specs.Ends.{EndsWith}
 use Rattle.cert_check.specs.Judged.{value_so_far}

@@ -1,4 +1,4 @@
-use Rattle.std.proofs.Common.{◌≡◌, [], refl}
+use Rattle.std.proofs.Common.{[], refl}
 use Rattle.cert_check.proofs.JudgeLemmas.{none_gives, some_gives, count_passes, count_fails}
 use Rattle.cert_check.proofs.judge.Judge.judge.Goals as goal
 

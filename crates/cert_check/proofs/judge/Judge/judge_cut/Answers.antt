@@ -1,4 +1,4 @@
-use Rattle.std.proofs.Common.{◌≡◌, refl}
+use Rattle.std.proofs.Common.{refl}
 use Rattle.cert_check.proofs.JudgeLemmas.{passed_gives, cut_passes}
 use Rattle.cert_check.proofs.judge.Judge.judge_cut.Goals as goal
 

@@ -1,4 +1,4 @@
-use Rattle.std.proofs.Common.{◌≡◌, refl}
+use Rattle.std.proofs.Common.{refl}
 use Rattle.cert_check.proofs.JudgeLemmas.{none_gives, some_gives, edge_passes, edges_fail}
 use Rattle.cert_check.proofs.judge.Judge.judge_edge.Goals as goal
 

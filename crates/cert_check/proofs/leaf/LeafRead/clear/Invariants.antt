@@ -1,4 +1,4 @@
-use Rattle.std.proofs.Common.{◌≡◌, ℕ, ◌<◌, length, get_or}
+use Rattle.std.proofs.Common.{◌≡◌, ℕ, ◌<◌, get_or}
 use Rattle.cert_check.specs.Loads.{HasRows}
 use Rattle.cert_check.proofs.leaf.LeafRead.clear.Given as goal
 

@@ -1,4 +1,4 @@
-use Rattle.std.proofs.Common.{◌≡◌, length, replicate, refl, rules}
+use Rattle.std.proofs.Common.{refl, rules}
 use Rattle.cert_check.proofs.LeafCuts.{IsLeafOf-none}
 use Rattle.cert_check.proofs.leaf.LeafRead.empty.Goals as goal
 
