@@ -4,9 +4,11 @@ use Rattle.rst_outside.specs.Source.{SourceState, CameToTheEnd}
 use Rattle.rst_outside.specs.Sink.{SinkState, Appended}
 use Rattle.rst_outside.specs.Shelf.{ShelfState}
 use Rattle.points_in.specs.declared.point.Point.{Point}
+use Rattle.points_in.specs.Terminals.{terminals_of}
 use Rattle.points_in.specs.Text.{IsPlainList}
 use Rattle.net_graph.specs.declared.packing.Cut.{Cut}
 use Rattle.net_graph.specs.Network.{IsNetwork, length_of}
+use Rattle.cert_check.specs.Accepted.{IsAccepted}
 use Rattle.suite.specs.Told.{Told}
 use Rattle.suite.specs.declared.tool.Tool.{Tool}
 use Rattle.suite.specs.declared.tool.Tool.TheVariants.{Solve, Check}
@@ -75,8 +77,8 @@ IsRun (Some Check) name before after status =
 
 -- What `solve` printed is true: the input was read to its end, it is the written text of points, and the bytes that went out
 -- are the answer of a network of their grid with its plain length and of a packing, its one leaf, which is feasible, has
--- at most 4 E + 1 cuts, is maximal where its value is below the length, and gives the bound. No network of the grid is
--- shorter than the bound. The status is 0 exactly where the bound is the length.
+-- at most 4 E + 1 cuts, is maximal where its value is below the length, and gives the bound. They are accepted as an answer
+-- for the points. No network of the grid is shorter than the bound. The status is 0 exactly where the bound is the length.
 abbrev pub Headline : Option Tool → Outside → Outside → ℕ → Type 0
 Headline tool before after status = tool ≡ Some Solve → (status ≡ 0) ⊎ (status ≡ 3) →
     (bytes : List ℕ) × (ps : List Point) × (network : List Bool) × (packing : List Cut)
@@ -85,6 +87,7 @@ Headline tool before after status = tool ≡ Some Solve → (status ≡ 0) ⊎ (
     × IsNetworkOf (grid_of_points ps) network
     × IsLeafFor (grid_of_points ps) network packing
     × Appended before.out.taken (solve_text ps network packing) after.out.taken
+    × IsAccepted (terminals_of ps) (solve_text ps network packing)
     × ((other : List Bool) → IsNetwork (grid_of_points ps) other → bound_of (grid_of_points ps) network packing ≤ length_of (grid_of_points ps) other)
     × ((status ≡ 0) ↔ (bound_of (grid_of_points ps) network packing ≡ length_of (grid_of_points ps) network))
 

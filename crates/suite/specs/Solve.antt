@@ -15,6 +15,7 @@ use Rattle.suite.specs.declared.refusal.Refusal.TheVariants.{NotPlain, GridTooLo
 use Rattle.suite.specs.declared.solve.Ending.{Ending}
 use Rattle.suite.specs.declared.solve.Ending.TheVariants.{Optimal, Stopped}
 use Rattle.cut_cert.specs.Text.{answer_text}
+use Rattle.cert_check.specs.Accepted.{IsAccepted}
 use Rattle.suite.specs.Taking.{IsWholeInput, IsTooLongInput, grid_of_points}
 use Rattle.suite.specs.Solution.{IsNetworkOf, IsLeafFor, bound_of, solution}
 
@@ -22,17 +23,18 @@ use Rattle.suite.specs.Solution.{IsNetworkOf, IsLeafFor, bound_of, solution}
 abbrev pub ListsPoints : SourceState → SourceState → List Point → Type 0
 ListsPoints before after ps = (bytes : List ℕ) × IsWholeInput before after bytes × IsPlainList bytes ps
 
+-- the answer for the points, the network and the packing
+abbrev pub solve_text : List Point → List Bool → List Cut → List ℕ
+solve_text ps set packing = answer_text (solution (terminals_of ps) set packing)
+
 -- The input lists these points, their grid isn't too long, the edge set is a network of it, and the packing is a leaf
--- that bounds every network from below.
+-- that bounds every network from below. The text that tells both is accepted as an answer for the points.
 pub record IsSolved (before after : SourceState) (ps : List Point) (set : List Bool) (packing : List Cut) : Type 0 where
   pub points : ListsPoints before after ps
   pub short : total_of (grid_of_points ps) < 2 ^ 63
   pub network : IsNetworkOf (grid_of_points ps) set
   pub leaf : IsLeafFor (grid_of_points ps) set packing
-
--- the answer for the points, the network and the packing
-abbrev pub solve_text : List Point → List Bool → List Cut → List ℕ
-solve_text ps set packing = answer_text (solution (terminals_of ps) set packing)
+  pub accepted : IsAccepted (terminals_of ps) (solve_text ps set packing)
 
 -- the status of an answer: 0 where the bound is the length
 abbrev pub status_of_bound : ℕ → ℕ → ℕ

@@ -2,7 +2,9 @@
 
 ghost use Rattle.std.specs.Prelude.{◌≡◌};
 ghost use Rattle.hanan_grid.specs.Grid.{hanan_grid_of};
-ghost use Rattle.cut_cert.specs.Answers.{IsAnswerOn};
+ghost use Rattle.cut_cert.specs.Answers.{IsAnswerOn, value_of};
+ghost use Rattle.cut_cert.specs.Spelling.{SpellsAnswer};
+ghost use Rattle.cut_cert.specs.Text.{answer_text};
 ghost use Rattle.suite.specs.Solve.{IsSolveRun, status_of_ending};
 ghost use Rattle.suite.specs.SolveSteps.{ReadsGrid, PrintsSolution};
 
@@ -57,7 +59,9 @@ pub fn solve<I: Source, O: Sink>(
 // Writes an answer, and tells how the tool then ends.
 fn print_answer<O: Sink>(out: &mut O, grid: &Grid, answer: &Answer) -> Result<Ending, PutFault>
     requires { IsAnswerOn (hanan_grid_of grid.now) answer.now }
-    ensures { PrintsSolution grid.now answer.now (O.state out.old) (O.state out.new) result }
+    ensures prints { PrintsSolution grid.now answer.now (O.state out.old) (O.state out.new) result }
+    ensures spells { SpellsAnswer (hanan_grid_of grid.now).vertices (answer_text (value_of grid.now answer.now))
+        (value_of grid.now answer.now) }
 {
     write_answer(out, grid, answer)?;
     if answer.head.optimal {
