@@ -1,2 +1,3 @@
 pub mod LeafLaws
 pub mod SolveLaws
+pub mod CheckLaws

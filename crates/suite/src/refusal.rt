@@ -10,15 +10,17 @@ use crate::tool::Tool;
 use rst_outside::{PutFault, Sink, put_all};
 use text_out::{Block, finish, literal, number};
 
-/// Why a tool ends without an answer.
+/// Why a tool ends without an answer or a verdict.
 #[derive(Clone, Copy, Debug, PartialEq, Eq)]
 pub enum Refusal {
-    /// The input is no plain list of points.
+    /// The text that should list the points is no plain list of points.
     NotPlain,
     /// The edges of the points' grid sum to 2^63 or more: to this total.
     GridTooLong { total: u128 },
-    /// The input has more bytes than are taken whole.
+    /// The input or the points' file has more bytes than are taken whole.
     TooManyBytes,
+    /// A read of the points' file failed.
+    CannotReadPoints,
     /// A read of the input failed.
     CannotRead,
     /// A write to `out` failed.
@@ -35,7 +37,7 @@ impl Refusal {
         match self {
             Refusal::NotPlain | Refusal::GridTooLong { .. } => 4,
             Refusal::TooManyBytes => 8,
-            Refusal::CannotRead => 5,
+            Refusal::CannotReadPoints | Refusal::CannotRead => 5,
             Refusal::CannotWrite => 6,
             Refusal::OutOfMemory => 7,
         }
@@ -53,7 +55,7 @@ pub fn tell<R: Sink>(err: &mut R, tool: Tool, refusal: Refusal)
 pub fn tell_usage<R: Sink>(err: &mut R)
     ensures { Told (R.state err.old) usage_text (R.state err.new) }
 {
-    let _ = put_all(err, b"usage: rst solve [WORDS]\n");
+    let _ = put_all(err, b"usage: rst solve|check [WORDS]\n");
 }
 
 // The text of a refusal.
@@ -74,6 +76,7 @@ fn write_fault<R: Sink>(block: &mut Block, err: &mut R, tool: Tool, refusal: Ref
         Refusal::NotPlain => write_line(block, err, tool, b"not a plain list of points"),
         Refusal::GridTooLong { total } => write_total_line(block, err, tool, total),
         Refusal::TooManyBytes => write_line(block, err, tool, b"more than 67108864 bytes"),
+        Refusal::CannotReadPoints => write_line(block, err, tool, b"cannot read the points"),
         Refusal::CannotRead => write_line(block, err, tool, b"cannot read input"),
         Refusal::CannotWrite => write_line(block, err, tool, b"cannot write"),
         Refusal::OutOfMemory => literal(block, err, b"rst: out of memory\n"),

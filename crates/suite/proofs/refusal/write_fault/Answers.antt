@@ -4,6 +4,9 @@ use Rattle.suite.proofs.refusal.write_fault.Goals as goal
 pub returns-in-TooManyBytes : goal.returns-in-TooManyBytes
 returns-in-TooManyBytes g c = rw c.in-TooManyBytes.is c.write_line-in-TooManyBytes.ensures
 
+pub returns-in-CannotReadPoints : goal.returns-in-CannotReadPoints
+returns-in-CannotReadPoints g c = rw c.in-CannotReadPoints.is c.write_line-in-CannotReadPoints.ensures
+
 pub returns-in-CannotRead : goal.returns-in-CannotRead
 returns-in-CannotRead g c = rw c.in-CannotRead.is c.write_line-in-CannotRead.ensures
 

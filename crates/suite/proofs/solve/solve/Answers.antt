@@ -9,9 +9,9 @@ print_answer-requires g c = c.in-Ok.ensures.fits
 pub returns-in-Ok-print_answer : goal.returns-in-Ok-print_answer
 returns-in-Ok-print_answer g c =
     solved_run PutFault (g.I.Source.state c.args.input.now) (g.I.Source.state c.read_grid.new.input) (g.O.Sink.state c.args.out.now) (g.O.Sink.state c.print_answer.new.out)
-    c.in_ok-grid.grid c.in-Ok.answer c.in-Ok-print_answer.ending c.in_ok-grid.ensures c.in-Ok.ensures c.in-Ok-print_answer.ensures
+    c.in_ok-grid.grid c.in-Ok.answer c.in-Ok-print_answer.ending c.in_ok-grid.ensures c.in-Ok.ensures c.in-Ok-print_answer.ensures.spells c.in-Ok-print_answer.ensures.prints
 
 pub returns : goal.returns
 returns g c =
     cut_run c.in-Err.field-0 (g.I.Source.state c.args.input.now) (g.I.Source.state c.read_grid.new.input) (g.O.Sink.state c.args.out.now) (g.O.Sink.state c.print_answer.new.out)
-    c.in_ok-grid.grid c.in-Ok.answer c.in_ok-grid.ensures c.in-Ok.ensures c.in-Err.ensures
+    c.in_ok-grid.grid c.in-Ok.answer c.in_ok-grid.ensures c.in-Ok.ensures c.in-Err.ensures.spells c.in-Err.ensures.prints
