@@ -1,5 +1,5 @@
 -- From the steps of `check` to its run.
-use Rattle.std.proofs.Common.{ℕ, ◌≡◌, ◌<◌, ◌≤◌, ◌^◌, Bool, List, Result, Ok, Err, refl, sym, subst, ap, ◌∙◌}
+use Rattle.std.proofs.Common.{ℕ, ◌≡◌, ◌<◌, ◌≤◌, ◌^◌, List, Ok, refl, sym, subst, ap, ◌∙◌}
 use Rattle.rst_outside.specs.Source.{SourceState}
 use Rattle.rst_outside.specs.Sink.{Appended}
 use Rattle.rst_outside.specs.Shelf.{ShelfState}
