@@ -1,7 +1,7 @@
 -- From the steps of `check` to its run.
-use Rattle.std.proofs.Common.{ℕ, zero, suc, ◌≡◌, ◌<◌, ◌≤◌, ◌^◌, Bool, List, Result, Ok, Err, ◌⊎◌, inl, inr, refl, sym, subst, ap, ◌∙◌}
+use Rattle.std.proofs.Common.{ℕ, ◌≡◌, ◌<◌, ◌≤◌, ◌^◌, List, Ok, refl, sym, subst, ap, ◌∙◌}
 use Rattle.rst_outside.specs.Source.{SourceState}
-use Rattle.rst_outside.specs.Sink.{SinkState, Appended, Wrote, CutShort}
+use Rattle.rst_outside.specs.Sink.{Appended}
 use Rattle.rst_outside.specs.Shelf.{ShelfState}
 use Rattle.points_in.specs.declared.point.Point.{Point}
 use Rattle.points_in.specs.Terminals.{terminals_of}
@@ -12,39 +12,14 @@ use Rattle.cert_check.specs.declared.verdict.Finished.{Finished}
 use Rattle.cert_check.specs.declared.verdict.Verdict.{Verdict}
 use Rattle.cert_check.specs.declared.verdict.Verdict.TheVariants as said
 use Rattle.cert_check.specs.Accepted.{IsAccepting}
-use Rattle.suite.specs.declared.refusal.Refusal.{Refusal}
-use Rattle.suite.specs.declared.refusal.Refusal.TheVariants.{NotPlain, GridTooLong, TooManyBytes, CannotReadPoints, CannotRead, CannotWrite, OutOfMemory}
-use Rattle.suite.specs.Taking.{IsWholeInput, HasInputCause, grid_of_points}
-use Rattle.suite.specs.Solve.{KeepsOut}
+use Rattle.suite.specs.Taking.{IsWholeInput, grid_of_points}
 use Rattle.suite.specs.Verdicts.{verdict_text, accepted_line, status_of_verdict}
 use Rattle.suite.specs.declared.check.Checked.{Checked}
 use Rattle.suite.specs.declared.tool.Tool.TheVariants.{Check}
-use Rattle.suite.specs.Check.{ToolState, HasCheckCause, IsCheckRun, status_of_checked}
-use Rattle.suite.specs.CheckSteps.{HasFileCause, ReadsFileGrid, JudgesBytes, JudgesInput, FindsVerdict, TellsLine}
+use Rattle.suite.specs.Check.{ToolState, IsCheckRun, status_of_checked}
+use Rattle.suite.specs.CheckSteps.{ReadsFileGrid, JudgesBytes, JudgesInput, FindsVerdict, TellsLine}
 use Rattle.suite.specs.Truth.{ChecksTruly}
 use Rattle.suite.specs.RunSteps.{Works}
-
--- a fault of the points' file, before the input was touched
-pub file_cause : (refusal : Refusal) (name : List ℕ) (input : SourceState) (shelf shelf' : ShelfState) → HasFileCause refusal name shelf shelf' → (out : SinkState) →
-    HasCheckCause refusal name (record { input = input; out = out; shelf = shelf }) (record { input = input; out = out; shelf = shelf' }) × KeepsOut refusal out out
-file_cause NotPlain name input shelf shelf' cause out = ((cause, refl), refl)
-file_cause (GridTooLong total) name input shelf shelf' cause out = ((cause, refl), refl)
-file_cause TooManyBytes name input shelf shelf' cause out = (inl (cause, refl), refl)
-file_cause CannotReadPoints name input shelf shelf' cause out = ((cause, refl), refl)
-file_cause CannotRead name input shelf shelf' cause out = absurd cause
-file_cause CannotWrite name input shelf shelf' cause out = absurd cause
-file_cause OutOfMemory name input shelf shelf' cause out = (tt, refl)
-
--- a fault of the input
-pub input_cause : (refusal : Refusal) (name : List ℕ) (input input' : SourceState) (shelf shelf' : ShelfState) → HasInputCause refusal input input' → (out : SinkState) →
-    HasCheckCause refusal name (record { input = input; out = out; shelf = shelf }) (record { input = input'; out = out; shelf = shelf' }) × KeepsOut refusal out out
-input_cause NotPlain name input input' shelf shelf' cause out = absurd cause
-input_cause (GridTooLong total) name input input' shelf shelf' cause out = absurd cause
-input_cause TooManyBytes name input input' shelf shelf' cause out = (inr cause, refl)
-input_cause CannotReadPoints name input input' shelf shelf' cause out = absurd cause
-input_cause CannotRead name input input' shelf shelf' cause out = (cause, refl)
-input_cause CannotWrite name input input' shelf shelf' cause out = absurd cause
-input_cause OutOfMemory name input input' shelf shelf' cause out = (tt, refl)
 
 -- the verdict on the input's bytes, which a slice holds, for the grid of the file's points
 pub found_verdict : (name : List ℕ) (shelf shelf' : ShelfState) (input input' : SourceState) (grid : List Point) (bytes slice : List ℕ) (f : Finished) →

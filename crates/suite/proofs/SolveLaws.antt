@@ -1,13 +1,12 @@
 -- From the steps of `solve` to its run.
-use Rattle.std.proofs.Common.{ℕ, ◌≡◌, ◌+◌, ◌*◌, ◌<◌, ◌≤◌, ◌^◌, Bool, List, [], ◌∷◌, length, Option, None, Result, Ok, Err, cond, refl, sym, subst, ap, ◌∙◌, arith}
-use Rattle.std.proofs.lemmas.List.Elements.{All-cons, All-nil, All-weaker}
+use Rattle.std.proofs.Common.{◌≡◌, ◌+◌, ◌*◌, ◌<◌, ◌≤◌, ◌^◌, List, length, Ok, Err, cond, subst, ap, ◌∙◌}
+use Rattle.std.proofs.lemmas.List.Elements.{All-weaker}
 use Rattle.rst_outside.specs.Source.{SourceState}
 use Rattle.rst_outside.specs.Sink.{SinkState, Wrote, CutShort}
 use Rattle.points_in.specs.declared.point.Point.{Point}
 use Rattle.points_in.specs.Terminals.{terminals_of}
 use Rattle.net_graph.specs.declared.packing.Cut.{Cut}
 use Rattle.net_graph.specs.Graph.{total_of}
-use Rattle.net_graph.specs.Network.{length_of}
 use Rattle.net_graph.specs.Decision.{nothing_decided}
 use Rattle.net_graph.specs.Packing.{IsCut, IsFeasible}
 use Rattle.hanan_grid.specs.Grid.{hanan_grid_of}
@@ -15,14 +14,13 @@ use Rattle.cut_cert.specs.declared.answer.Answer.{Answer}
 use Rattle.cut_cert.specs.Value.{WrittenAnswer}
 use Rattle.cut_cert.specs.Text.{answer_text}
 use Rattle.cut_cert.specs.Spelling.{SpellsAnswer}
-use Rattle.cut_cert.specs.Answers.{IsCutOn, IsPackingOn, IsNodeOn, value_of}
+use Rattle.cut_cert.specs.Answers.{IsCutOn, IsPackingOn, value_of}
 use Rattle.net_graph.specs.Graph.{Graph}
 use Rattle.cert_check.specs.Accepted.{IsAccepted}
-use Rattle.suite.specs.declared.refusal.Refusal.{Refusal}
 use Rattle.suite.specs.declared.refusal.Refusal.TheVariants.{CannotWrite}
 use Rattle.suite.specs.declared.solve.Ending.{Ending}
 use Rattle.suite.specs.Solution.{IsNetworkOf, IsLeafFor, solution}
-use Rattle.suite.specs.Solve.{ListsPoints, IsSolved, PrintsAnswer, IsSolveRun, status_of_ending}
+use Rattle.suite.specs.Solve.{IsSolved, IsSolveRun}
 use Rattle.suite.specs.SolveSteps.{ReadsGrid, Solves, PrintsSolution}
 
 -- a feasible packing with few cuts can be told

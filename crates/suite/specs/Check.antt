@@ -33,6 +33,10 @@ pub record IsWholeFile (shelf : ShelfState) (name bytes : List ℕ) : Type 0 whe
 abbrev pub FileLists : ShelfState → List ℕ → List Point → Type 0
 FileLists shelf name ps = (bytes : List ℕ) × IsWholeFile shelf name bytes × IsPlainList bytes ps
 
+-- the file lists points, whose grid isn't too long
+abbrev pub FileHasGrid : ShelfState → List ℕ → Type 0
+FileHasGrid shelf name = (ps : List Point) × FileLists shelf name ps × (total_of (grid_of_points ps) < 2 ^ 63)
+
 -- the file is the written text of no points
 abbrev pub FileListsNone : ShelfState → List ℕ → Type 0
 FileListsNone shelf name = (bytes : List ℕ) × IsWholeFile shelf name bytes × ((ps : List Point) → IsPlainList bytes ps → ⊥)
@@ -71,15 +75,15 @@ CutsVerdict name before after =
     (ps : List Point) × (bytes : List ℕ) × (f : Finished) × IsChecked name before after ps bytes f
     × CutShort before.out (verdict_text f.verdict) after.out
 
--- Why a run refuses. Where the points' file is at fault the input is as before. Want of memory has no cause that a contract
--- could name.
+-- Why a run refuses. Where the points' file is at fault the input is as before; where the input is, the file has a grid. Want
+-- of memory has no cause that a contract could name.
 abbrev pub HasCheckCause : Refusal → List ℕ → ToolState → ToolState → Type 0
 HasCheckCause NotPlain name before after = FileListsNone before.shelf name × (after.input ≡ before.input)
 HasCheckCause (GridTooLong total) name before after = FileListsTooLong before.shelf name total × (after.input ≡ before.input)
 HasCheckCause TooManyBytes name before after =
-    (IsTooLongFile before.shelf name × (after.input ≡ before.input)) ⊎ IsTooLongInput before.input after.input
+    (IsTooLongFile before.shelf name × (after.input ≡ before.input)) ⊎ (FileHasGrid before.shelf name × IsTooLongInput before.input after.input)
 HasCheckCause CannotReadPoints name before after = Rose before.shelf.faults after.shelf.faults × (after.input ≡ before.input)
-HasCheckCause CannotRead name before after = Rose before.input.faults after.input.faults
+HasCheckCause CannotRead name before after = FileHasGrid before.shelf name × Rose before.input.faults after.input.faults
 HasCheckCause CannotWrite name before after = CutsVerdict name before after
 HasCheckCause OutOfMemory name before after = Unit {0}
 

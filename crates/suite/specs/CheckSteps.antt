@@ -21,7 +21,7 @@ use Rattle.suite.specs.Taking.{IsWholeInput, grid_of_points}
 use Rattle.suite.specs.declared.check.Checked.{Checked}
 use Rattle.suite.specs.Solve.{KeepsOut}
 use Rattle.suite.specs.Verdicts.{verdict_text, status_of_verdict}
-use Rattle.suite.specs.Check.{ToolState, IsWholeFile, FileLists, FileListsNone, FileListsTooLong, IsTooLongFile, HasCheckCause, status_of_checked}
+use Rattle.suite.specs.Check.{IsWholeFile, FileLists, FileListsNone, FileListsTooLong, IsTooLongFile, HasCheckCause, status_of_checked}
 
 -- Why the points' file gives no grid.
 abbrev pub HasFileCause : Refusal → List ℕ → ShelfState → ShelfState → Type 0

@@ -1,5 +1,5 @@
 -- A run of the program, by the order of work: the words, the input, the computing, the writing.
-use Rattle.std.specs.Prelude.{ℕ, ◌≡◌, ◌≤◌, List, Bool, Option, Some, None, Result, Ok, Err, ◌⊎◌, ◌↔◌}
+use Rattle.std.specs.Prelude.{ℕ, ◌≡◌, ◌≤◌, List, Bool, Option, Some, None, ◌⊎◌, ◌↔◌}
 use Rattle.rst_outside.specs.Source.{SourceState, CameToTheEnd}
 use Rattle.rst_outside.specs.Sink.{SinkState, Appended}
 use Rattle.rst_outside.specs.Shelf.{ShelfState}

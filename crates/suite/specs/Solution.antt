@@ -10,7 +10,7 @@ use Rattle.net_graph.specs.Saturation.{IsMaximal}
 use Rattle.net_graph.specs.Members.{members_of}
 use Rattle.hanan_grid.specs.Grid.{hanan_grid_of}
 use Rattle.cut_cert.specs.declared.head.AnswerHead.{AnswerHead}
-use Rattle.cut_cert.specs.Value.{Tree, WrittenAnswer}
+use Rattle.cut_cert.specs.Value.{WrittenAnswer}
 use Rattle.cut_cert.specs.Value.Tree.{Leaf}
 use Rattle.cut_cert.specs.Answers.{names_of}
 

@@ -6,10 +6,9 @@ use Rattle.rst_outside.specs.Sink.{SinkState, Wrote, CutShort}
 use Rattle.points_in.specs.declared.point.Point.{Point}
 use Rattle.points_in.specs.Terminals.{terminals_of}
 use Rattle.points_in.specs.Text.{IsPlainList}
-use Rattle.net_graph.specs.Graph.{Graph, total_of}
+use Rattle.net_graph.specs.Graph.{total_of}
 use Rattle.net_graph.specs.declared.packing.Cut.{Cut}
 use Rattle.net_graph.specs.Network.{length_of}
-use Rattle.hanan_grid.specs.Grid.{hanan_grid_of}
 use Rattle.suite.specs.declared.refusal.Refusal.{Refusal}
 use Rattle.suite.specs.declared.refusal.Refusal.TheVariants.{NotPlain, GridTooLong, TooManyBytes, CannotReadPoints, CannotRead, CannotWrite, OutOfMemory}
 use Rattle.suite.specs.declared.solve.Ending.{Ending}

@@ -1,5 +1,5 @@
 -- The steps of `solve` before it writes, each with the cause of its refusals.
-use Rattle.std.specs.Prelude.{ℕ, ◌≡◌, ◌<◌, ◌≤◌, ◌^◌, Bool, List, Result, Ok, Err, if◌then◌else◌}
+use Rattle.std.specs.Prelude.{◌≡◌, ◌<◌, ◌^◌, List, Result, Ok, Err, if◌then◌else◌}
 use Rattle.rst_outside.specs.Source.{SourceState}
 use Rattle.rst_outside.specs.Sink.{SinkState, Wrote, CutShort}
 use Rattle.points_in.specs.declared.point.Point.{Point}

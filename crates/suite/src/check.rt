@@ -104,11 +104,7 @@ fn read_points_file<S: Shelf>(
 }
 
 // All bytes of a file.
-fn take_file<S: Shelf>(
-    alloc: Global,
-    shelf: &mut S,
-    points_name: &str,
-) -> Result<Vec<u8>, Refusal>
+fn take_file<S: Shelf>(alloc: Global, shelf: &mut S, points_name: &str) -> Result<Vec<u8>, Refusal>
     ensures bytes { TakesFile points_name.now (S.state shelf.old) (S.state shelf.new) result }
     ensures files { KeepsFiles (S.state shelf.old) (S.state shelf.new) }
 {

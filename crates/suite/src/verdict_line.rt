@@ -117,7 +117,13 @@ fn write_about_point<O: Sink>(block: &mut Block, out: &mut O, point: u8)
 
 // What is said of a number that the answer tells wrongly.
 #[tactic(auto, using(text_out::specs::GatherLaws::pieces))]
-fn write_about_number<O: Sink>(block: &mut Block, out: &mut O, name: &[u8], printed: u64, found: u64)
+fn write_about_number<O: Sink>(
+    block: &mut Block,
+    out: &mut O,
+    name: &[u8],
+    printed: u64,
+    found: u64,
+)
     ensures { Gathers (O.state out.old) block.old (about_number name.now printed found) (O.state out.new) block.new }
 {
     literal(block, out, name);
@@ -129,7 +135,14 @@ fn write_about_number<O: Sink>(block: &mut Block, out: &mut O, name: &[u8], prin
 
 // What is said of a line whose cut loads an edge above its room.
 #[tactic(auto, using(text_out::specs::GatherLaws::pieces))]
-fn write_about_load<O: Sink>(block: &mut Block, out: &mut O, line: u64, edge: u32, load: u128, room: u64)
+fn write_about_load<O: Sink>(
+    block: &mut Block,
+    out: &mut O,
+    line: u64,
+    edge: u32,
+    load: u128,
+    room: u64,
+)
     ensures { Gathers (O.state out.old) block.old (about_load line edge load room) (O.state out.new) block.new }
 {
     write_about_line(block, out, line, b" loads edge ");

@@ -1,5 +1,5 @@
 -- The ascent's packing is few cuts, and a leaf for every network.
-use Rattle.std.proofs.Common.{◌≤◌, ◌+◌, ◌*◌, length, arith}
+use Rattle.std.proofs.Common.{arith}
 use Rattle.suite.proofs.LeafLaws.{leaf_of_ascent}
 use Rattle.suite.proofs.bound.leaf_by.Goals as goal
 
