@@ -14,7 +14,7 @@ const POINTS: &str = "points";
 const LIMIT: u64 = 1 << 16;
 
 /// The files of the answers.
-const ANSWERS: [&str; 17] = [
+const ANSWERS: [&str; 20] = [
     "right",
     "stopped",
     "overload",
@@ -32,6 +32,9 @@ const ANSWERS: [&str; 17] = [
     "out_of_order",
     "split",
     "bytes_after_the_end",
+    "edge_reversed",
+    "weight_zero",
+    "last_line_feed_missing",
 ];
 
 /// The words that ask for a verdict.

@@ -97,5 +97,6 @@ abbrev pub EndsCheck : List ℕ → ToolState → ToolState → Result Checked R
 EndsCheck name before after (Ok checked) = TellsVerdict name before after (status_of_checked checked)
 EndsCheck name before after (Err refusal) = HasCheckCause refusal name before after × KeepsOut refusal before.out after.out
 
+-- the same, and the shelf's files stay as they were
 abbrev pub IsCheckRun : List ℕ → ToolState → ToolState → Result Checked Refusal → Type 0
 IsCheckRun name before after result = EndsCheck name before after result × KeepsFiles before.shelf after.shelf
