@@ -235,54 +235,56 @@ fn takes_no_more_bytes_than_the_limit(rt: HostRuntime) -> Result<(), Fail> {
     Ok(())
 }
 
+/// The number of a line and what stands in its place, and the status and the line of the verdict.
+const REPLACED_LINES: [(usize, &[u8], u8, &[u8]); 13] = [
+    (0, b"", 0, b"accepted length 3 bound 3 optimal\n"),
+    (
+        2,
+        b"length 03\n",
+        1,
+        b"refused line 2 is not in the format\n",
+    ),
+    (2, b"length 4\n", 1, b"refused length says 4, found 3\n"),
+    (3, b"bound 2\n", 1, b"refused bound says 2, found 3\n"),
+    (8, b"0 0 2 0\n", 1, b"refused line 8 names no grid edge\n"),
+    (
+        13,
+        b"cut 2 20\n",
+        1,
+        b"refused line 13 loads edge 1 with 2 of 1\n",
+    ),
+    (
+        13,
+        b"cut 1 80\n",
+        1,
+        b"refused line 13 has the root in its cut\n",
+    ),
+    (
+        13,
+        b"cut 1 10\n",
+        1,
+        b"refused line 13 cuts off no required vertex\n",
+    ),
+    (
+        13,
+        b"cut 1 21\n",
+        1,
+        b"refused line 13 is not in the format\n",
+    ),
+    (
+        15,
+        b"cut 1 6A\n",
+        1,
+        b"refused line 15 is not in the format\n",
+    ),
+    (16, b"end", 1, b"refused line 16 is not in the format\n"),
+    (16, b"end\nx", 1, b"refused line 17 is not in the format\n"),
+    (16, b"", 1, b"refused line 16 is not in the format\n"),
+];
+
 #[test]
 fn judges_an_answer_with_one_line_replaced(rt: HostRuntime) -> Result<(), Fail> {
-    let rows: [(usize, &[u8], u8, &[u8]); 13] = [
-        (0, b"", 0, b"accepted length 3 bound 3 optimal\n"),
-        (
-            2,
-            b"length 03\n",
-            1,
-            b"refused line 2 is not in the format\n",
-        ),
-        (2, b"length 4\n", 1, b"refused length says 4, found 3\n"),
-        (3, b"bound 2\n", 1, b"refused bound says 2, found 3\n"),
-        (8, b"0 0 2 0\n", 1, b"refused line 8 names no grid edge\n"),
-        (
-            13,
-            b"cut 2 20\n",
-            1,
-            b"refused line 13 loads edge 1 with 2 of 1\n",
-        ),
-        (
-            13,
-            b"cut 1 80\n",
-            1,
-            b"refused line 13 has the root in its cut\n",
-        ),
-        (
-            13,
-            b"cut 1 10\n",
-            1,
-            b"refused line 13 cuts off no required vertex\n",
-        ),
-        (
-            13,
-            b"cut 1 21\n",
-            1,
-            b"refused line 13 is not in the format\n",
-        ),
-        (
-            15,
-            b"cut 1 6A\n",
-            1,
-            b"refused line 15 is not in the format\n",
-        ),
-        (16, b"end", 1, b"refused line 16 is not in the format\n"),
-        (16, b"end\nx", 1, b"refused line 17 is not in the format\n"),
-        (16, b"", 1, b"refused line 16 is not in the format\n"),
-    ];
-    for (number, text, status, line) in rows {
+    for (number, text, status, line) in REPLACED_LINES {
         let left = checked(&rt, answer_with(&rt, number, text)?.as_slice())?;
         assert_eq!(rt; left.out.as_slice(), line);
         assert_eq!(rt; left.status, status);
@@ -291,47 +293,49 @@ fn judges_an_answer_with_one_line_replaced(rt: HostRuntime) -> Result<(), Fail> 
     Ok(())
 }
 
+/// An answer, and the status and the line of the verdict on it.
+const WHOLE_ANSWERS: [(&[u8], u8, &[u8]); 8] = [
+    (
+        b"rst answer 1\nlength 3\nbound 1\nstatus stopped\nopenings 0\nconcat least 3\nedges 3\n0 0 1 0\n1 0 2 0\n1 0 1 1\ntree\nleaf 1\ncut 1 20\nend\n",
+        0,
+        b"accepted length 3 bound 1 stopped\n",
+    ),
+    (
+        b"rst answer 1\nlength 3\nbound 1\nstatus optimal\nopenings 0\nconcat least 3\nedges 3\n0 0 1 0\n1 0 2 0\n1 0 1 1\ntree\nleaf 1\ncut 1 20\nend\n",
+        1,
+        b"refused status\n",
+    ),
+    (
+        b"rst answer 1\nlength 3\nbound 2\nstatus stopped\nopenings 0\nconcat least 3\nedges 3\n0 0 1 0\n1 0 2 0\n1 0 1 1\ntree\nleaf 1\ncut 1 20\nend\n",
+        1,
+        b"refused bound says 2, found 1\n",
+    ),
+    (
+        b"rst answer 1\nlength 3\nbound 3\nstatus optimal\nopenings 100\nconcat least 3\nedges 3\n0 0 1 0\n1 0 2 0\n1 0 1 1\ntree\nleaf 3\ncut 1 2",
+        1,
+        b"refused line 13 is not in the format\n",
+    ),
+    (
+        b"rst answer 1\nlength 2\nbound 3\nstatus optimal\nopenings 100\nconcat least 3\nedges 2\n0 0 1 0\n1 0 2 0\ntree\nleaf 3\ncut 1 20\ncut 1 08\ncut 1 64\nend\n",
+        1,
+        b"refused point 2 is not joined\n",
+    ),
+    (
+        b"rst answer 1\nlength 3\nbound 3\nstatus optimal\nopenings 100\nconcat least 3\nedges 3\n1 0 2 0\n0 0 1 0\n1 0 1 1\ntree\nleaf 3\ncut 1 20\ncut 1 08\ncut 1 64\nend\n",
+        1,
+        b"refused line 9 is out of order\n",
+    ),
+    (
+        b"rst answer 1\nlength 3\nbound 3\nstatus optimal\nopenings 100\nconcat least 3\nedges 3\n0 0 1 0\n1 0 2 0\n1 0 1 1\ntree\nsplit 0 0 1 0\nleaf 3\ncut 1 20\ncut 1 08\ncut 1 64\nleaf 2\ncut 1 20\ncut 1 08\nend\n",
+        1,
+        b"refused line 12 is a split\n",
+    ),
+    (b"", 1, b"refused line 1 is not in the format\n"),
+];
+
 #[test]
 fn judges_whole_answers(rt: HostRuntime) -> Result<(), Fail> {
-    let rows: [(&[u8], u8, &[u8]); 8] = [
-        (
-            b"rst answer 1\nlength 3\nbound 1\nstatus stopped\nopenings 0\nconcat least 3\nedges 3\n0 0 1 0\n1 0 2 0\n1 0 1 1\ntree\nleaf 1\ncut 1 20\nend\n",
-            0,
-            b"accepted length 3 bound 1 stopped\n",
-        ),
-        (
-            b"rst answer 1\nlength 3\nbound 1\nstatus optimal\nopenings 0\nconcat least 3\nedges 3\n0 0 1 0\n1 0 2 0\n1 0 1 1\ntree\nleaf 1\ncut 1 20\nend\n",
-            1,
-            b"refused status\n",
-        ),
-        (
-            b"rst answer 1\nlength 3\nbound 2\nstatus stopped\nopenings 0\nconcat least 3\nedges 3\n0 0 1 0\n1 0 2 0\n1 0 1 1\ntree\nleaf 1\ncut 1 20\nend\n",
-            1,
-            b"refused bound says 2, found 1\n",
-        ),
-        (
-            b"rst answer 1\nlength 3\nbound 3\nstatus optimal\nopenings 100\nconcat least 3\nedges 3\n0 0 1 0\n1 0 2 0\n1 0 1 1\ntree\nleaf 3\ncut 1 2",
-            1,
-            b"refused line 13 is not in the format\n",
-        ),
-        (
-            b"rst answer 1\nlength 2\nbound 3\nstatus optimal\nopenings 100\nconcat least 3\nedges 2\n0 0 1 0\n1 0 2 0\ntree\nleaf 3\ncut 1 20\ncut 1 08\ncut 1 64\nend\n",
-            1,
-            b"refused point 2 is not joined\n",
-        ),
-        (
-            b"rst answer 1\nlength 3\nbound 3\nstatus optimal\nopenings 100\nconcat least 3\nedges 3\n1 0 2 0\n0 0 1 0\n1 0 1 1\ntree\nleaf 3\ncut 1 20\ncut 1 08\ncut 1 64\nend\n",
-            1,
-            b"refused line 9 is out of order\n",
-        ),
-        (
-            b"rst answer 1\nlength 3\nbound 3\nstatus optimal\nopenings 100\nconcat least 3\nedges 3\n0 0 1 0\n1 0 2 0\n1 0 1 1\ntree\nsplit 0 0 1 0\nleaf 3\ncut 1 20\ncut 1 08\ncut 1 64\nleaf 2\ncut 1 20\ncut 1 08\nend\n",
-            1,
-            b"refused line 12 is a split\n",
-        ),
-        (b"", 1, b"refused line 1 is not in the format\n"),
-    ];
-    for (answer, status, line) in rows {
+    for (answer, status, line) in WHOLE_ANSWERS {
         let left = checked(&rt, answer)?;
         assert_eq!(rt; left.out.as_slice(), line);
         assert_eq!(rt; left.status, status);
