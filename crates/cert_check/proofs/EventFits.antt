@@ -1,7 +1,6 @@
 -- The events of bytes fit: a cut has members, which are a set of the grid's vertices.
-use Rattle.std.proofs.Common.{ℕ, suc, ◌≡◌, ◌-◌, List, [], ◌∷◌, ◌++◌, length, map, take, Option, Some, None, subst}
-use Rattle.std.specs.Prelude.{All, slice_get, IfNone, IfSome}
-use Rattle.std.proofs.lemmas.Option.{slice_get_within, get_or_from_slice_get}
+use Rattle.std.proofs.Common.{ℕ, suc, ◌-◌, List, [], ◌∷◌, ◌++◌, length, map, take, Option, Some, None}
+use Rattle.std.specs.Prelude.{All, IfNone, IfSome}
 use Rattle.std.proofs.lemmas.List.Elements.{All-nil, All-cons, All-head, All-tail, All-same, All-append, All-weaker, All-take, All-map}
 use Rattle.net_graph.specs.declared.packing.Cut.{Cut}
 use Rattle.hanan_grid.specs.declared.name.EdgeName.{EdgeName}
@@ -76,10 +75,3 @@ events_fit V bytes events (Some n) read =
     let front = read.begins in
     All-same (FitsEvent V) events (take (n - 6) (events_of front.answer)) (read.told front.rest front.answer front.spells)
     (All-take (FitsEvent V) (n - 6) (events_of front.answer) (events_of_fit V front.answer front.spells.fits))
-
--- the event at each place fits
-pub event_fits : (V : ℕ) (bytes : List ℕ) (events : List AnswerEvent) (fault : Option ℕ) (place : ℕ) (told : AnswerEvent)
-    → ReadsLines V bytes events fault → slice_get events place ≡ Some told → FitsEvent V told
-event_fits V bytes events fault place told read at =
-    let within = slice_get_within events place told at in
-    subst (FitsEvent V) (get_or_from_slice_get events place told told at) (events_fit V bytes events fault read place told within)

@@ -1,5 +1,5 @@
 -- What a judge stands for behind one more line.
-use Rattle.std.proofs.Common.{ℕ, ◌≡◌, ◌-◌, Bool, true, List, [], ◌∷◌, ◌++◌, refl, ap, ◌∙◌, inl, inr, Some}
+use Rattle.std.proofs.Common.{ℕ, ◌≡◌, ◌-◌, Bool, true, List, [], ◌∷◌, ◌++◌, refl, ap, ◌∙◌, inr, Some}
 use Rattle.std.specs.Prelude.{Option, None, Result, Ok, Err, IfOk, IfSome, IfNone, slice_set}
 use Rattle.points_in.specs.declared.point.Point.{Point}
 use Rattle.net_graph.specs.declared.packing.Cut.{Cut}
@@ -8,8 +8,8 @@ use Rattle.hanan_grid.specs.Grid.{hanan_grid_of}
 use Rattle.cut_cert.specs.declared.event.Event.TheVariants as event
 use Rattle.cert_check.specs.declared.verdict.Cause.{Cause}
 use Rattle.cert_check.specs.declared.judge.Judge.{Judge}
-use Rattle.cert_check.specs.Edges.{FollowsEdges, EdgeFault}
-use Rattle.cert_check.specs.Cuts.{PacksCut, CutFault, cut_of}
+use Rattle.cert_check.specs.Edges.{FollowsEdges}
+use Rattle.cert_check.specs.Cuts.{PacksCut, cut_of}
 use Rattle.cert_check.specs.Loads.{IsLeafOf}
 use Rattle.cert_check.specs.Judged.{SoFar, Passes, Fails, IsNetworkRight, IsNetworkWrong, with_edge, with_cut}
 use Rattle.cert_check.specs.Standing.{StandsFor}
@@ -57,11 +57,6 @@ edges_fail ps name line old new cause behind wrong s members stands =
     let after = stands_behind ps name old new s behind stands in
     inr (behind.edge, rw stands.network at behind.follows, wrong (with_edge s behind.edge) after, after.network)
 
--- an edge of its own is wrong
-pub edge_fails : (ps : List Point) (name : EdgeName) (line : ℕ) (old new : Judge) (cause : Cause) → EdgeFault ps old.edges name line cause → new.edges ≡ old.edges
-    → (s : SoFar) (members : Option (List Bool)) → StandsFor ps s old → Fails ps s line (event.Edge name) members cause new.edges
-edge_fails ps name line old new cause fault kept s members stands = inl (rw stands.network at fault, kept ∙ stands.network)
-
 -- the judge behind one more cut
 pub cut_passes : (ps : List Point) (old new : Judge) (weight : ℕ) (set : List Bool)
     → ((cuts : List Cut) → IsLeafOf (hanan_grid_of ps) cuts old.leaf → PacksCut (hanan_grid_of ps) cuts (cut_of weight set) × IsLeafOf (hanan_grid_of ps) (cuts ++ cut_of weight set ∷ []) new.leaf)
@@ -70,12 +65,6 @@ pub cut_passes : (ps : List Point) (old new : Judge) (weight : ℕ) (set : List 
 cut_passes ps old new weight set packs head due edges s stands =
     let (packed, leaf) = packs s.cuts stands.leaf in
     (with_cut s (cut_of weight set), (packed, refl), record { head = head ∙ stands.head; due = due ∙ stands.due; network = edges ∙ stands.network; leaf = leaf })
-
--- or a cut that is wrong
-pub cut_fails : (ps : List Point) (old new : Judge) (weight line : ℕ) (set : List Bool) (cause : Cause)
-    → ((cuts : List Cut) → IsLeafOf (hanan_grid_of ps) cuts old.leaf → CutFault (hanan_grid_of ps) cuts (cut_of weight set) line cause) → new.edges ≡ old.edges
-    → (s : SoFar) → StandsFor ps s old → Fails ps s line (event.Cut weight) (Some set) cause new.edges
-cut_fails ps old new weight line set cause faulty edges s stands = (faulty s.cuts stands.leaf, edges ∙ stands.network)
 
 -- the judge behind the count of the edges
 pub record IsBehindCount (count : ℕ) (old new : Judge) : Type 0 where

@@ -45,15 +45,6 @@ pub record LoadsBelow (from to : Edge → ℕ) (edges : List Edge) (c : Cut) (n 
   pub within : (k : ℕ) (e : Edge) → k < n → slice_get edges k ≡ Some e → enters c.members (from e) (to e) ≡ true → get_or row k 0 + c.weight ≤ e.length
   pub ahead : (k : ℕ) → n ≤ k → get_or loaded k 0 ≡ get_or row k 0
 
--- at the start
-pub LoadsBelow-none : (from to : Edge → ℕ) (edges : List Edge) (c : Cut) (row : List ℕ) → LoadsBelow from to edges c 0 row row
-LoadsBelow-none from to edges c row = record {
-  size = refl;
-  passed = λ k e lt at. absurd (omega arith);
-  within = λ k e lt at enters. absurd (omega arith);
-  ahead = λ k le. refl;
-}
-
 -- one more edge
 pub LoadsBelow-more : (from to : Edge → ℕ) (edges : List Edge) (c : Cut) (n : ℕ) (e : Edge) (row loaded next : List ℕ) → slice_get edges n ≡ Some e → n < length loaded →
     LoadsBelow from to edges c n row loaded → LoadsArc loaded next n c (from e) (to e) e.length → LoadsBelow from to edges c (n + 1) row next

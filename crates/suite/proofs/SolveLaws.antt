@@ -1,34 +1,23 @@
 -- From the steps of `solve` to its run.
-use Rattle.std.proofs.Common.{◌≡◌, ◌+◌, ◌*◌, ◌<◌, ◌≤◌, ◌^◌, Bool, List, length, Ok, Err, cond, refl, subst, ap, ◌∙◌}
-use Rattle.std.proofs.lemmas.List.Elements.{All-weaker}
+use Rattle.std.proofs.Common.{◌≡◌, ◌<◌, ◌^◌, Bool, List, Ok, Err, cond, refl, subst, ap, ◌∙◌}
 use Rattle.rst_outside.specs.Source.{SourceState}
 use Rattle.rst_outside.specs.Sink.{SinkState, Wrote, CutShort}
 use Rattle.points_in.specs.declared.point.Point.{Point}
 use Rattle.points_in.specs.Terminals.{terminals_of}
 use Rattle.net_graph.specs.declared.packing.Cut.{Cut}
 use Rattle.net_graph.specs.Graph.{total_of}
-use Rattle.net_graph.specs.Decision.{nothing_decided}
-use Rattle.net_graph.specs.Packing.{IsCut, IsFeasible}
 use Rattle.hanan_grid.specs.Grid.{hanan_grid_of}
 use Rattle.cut_cert.specs.declared.answer.Answer.{Answer}
 use Rattle.cut_cert.specs.Value.{WrittenAnswer}
 use Rattle.cut_cert.specs.Text.{answer_text}
 use Rattle.cut_cert.specs.Spelling.{SpellsAnswer}
-use Rattle.cut_cert.specs.Answers.{IsCutOn, IsPackingOn, value_of}
-use Rattle.net_graph.specs.Graph.{Graph}
+use Rattle.cut_cert.specs.Answers.{value_of}
 use Rattle.cert_check.specs.Accepted.{IsAccepted}
 use Rattle.suite.specs.declared.refusal.Refusal.TheVariants.{CannotWrite}
 use Rattle.suite.specs.declared.solve.Ending.{Ending}
 use Rattle.suite.specs.Solution.{IsNetworkOf, IsLeafFor, solution}
 use Rattle.suite.specs.Solve.{IsSolved, IsSolveRun}
 use Rattle.suite.specs.SolveSteps.{ReadsGrid, Solves, PrintsSolution}
-
--- a feasible packing with few cuts can be told
-pub packing_fits : (g : Graph) (packing : List Cut) → IsFeasible g (nothing_decided g) packing → length packing ≤ 4 * length g.edges + 1 → IsPackingOn g packing
-packing_fits g packing feasible few = record {
-  few = few;
-  each = All-weaker (λ (c : Cut). (0 < c.weight) × IsCut g (nothing_decided g) c.members) (IsCutOn g) (λ c h. record { some = h.0; size = h.1.size }) packing feasible.cuts;
-}
 
 -- a text that spells the answer of a network and a leaf is accepted
 accepted_solution : (ps : List Point) (set : List Bool) (packing : List Cut) →
