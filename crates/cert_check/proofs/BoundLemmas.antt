@@ -5,7 +5,7 @@ use Rattle.points_in.specs.declared.point.Point.{Point}
 use Rattle.net_graph.specs.declared.packing.EdgeState.TheVariants.{Undecided, Inside, Outside}
 use Rattle.net_graph.specs.declared.packing.Cut.{Cut}
 use Rattle.net_graph.specs.Graph.{Graph}
-use Rattle.net_graph.specs.Network.{IsNetwork, length_of}
+use Rattle.net_graph.specs.Network.{IsLowerBound, length_of}
 use Rattle.net_graph.specs.Decision.{Agrees, nothing_decided}
 use Rattle.net_graph.specs.Packing.{packing_value}
 use Rattle.hanan_grid.specs.Grid.{hanan_grid_of}
@@ -22,11 +22,11 @@ Agrees-nothing_decided g set = record {
 }
 
 -- the bound of an accepted answer is at most its packing's value, and so at most the length of any network
-bound_below : WeakDuality → (ps : List Point) (bytes : List ℕ) (answer : WrittenAnswer) (network : List Bool) (packing : List Cut) → Accepts ps bytes answer network packing → (other : List Bool) → IsNetwork (hanan_grid_of ps) other → answer.head.bound ≤ length_of (hanan_grid_of ps) other
+bound_below : WeakDuality → (ps : List Point) (bytes : List ℕ) (answer : WrittenAnswer) (network : List Bool) (packing : List Cut) → Accepts ps bytes answer network packing → IsLowerBound (hanan_grid_of ps) answer.head.bound
 bound_below duality ps bytes answer network packing accepts other joins =
     let g = hanan_grid_of ps in
     let below : packing_value g (nothing_decided g) packing ≤ length_of g other =
-    duality g (nothing_decided g) packing other (length-replicate (length g.edges) Undecided) accepts.feasible (Agrees-nothing_decided g other) joins in
+    duality g (nothing_decided g) packing (length-replicate (length g.edges) Undecided) accepts.feasible other (Agrees-nothing_decided g other) joins in
     omega (arith, below, accepts.bound)
 
 -- the law, by weak duality
@@ -36,7 +36,7 @@ accepted_bound_holds_lem duality ps bytes answer network packing accepts other j
     (below, λ optimal. let same : answer.head.bound ≡ answer.head.length = eqb-true answer.head.bound answer.head.length (sym accepts.status ∙ optimal) in omega (arith, below, same))
 
 -- so for the bound that an accepting verdict says
-pub accepted_bound_below : AcceptedBoundHolds → (ps : List Point) (bytes : List ℕ) (network : List Bool) (printed bound : ℕ) (optimal : Bool) → AcceptsAs ps bytes network printed bound optimal → (other : List Bool) → IsNetwork (hanan_grid_of ps) other → bound ≤ length_of (hanan_grid_of ps) other
+pub accepted_bound_below : AcceptedBoundHolds → (ps : List Point) (bytes : List ℕ) (network : List Bool) (printed bound : ℕ) (optimal : Bool) → AcceptsAs ps bytes network printed bound optimal → IsLowerBound (hanan_grid_of ps) bound
 accepted_bound_below law ps bytes network printed bound optimal (answer, packing, accepts, _, told, _) other joins =
     let below = (law ps bytes answer network packing accepts other joins).0 in
     omega (arith, below, told)

@@ -1,7 +1,7 @@
 //! The verdict on a whole answer.
 
 ghost use Rattle.std.specs.Prelude.{◌≡◌, ◌≤◌, ℕ, List, Bool, All, IfOk};
-ghost use Rattle.net_graph.specs.Network.{IsNetwork, length_of};
+ghost use Rattle.net_graph.specs.Network.{IsLowerBound};
 ghost use Rattle.hanan_grid.specs.Grid.{hanan_grid_of};
 ghost use Rattle.cert_check.specs.declared.verdict.Finished.{Finished};
 ghost use Rattle.cert_check.specs.Judged.{IsVerdict, Judges, nothing_told};
@@ -27,8 +27,7 @@ pub fn check_whole(alloc: Global, grid: &Grid, bytes: &[u8]) -> Result<Finished,
     ensures complete { IfOk result (λ f. IsAccepted grid.now bytes.now → IsAccepting f.verdict) }
     ensures bound { IfOk result (λ f. (length bound : ℕ) (optimal : Bool)
         → f.verdict ≡ Verdict.Accepted length bound optimal
-        → (other : List Bool) → IsNetwork (hanan_grid_of grid.now) other
-        → bound ≤ length_of (hanan_grid_of grid.now) other) }
+        → IsLowerBound (hanan_grid_of grid.now) bound) }
 {
     one_reading();
     one_verdict();

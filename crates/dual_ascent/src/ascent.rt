@@ -2,8 +2,7 @@
 
 ghost use Rattle.std.specs.Prelude.{◌≡◌, ◌+◌, ◌*◌, ◌≤◌, Bool, List, true, false, length, IfOk};
 ghost use Rattle.net_graph.specs.Graph.{total_of};
-ghost use Rattle.net_graph.specs.Network.{IsNetwork, length_of};
-ghost use Rattle.net_graph.specs.Decision.{Agrees};
+ghost use Rattle.net_graph.specs.Decision.{IsLowerBoundUnder};
 ghost use Rattle.net_graph.specs.Packing.{IsFeasible, packing_value};
 ghost use Rattle.net_graph.specs.Saturation.{IsMaximal};
 ghost use Rattle.dual_ascent.specs.Ascending.{BeginsWith, closed_with};
@@ -47,7 +46,8 @@ pub fn ascend<F: Rule>(
     ensures maximal { IfOk result (λ a. a.closed ≡ false → IsMaximal g.now d.now a.packing) }
     ensures closed { IfOk result (λ a. a.closed ≡ true → total_of g.now ≤ packing_value g.now d.now a.packing) }
     // No network that agrees with the decision is shorter than the packing's value.
-    ensures bound { IfOk result (λ a. (set : List Bool) → Agrees g.now d.now set → IsNetwork g.now set → packing_value g.now d.now a.packing ≤ length_of g.now set) }
+    ensures bound { IfOk result
+        (λ a. IsLowerBoundUnder g.now d.now (packing_value g.now d.now a.packing)) }
 {
     weak_duality();
     let required = required_vertices(alloc, g, d)?;

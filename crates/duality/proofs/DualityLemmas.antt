@@ -104,7 +104,7 @@ IsCovered-from_agrees g decision packing set hops size feasible agrees = record 
 
 -- no network that agrees with a decision is shorter than the value of a feasible packing
 pub weak_duality_lem : WeakDuality
-weak_duality_lem g decision packing set size feasible agrees network =
+weak_duality_lem g decision packing size feasible set agrees network =
     let (hops, entries) = entries_from_cuts g decision set packing agrees network (recursion_from_All _ packing feasible.cuts) in
     omega (
       arith,

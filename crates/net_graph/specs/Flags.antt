@@ -1,11 +1,15 @@
 -- A set of numbers below a size is the list of its flags: the flag at n is true where n is in the set.
-use Rattle.std.specs.Prelude.{ℕ, ◌/◌, ◌%◌, ◌==◌, Bool, false, List, map, slice_index, slice_index_or}
+use Rattle.std.specs.Prelude.{ℕ, ◌≡◌, ◌/◌, ◌%◌, ◌==◌, Bool, true, false, List, map, slice_index, slice_index_or}
 use Rattle.std.specs.Int.{bit_at}
 use Rattle.std.specs.List.{range_with_len}
 
 -- whether the number is in the set
 abbrev pub has : List Bool → ℕ → Bool
 has set n = slice_index_or set n false
+
+-- each number of the one set is in the other
+abbrev pub IsSubset : List Bool → List Bool → Type 0
+IsSubset small large = (n : ℕ) → has small n ≡ true → has large n ≡ true
 
 -- whether a number's bit is set where words of 64 bits keep one bit a number
 abbrev pub bit_in_words : List ℕ → ℕ → Bool

@@ -10,6 +10,7 @@ pub mod Turned
 pub mod Found
 pub mod Network
 pub mod Joins
+pub mod JoinsLaws
 pub mod Decision
 pub mod Packing
 pub mod Feasible

@@ -1,6 +1,6 @@
--- Walks, reached vertices, networks and their length. An edge set is the list of its flags: one for each
+-- Walks, reached vertices, networks, their length and bounds on it. An edge set is the list of its flags: one for each
 -- edge, true where the edge is in it.
-use Rattle.std.specs.Prelude.{ℕ, ◌≡◌, ◌+◌, Bool, true, List, [], ◌∷◌, slice_get, Some, ◌⊎◌, All, if◌then◌else◌}
+use Rattle.std.specs.Prelude.{ℕ, ◌≡◌, ◌+◌, ◌≤◌, Bool, true, List, [], ◌∷◌, slice_get, Some, ◌⊎◌, All, Contains, if◌then◌else◌}
 use Rattle.net_graph.specs.declared.edge.Edge.{Edge}
 use Rattle.net_graph.specs.Graph.{Graph, root_of}
 use Rattle.net_graph.specs.Search.{StepWalk, Leads}
@@ -21,6 +21,10 @@ Walk g set v w n = StepWalk (Links g set) v w n
 abbrev pub Reaches : Graph → List Bool → ℕ → Type 0
 Reaches g set v = Leads (Links g set) (root_of g) v
 
+-- every two of the vertices are linked by a walk over edges of the set
+abbrev pub Joins : Graph → List Bool → List ℕ → Type 0
+Joins g set vertices = (v w : ℕ) → Contains vertices v → Contains vertices w → Leads (Links g set) v w
+
 -- every terminal is reached
 abbrev pub IsNetwork : Graph → List Bool → Type 0
 IsNetwork g set = All (Reaches g set) g.terminals
@@ -34,3 +38,11 @@ length_of_edges (e ∷ es) (flag ∷ set) = (if flag then e.length else 0) + len
 -- the plain sum of the lengths of the set's edges, each counted once
 abbrev pub length_of : Graph → List Bool → ℕ
 length_of g set = length_of_edges g.edges set
+
+-- no network is shorter
+abbrev pub IsLowerBound : Graph → ℕ → Type 0
+IsLowerBound g bound = (other : List Bool) → IsNetwork g other → bound ≤ length_of g other
+
+-- a network, and no network is shorter than it
+abbrev pub IsShortest : Graph → List Bool → Type 0
+IsShortest g set = IsNetwork g set × IsLowerBound g (length_of g set)

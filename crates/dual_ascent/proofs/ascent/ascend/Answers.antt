@@ -48,5 +48,5 @@ returns-in-Close g c =
       maximal = IfOk-weaker c.close.result _ _ (λ a is not_closed. absurd cc) c.close.ensures.closed;
       closed = IfOk-weaker c.close.result _ _ (λ a is _. is.value) closed;
       bound = IfOk-weaker c.close.result _ _
-          (λ a is set. c.weak_duality.ensures c.args.g.now c.args.d.now a.packing set c.requires.decision is.feasible) closed;
+          (λ a is. c.weak_duality.ensures c.args.g.now c.args.d.now a.packing c.requires.decision is.feasible) closed;
     }
