@@ -22,6 +22,10 @@ returns-in-Done-clause-maximal g c not_closed =
     let next : IsNextStep c.args.g.now vertices c.loop-packing.rooms Done = rw (c.deref.ensures.value, c.in-Done.is) at c.in_ok-next_step.ensures in
     (IsMaximal-iff c.args.g.now c.args.d.now c.loop-packing.packing c.loop-packing.rooms vertices c.requires.decision c.loop-packing.invariant.left c.in_ok-required.ensures.required).0 next
 
+pub returns-in-Done-clause-bound : goal.returns-in-Done-clause-bound
+returns-in-Done-clause-bound g c =
+    c.weak_duality.ensures c.args.g.now c.args.d.now c.loop-packing.packing c.requires.decision c.loop-packing.invariant.feasible
+
 pub loop-packing-smaller : goal.loop-packing-smaller
 loop-packing-smaller g c =
     let next : IsNextCut c.args.g.now c.in_ok-required.required.items c.loop-packing.rooms c.in-Pack.cut = rw (c.deref.ensures.value, c.in-Pack.is) at c.in_ok-next_step.ensures in
