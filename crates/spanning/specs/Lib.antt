@@ -1,0 +1,4 @@
+pub mod Joining
+pub mod JoiningLaws
+pub mod Leaving
+pub mod Part
