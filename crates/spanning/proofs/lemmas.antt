@@ -4,3 +4,5 @@ pub mod Exchange
 pub mod Growing
 pub mod Shortest
 pub mod Totals
+pub mod Closure
+pub mod Rows

@@ -4,6 +4,8 @@
 mod joining;
 mod pair;
 mod part;
+mod table;
 
 pub use joining::{Joined, least_joining};
 pub use pair::{Pair, PlaceList};
+pub use table::{Table, bottlenecks};

@@ -1,0 +1,94 @@
+-- Lengths that are made shorter by way of one terminal after another become bottlenecks.
+use Rattle.std.proofs.Common.{ℕ, ◌≡◌, ◌+◌, ◌<◌, ◌≤◌, ◌⊎◌, inl, inr, List, length, get_or, min, max, ◌-ℤ◌, ap, sym, subst, arith}
+use Rattle.std.proofs.lemmas.Bool.{cases_eq, cases_lt}
+use Rattle.std.proofs.Math.IntN.{+ℤ_invr}
+use Rattle.std.specs.Prelude.{ℤ, unsigned_abs}
+use Rattle.points_in.specs.declared.point.Point.{Point}
+use Rattle.hanan_grid.specs.Distance.{origin, distance_of}
+use Rattle.net_graph.specs.Search.{Leads}
+use Rattle.net_graph.specs.SearchLaws.{Leads-start, Leads-more, Leads-keeps, Leads-trans, Leads-weaker}
+use Rattle.spanning.specs.Bottleneck.{IsHop, IsBottleneck}
+use Rattle.spanning.specs.Relaxing.{relaxed}
+
+-- The lengths are the longest hops of some chains, are no longer than one hop, and get no shorter by way of any of the first k
+-- terminals.
+pub record IsClosedBelow (ps : List Point) (k : ℕ) (d : ℕ → ℕ → ℕ) : Type 0 where
+  pub chains : (i j : ℕ) → i < length ps → j < length ps → Leads (IsHop ps (d i j)) i j
+  pub direct : (i j : ℕ) → i < length ps → j < length ps → d i j ≤ distance_of ps i j
+  pub closed : (m i j : ℕ) → m < k → m < length ps → i < length ps → j < length ps → d i j ≤ max (d i m) (d m j)
+
+-- longer hops lead at least as far
+pub Leads-longer : (ps : List Point) (least most i j : ℕ) → least ≤ most → Leads (IsHop ps least) i j → Leads (IsHop ps most) i j
+Leads-longer ps least most i j longer led =
+    Leads-weaker (IsHop ps least) (IsHop ps most) (λ u w hop. record { from = hop.from; to = hop.to; short = omega (arith, hop.short, longer) }) i j led
+
+-- one hop
+pub Leads-hop : (ps : List Point) (i j : ℕ) → i < length ps → j < length ps → Leads (IsHop ps (distance_of ps i j)) i j
+Leads-hop ps i j i_in j_in = Leads-more (IsHop ps (distance_of ps i j)) i i j (Leads-start (IsHop ps (distance_of ps i j)) i) record { from = i_in; to = j_in; short = omega arith }
+
+-- the distances are closed below no terminal
+pub closed-at_first : (ps : List Point) (d : ℕ → ℕ → ℕ) → ((i j : ℕ) → i < length ps → j < length ps → d i j ≡ distance_of ps i j) → IsClosedBelow ps 0 d
+closed-at_first ps d is = record {
+  chains = λ i j i_in j_in. subst (λ most. Leads (IsHop ps most) i j) (sym (is i j i_in j_in)) (Leads-hop ps i j i_in j_in);
+  direct = λ i j i_in j_in. omega (arith, is i j i_in j_in);
+  closed = λ m i j below. absurd (omega arith);
+}
+
+-- the lesser of two numbers
+min_cases : (a b : ℕ) → (min a b ≡ a) ⊎ (min a b ≡ b)
+min_cases a b = elim (cases_lt a b) [
+  | inl less ↦ inl (omega arith)
+  | inr most ↦ inr (omega arith)
+]
+
+-- what is closed below m stays so by way of m
+stays_closed : (ij im mj ik kj mk km : ℕ) → ij ≤ max ik kj → im ≤ max ik km → mj ≤ max mk kj →
+    min ij (max im mj) ≤ max (min ik (max im mk)) (min kj (max km mj))
+stays_closed ij im mj ik kj mk km by_k to_m from_m = omega arith
+
+-- by way of the terminal m itself nothing changes to it and from it
+closed_at_it : (ij im mj mm : ℕ) → min ij (max im mj) ≤ max (min im (max im mm)) (min mj (max mm mj))
+closed_at_it ij im mj mm = omega arith
+
+-- one more terminal
+pub closed-more : (ps : List Point) (k : ℕ) (d e : ℕ → ℕ → ℕ) → k < length ps → IsClosedBelow ps k d →
+    ((i j : ℕ) → i < length ps → j < length ps → e i j ≡ relaxed d k i j) → IsClosedBelow ps (k + 1) e
+closed-more ps k d e k_in closed is = record {
+  chains = λ i j i_in j_in.
+      let goes : Leads (IsHop ps (relaxed d k i j)) i j = elim (min_cases (d i j) (max (d i k) (d k j))) [
+        | inl direct ↦ subst (λ most. Leads (IsHop ps most) i j) (sym direct) (closed.chains i j i_in j_in)
+        | inr through ↦ subst (λ most. Leads (IsHop ps most) i j) (sym through)
+            (Leads-trans (IsHop ps (max (d i k) (d k j))) i k j
+            (Leads-longer ps (d i k) (max (d i k) (d k j)) i k (omega arith) (closed.chains i k i_in k_in))
+            (Leads-longer ps (d k j) (max (d i k) (d k j)) k j (omega arith) (closed.chains k j k_in j_in)))
+      ] in
+      subst (λ most. Leads (IsHop ps most) i j) (sym (is i j i_in j_in)) goes;
+  direct = λ i j i_in j_in. omega (arith, is i j i_in j_in, closed.direct i j i_in j_in);
+  closed = λ m i j below m_in i_in j_in. elim (cases_eq m k) [
+    | inl same ↦
+        let at_k : e i j ≤ max (e i k) (e k j) = rw (is i j i_in j_in, is i k i_in k_in, is k j k_in j_in) (closed_at_it (d i j) (d i k) (d k j) (d k k)) in
+        subst (λ v. e i j ≤ max (e i v) (e v j)) (sym same) at_k
+    | inr apart ↦
+        let less : m < k = omega arith in
+        rw (is i j i_in j_in, is i m i_in m_in, is m j m_in j_in)
+        (stays_closed (d i j) (d i k) (d k j) (d i m) (d m j) (d k m) (d m k)
+        (closed.closed m i j less m_in i_in j_in) (closed.closed m i k less m_in i_in k_in) (closed.closed m k j less m_in k_in j_in))
+  ];
+}
+
+-- a point is no distance from itself
+no_way : (z : ℤ) → unsigned_abs (z -ℤ z) ≡ 0
+no_way z = ap unsigned_abs (+ℤ_invr z)
+
+distance_of-same : (ps : List Point) (i : ℕ) → distance_of ps i i ≡ 0
+distance_of-same ps i = let p = get_or ps i origin in omega (arith, no_way p.x, no_way p.y)
+
+-- what is closed by way of every terminal is the bottleneck
+pub IsBottleneck-from_closed : (ps : List Point) (d : ℕ → ℕ → ℕ) → IsClosedBelow ps (length ps) d → (i j : ℕ) → i < length ps → j < length ps → IsBottleneck ps i j (d i j)
+IsBottleneck-from_closed ps d closed i j i_in j_in = record {
+  chain = closed.chains i j i_in j_in;
+  least = λ most led.
+      (Leads-keeps (IsHop ps most) (λ v. (v < length ps) × (d i v ≤ most)) i j
+      (i_in, omega (arith, closed.direct i i i_in i_in, distance_of-same ps i))
+      (λ u w so_far hop. (hop.to, omega (arith, so_far.1, closed.closed u i w hop.from hop.from i_in hop.to, closed.direct u w hop.from hop.to, hop.short))) led).1;
+}
