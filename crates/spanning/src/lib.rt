@@ -9,3 +9,6 @@ mod table;
 pub use joining::{Joined, least_joining};
 pub use pair::{Pair, PlaceList};
 pub use table::{Table, bottlenecks};
+
+#[cfg(test)]
+mod tests;
