@@ -4,5 +4,4 @@ pub mod Exchange
 pub mod Growing
 pub mod Shortest
 pub mod Totals
-pub mod Closure
 pub mod Rows

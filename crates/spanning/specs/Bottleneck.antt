@@ -1,5 +1,5 @@
 -- Bottlenecks of terminals. A terminal is named by its place in the list.
-use Rattle.std.specs.Prelude.{ℕ, ◌+◌, ◌*◌, ◌≡◌, ◌<◌, ◌≤◌, List, length, slice_index}
+use Rattle.std.specs.Prelude.{ℕ, ◌+◌, ◌*◌, ◌≡◌, ◌≢◌, ◌<◌, ◌≤◌, List, length, slice_index}
 use Rattle.points_in.specs.declared.point.Point.{Point}
 use Rattle.hanan_grid.specs.Distance.{distance_of}
 use Rattle.net_graph.specs.Search.{Leads}
@@ -14,6 +14,13 @@ pub record IsHop (ps : List Point) (most i j : ℕ) : Type 0 where
 pub record IsBottleneck (ps : List Point) (i j bottleneck : ℕ) : Type 0 where
   pub chain : Leads (IsHop ps bottleneck) i j
   pub least : (most : ℕ) → Leads (IsHop ps most) i j → bottleneck ≤ most
+
+-- two terminals whose distance is their bottleneck
+pub record IsTight (ps : List Point) (i j : ℕ) : Type 0 where
+  pub from : i < length ps
+  pub to : j < length ps
+  pub apart : i ≢ j
+  pub bottleneck : IsBottleneck ps i j (distance_of ps i j)
 
 -- the length of row i and column j of a table, which is kept row by row
 abbrev pub entry : List ℕ → ℕ → ℕ → ℕ → ℕ

@@ -1,4 +1,5 @@
--- Sets of pairs that join numbers. A set of pairs is the list of its flags: one for each pair, true where the pair is in it.
+-- Sets of pairs that join numbers. A set of pairs is the list of its flags: one for each pair, true where the
+-- pair is in it.
 use Rattle.std.specs.Prelude.{ℕ, ◌≡◌, ◌<◌, ◌≤◌, Bool, true, List, length, map, replicate, slice_get, Some}
 use Rattle.net_graph.specs.declared.edge.Edge.{Edge}
 use Rattle.net_graph.specs.Members.{members_of}
@@ -13,7 +14,8 @@ edge_of pair = record { a = pair.a; b = pair.b; length = pair.length }
 
 -- a hop from one number to another: some pair of the set has these two, in either order
 abbrev pub Hop : List Pair → List Bool → ℕ → ℕ → Type 0
-Hop pairs set i j = (k : ℕ) × (pair : Pair) × (slice_get set k ≡ Some true) × (slice_get pairs k ≡ Some pair) × HasEnds (edge_of pair) i j
+Hop pairs set i j = (k : ℕ) × (pair : Pair) × (slice_get set k ≡ Some true) × (slice_get pairs k ≡ Some pair)
+    × HasEnds (edge_of pair) i j
 
 -- the set is one of these pairs, and a chain of its hops leads from 0 to each number below n
 pub record Joins (n : ℕ) (pairs : List Pair) (set : List Bool) : Type 0 where

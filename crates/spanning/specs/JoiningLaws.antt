@@ -21,11 +21,13 @@ pub Hop-back : (pairs : List Pair) (set : List Bool) (i j : ℕ) → Hop pairs s
 Hop-back pairs set i j (k, pair, inside, at, ends) = (k, pair, inside, at, HasEnds-back (edge_of pair) i j ends)
 
 -- .. and so can a chain of hops
-pub Leads-hops_back : (pairs : List Pair) (set : List Bool) (i j : ℕ) → Leads (Hop pairs set) i j → Leads (Hop pairs set) j i
+pub Leads-hops_back : (pairs : List Pair) (set : List Bool) (i j : ℕ) → Leads (Hop pairs set) i j →
+    Leads (Hop pairs set) j i
 Leads-hops_back pairs set i j led = Leads-back (Hop pairs set) (Hop pairs set) (Hop-back pairs set) i j led
 
 -- more pairs lead at least as far
-pub Leads-hops_more : (pairs : List Pair) (small large : List Bool) → ((k : ℕ) → slice_get small k ≡ Some true → slice_get large k ≡ Some true) →
+pub Leads-hops_more : (pairs : List Pair) (small large : List Bool) →
+    ((k : ℕ) → slice_get small k ≡ Some true → slice_get large k ≡ Some true) →
     (i j : ℕ) → Leads (Hop pairs small) i j → Leads (Hop pairs large) i j
 Leads-hops_more pairs small large within i j led =
     Leads-weaker (Hop pairs small) (Hop pairs large) (λ u w (k, pair, inside, at, ends). (k, pair, within k inside, at, ends)) i j led
@@ -37,7 +39,8 @@ all_of-has pairs k within =
     slice_get-get_or (replicate (length pairs) true) k false (omega (arith, size)) ∙ ap Some (get_or-replicate (length pairs) k true false within)
 
 -- where some set joins, all pairs do
-pub Joins-all : (n : ℕ) (pairs : List Pair) (set : List Bool) → Joins n pairs set → Joins n pairs (all_of pairs)
+pub Joins-all : (n : ℕ) (pairs : List Pair) (set : List Bool) → Joins n pairs set →
+    Joins n pairs (all_of pairs)
 Joins-all n pairs set joins = record {
   size = length-replicate (length pairs) true;
   chains = λ i below. Leads-hops_more pairs set (all_of pairs)
@@ -45,20 +48,24 @@ Joins-all n pairs set joins = record {
 }
 
 -- the edge of the pair at a place
-pub slice_get-edges : (pairs : List Pair) (k : ℕ) (pair : Pair) → slice_get pairs k ≡ Some pair → slice_get (map edge_of pairs) k ≡ Some (edge_of pair)
+pub slice_get-edges : (pairs : List Pair) (k : ℕ) (pair : Pair) → slice_get pairs k ≡ Some pair →
+    slice_get (map edge_of pairs) k ≡ Some (edge_of pair)
 slice_get-edges pairs k pair at = slice_get-map edge_of pairs k ∙ ap (option_map edge_of) at
 
 -- a pair that is put in adds its length
-pub total_of-add : (pairs : List Pair) (set : List Bool) (k : ℕ) (pair : Pair) → slice_get set k ≡ Some false →
+pub total_of-add : (pairs : List Pair) (set : List Bool) (k : ℕ) (pair : Pair) →
+    slice_get set k ≡ Some false →
     slice_get pairs k ≡ Some pair → total_of pairs (slice_set set k true) ≡ total_of pairs set + pair.length
 total_of-add pairs set k pair outside at = length_of_edges-add (map edge_of pairs) set k (edge_of pair) outside (slice_get-edges pairs k pair at)
 
 -- a pair that is taken out takes its length with it
-pub total_of-remove : (pairs : List Pair) (set : List Bool) (k : ℕ) (pair : Pair) → slice_get set k ≡ Some true →
+pub total_of-remove : (pairs : List Pair) (set : List Bool) (k : ℕ) (pair : Pair) →
+    slice_get set k ≡ Some true →
     slice_get pairs k ≡ Some pair → total_of pairs (slice_set set k false) + pair.length ≡ total_of pairs set
 total_of-remove pairs set k pair inside at = length_of_edges-remove (map edge_of pairs) set k (edge_of pair) inside (slice_get-edges pairs k pair at)
 
 -- a set within another has no greater sum
 pub total_of-within : (pairs : List Pair) (small large : List Bool) →
-    ((k : ℕ) → slice_get small k ≡ Some true → slice_get large k ≡ Some true) → total_of pairs small ≤ total_of pairs large
+    ((k : ℕ) → slice_get small k ≡ Some true → slice_get large k ≡ Some true) →
+    total_of pairs small ≤ total_of pairs large
 total_of-within pairs small large within = length_of_edges-within (map edge_of pairs) small large within

@@ -14,11 +14,13 @@ leaves inside pair = if has inside pair.a then not (has inside pair.b) else has 
 
 -- none of the first m pairs leaves the set
 abbrev pub NoneLeaves : List Pair → List Bool → ℕ → Type 0
-NoneLeaves pairs inside m = (k : ℕ) (pair : Pair) → k < m → slice_get pairs k ≡ Some pair → leaves inside pair ≡ false
+NoneLeaves pairs inside m =
+    (k : ℕ) (pair : Pair) → k < m → slice_get pairs k ≡ Some pair → leaves inside pair ≡ false
 
 -- the pair at place k leaves the set, and none of the first m pairs that do is shorter
 pub record IsShortestLeaving (pairs : List Pair) (inside : List Bool) (m k : ℕ) : Type 0 where
   pub pair : Pair
   pub here : slice_get pairs k ≡ Some pair
   pub leaving : leaves inside pair ≡ true
-  pub shortest : (other : ℕ) (q : Pair) → other < m → slice_get pairs other ≡ Some q → leaves inside q ≡ true → pair.length ≤ q.length
+  pub shortest : (other : ℕ) (q : Pair) → other < m → slice_get pairs other ≡ Some q →
+      leaves inside q ≡ true → pair.length ≤ q.length

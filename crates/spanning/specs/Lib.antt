@@ -4,3 +4,6 @@ pub mod Leaving
 pub mod Part
 pub mod Bottleneck
 pub mod Relaxing
+pub mod BottleneckLaws
+pub mod ClosureLaws
+pub mod TightLaws

@@ -16,12 +16,13 @@ pub record IsNoWorse (n : ℕ) (pairs : List Pair) (chosen other : List Bool) : 
   pub includes : Includes set chosen
   pub total : total_of pairs set ≤ total_of pairs other
 
--- The chosen pairs lead from 0 to each number of the part, and to no other; and whatever set joins, one that is no longer holds
--- all of the chosen pairs.
+-- The chosen pairs lead from 0 to each number of the part, and to no other; and whatever set joins, one that
+-- is no longer holds all of the chosen pairs.
 pub record IsPart (n : ℕ) (pairs : List Pair) (inside chosen : List Bool) : Type 0 where
   pub numbers : length inside ≡ n
   pub size : length chosen ≡ length pairs
   pub start : has inside 0 ≡ true
   pub chains : (i : ℕ) → has inside i ≡ true → Leads (Hop pairs chosen) 0 i
-  pub closed : (k : ℕ) (pair : Pair) → slice_get chosen k ≡ Some true → slice_get pairs k ≡ Some pair → (has inside pair.a ≡ true) × (has inside pair.b ≡ true)
+  pub closed : (k : ℕ) (pair : Pair) → slice_get chosen k ≡ Some true → slice_get pairs k ≡ Some pair →
+      (has inside pair.a ≡ true) × (has inside pair.b ≡ true)
   pub least : (other : List Bool) → Joins n pairs other → IsNoWorse n pairs chosen other

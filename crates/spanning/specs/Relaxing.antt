@@ -13,7 +13,7 @@ pub record AreDistances (ps : List Point) (lengths : List ℕ) : Type 0 where
   pub size : length lengths ≡ length ps * length ps
   pub each : (i j : ℕ) → i < length ps → j < length ps → entry lengths (length ps) i j ≡ distance_of ps i j
 
--- the first `rows` rows of a table of n rows were made shorter by way of `middle`, and the others are as before
+-- the first `rows` rows of a table of n rows were made shorter by way of `middle`, the others are as before
 pub record RelaxesRows (n middle rows : ℕ) (old new : List ℕ) : Type 0 where
   pub size : length new ≡ length old
   pub done : (i j : ℕ) → i < rows → j < n → entry new n i j ≡ relaxed (entry old n) middle i j

@@ -19,8 +19,9 @@ pub struct Joined {
     pub total: u128,
 }
 
-/// A set of the pairs that joins the numbers below `n`, such that none has a smaller sum. `None` comes exactly where all pairs
-/// together don't join them. An `Err` is want of memory.
+/// A set of the pairs that joins the numbers below `n`, such that none has a smaller sum (found by the rule
+/// of Jarník 1930 and Prim 1957). `None` comes exactly where all pairs together don't join them. An `Err` is
+/// want of memory.
 pub fn least_joining(alloc: Global, n: u8, pairs: &[Pair]) -> Result<Option<Joined>, AllocError>
     requires some { 0 < n }
     requires few { n ≤ 50 }

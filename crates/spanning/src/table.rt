@@ -9,7 +9,8 @@ use points_in::Points;
 use std::alloc::{AllocError, Global};
 use std::marker::Model;
 
-/// The bottleneck of each two terminals. Contracts see the list of the terminals, since the bottlenecks are a function of it.
+/// The bottleneck of each two terminals. Contracts see the list of the terminals, since the bottlenecks are a
+/// function of it.
 #[derive(Debug, Drop)]
 pub struct Table {
     points: Points,
@@ -30,9 +31,9 @@ impl Model for Table {
 }
 
 impl Table {
-    /// The bottleneck of the terminals at two places of the list, counted from 0: the least length such that a chain of terminals
-    /// with rectilinear hops of at most that length leads from one to the other. It is 0 for a terminal and itself. It takes no
-    /// memory.
+    /// The bottleneck of the terminals at two places of the list, counted from 0: the least length such that
+    /// a chain of terminals with rectilinear hops of at most that length leads from one to the other. It is 0
+    /// for a terminal and itself. It takes no memory.
     pub fn between(&self, i: usize, j: usize) -> u64
         requires first { i < length self.now }
         requires second { j < length self.now }

@@ -23,7 +23,8 @@ pub record LastLeaving (Step : ℕ → ℕ → Type 0) (inside : List Bool) (end
   pub rest : Leads (OutsideStep Step inside) y end
 
 -- a walk from inside to outside has such a step
-pub last_leaving : (Step : ℕ → ℕ → Type 0) (inside : List Bool) (v : ℕ) → has inside v ≡ true → (n w : ℕ) → StepWalk Step v w n → has inside w ≡ false → LastLeaving Step inside w
+pub last_leaving : (Step : ℕ → ℕ → Type 0) (inside : List Bool) (v : ℕ) → has inside v ≡ true → (n w : ℕ) →
+    StepWalk Step v w n → has inside w ≡ false → LastLeaving Step inside w
 last_leaving Step inside v v_in zero w is w_out = absurd (both_ways (has inside w) w_out (subst (λ x. has inside x ≡ true) is v_in))
 last_leaving Step inside v v_in (suc n) w (u, walk, step) w_out = elim (cases_Bool (has inside u)) [
   | inl u_in ↦ record { x = u; y = w; x_in = u_in; y_out = w_out; step = step; rest = Leads-start (OutsideStep Step inside) w }
@@ -51,7 +52,8 @@ pub record LeavesFrom (inside : List Bool) (pair : Pair) : Type 0 where
 leaves_one : (s t : Bool) → s ≡ true → t ≡ false → (cond s (not t) t ≡ true) × (cond t (not s) s ≡ true)
 leaves_one s t is_in is_out = rw (is_in, is_out) (refl, refl)
 
-pub leaves-from_ends : (inside : List Bool) (pair : Pair) (x y : ℕ) → HasEnds (edge_of pair) x y → has inside x ≡ true → has inside y ≡ false → leaves inside pair ≡ true
+pub leaves-from_ends : (inside : List Bool) (pair : Pair) (x y : ℕ) → HasEnds (edge_of pair) x y →
+    has inside x ≡ true → has inside y ≡ false → leaves inside pair ≡ true
 leaves-from_ends inside pair x y ends x_in y_out =
     ⊎_elim (λ along. (leaves_one (has inside pair.a) (has inside pair.b) (ap (has inside) along.0 ∙ x_in) (ap (has inside) along.1 ∙ y_out)).0)
     (λ against. (leaves_one (has inside pair.b) (has inside pair.a) (ap (has inside) against.1 ∙ x_in) (ap (has inside) against.0 ∙ y_out)).1) ends
@@ -61,7 +63,8 @@ out_from_in : (s t : Bool) → cond s (not t) t ≡ true → s ≡ true → t �
 out_from_in true t is first = not-true t is
 out_from_in false t is first = absurd cc
 
-pub second_out : (inside : List Bool) (pair : Pair) → leaves inside pair ≡ true → has inside pair.a ≡ true → has inside pair.b ≡ false
+pub second_out : (inside : List Bool) (pair : Pair) → leaves inside pair ≡ true → has inside pair.a ≡ true →
+    has inside pair.b ≡ false
 second_out inside pair is first = out_from_in (has inside pair.a) (has inside pair.b) is first
 
 -- .. and inside where the first is outside
@@ -69,5 +72,6 @@ in_from_out : (s t : Bool) → cond s (not t) t ≡ true → s ≡ false → t �
 in_from_out true t is first = absurd cc
 in_from_out false t is first = is
 
-pub second_in : (inside : List Bool) (pair : Pair) → leaves inside pair ≡ true → has inside pair.a ≡ false → has inside pair.b ≡ true
+pub second_in : (inside : List Bool) (pair : Pair) → leaves inside pair ≡ true → has inside pair.a ≡ false →
+    has inside pair.b ≡ true
 second_in inside pair is first = in_from_out (has inside pair.a) (has inside pair.b) is first

@@ -20,17 +20,19 @@ abbrev pub exchanged : List Bool → ℕ → ℕ → List Bool
 exchanged other f k = set (set other f false) k true
 
 -- a pair other than the one that was taken out is still there
-exchanged-keeps : (other : List Bool) (f k g : ℕ) → g ≢ f → slice_get other g ≡ Some true → slice_get (exchanged other f k) g ≡ Some true
+exchanged-keeps : (other : List Bool) (f k g : ℕ) → g ≢ f → slice_get other g ≡ Some true →
+    slice_get (exchanged other f k) g ≡ Some true
 exchanged-keeps other f k g apart is = slice_get-set_true (set other f false) k g (slice_get-set_other other f g false apart ∙ is)
 
 -- what two pairs of numbers have in common where they are the ends of one edge
-same_ends : (pair : Pair) (x y i j : ℕ) → HasEnds (edge_of pair) x y → HasEnds (edge_of pair) i j → ((x ≡ i) × (y ≡ j)) ⊎ ((x ≡ j) × (y ≡ i))
+same_ends : (pair : Pair) (x y i j : ℕ) → HasEnds (edge_of pair) x y → HasEnds (edge_of pair) i j →
+    ((x ≡ i) × (y ≡ j)) ⊎ ((x ≡ j) × (y ≡ i))
 same_ends pair x y i j first second =
     ⊎_elim (λ a. ⊎_elim (λ b. inl (sym a.0 ∙ b.0, sym a.1 ∙ b.1)) (λ b. inr (sym a.0 ∙ b.0, sym a.1 ∙ b.1)) second)
     (λ a. ⊎_elim (λ b. inr (sym a.1 ∙ b.1, sym a.0 ∙ b.0)) (λ b. inl (sym a.1 ∙ b.1, sym a.0 ∙ b.0)) second) first
 
--- What an exchange rests on: the pair k leaves the part and is not in the other set, and the pair f of the other set is the last
--- to leave the part on the way to the outer number of the pair k.
+-- What an exchange rests on: the pair k leaves the part and is not in the other set, and the pair f of the other
+-- set is the last to leave the part on the way to the outer number of the pair k.
 record Exchanges (n : ℕ) (pairs : List Pair) (inside chosen other : List Bool) (k f : ℕ) : Type 0 where
   part : IsPart n pairs inside chosen
   joins : Joins n pairs other
@@ -50,7 +52,8 @@ record Exchanges (n : ℕ) (pairs : List Pair) (inside chosen other : List Bool)
   rest : Leads (OutsideStep (Hop pairs other) inside) y from.outer
 
 -- a chosen pair stays, since both its numbers are inside
-keeps_chosen : (n : ℕ) (pairs : List Pair) (inside chosen other : List Bool) (k f : ℕ) → Exchanges n pairs inside chosen other k f →
+keeps_chosen : (n : ℕ) (pairs : List Pair) (inside chosen other : List Bool) (k f : ℕ) →
+    Exchanges n pairs inside chosen other k f →
     (g : ℕ) → slice_get chosen g ≡ Some true → slice_get (exchanged other f k) g ≡ Some true
 keeps_chosen n pairs inside chosen other k f e g is =
     exchanged-keeps other f k g
@@ -61,7 +64,8 @@ keeps_chosen n pairs inside chosen other k f e g is =
     (e.includes g is)
 
 -- a hop outside the part stays, since a number of the pair that was taken out is inside
-keeps_outside : (n : ℕ) (pairs : List Pair) (inside chosen other : List Bool) (k f : ℕ) → Exchanges n pairs inside chosen other k f →
+keeps_outside : (n : ℕ) (pairs : List Pair) (inside chosen other : List Bool) (k f : ℕ) →
+    Exchanges n pairs inside chosen other k f →
     (u w : ℕ) → OutsideStep (Hop pairs other) inside u w → Hop pairs (exchanged other f k) u w
 keeps_outside n pairs inside chosen other k f e u w ((g, pair, is, at, ends), u_out, w_out) = (
   g,
@@ -78,7 +82,8 @@ keeps_outside n pairs inside chosen other k f e u w ((g, pair, is, at, ends), u_
 )
 
 -- the numbers of the pair that was taken out are linked without it
-still_linked : (n : ℕ) (pairs : List Pair) (inside chosen other : List Bool) (k f : ℕ) → (e : Exchanges n pairs inside chosen other k f) →
+still_linked : (n : ℕ) (pairs : List Pair) (inside chosen other : List Bool) (k f : ℕ) →
+    (e : Exchanges n pairs inside chosen other k f) →
     Leads (Hop pairs (exchanged other f k)) e.x e.y
 still_linked n pairs inside chosen other k f e =
     let better = exchanged other f k in
@@ -92,7 +97,8 @@ still_linked n pairs inside chosen other k f e =
     Leads-trans Step e.x 0 e.y (Leads-hops_back pairs better 0 e.x to_x) (Leads-trans Step 0 e.from.outer e.y to_outer (Leads-hops_back pairs better e.y e.from.outer beyond))
 
 -- a hop of the other set is a chain after the exchange
-hop_linked : (n : ℕ) (pairs : List Pair) (inside chosen other : List Bool) (k f : ℕ) → Exchanges n pairs inside chosen other k f →
+hop_linked : (n : ℕ) (pairs : List Pair) (inside chosen other : List Bool) (k f : ℕ) →
+    Exchanges n pairs inside chosen other k f →
     (u w : ℕ) → Hop pairs other u w → Leads (Hop pairs (exchanged other f k)) u w
 hop_linked n pairs inside chosen other k f e u w (g, pair, is, at, ends) =
     let Step = Hop pairs (exchanged other f k) in
@@ -108,7 +114,8 @@ hop_linked n pairs inside chosen other k f e u w (g, pair, is, at, ends) =
     ]
 
 -- the set still joins
-exchanged-joins : (n : ℕ) (pairs : List Pair) (inside chosen other : List Bool) (k f : ℕ) → Exchanges n pairs inside chosen other k f →
+exchanged-joins : (n : ℕ) (pairs : List Pair) (inside chosen other : List Bool) (k f : ℕ) →
+    Exchanges n pairs inside chosen other k f →
     Joins n pairs (exchanged other f k)
 exchanged-joins n pairs inside chosen other k f e = record {
   size = length-set (set other f false) k true ∙ length-set other f false ∙ e.joins.size;
@@ -118,7 +125,8 @@ exchanged-joins n pairs inside chosen other k f e = record {
 }
 
 -- .. and holds all chosen pairs and the one that was put in
-exchanged-includes : (n : ℕ) (pairs : List Pair) (inside chosen other : List Bool) (k f : ℕ) → Exchanges n pairs inside chosen other k f →
+exchanged-includes : (n : ℕ) (pairs : List Pair) (inside chosen other : List Bool) (k f : ℕ) →
+    Exchanges n pairs inside chosen other k f →
     Includes (exchanged other f k) (set chosen k true)
 exchanged-includes n pairs inside chosen other k f e g is = elim (cases_eq g k) [
   | inl same ↦
@@ -128,7 +136,8 @@ exchanged-includes n pairs inside chosen other k f e g is = elim (cases_eq g k) 
 ]
 
 -- .. and is no longer, where the pair that was put in is no longer than the one that was taken out
-exchanged-total : (n : ℕ) (pairs : List Pair) (inside chosen other : List Bool) (k f : ℕ) → (e : Exchanges n pairs inside chosen other k f) →
+exchanged-total : (n : ℕ) (pairs : List Pair) (inside chosen other : List Bool) (k f : ℕ) →
+    (e : Exchanges n pairs inside chosen other k f) →
     e.pair.length ≤ e.out.length → total_of pairs (exchanged other f k) ≤ total_of pairs other
 exchanged-total n pairs inside chosen other k f e no_longer =
     let apart : k ≢ f = λ same. let both : Some true ≡ Some false = sym e.held ∙ ap (slice_get other) (sym same) ∙ e.absent in cc in
@@ -136,8 +145,10 @@ exchanged-total n pairs inside chosen other k f e no_longer =
     omega (arith, no_longer, total_of-add pairs (set other f false) k e.pair absent e.here, total_of-remove pairs other f e.out e.held e.out_here)
 
 -- the pair that is the shortest to leave the part is taken into a set that joins, which gets no longer
-pub IsNoWorse-more : (n : ℕ) (pairs : List Pair) (inside chosen other : List Bool) (k : ℕ) → IsPart n pairs inside chosen →
-    (shortest : IsShortestLeaving pairs inside (length pairs) k) → (from : LeavesFrom inside shortest.pair) → from.outer < n →
+pub IsNoWorse-more : (n : ℕ) (pairs : List Pair) (inside chosen other : List Bool) (k : ℕ) →
+    IsPart n pairs inside chosen →
+    (shortest : IsShortestLeaving pairs inside (length pairs) k) → (from : LeavesFrom inside shortest.pair) →
+    from.outer < n →
     Joins n pairs other → Includes other chosen → IsNoWorse n pairs (set chosen k true) other
 IsNoWorse-more n pairs inside chosen other k part shortest from below joins includes =
     let k_in : k < length other = omega (arith, slice_get_within pairs k shortest.pair shortest.here, joins.size) in

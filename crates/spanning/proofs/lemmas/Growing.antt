@@ -18,7 +18,8 @@ use Rattle.spanning.proofs.lemmas.Crossing.{LeavesFrom, leaves-from_ends, second
 use Rattle.spanning.proofs.lemmas.Exchange.{IsNoWorse-more}
 
 -- the part of 0 alone, with nothing chosen
-pub IsPart-of_zero : (n : ℕ) (pairs : List Pair) (inside chosen : List Bool) → 0 < n → inside ≡ set (replicate n false) 0 true →
+pub IsPart-of_zero : (n : ℕ) (pairs : List Pair) (inside chosen : List Bool) → 0 < n →
+    inside ≡ set (replicate n false) 0 true →
     chosen ≡ replicate (length pairs) false → IsPart n pairs inside chosen
 IsPart-of_zero n pairs inside chosen some inside_is chosen_is =
     let nothing : (k : ℕ) → slice_get chosen k ≡ Some true → ⊥ = λ k is. none_set (length pairs) k (ap (λ flags. slice_get flags k) (sym chosen_is) ∙ is) in
@@ -35,8 +36,10 @@ IsPart-of_zero n pairs inside chosen some inside_is chosen_is =
     }
 
 -- the part with one more pair, the shortest that leaves it
-pub IsPart-more : (n : ℕ) (pairs : List Pair) (inside chosen : List Bool) (k : ℕ) → IsPart n pairs inside chosen →
-    (shortest : IsShortestLeaving pairs inside (length pairs) k) → (from : LeavesFrom inside shortest.pair) → from.outer < n →
+pub IsPart-more : (n : ℕ) (pairs : List Pair) (inside chosen : List Bool) (k : ℕ) →
+    IsPart n pairs inside chosen →
+    (shortest : IsShortestLeaving pairs inside (length pairs) k) → (from : LeavesFrom inside shortest.pair) →
+    from.outer < n →
     IsPart n pairs (set inside from.outer true) (set chosen k true)
 IsPart-more n pairs inside chosen k part shortest from below =
     let k_in : k < length chosen = omega (arith, slice_get_within pairs k shortest.pair shortest.here, part.size) in
@@ -71,39 +74,45 @@ IsPart-more n pairs inside chosen k part shortest from below =
     }
 
 -- one number fewer is outside
-pub outside-less : (inside : List Bool) (i : ℕ) → i < length inside → has inside i ≡ false → count_by not (set inside i true) + 1 ≡ count_by not inside
+pub outside-less : (inside : List Bool) (i : ℕ) → i < length inside → has inside i ≡ false →
+    count_by not (set inside i true) + 1 ≡ count_by not inside
 outside-less inside i within out =
     let change = sum_by-set (λ (flag : Bool). cond (not flag) 1 0) inside i true false within in
     let known = rw out at change in omega (arith, known)
 
 -- where the part has all numbers, its chosen pairs join
-pub Joins-from_part : (n : ℕ) (pairs : List Pair) (inside chosen : List Bool) → IsPart n pairs inside chosen → ((i : ℕ) → i < length inside → has inside i ≡ true) → Joins n pairs chosen
+pub Joins-from_part : (n : ℕ) (pairs : List Pair) (inside chosen : List Bool) → IsPart n pairs inside chosen →
+    ((i : ℕ) → i < length inside → has inside i ≡ true) → Joins n pairs chosen
 Joins-from_part n pairs inside chosen part full = record {
   size = part.size;
   chains = λ i below. part.chains i (full i (omega (arith, part.numbers)));
 }
 
 -- .. and no set that joins is shorter
-pub least-from_part : (n : ℕ) (pairs : List Pair) (inside chosen other : List Bool) → IsPart n pairs inside chosen → Joins n pairs other → total_of pairs chosen ≤ total_of pairs other
+pub least-from_part : (n : ℕ) (pairs : List Pair) (inside chosen other : List Bool) →
+    IsPart n pairs inside chosen → Joins n pairs other → total_of pairs chosen ≤ total_of pairs other
 least-from_part n pairs inside chosen other part joins =
     let better : IsNoWorse n pairs chosen other = part.least other joins in
     omega (arith, better.total, total_of-within pairs chosen better.set better.includes)
 
 -- a hop from inside stays inside where no pair leaves
-hop_stays : (pairs : List Pair) (inside set : List Bool) → NoneLeaves pairs inside (length pairs) → (u w : ℕ) → has inside u ≡ true → Hop pairs set u w → has inside w ≡ true
+hop_stays : (pairs : List Pair) (inside set : List Bool) → NoneLeaves pairs inside (length pairs) →
+    (u w : ℕ) → has inside u ≡ true → Hop pairs set u w → has inside w ≡ true
 hop_stays pairs inside set none u w u_in (k, pair, is, at, ends) = elim (cases_Bool (has inside w)) [
   | inl w_in ↦ w_in
   | inr w_out ↦ absurd (both_ways (leaves inside pair) (none k pair (slice_get_within pairs k pair at) at) (leaves-from_ends inside pair u w ends u_in w_out))
 ]
 
 -- where nothing leaves a part that lacks a number, nothing joins
-pub none-from_part : (n : ℕ) (pairs : List Pair) (inside chosen : List Bool) → IsPart n pairs inside chosen → NoneLeaves pairs inside (length pairs) →
+pub none-from_part : (n : ℕ) (pairs : List Pair) (inside chosen : List Bool) → IsPart n pairs inside chosen →
+    NoneLeaves pairs inside (length pairs) →
     (((i : ℕ) → i < length inside → has inside i ≡ true) → ⊥) → ¬ Joins n pairs (all_of pairs)
 none-from_part n pairs inside chosen part none lacks joins =
     lacks (λ i below. Leads-keeps (Hop pairs (all_of pairs)) (λ v. has inside v ≡ true) 0 i part.start (λ u w u_in hop. hop_stays pairs inside (all_of pairs) none u w u_in hop) (joins.chains i (omega (arith, part.numbers))))
 
 -- the pair at a place that is the shortest to leave is taken in, and with it its number outside
-pub taken-in : (n : ℕ) (pairs : List Pair) (inside chosen : List Bool) (k outer : ℕ) (d : Pair) → IsPart n pairs inside chosen →
+pub taken-in : (n : ℕ) (pairs : List Pair) (inside chosen : List Bool) (k outer : ℕ) (d : Pair) →
+    IsPart n pairs inside chosen →
     IsShortestLeaving pairs inside (length pairs) k → All (HasNumbersBelow n) pairs →
     (((has inside (get_or pairs k d).a ≡ true) × (outer ≡ (get_or pairs k d).b)) ⊎ ((has inside (get_or pairs k d).a ≡ false) × (outer ≡ (get_or pairs k d).a))) →
     IsPart n pairs (set inside outer true) (set chosen k true) × (outer < n) × (has inside outer ≡ false)

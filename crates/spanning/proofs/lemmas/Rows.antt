@@ -7,16 +7,19 @@ use Rattle.spanning.specs.Bottleneck.{entry}
 use Rattle.spanning.specs.Relaxing.{relaxed, RelaxesRow, RelaxesRows}
 
 -- the length that was written
-pub entry-set_same : (lengths : List ℕ) (n i j x : ℕ) → length lengths ≡ n * n → i < n → j < n → entry (set lengths (i * n + j) x) n i j ≡ x
+pub entry-set_same : (lengths : List ℕ) (n i j x : ℕ) → length lengths ≡ n * n → i < n → j < n →
+    entry (set lengths (i * n + j) x) n i j ≡ x
 entry-set_same lengths n i j x size row column = get_or-set_same lengths (i * n + j) x 0 (omega (arith, size, mul-add-lt i n j n row column))
 
 -- another row
-pub entry-set_row : (lengths : List ℕ) (n i j row column x : ℕ) → j < n → column < n → i ≢ row → entry (set lengths (row * n + column) x) n i j ≡ entry lengths n i j
+pub entry-set_row : (lengths : List ℕ) (n i j row column x : ℕ) → j < n → column < n → i ≢ row →
+    entry (set lengths (row * n + column) x) n i j ≡ entry lengths n i j
 entry-set_row lengths n i j row column x j_in column_in apart =
     get_or-set_other lengths (row * n + column) (i * n + j) x 0 (λ same. apart (same_from_place i j row column n j_in column_in same).0)
 
 -- another column
-pub entry-set_column : (lengths : List ℕ) (n i j row column x : ℕ) → j < n → column < n → j ≢ column → entry (set lengths (row * n + column) x) n i j ≡ entry lengths n i j
+pub entry-set_column : (lengths : List ℕ) (n i j row column x : ℕ) → j < n → column < n → j ≢ column →
+    entry (set lengths (row * n + column) x) n i j ≡ entry lengths n i j
 entry-set_column lengths n i j row column x j_in column_in apart =
     get_or-set_other lengths (row * n + column) (i * n + j) x 0 (λ same. apart (same_from_place i j row column n j_in column_in same).1)
 
@@ -30,8 +33,10 @@ RelaxesRow-none n middle row lengths = record {
 }
 
 -- one more place of the row
-pub RelaxesRow-more : (n middle row column x : ℕ) (old new : List ℕ) → length old ≡ n * n → middle < n → row < n → column < n → RelaxesRow n middle row column old new →
-    x ≡ relaxed (entry old n) middle row column → RelaxesRow n middle row (column + 1) old (set new (row * n + column) x)
+pub RelaxesRow-more : (n middle row column x : ℕ) (old new : List ℕ) → length old ≡ n * n → middle < n →
+    row < n → column < n → RelaxesRow n middle row column old new →
+    x ≡ relaxed (entry old n) middle row column →
+    RelaxesRow n middle row (column + 1) old (set new (row * n + column) x)
 RelaxesRow-more n middle row column x old new size middle_in row_in column_in before is = record {
   size = length-set new (row * n + column) x ∙ before.size;
   done = λ j below. elim (cases_eq j column) [
@@ -45,7 +50,8 @@ RelaxesRow-more n middle row column x old new size middle_in row_in column_in be
 }
 
 -- the length from the middle to a column, while its row is made shorter
-pub from_middle : (n middle row column : ℕ) (old new : List ℕ) → middle < n → column < n → RelaxesRow n middle row column old new → entry new n middle column ≡ entry old n middle column
+pub from_middle : (n middle row column : ℕ) (old new : List ℕ) → middle < n → column < n →
+    RelaxesRow n middle row column old new → entry new n middle column ≡ entry old n middle column
 from_middle n middle row column old new middle_in column_in before = elim (cases_eq middle row) [
   | inl same ↦ subst (λ v. entry new n v column ≡ entry old n v column) (sym same) (before.after column (omega arith) column_in)
   | inr apart ↦ before.others middle column apart middle_in column_in
@@ -60,14 +66,16 @@ from_it : (mj mm : ℕ) → min mj (max mm mj) ≡ mj
 from_it mj mm = omega arith
 
 -- the middle's row is as before
-middle_row : (n middle rows j : ℕ) (old new : List ℕ) → middle < n → j < n → RelaxesRows n middle rows old new → entry new n middle j ≡ entry old n middle j
+middle_row : (n middle rows j : ℕ) (old new : List ℕ) → middle < n → j < n →
+    RelaxesRows n middle rows old new → entry new n middle j ≡ entry old n middle j
 middle_row n middle rows j old new middle_in j_in before = elim (cases_lt middle rows) [
   | inl done ↦ before.done middle j done j_in ∙ from_it (entry old n middle j) (entry old n middle middle)
   | inr rest ↦ before.rest middle j rest middle_in j_in
 ]
 
 -- one more row
-pub RelaxesRows-more : (n middle row : ℕ) (old new newer : List ℕ) → middle < n → row < n → RelaxesRows n middle row old new → RelaxesRow n middle row n new newer →
+pub RelaxesRows-more : (n middle row : ℕ) (old new newer : List ℕ) → middle < n → row < n →
+    RelaxesRows n middle row old new → RelaxesRow n middle row n new newer →
     RelaxesRows n middle (row + 1) old newer
 RelaxesRows-more n middle row old new newer middle_in row_in before step = record {
   size = step.size ∙ before.size;
@@ -84,13 +92,16 @@ RelaxesRows-more n middle row old new newer middle_in row_in before step = recor
 }
 
 -- a list of the values of a function of the place, with one more
-pub pushed : (f : ℕ → ℕ) (xs : List ℕ) (place x : ℕ) → length xs ≡ place → ((k : ℕ) → k < place → get_or xs k 0 ≡ f k) → x ≡ f place → (k : ℕ) → k < place + 1 → get_or (xs ++ x ∷ []) k 0 ≡ f k
+pub pushed : (f : ℕ → ℕ) (xs : List ℕ) (place x : ℕ) → length xs ≡ place →
+    ((k : ℕ) → k < place → get_or xs k 0 ≡ f k) → x ≡ f place → (k : ℕ) → k < place + 1 →
+    get_or (xs ++ x ∷ []) k 0 ≡ f k
 pushed f xs place x size before is k below = elim (cases_lt k place) [
   | inl less ↦ get_or_append_left xs (x ∷ []) 0 k (omega arith) ∙ before k less
   | inr most ↦ let same : k ≡ place = omega arith in ap (λ n. get_or (xs ++ x ∷ []) n 0) same ∙ get_or_push xs x 0 place size ∙ is ∙ ap f (sym same)
 ]
 
 -- the value at a place, by its row and its column
-pub entry-from_place : (f : ℕ → ℕ → ℕ) (xs : List ℕ) (n i j : ℕ) → i < n → j < n → ((k : ℕ) → k < n * n → get_or xs k 0 ≡ f (k / n) (k % n)) → entry xs n i j ≡ f i j
+pub entry-from_place : (f : ℕ → ℕ → ℕ) (xs : List ℕ) (n i j : ℕ) → i < n → j < n →
+    ((k : ℕ) → k < n * n → get_or xs k 0 ≡ f (k / n) (k % n)) → entry xs n i j ≡ f i j
 entry-from_place f xs n i j row column each =
     each (i * n + j) (mul-add-lt i n j n row column) ∙ ap (λ k. f k ((i * n + j) % n)) (div-mul-add i n j column) ∙ ap (λ k. f i k) (mod-mul-add i n j column)

@@ -11,19 +11,22 @@ abbrev pub IsBestOf : List Pair → List Bool → ℕ → Option ℕ → Type 0
 IsBestOf pairs inside m best = MatchOption best (NoneLeaves pairs inside m) (IsShortestLeaving pairs inside m)
 
 -- the best so far is one of the pairs
-pub best-within : (pairs : List Pair) (inside : List Bool) (m : ℕ) (best : Option ℕ) → IsBestOf pairs inside m best → ForSome best (λ k. k < length pairs)
+pub best-within : (pairs : List Pair) (inside : List Bool) (m : ℕ) (best : Option ℕ) →
+    IsBestOf pairs inside m best → ForSome best (λ k. k < length pairs)
 best-within pairs inside m None is = λ x none. absurd cc
 best-within pairs inside m (Some k) is = λ x same. let one : k ≡ x = same_Some k x same in omega (arith, one, slice_get_within pairs k is.pair is.here)
 
 -- a pair below m + 1 is below m or is the one at m
-below_or_at : (pairs : List Pair) (m k : ℕ) (pair here : Pair) → k < m + 1 → slice_get pairs k ≡ Some pair → slice_get pairs m ≡ Some here → (k < m) ⊎ (pair ≡ here)
+below_or_at : (pairs : List Pair) (m k : ℕ) (pair here : Pair) → k < m + 1 → slice_get pairs k ≡ Some pair →
+    slice_get pairs m ≡ Some here → (k < m) ⊎ (pair ≡ here)
 below_or_at pairs m k pair here below at here_at = elim (cases_lt k m) [
   | inl less ↦ inl less
   | inr most ↦ let same : k ≡ m = omega arith in inr (same_Some pair here (sym at ∙ ap (slice_get pairs) same ∙ here_at))
 ]
 
 -- a pair that doesn't leave changes nothing
-pub IsBestOf-kept : (pairs : List Pair) (inside : List Bool) (m : ℕ) (best : Option ℕ) (here : Pair) → IsBestOf pairs inside m best →
+pub IsBestOf-kept : (pairs : List Pair) (inside : List Bool) (m : ℕ) (best : Option ℕ) (here : Pair) →
+    IsBestOf pairs inside m best →
     slice_get pairs m ≡ Some here → leaves inside here ≡ false → IsBestOf pairs inside (m + 1) best
 IsBestOf-kept pairs inside m None here is at stays = λ k pair below pair_at.
     ⊎_elim (λ less. is k pair less pair_at) (λ same. ap (leaves inside) same ∙ stays) (below_or_at pairs m k pair here below pair_at at)
@@ -38,7 +41,8 @@ IsBestOf-kept pairs inside m (Some best) here is at stays = record {
 -- the shorter of the best so far and a pair that leaves is the best
 pub IsBestOf-taken : (pairs : List Pair) (inside : List Bool) (m : ℕ) (best : Option ℕ) (here : Pair) (k : ℕ) → IsBestOf pairs inside m best →
     slice_get pairs m ≡ Some here → leaves inside here ≡ true → ((best ≡ Some k) ⊎ (k ≡ m)) →
-    ((d : Pair) → (get_or pairs k d).length ≤ (get_or pairs m d).length) → IfSome best (λ b. (d : Pair) → (get_or pairs k d).length ≤ (get_or pairs b d).length) →
+    ((d : Pair) → (get_or pairs k d).length ≤ (get_or pairs m d).length) →
+    IfSome best (λ b. (d : Pair) → (get_or pairs k d).length ≤ (get_or pairs b d).length) →
     IsShortestLeaving pairs inside (m + 1) k
 IsBestOf-taken pairs inside m None here k is at goes either no_longer first =
     let same : k ≡ m = ⊎_elim (λ some. absurd cc) (λ same. same) either in

@@ -14,7 +14,8 @@ abbrev pub total_so_far : List Pair → List Bool → ℕ → ℕ
 total_so_far pairs set n = length_of_edges (take n (map edge_of pairs)) set
 
 -- a pair of the set adds its length
-pub total-with : (pairs : List Pair) (set : List Bool) (n : ℕ) (d : Pair) → n < length pairs → n < length set → get_or set n false ≡ true →
+pub total-with : (pairs : List Pair) (set : List Bool) (n : ℕ) (d : Pair) → n < length pairs →
+    n < length set → get_or set n false ≡ true →
     total_so_far pairs set (n + 1) ≡ total_so_far pairs set n + (get_or pairs n d).length
 total-with pairs set n d within flag_in flag =
     let here = slice_get-edges pairs n (get_or pairs n d) (slice_get-get_or pairs n d within) in
@@ -23,12 +24,14 @@ total-with pairs set n d within flag_in flag =
     omega (arith, more, ap (λ (e : Edge). e.length) edge)
 
 -- another pair adds nothing
-pub total-without : (pairs : List Pair) (set : List Bool) (n : ℕ) (d : Pair) → n < length pairs → n < length set → get_or set n false ≡ false →
+pub total-without : (pairs : List Pair) (set : List Bool) (n : ℕ) (d : Pair) → n < length pairs →
+    n < length set → get_or set n false ≡ false →
     total_so_far pairs set (n + 1) ≡ total_so_far pairs set n
 total-without pairs set n d within flag_in flag =
     let more = rw flag at (length_of_edges-take_more (map edge_of pairs) set n (edge_of d) (omega (arith, length-map pairs edge_of)) flag_in) in
     omega (arith, more)
 
 -- all pairs are the whole sum
-pub total-all : (pairs : List Pair) (set : List Bool) (n : ℕ) → n ≡ length pairs → total_so_far pairs set n ≡ total_of pairs set
+pub total-all : (pairs : List Pair) (set : List Bool) (n : ℕ) → n ≡ length pairs →
+    total_so_far pairs set n ≡ total_of pairs set
 total-all pairs set n all = ap (λ edges. length_of_edges edges set) (take_all n (map edge_of pairs) (omega (arith, length-map pairs edge_of)))

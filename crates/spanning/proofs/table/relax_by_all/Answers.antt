@@ -1,6 +1,6 @@
 use Rattle.std.proofs.Common.{◌≡◌, ◌*◌, ◌∙◌, length, subst, ap, arith}
 use Rattle.spanning.specs.Bottleneck.{entry, IsBottleneck}
-use Rattle.spanning.proofs.lemmas.Closure.{IsClosedBelow, closed-more, IsBottleneck-from_closed}
+use Rattle.spanning.specs.ClosureLaws.{IsClosedBelow, closed-more, IsBottleneck-from_closed}
 use Rattle.spanning.proofs.table.relax_by_all.Goals as goal
 
 pub loop-middle-preserved : goal.loop-middle-preserved

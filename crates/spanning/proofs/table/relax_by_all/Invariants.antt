@@ -1,6 +1,6 @@
 use Rattle.std.proofs.Common.{◌≡◌, ◌*◌, length}
 use Rattle.spanning.specs.Bottleneck.{entry}
-use Rattle.spanning.proofs.lemmas.Closure.{IsClosedBelow}
+use Rattle.spanning.specs.ClosureLaws.{IsClosedBelow}
 use Rattle.spanning.proofs.table.relax_by_all.Given as goal
 
 abbrev pub invariant-loop-middle : goal.invariant-loop-middle

@@ -1,33 +1,26 @@
 -- Lengths that are made shorter by way of one terminal after another become bottlenecks.
-use Rattle.std.proofs.Common.{ℕ, ◌≡◌, ◌+◌, ◌<◌, ◌≤◌, ◌⊎◌, inl, inr, List, length, get_or, min, max, ◌-ℤ◌, ap, sym, subst, arith}
+use Rattle.std.specs.Prelude.{ℕ, zero, suc, ◌≡◌, ◌+◌, ◌<◌, ◌≤◌, ◌⊎◌, List, length, min, max}
+use Rattle.std.proofs.Common.{inl, inr, sym, subst, refl, arith, add-one}
 use Rattle.std.proofs.lemmas.Bool.{cases_eq, cases_lt}
-use Rattle.std.proofs.Math.IntN.{+ℤ_invr}
-use Rattle.std.specs.Prelude.{ℤ, unsigned_abs}
 use Rattle.points_in.specs.declared.point.Point.{Point}
-use Rattle.hanan_grid.specs.Distance.{origin, distance_of}
+use Rattle.hanan_grid.specs.Distance.{distance_of}
 use Rattle.net_graph.specs.Search.{Leads}
-use Rattle.net_graph.specs.SearchLaws.{Leads-start, Leads-more, Leads-keeps, Leads-trans, Leads-weaker}
+use Rattle.net_graph.specs.SearchLaws.{Leads-keeps, Leads-trans}
 use Rattle.spanning.specs.Bottleneck.{IsHop, IsBottleneck}
+use Rattle.spanning.specs.BottleneckLaws.{distance_of-same, Leads-longer, Leads-hop}
 use Rattle.spanning.specs.Relaxing.{relaxed}
 
--- The lengths are the longest hops of some chains, are no longer than one hop, and get no shorter by way of any of the first k
--- terminals.
+-- The lengths are the longest hops of some chains, are no longer than one hop, and get no shorter by way of any of
+-- the first k terminals.
 pub record IsClosedBelow (ps : List Point) (k : ℕ) (d : ℕ → ℕ → ℕ) : Type 0 where
   pub chains : (i j : ℕ) → i < length ps → j < length ps → Leads (IsHop ps (d i j)) i j
   pub direct : (i j : ℕ) → i < length ps → j < length ps → d i j ≤ distance_of ps i j
-  pub closed : (m i j : ℕ) → m < k → m < length ps → i < length ps → j < length ps → d i j ≤ max (d i m) (d m j)
-
--- longer hops lead at least as far
-pub Leads-longer : (ps : List Point) (least most i j : ℕ) → least ≤ most → Leads (IsHop ps least) i j → Leads (IsHop ps most) i j
-Leads-longer ps least most i j longer led =
-    Leads-weaker (IsHop ps least) (IsHop ps most) (λ u w hop. record { from = hop.from; to = hop.to; short = omega (arith, hop.short, longer) }) i j led
-
--- one hop
-pub Leads-hop : (ps : List Point) (i j : ℕ) → i < length ps → j < length ps → Leads (IsHop ps (distance_of ps i j)) i j
-Leads-hop ps i j i_in j_in = Leads-more (IsHop ps (distance_of ps i j)) i i j (Leads-start (IsHop ps (distance_of ps i j)) i) record { from = i_in; to = j_in; short = omega arith }
+  pub closed : (m i j : ℕ) → m < k → m < length ps → i < length ps → j < length ps →
+      d i j ≤ max (d i m) (d m j)
 
 -- the distances are closed below no terminal
-pub closed-at_first : (ps : List Point) (d : ℕ → ℕ → ℕ) → ((i j : ℕ) → i < length ps → j < length ps → d i j ≡ distance_of ps i j) → IsClosedBelow ps 0 d
+pub closed-at_first : (ps : List Point) (d : ℕ → ℕ → ℕ) →
+    ((i j : ℕ) → i < length ps → j < length ps → d i j ≡ distance_of ps i j) → IsClosedBelow ps 0 d
 closed-at_first ps d is = record {
   chains = λ i j i_in j_in. subst (λ most. Leads (IsHop ps most) i j) (sym (is i j i_in j_in)) (Leads-hop ps i j i_in j_in);
   direct = λ i j i_in j_in. omega (arith, is i j i_in j_in);
@@ -76,15 +69,9 @@ closed-more ps k d e k_in closed is = record {
   ];
 }
 
--- a point is no distance from itself
-no_way : (z : ℤ) → unsigned_abs (z -ℤ z) ≡ 0
-no_way z = ap unsigned_abs (+ℤ_invr z)
-
-distance_of-same : (ps : List Point) (i : ℕ) → distance_of ps i i ≡ 0
-distance_of-same ps i = let p = get_or ps i origin in omega (arith, no_way p.x, no_way p.y)
-
 -- what is closed by way of every terminal is the bottleneck
-pub IsBottleneck-from_closed : (ps : List Point) (d : ℕ → ℕ → ℕ) → IsClosedBelow ps (length ps) d → (i j : ℕ) → i < length ps → j < length ps → IsBottleneck ps i j (d i j)
+pub IsBottleneck-from_closed : (ps : List Point) (d : ℕ → ℕ → ℕ) → IsClosedBelow ps (length ps) d →
+    (i j : ℕ) → i < length ps → j < length ps → IsBottleneck ps i j (d i j)
 IsBottleneck-from_closed ps d closed i j i_in j_in = record {
   chain = closed.chains i j i_in j_in;
   least = λ most led.
@@ -92,3 +79,22 @@ IsBottleneck-from_closed ps d closed i j i_in j_in = record {
       (i_in, omega (arith, closed.direct i i i_in i_in, distance_of-same ps i))
       (λ u w so_far hop. (hop.to, omega (arith, so_far.1, closed.closed u i w hop.from hop.from i_in hop.to, closed.direct u w hop.from hop.to, hop.short))) led).1;
 }
+
+-- the distances, made shorter by way of the first k terminals
+closure : List Point → ℕ → ℕ → ℕ → ℕ
+closure ps zero = distance_of ps
+closure ps (suc k) = relaxed (closure ps k) k
+
+-- .. are closed below k
+closure-closed : (ps : List Point) (k : ℕ) → k ≤ length ps → IsClosedBelow ps k (closure ps k)
+unfolding closure
+closure-closed ps zero few = closed-at_first ps (closure ps zero) (λ i j i_in j_in. refl)
+closure-closed ps (suc k) few =
+    subst (λ n. IsClosedBelow ps n (closure ps (suc k))) (add-one k)
+    (closed-more ps k (closure ps k) (closure ps (suc k)) (omega arith) (closure-closed ps k (omega arith)) (λ i j i_in j_in. refl))
+
+-- each two terminals have a bottleneck
+pub some_bottleneck : (ps : List Point) (i j : ℕ) → i < length ps → j < length ps →
+    (b : ℕ) × IsBottleneck ps i j b
+some_bottleneck ps i j i_in j_in =
+    (closure ps (length ps) i j, IsBottleneck-from_closed ps (closure ps (length ps)) (closure-closed ps (length ps) (omega arith)) i j i_in j_in)
