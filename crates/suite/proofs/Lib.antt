@@ -1,3 +1,3 @@
-pub mod LeafLaws
-pub mod SolveLaws
-pub mod CheckLaws
+pub mod Heads
+pub mod Completeness
+pub mod Asked

@@ -1,13 +1,4 @@
-pub mod Words
-pub mod Solution
-pub mod Told
-pub mod Refusal
-pub mod Taking
-pub mod Solve
-pub mod SolveSteps
-pub mod Verdicts
-pub mod Check
-pub mod CheckSteps
-pub mod Truth
+pub mod Requests
 pub mod Run
-pub mod RunSteps
+pub mod Headlines
+pub mod Complete

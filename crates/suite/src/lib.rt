@@ -1,16 +1,9 @@
-//! The tools of the program, and the top call that runs them.
+//! The top call, which runs the tool that the words ask for.
 #![tactic(auto)]
 
-mod bound;
-mod check;
 mod program;
-mod refusal;
-mod solution;
-mod solve;
-mod taking;
+mod request;
 #[cfg(test)]
 mod tests;
-mod tool;
-mod verdict_line;
 
 pub use program::run;

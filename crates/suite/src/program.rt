@@ -1,21 +1,20 @@
 //! The top call.
 
-ghost use Rattle.std.specs.Prelude.{◌≡◌, Some, map, string_bytes};
-ghost use Rattle.suite.specs.Words.{tool_of, points_word};
-ghost use Rattle.suite.specs.Run.{IsRun, Headline, CheckHeadline};
-ghost use Rattle.suite.specs.RunSteps.{Works};
+ghost use Rattle.std.specs.Prelude.{map, string_bytes};
+ghost use Rattle.frame.specs.Outside.{outside};
+ghost use Rattle.suite.specs.Requests.{request_of};
+ghost use Rattle.suite.specs.Run.{IsRun};
+ghost use Rattle.suite.specs.Headlines.{Headline, CheckHeadline};
+ghost use Rattle.suite.specs.Complete.{Completes};
 
-use crate::check::check;
-use crate::refusal::{Refusal, tell, tell_usage};
-use crate::solve::solve;
-use crate::tool::{Tool, points_name, tool_named};
+use crate::request::{Request, request_in};
+use frame::{MISUSED, report};
+use judge_tools::check;
 use rst_outside::{Shelf, Sink, Source};
+use search_tools::solve;
 use std::alloc::Global;
 
-/// The status where the words choose no tool.
-const MISUSED: u8 = 2;
-
-/// Runs the tool that the words after the program's name choose, and gives the status that the program ends with.
+/// Runs the tool that the words after the program's name ask for, and gives the status that the program ends with.
 ///
 /// The order of work is: words, the file that they name, input (read to its end), computing, writing. Statuses and texts
 /// stand in docs/FORMATS.md.
@@ -27,49 +26,25 @@ pub fn run<I: Source, O: Sink, R: Sink, S: Shelf>(
     err: &mut R,
     shelf: &mut S,
 ) -> u8
-    ensures run { IsRun (tool_of (map string_bytes words.now)) (points_word (map string_bytes words.now))
-        (record { input = I.state input.old; out = O.state out.old; err = R.state err.old; shelf = S.state shelf.old })
-        (record { input = I.state input.new; out = O.state out.new; err = R.state err.new; shelf = S.state shelf.new })
-        result }
-    ensures headline { Headline (tool_of (map string_bytes words.now))
-        (record { input = I.state input.old; out = O.state out.old; err = R.state err.old; shelf = S.state shelf.old })
-        (record { input = I.state input.new; out = O.state out.new; err = R.state err.new; shelf = S.state shelf.new })
-        result }
-    ensures checked { CheckHeadline (tool_of (map string_bytes words.now)) (points_word (map string_bytes words.now))
-        (record { input = I.state input.old; out = O.state out.old; err = R.state err.old; shelf = S.state shelf.old })
-        (record { input = I.state input.new; out = O.state out.new; err = R.state err.new; shelf = S.state shelf.new })
-        result }
+    ensures run { IsRun (request_of (map string_bytes words.now))
+        (outside (I.state input.old) (O.state out.old) (R.state err.old) (S.state shelf.old))
+        (outside (I.state input.new) (O.state out.new) (R.state err.new) (S.state shelf.new)) result }
+    ensures headline { Headline (request_of (map string_bytes words.now))
+        (outside (I.state input.old) (O.state out.old) (R.state err.old) (S.state shelf.old))
+        (outside (I.state input.new) (O.state out.new) (R.state err.new) (S.state shelf.new)) result }
+    ensures checked { CheckHeadline (request_of (map string_bytes words.now))
+        (outside (I.state input.old) (O.state out.old) (R.state err.old) (S.state shelf.old))
+        (outside (I.state input.new) (O.state out.new) (R.state err.new) (S.state shelf.new)) result }
+    ensures complete { Completes (request_of (map string_bytes words.now))
+        (outside (I.state input.old) (O.state out.old) (R.state err.old) (S.state shelf.old))
+        (outside (I.state input.new) (O.state out.new) (R.state err.new) (S.state shelf.new)) result }
 {
-    let Some(tool) = tool_named(words) else {
-        tell_usage(err);
-        return MISUSED;
-    };
-    match work(alloc, tool, words, input, out, shelf) {
-        Ok(status) => status,
-        Err(refusal) => {
-            tell(err, tool, refusal);
-            refusal.status()
+    match request_in(words) {
+        Some(Request::Solve) => solve(alloc, input, out, err),
+        Some(Request::Check { points }) => check(alloc, points, input, out, err, shelf),
+        None => {
+            report(err, b"usage: rst solve|check [WORDS]\n");
+            MISUSED
         }
-    }
-}
-
-// What the tool does that the words choose: the status that it ends with, or why it refuses.
-fn work<I: Source, O: Sink, S: Shelf>(
-    alloc: Global,
-    tool: Tool,
-    words: &[String],
-    input: &mut I,
-    out: &mut O,
-    shelf: &mut S,
-) -> Result<u8, Refusal>
-    requires { tool_of (map string_bytes words.now) ≡ Some tool }
-    ensures { Works tool (points_word (map string_bytes words.now))
-        (record { input = I.state input.old; out = O.state out.old; shelf = S.state shelf.old })
-        (record { input = I.state input.new; out = O.state out.new; shelf = S.state shelf.new })
-        result }
-{
-    match tool {
-        Tool::Solve => Ok(solve(alloc, input, out)?.status()),
-        Tool::Check => Ok(check(alloc, points_name(words), input, out, shelf)?.status()),
     }
 }

@@ -1,0 +1,11 @@
+pub mod Statuses
+pub mod Outside
+pub mod Ends
+pub mod Taking
+pub mod Leaves
+pub mod Points
+pub mod FaultTexts
+pub mod FromText
+pub mod Complete
+pub mod EndLaws
+pub mod TakingLaws

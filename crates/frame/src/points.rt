@@ -1,0 +1,116 @@
+//! Points and their grid, read from a text or from a file.
+
+ghost use Rattle.std.specs.Prelude.{◌≡◌, IfOk};
+ghost use Rattle.text_out.specs.Gathers.{Gathers};
+ghost use Rattle.frame.specs.Taking.{KeepsFiles};
+ghost use Rattle.frame.specs.Points.{ReadsGrid, ReadsPointsFile};
+ghost use Rattle.frame.specs.FaultTexts.{list_fault_text, list_fault_status, points_fault_text, points_fault_status, total_text};
+
+use crate::fault::Fault;
+use crate::status::FaultStatus;
+use crate::take::{FileFault, take_file};
+use hanan_grid::{Grid, GridFault};
+use points_in::{PointFault, read_points};
+use rst_outside::{Shelf, Sink};
+use std::alloc::{AllocError, Global};
+use text_out::{Block, literal, number};
+
+/// Why a text gives no grid of points.
+#[derive(Clone, Copy, Debug, PartialEq, Eq)]
+pub enum ListFault {
+    /// It is no plain list of points.
+    NotPlain,
+    /// The edges of its points' grid sum to 2^63 or more: to this total.
+    GridTooLong { total: u128 },
+}
+
+/// Why a file gives no grid of points.
+#[derive(Clone, Copy, Debug, PartialEq, Eq)]
+pub enum PointsFault {
+    /// It isn't taken whole.
+    File(FileFault),
+    /// Its text gives none.
+    List(ListFault),
+}
+
+/// The grid of the points that a text lists. An `Err` is want of memory.
+pub fn read_grid(alloc: Global, bytes: &[u8]) -> Result<Result<Grid, ListFault>, AllocError>
+    ensures { IfOk result (ReadsGrid bytes.now) }
+{
+    let points = match read_points(alloc, bytes) {
+        Ok(points) => points,
+        Err(PointFault::NotPlain) => return Ok(Err(ListFault::NotPlain)),
+        Err(PointFault::Memory(error)) => return Err(error),
+    };
+    match Grid::new(alloc, &points) {
+        Ok(grid) => Ok(Ok(grid)),
+        Err(GridFault::TooLong { total }) => Ok(Err(ListFault::GridTooLong { total })),
+        Err(GridFault::Memory(error)) => Err(error),
+    }
+}
+
+/// The grid of the points that the file of this name lists, which may have `limit` bytes. An `Err` is want of memory.
+pub fn read_points_file<S: Shelf>(
+    alloc: Global,
+    shelf: &mut S,
+    name: &str,
+    limit: u64,
+) -> Result<Result<Grid, PointsFault>, AllocError>
+    ensures reads { IfOk result (ReadsPointsFile limit (S.state shelf.old) (S.state shelf.new) name.now) }
+    ensures files { KeepsFiles (S.state shelf.old) (S.state shelf.new) }
+{
+    let bytes = match take_file(alloc, shelf, name, limit)? {
+        Ok(bytes) => bytes,
+        Err(fault) => return Ok(Err(PointsFault::File(fault))),
+    };
+    match read_grid(alloc, bytes.as_slice())? {
+        Ok(grid) => Ok(Ok(grid)),
+        Err(fault) => Ok(Err(PointsFault::List(fault))),
+    }
+}
+
+impl Fault for ListFault {
+    ghost text = { list_fault_text };
+
+    ghost status = { list_fault_status };
+
+    fn status(&self) -> FaultStatus {
+        FaultStatus::Malformed
+    }
+
+    fn write<R: Sink>(&self, block: &mut Block, err: &mut R) {
+        match self {
+            ListFault::NotPlain => literal(block, err, b"not a plain list of points"),
+            ListFault::GridTooLong { total } => write_total(block, err, *total),
+        }
+    }
+}
+
+impl Fault for PointsFault {
+    ghost text = { points_fault_text };
+
+    ghost status = { points_fault_status };
+
+    fn status(&self) -> FaultStatus {
+        match self {
+            PointsFault::File(fault) => fault.status(),
+            PointsFault::List(fault) => fault.status(),
+        }
+    }
+
+    fn write<R: Sink>(&self, block: &mut Block, err: &mut R) {
+        match self {
+            PointsFault::File(fault) => fault.write(block, err),
+            PointsFault::List(fault) => fault.write(block, err),
+        }
+    }
+}
+
+// What is said of a grid that is too long.
+#[tactic(auto, using(text_out::specs::GatherLaws::pieces))]
+fn write_total<R: Sink>(block: &mut Block, err: &mut R, total: u128)
+    ensures { Gathers (R.state err.old) block.old (total_text total) (R.state err.new) block.new }
+{
+    literal(block, err, b"the grid is too long: ");
+    number(block, err, total);
+}

@@ -1,0 +1,14 @@
+-- In each arm the text of the cause is the one that was written.
+use Rattle.judge_tools.proofs.verdict_line.write_cause.Goals as goal
+
+pub returns-in-OffGrid : goal.returns-in-OffGrid
+returns-in-OffGrid g c = rw c.in-OffGrid.is c.write_about_line-in-OffGrid.ensures
+
+pub returns-in-WrongLength : goal.returns-in-WrongLength
+returns-in-WrongLength g c = rw c.in-WrongLength.is c.write_about_number.ensures
+
+pub returns-in-SplitLine : goal.returns-in-SplitLine
+returns-in-SplitLine g c = rw c.in-SplitLine.is c.write_about_line-in-SplitLine.ensures
+
+pub returns-in-WrongBound : goal.returns-in-WrongBound
+returns-in-WrongBound g c = rw c.in-WrongBound.is c.write_about_number-in-WrongBound.ensures

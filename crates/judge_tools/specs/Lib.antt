@@ -1,0 +1,4 @@
+pub mod Verdicts
+pub mod Check
+pub mod Truth
+pub mod CheckLaws

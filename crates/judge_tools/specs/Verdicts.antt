@@ -1,0 +1,70 @@
+-- The line that tells a verdict, and the status that the tool ends with.
+use Rattle.std.specs.Prelude.{ℕ, Bool, List, ◌++◌, codes, decimal}
+use Rattle.cut_cert.specs.Text.{status_word}
+use Rattle.cert_check.specs.declared.verdict.Cause.{Cause}
+use Rattle.cert_check.specs.declared.verdict.Cause.TheVariants.{NotAnswer, OffGrid, EdgeOrder, NotJoined, WrongLength, SplitLine, RootInCut, IdleCut, Overload, WrongBound, WrongStatus}
+use Rattle.cert_check.specs.declared.verdict.Verdict.{Verdict}
+use Rattle.cert_check.specs.declared.verdict.Verdict.TheVariants.{Accepted, Refused}
+use Rattle.frame.specs.declared.status.AnswerStatus.{AnswerStatus}
+use Rattle.frame.specs.declared.status.AnswerStatus.TheVariants as ends
+use Rattle.frame.specs.Ends.{Print}
+use Rattle.judge_tools.specs.declared.verdict_line.VerdictLine.{VerdictLine}
+
+-- what is said of a line
+abbrev pub about_line : ℕ → List ℕ → List ℕ
+about_line line fault = codes "line " ++ decimal line ++ fault
+
+-- what is said of a point that isn't joined
+abbrev pub about_point : ℕ → List ℕ
+about_point point = codes "point " ++ decimal point ++ codes " is not joined"
+
+-- what is said of a number that the answer tells wrongly
+abbrev pub about_number : List ℕ → ℕ → ℕ → List ℕ
+about_number name printed found = name ++ codes " says " ++ decimal printed ++ codes ", found " ++ decimal found
+
+-- what is said of a line whose cut loads an edge above its room
+abbrev pub about_load : ℕ → ℕ → ℕ → ℕ → List ℕ
+about_load line edge load room = about_line line (codes " loads edge ") ++ decimal edge ++ codes " with " ++ decimal load ++ codes " of " ++ decimal room
+
+-- why an answer is refused
+abbrev pub cause_text : Cause → List ℕ
+cause_text (NotAnswer line) = about_line line (codes " is not in the format")
+cause_text (OffGrid line) = about_line line (codes " names no grid edge")
+cause_text (EdgeOrder line) = about_line line (codes " is out of order")
+cause_text (NotJoined point) = about_point point
+cause_text (WrongLength printed found) = about_number (codes "length") printed found
+cause_text (SplitLine line) = about_line line (codes " is a split")
+cause_text (RootInCut line) = about_line line (codes " has the root in its cut")
+cause_text (IdleCut line) = about_line line (codes " cuts off no required vertex")
+cause_text (Overload line edge load room) = about_load line edge load room
+cause_text (WrongBound printed found) = about_number (codes "bound") printed found
+cause_text WrongStatus = codes "status"
+
+-- what is said of an answer that is accepted
+abbrev pub accepted_line : ℕ → ℕ → Bool → List ℕ
+accepted_line length bound optimal = codes "accepted length " ++ decimal length ++ codes " bound " ++ decimal bound ++ codes " " ++ status_word optimal ++ codes "\n"
+
+-- what is said of an answer that is refused
+abbrev pub refused_line : Cause → List ℕ
+refused_line cause = codes "refused " ++ cause_text cause ++ codes "\n"
+
+-- the line that tells a verdict
+abbrev pub verdict_text : Verdict → List ℕ
+verdict_text (Accepted length bound optimal) = accepted_line length bound optimal
+verdict_text (Refused cause) = refused_line cause
+
+-- the status of a verdict
+abbrev pub status_of_verdict : Verdict → AnswerStatus
+status_of_verdict (Accepted length bound optimal) = ends.Done
+status_of_verdict (Refused cause) = ends.Refused
+
+-- what is printed of a verdict
+abbrev pub verdict_print : Verdict → Print
+verdict_print verdict = record { text = verdict_text verdict; status = status_of_verdict verdict }
+
+-- the text and the status of a line
+abbrev pub line_text : VerdictLine → List ℕ
+line_text line = verdict_text line.verdict
+
+abbrev pub line_status : VerdictLine → AnswerStatus
+line_status line = status_of_verdict line.verdict

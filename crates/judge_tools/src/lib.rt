@@ -1,0 +1,7 @@
+//! The tools that judge answers.
+#![tactic(auto)]
+
+mod judge;
+mod verdict_line;
+
+pub use judge::{ANSWER_LIMIT, CheckFault, check};

@@ -1,0 +1,3 @@
+pub mod Solution
+pub mod Solve
+pub mod SolveSteps

@@ -1,0 +1,76 @@
+-- A run that nothing troubles ends with an answer, or memory was wanting.
+use Rattle.std.proofs.Common.{ℕ, ◌≡◌, List, codes, Some, Err, ◌⊎◌, inl, inr, subst, ap, ◌∙◌}
+use Rattle.std.proofs.lemmas.Bool.Decides.{eqb_tells}
+use Rattle.points_in.specs.declared.point.Point.{Point}
+use Rattle.net_graph.specs.Network.{length_of}
+use Rattle.cert_check.specs.declared.verdict.Verdict.{Verdict}
+use Rattle.cert_check.specs.declared.verdict.Verdict.TheVariants as said
+use Rattle.frame.specs.declared.take.TheConstants.{TEXT_LIMIT}
+use Rattle.frame.specs.declared.points.ListFault.{ListFault}
+use Rattle.frame.specs.declared.text_fault.TextFault.{TextFault}
+use Rattle.frame.specs.declared.text_fault.TextFault.TheVariants as text_fault
+use Rattle.frame.specs.Statuses.{answer_code}
+use Rattle.frame.specs.Outside.{Readable, Outside}
+use Rattle.frame.specs.Ends.{Print}
+use Rattle.frame.specs.EndLaws.{complete_ends}
+use Rattle.frame.specs.FaultTexts.{list_fault_text, list_fault_status, text_fault_text, text_fault_status}
+use Rattle.frame.specs.FromText.{FromText}
+use Rattle.frame.specs.Leaves.{LeavesShelf, LeavesFiles}
+use Rattle.frame.specs.Complete.{HasInput, HasFile}
+use Rattle.frame.specs.Points.{ListsPoints, IsListFault, grid_of_points}
+use Rattle.frame.specs.TakingLaws.{input_is_taken, whole_input_is, lists_points_faultless, file_faultless}
+use Rattle.search_tools.specs.Solution.{bound_of}
+use Rattle.search_tools.specs.Solve.{Solves, EndsSolve, status_of_bound}
+use Rattle.judge_tools.specs.declared.judge.TheConstants.{ANSWER_LIMIT}
+use Rattle.judge_tools.specs.declared.judge.CheckFault.{CheckFault}
+use Rattle.judge_tools.specs.declared.judge.CheckFault.TheVariants as check_fault
+use Rattle.judge_tools.specs.Verdicts.{status_of_verdict}
+use Rattle.judge_tools.specs.Check.{Checks, EndsCheck, check_fault_text, check_fault_status}
+use Rattle.suite.specs.Requests.Request.{Solve, Check}
+use Rattle.suite.specs.Complete.{Completes}
+
+-- an input that lists points has no fault
+solve_faultless : (before after : Readable) (bytes : List ℕ) (ps : List Point) → HasInput TEXT_LIMIT before.input after.input bytes → ListsPoints bytes ps →
+    (fault : TextFault ListFault) → FromText TEXT_LIMIT Solves before after (Err fault) → ⊥
+solve_faultless before after bytes ps has lists (text_fault.Input fault) is = input_is_taken TEXT_LIMIT before.input after.input bytes fault has is
+solve_faultless before after bytes ps has lists (text_fault.Text fault) (taken, whole, is) =
+    lists_points_faultless bytes ps fault lists
+    (subst (λ b. IsListFault b fault) (whole_input_is TEXT_LIMIT before.input after.input bytes taken has whole) is)
+
+-- the status of an answer is 0 or 3
+zero_or_three : (bound length status : ℕ) → status ≡ answer_code (status_of_bound bound length) → (status ≡ 0) ⊎ (status ≡ 3)
+zero_or_three bound length status is = elim (eqb_tells bound length) [
+  | inl (holds, equal) ↦ let ends : status ≡ 0 = rw holds at is in inl ends
+  | inr (fails, apart) ↦ let ends : status ≡ 3 = rw fails at is in inr ends
+]
+
+pub solve_completes : (before after : Outside) (status : ℕ) → EndsSolve before after status → Completes (Some Solve) before after status
+solve_completes before after status ends = λ bytes ps has lists writes.
+    elim (complete_ends (text_fault_status list_fault_status) (text_fault_text list_fault_text) (codes "solve") (FromText TEXT_LIMIT Solves) LeavesShelf before after status
+    (solve_faultless before.read after.read bytes ps has lists) writes ends) [
+      | inl seven ↦ inr seven
+      | inr (print, (taken, whole, (qs, set, packing, solved, of_points)), answers) ↦
+          inl (zero_or_three (bound_of (grid_of_points qs) set packing) (length_of (grid_of_points qs) set) status (answers ∙ ap (λ (p : Print). answer_code p.status) of_points))
+    ]
+
+-- a file that lists points and an input within the limit have no fault
+check_faultless : (name : List ℕ) (before after : Readable) (points bytes : List ℕ) (ps : List Point) → HasFile TEXT_LIMIT before.shelf after.shelf name points → ListsPoints points ps →
+    HasInput ANSWER_LIMIT before.input after.input bytes → (fault : CheckFault) → Checks name before after (Err fault) → ⊥
+check_faultless name before after points bytes ps file lists has (check_fault.Points fault) (is, same) =
+    file_faultless TEXT_LIMIT before.shelf after.shelf name points ps fault file lists is
+check_faultless name before after points bytes ps file lists has (check_fault.Input fault) (grid, is) =
+    input_is_taken ANSWER_LIMIT before.input after.input bytes fault has is
+
+-- the status of a verdict is 0 or 1
+zero_or_one : (v : Verdict) (status : ℕ) → status ≡ answer_code (status_of_verdict v) → (status ≡ 0) ⊎ (status ≡ 1)
+zero_or_one (said.Accepted length bound optimal) status is = inl is
+zero_or_one (said.Refused cause) status is = inr is
+
+pub check_completes : (name : List ℕ) (before after : Outside) (status : ℕ) → EndsCheck name before after status → Completes (Some (Check name)) before after status
+check_completes name before after status ends = λ points bytes ps file lists has writes.
+    elim (complete_ends check_fault_status check_fault_text (codes "check") (Checks name) LeavesFiles before after status
+    (check_faultless name before.read after.read points bytes ps file lists has) writes ends) [
+      | inl seven ↦ inr seven
+      | inr (print, (qs, taken, f, checked, of_verdict), answers) ↦
+          inl (zero_or_one f.verdict status (answers ∙ ap (λ (p : Print). answer_code p.status) of_verdict))
+    ]

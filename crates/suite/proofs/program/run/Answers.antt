@@ -1,0 +1,45 @@
+-- What the tool printed is true, and a run that nothing troubles ends with an answer.
+use Rattle.std.proofs.Common.{refl, map, string_bytes}
+use Rattle.frame.specs.Outside.{outside}
+use Rattle.suite.specs.Requests.{request_of}
+use Rattle.suite.specs.declared.request.Request.TheVariants as asked
+use Rattle.suite.proofs.Heads.{solve_headline}
+use Rattle.suite.proofs.Asked.{asked_is, solve_asked_completes, check_asked_completes, check_asked_headline}
+use Rattle.suite.proofs.program.run.Goals as goal
+
+pub returns-in-Some-Solve-clause-headline : goal.returns-in-Some-Solve-clause-headline
+returns-in-Some-Solve-clause-headline g c = λ same.
+    solve_headline
+    (outside (g.I.Source.state c.args.input.now) (g.O.Sink.state c.args.out.now) (g.R.Sink.state c.args.err.now) (g.S.Shelf.state c.args.shelf.now))
+    (outside (g.I.Source.state c.solve.new.input) (g.O.Sink.state c.solve.new.out) (g.R.Sink.state c.solve.new.err) (g.S.Shelf.state c.args.shelf.now))
+    c.solve.result (c.solve.ensures (g.S.Shelf.state c.args.shelf.now)) refl
+
+pub returns-in-Some-Solve-clause-complete : goal.returns-in-Some-Solve-clause-complete
+returns-in-Some-Solve-clause-complete g c =
+    let request = request_of (map string_bytes c.args.words.now) in
+    solve_asked_completes request
+    (outside (g.I.Source.state c.args.input.now) (g.O.Sink.state c.args.out.now) (g.R.Sink.state c.args.err.now) (g.S.Shelf.state c.args.shelf.now))
+    (outside (g.I.Source.state c.solve.new.input) (g.O.Sink.state c.solve.new.out) (g.R.Sink.state c.solve.new.err) (g.S.Shelf.state c.args.shelf.now))
+    c.solve.result
+    (asked_is c.request_in.result request c.in-Some-Solve.field-0 asked.Solve c.request_in.ensures c.in-Some-Solve.is c.in-Some-Solve.field-0-is)
+    (c.solve.ensures (g.S.Shelf.state c.args.shelf.now))
+
+pub returns-in-Some-Check-clause-checked : goal.returns-in-Some-Check-clause-checked
+returns-in-Some-Check-clause-checked g c =
+    let request = request_of (map string_bytes c.args.words.now) in
+    check_asked_headline request c.in-Some-Check.points.now
+    (outside (g.I.Source.state c.args.input.now) (g.O.Sink.state c.args.out.now) (g.R.Sink.state c.args.err.now) (g.S.Shelf.state c.args.shelf.now))
+    (outside (g.I.Source.state c.check.new.input) (g.O.Sink.state c.check.new.out) (g.R.Sink.state c.check.new.err) (g.S.Shelf.state c.check.new.shelf))
+    c.check.result
+    (asked_is c.request_in.result request c.in-Some-Check.field-0 (asked.Check c.in-Some-Check.points) c.request_in.ensures c.in-Some-Check.is c.in-Some-Check.field-0-is)
+    c.check.ensures
+
+pub returns-in-Some-Check-clause-complete : goal.returns-in-Some-Check-clause-complete
+returns-in-Some-Check-clause-complete g c =
+    let request = request_of (map string_bytes c.args.words.now) in
+    check_asked_completes request c.in-Some-Check.points.now
+    (outside (g.I.Source.state c.args.input.now) (g.O.Sink.state c.args.out.now) (g.R.Sink.state c.args.err.now) (g.S.Shelf.state c.args.shelf.now))
+    (outside (g.I.Source.state c.check.new.input) (g.O.Sink.state c.check.new.out) (g.R.Sink.state c.check.new.err) (g.S.Shelf.state c.check.new.shelf))
+    c.check.result
+    (asked_is c.request_in.result request c.in-Some-Check.field-0 (asked.Check c.in-Some-Check.points) c.request_in.ensures c.in-Some-Check.is c.in-Some-Check.field-0-is)
+    c.check.ensures

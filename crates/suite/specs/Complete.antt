@@ -1,0 +1,28 @@
+-- How a run ends that nothing troubles.
+use Rattle.std.specs.Prelude.{ℕ, ◌≡◌, List, Option, Some, None, ◌⊎◌}
+use Rattle.rst_outside.specs.Counts.{Rose}
+use Rattle.points_in.specs.declared.point.Point.{Point}
+use Rattle.frame.specs.declared.status.TheConstants.{MISUSED, NO_MEMORY}
+use Rattle.frame.specs.declared.take.TheConstants.{TEXT_LIMIT}
+use Rattle.frame.specs.Outside.{Outside}
+use Rattle.frame.specs.Complete.{HasInput, HasFile}
+use Rattle.frame.specs.Points.{ListsPoints}
+use Rattle.judge_tools.specs.declared.judge.TheConstants.{ANSWER_LIMIT}
+use Rattle.suite.specs.Requests.{Request}
+use Rattle.suite.specs.Requests.Request.{Solve, Check}
+
+-- no write to `out` fails
+abbrev pub IsWritable : Outside → Outside → Type 0
+IsWritable before after = Rose before.written.out.faults after.written.out.faults → ⊥
+
+-- Where what a tool reads is told, within its limits and without fault, and no read or write fails, the status is one that the
+-- tool answers with, or memory was wanting.
+abbrev pub Completes : Option Request → Outside → Outside → ℕ → Type 0
+Completes None before after status = status ≡ MISUSED
+Completes (Some Solve) before after status =
+    (bytes : List ℕ) (ps : List Point) → HasInput TEXT_LIMIT before.read.input after.read.input bytes → ListsPoints bytes ps →
+    IsWritable before after → ((status ≡ 0) ⊎ (status ≡ 3)) ⊎ (status ≡ NO_MEMORY)
+Completes (Some (Check name)) before after status =
+    (points bytes : List ℕ) (ps : List Point) → HasFile TEXT_LIMIT before.read.shelf after.read.shelf name points → ListsPoints points ps →
+    HasInput ANSWER_LIMIT before.read.input after.read.input bytes →
+    IsWritable before after → ((status ≡ 0) ⊎ (status ≡ 1)) ⊎ (status ≡ NO_MEMORY)

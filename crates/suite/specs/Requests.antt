@@ -1,0 +1,22 @@
+-- What the words after the program's name ask for.
+use Rattle.std.specs.Prelude.{ℕ, List, [], ◌∷◌, Option, Some, None, codes, if◌then◌else◌}
+use Rattle.std.specs.Str.{bytes_eq}
+use Rattle.suite.specs.declared.request.Request.{Request as Asked}
+use Rattle.suite.specs.declared.request.Request.TheVariants as asked
+
+-- a tool, with what its words tell it
+pub data Request : Type 0 where
+  Solve : Request
+  Check : (points : List ℕ) → Request
+
+-- what the words ask for: `solve` alone, or `check` and a file's name
+abbrev pub request_of : List (List ℕ) → Option Request
+request_of [] = None
+request_of (word ∷ []) = if bytes_eq word (codes "solve") then Some Request.Solve else None
+request_of (word ∷ name ∷ []) = if bytes_eq word (codes "check") then Some (Request.Check name) else None
+request_of (word ∷ name ∷ other ∷ more) = None
+
+-- the request of the code, which holds the name by reference
+abbrev pub meaning : Asked → Request
+meaning asked.Solve = Request.Solve
+meaning (asked.Check points) = Request.Check points.now
