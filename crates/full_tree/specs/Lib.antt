@@ -1,0 +1,6 @@
+pub mod Geometry
+pub mod Code
+pub mod Form
+pub mod Pieces
+pub mod Order
+pub mod Joined

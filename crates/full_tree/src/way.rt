@@ -1,0 +1,14 @@
+//! The four directions.
+
+/// A direction along one of the axes.
+#[derive(Clone, Copy, Debug, PartialEq, Eq)]
+pub enum Way {
+    /// Towards greater x.
+    East,
+    /// Towards greater y.
+    North,
+    /// Towards smaller x.
+    West,
+    /// Towards smaller y.
+    South,
+}
