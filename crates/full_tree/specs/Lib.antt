@@ -4,3 +4,4 @@ pub mod Form
 pub mod Pieces
 pub mod Order
 pub mod Joined
+pub mod OrderLaws

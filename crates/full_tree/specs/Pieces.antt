@@ -4,7 +4,7 @@ use Rattle.std.specs.Ordering.{int_eq}
 use Rattle.points_in.specs.declared.point.Point.{Point}
 use Rattle.hanan_grid.specs.Distance.{distance_between}
 use Rattle.full_tree.specs.declared.way.Way.{Way}
-use Rattle.full_tree.specs.declared.piece.Piece.{Piece}
+use Rattle.full_tree.specs.declared.pieces.Piece.{Piece}
 use Rattle.full_tree.specs.declared.code.TreeCode.{TreeCode}
 use Rattle.full_tree.specs.declared.code.TreeCode.TheVariants.{Long, Cross}
 use Rattle.full_tree.specs.Geometry.{point_at, along, point_seen}

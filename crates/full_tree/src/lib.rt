@@ -3,11 +3,18 @@
 #![tactic(auto)]
 
 mod code;
-mod piece;
+mod membership;
+mod order;
+mod order_laws;
+mod pieces;
 mod places;
+mod see;
 mod way;
 
 pub use code::{Tree, TreeCode, TreeList};
-pub use piece::Piece;
+pub use membership::{member, member_count, members};
+pub use order::{code_order, tree_order};
+pub use order_laws::{code_order_is_total, file_order_is_total};
+pub use pieces::Piece;
 pub use places::Places;
 pub use way::Way;

@@ -44,14 +44,22 @@ impl Places {
         self.items.push_reserved(place);
     }
 
+    /// The list of a slice's places. The allocator is kept and never asked.
+    pub fn from_slice(alloc: Global, places: &[u8]) -> Places
+        requires { length places.now ≤ 8 }
+        ensures { result ≡ places.now }
+    {
+        match SmallVec::from_slice(alloc, places) {
+            Ok(items) => Places { items },
+            Err(_) => unreachable!(),
+        }
+    }
+
     /// A list of the same places.
     pub fn copy(&self) -> Places
         ensures { result ≡ self.now }
     {
-        match SmallVec::from_slice(*self.items.allocator(), self.items.as_slice()) {
-            Ok(items) => Places { items },
-            Err(_) => unreachable!(),
-        }
+        Places::from_slice(*self.items.allocator(), self.items.as_slice())
     }
 
     /// How many places there are, at most 8.
