@@ -25,14 +25,18 @@ module _ (ps : List Point) (root : ℕ) (toward : Way) where
   abbrev pub LieAcross : ℕ → ℕ → Type 0
   LieAcross k l = AreOpposite (across_of ps root toward k) (across_of ps root toward l)
 
-  -- How the terminals of a long code lie: the feet of the drops lie in order between the root and the
-  -- corner, which is ahead of it; the drops lie on both sides of the long leg in turn, the last one
-  -- across from the short leg; the side hangs on the short leg.
-  pub record IsLongShape (drops : List ℕ) (side : Option ℕ) (tip : ℕ) : Type 0 where
-    pub forward : RisesFrom (pos 0) (map (along_of ps root toward) (drops ++ tip ∷ []))
+  -- The drops lie beside the long leg, on its two sides in turn, and the last one across from the tip
+  -- where there is a short leg.
+  pub record LieInTurn (drops : List ℕ) (tip : ℕ) : Type 0 where
     pub off : All (λ d. across_of ps root toward d ≢ pos 0) drops
     pub in_turn : Alternates (map (across_of ps root toward) drops)
     pub last : across_of ps root toward tip ≢ pos 0 → IfSome (last_or None drops) (LieAcross tip)
+
+  -- How the terminals of a long code lie: the corner is ahead of the root, with the feet of the drops in
+  -- order between them; the drops lie on both sides in turn; the side hangs on the short leg.
+  pub record IsLongShape (drops : List ℕ) (side : Option ℕ) (tip : ℕ) : Type 0 where
+    pub forward : RisesFrom (pos 0) (map (along_of ps root toward) (drops ++ tip ∷ []))
+    pub sides : LieInTurn drops tip
     pub hangs : IfSome side (IsOnShortLeg tip)
 
 -- How the terminals of a cross lie: west and east on a horizontal line, south and north on a vertical
@@ -45,6 +49,7 @@ pub record IsCrossShape (w s e n : Point) : Type 0 where
   pub above_south : s.y <ℤ w.y
   pub below_north : w.y <ℤ n.y
 
+-- the terminals of a code lie as its shape wants
 abbrev pub IsShape : List Point → TreeCode → Type 0
 IsShape ps (Long root toward drops side tip) = IsLongShape ps root toward drops side tip
 IsShape ps (Cross west south east north) =

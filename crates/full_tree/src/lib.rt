@@ -3,6 +3,7 @@
 #![tactic(auto)]
 
 mod code;
+mod form;
 mod membership;
 mod order;
 mod order_laws;
@@ -12,6 +13,7 @@ mod see;
 mod way;
 
 pub use code::{Tree, TreeCode, TreeList};
+pub use form::in_form;
 pub use membership::{member, member_count, members};
 pub use order::{code_order, tree_order};
 pub use order_laws::{code_order_is_total, file_order_is_total};

@@ -1,9 +1,9 @@
 //! How points compare, seen from a terminal that looks in a direction.
 
-ghost use Rattle.std.specs.Prelude.{◌≡◌};
+ghost use Rattle.std.specs.Prelude.{◌≡◌, ◌<◌, length};
 ghost use Rattle.std.specs.Ordering.{int_cmp};
 ghost use Rattle.points_in.specs.declared.point.Point.{Point};
-ghost use Rattle.full_tree.specs.Geometry.{along, across};
+ghost use Rattle.full_tree.specs.Geometry.{point_at, along, across};
 
 use crate::way::Way;
 use points_in::Point;
@@ -31,4 +31,12 @@ pub fn across_order(toward: Way, p: Point, q: Point) -> Ordering
         Way::West => q.y.cmp(&p.y),
         Way::South => p.x.cmp(&q.x),
     }
+}
+
+/// The point at a place of a list.
+pub fn point_at(points: &[Point], place: u8) -> Point
+    requires { place < length points.now }
+    ensures { result ≡ point_at points.now place }
+{
+    points[usize::from(place)]
 }
