@@ -1,0 +1,6 @@
+pub mod Value
+pub mod Words
+pub mod Text
+pub mod Faults
+pub mod Judged
+pub mod Left
