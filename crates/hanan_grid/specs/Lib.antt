@@ -7,5 +7,6 @@ pub mod Fault
 pub mod LinesLaws
 pub mod Tables
 pub mod GridLaws
+pub mod TotalLaws
 pub mod NamesLaws
 pub mod Whole
