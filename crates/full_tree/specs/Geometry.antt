@@ -30,6 +30,13 @@ point_seen r North ahead left = record { x = r.x -ℤ left; y = r.y +ℤ ahead }
 point_seen r West ahead left = record { x = r.x -ℤ ahead; y = r.y -ℤ left }
 point_seen r South ahead left = record { x = r.x +ℤ left; y = r.y -ℤ ahead }
 
+-- the point that lies as far ahead as p and as far to the left as q, wherever one looks from
+abbrev pub meet : Way → Point → Point → Point
+meet East p q = record { x = p.x; y = q.y }
+meet North p q = record { x = q.x; y = p.y }
+meet West p q = record { x = p.x; y = q.y }
+meet South p q = record { x = q.x; y = p.y }
+
 -- the values rise, each above the one before it, and the first above z
 abbrev pub RisesFrom : ℤ → List ℤ → Type 0
 RisesFrom z [] = Unit {0}

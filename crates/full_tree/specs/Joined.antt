@@ -1,9 +1,9 @@
 -- When straight pieces are one tree that joins a code's members.
-use Rattle.std.specs.Prelude.{ℕ, ◌≡◌, ◌⊎◌, List, [], ◌∷◌, flat_map, All, Contains}
+use Rattle.std.specs.Prelude.{◌≡◌, ◌⊎◌, List, [], ◌∷◌, flat_map, All, Contains}
 use Rattle.points_in.specs.declared.point.Point.{Point}
 use Rattle.hanan_grid.specs.Grid.{xs_of, ys_of}
 use Rattle.hanan_grid.specs.Names.{IsCrossing}
-use Rattle.full_tree.specs.declared.pieces.Piece.{Piece}
+use Rattle.full_tree.specs.declared.straight.Piece.{Piece}
 use Rattle.full_tree.specs.declared.code.TreeCode.{TreeCode}
 use Rattle.full_tree.specs.Geometry.{point_at}
 use Rattle.full_tree.specs.Code.{named_places}

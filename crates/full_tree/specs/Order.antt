@@ -10,7 +10,7 @@ use Rattle.full_tree.specs.declared.way.Way.TheVariants.{East, North, West, Sout
 use Rattle.full_tree.specs.declared.code.Tree.{Tree}
 use Rattle.full_tree.specs.declared.code.TreeCode.{TreeCode}
 use Rattle.full_tree.specs.declared.code.TreeCode.TheVariants.{Long, Cross}
-use Rattle.full_tree.specs.Code.{named_places, members_of}
+use Rattle.full_tree.specs.Code.{members_of}
 
 -- the rank of a direction
 abbrev pub way_rank : Way → ℕ

@@ -1,13 +1,13 @@
 -- The straight pieces of a tree, and its length.
-use Rattle.std.specs.Prelude.{ℕ, ℤ, pos, List, [], ◌∷◌, ◌++◌, map, sum_by, Option, option_to_list, if◌then◌else◌}
+use Rattle.std.specs.Prelude.{ℕ, pos, List, [], ◌∷◌, ◌++◌, map, sum_by, Option, option_to_list, if◌then◌else◌}
 use Rattle.std.specs.Ordering.{int_eq}
 use Rattle.points_in.specs.declared.point.Point.{Point}
 use Rattle.hanan_grid.specs.Distance.{distance_between}
 use Rattle.full_tree.specs.declared.way.Way.{Way}
-use Rattle.full_tree.specs.declared.pieces.Piece.{Piece}
+use Rattle.full_tree.specs.declared.straight.Piece.{Piece}
 use Rattle.full_tree.specs.declared.code.TreeCode.{TreeCode}
 use Rattle.full_tree.specs.declared.code.TreeCode.TheVariants.{Long, Cross}
-use Rattle.full_tree.specs.Geometry.{point_at, along, point_seen}
+use Rattle.full_tree.specs.Geometry.{point_at, point_seen}
 use Rattle.full_tree.specs.Form.{along_of, across_of}
 
 -- the piece between two points

@@ -10,6 +10,7 @@ mod order_laws;
 mod pieces;
 mod places;
 mod see;
+mod straight;
 mod way;
 
 pub use code::{Tree, TreeCode, TreeList};
@@ -17,6 +18,7 @@ pub use form::in_form;
 pub use membership::{member, member_count, members};
 pub use order::{code_order, tree_order};
 pub use order_laws::{code_order_is_total, file_order_is_total};
-pub use pieces::Piece;
+pub use pieces::{piece, piece_count, tree_length};
 pub use places::Places;
+pub use straight::Piece;
 pub use way::Way;

@@ -3,7 +3,7 @@
 ghost use Rattle.std.specs.Prelude.{◌≡◌, ◌<◌, length};
 ghost use Rattle.std.specs.Ordering.{int_cmp};
 ghost use Rattle.points_in.specs.declared.point.Point.{Point};
-ghost use Rattle.full_tree.specs.Geometry.{point_at, along, across};
+ghost use Rattle.full_tree.specs.Geometry.{point_at, along, across, meet};
 
 use crate::way::Way;
 use points_in::Point;
@@ -39,4 +39,21 @@ pub fn point_at(points: &[Point], place: u8) -> Point
     ensures { result ≡ point_at points.now place }
 {
     points[usize::from(place)]
+}
+
+/// The point that lies as far ahead as one point and as far to the left as another one, wherever one
+/// looks from.
+pub fn meeting_point(toward: Way, ahead: Point, left: Point) -> Point
+    ensures { result ≡ meet toward ahead left }
+{
+    match toward {
+        Way::East | Way::West => Point {
+            x: ahead.x,
+            y: left.y,
+        },
+        Way::North | Way::South => Point {
+            x: left.x,
+            y: ahead.y,
+        },
+    }
 }

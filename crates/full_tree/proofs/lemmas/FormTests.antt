@@ -1,5 +1,5 @@
 -- What the tests of a form tell.
-use Rattle.std.proofs.Common.{ℕ, suc, ◌+◌, ◌≡◌, ◌≢◌, ◌<◌, ◌≤◌, ℤ, pos, ◌<ℤ◌, List, [], ◌∷◌, ◌++◌, length, get_or, take, drop, map, refl, sym, ◌∙◌, ap, subst, ◌⊎◌, inl, inr, ◌↔◌, arith, Bool, true, false, not, IsTrue, Less, Equal, Greater}
+use Rattle.std.proofs.Common.{ℕ, suc, ◌+◌, ◌≡◌, ◌≢◌, ◌<◌, ◌≤◌, ℤ, pos, ◌<ℤ◌, List, [], ◌∷◌, ◌++◌, length, get_or, take, drop, map, refl, sym, ◌∙◌, ap, ◌⊎◌, inl, inr, ◌↔◌, arith, Bool, true, false, not, IsTrue, Less, Equal, Greater}
 use Rattle.std.specs.Prelude.{All, AllPairs, Contains, ◌==◌, Option, None, Some, option_to_list, IfSome}
 use Rattle.std.specs.Bool.{Decides}
 use Rattle.std.specs.declared.cmp.Ordering.{Ordering}
@@ -15,7 +15,7 @@ use Rattle.full_tree.specs.Geometry.{across, RisesFrom}
 use Rattle.full_tree.specs.declared.code.TreeCode.TheVariants.{Long}
 use Rattle.full_tree.specs.Code.{named_places}
 use Rattle.full_tree.specs.Form.{along_of, across_of, LieInTurn, IsOnShortLeg}
-use Rattle.full_tree.proofs.lemmas.Signs.{SidesOf, TurnsFrom, sides_iff_turns, lower_from_less, less_from_lower, across-itself, Stand, stand, is_lower, is_same, is_higher, between_from_turns, turns_from_between}
+use Rattle.full_tree.proofs.lemmas.Signs.{TurnsFrom, sides_iff_turns, lower_from_less, less_from_lower, across-itself, stand, is_lower, is_same, is_higher, between_from_turns, turns_from_between}
 
 -- a test that answers no decides what doesn't hold
 pub no : {P : Type 0} → ¬ P → IsTrue false ↔ P

@@ -1,4 +1,4 @@
-use Rattle.std.proofs.Common.{ℕ, ◌≢◌, take}
+use Rattle.std.proofs.Common.{◌≢◌, take}
 use Rattle.std.specs.Prelude.{AllPairs}
 use Rattle.full_tree.proofs.form.are_distinct.Given as goal
 

@@ -1,4 +1,4 @@
-use Rattle.std.proofs.Common.{pos, [], ◌∷◌, get_or, arith, sym, ◌∙◌}
+use Rattle.std.proofs.Common.{[], ◌∷◌, get_or, arith, sym, ◌∙◌}
 use Rattle.full_tree.specs.Geometry.{point_at, along}
 use Rattle.full_tree.specs.Form.{along_of}
 use Rattle.full_tree.proofs.lemmas.Signs.{rises_not}

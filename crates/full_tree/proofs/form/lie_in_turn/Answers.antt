@@ -1,4 +1,4 @@
-use Rattle.std.proofs.Common.{arith, get_or, refl, sym, ◌∙◌, inl, inr, true, false, ◌≡◌, ◌≢◌, Equal}
+use Rattle.std.proofs.Common.{arith, get_or, sym, ◌∙◌, inl, inr}
 use Rattle.std.proofs.lemmas.Bool.Decides.{not_from_Decides}
 use Rattle.full_tree.specs.Geometry.{point_at}
 use Rattle.full_tree.specs.Form.{across_of}

@@ -1,0 +1,116 @@
+-- Which piece stands at which number.
+use Rattle.std.proofs.Common.{ℕ, zero, suc, ◌+◌, ◌≡◌, ◌<◌, true, false, List, [], ◌∷◌, ◌++◌, length, get_or, map, refl, sym, ap, subst, ◌∙◌, arith, length-append}
+use Rattle.std.specs.Prelude.{pos, All, Option, None, Some, is_some, option_map, option_to_list, slice_get}
+use Rattle.std.specs.Ordering.{int_eq}
+use mir.Val.{bool_byte}
+use Rattle.std.proofs.lemmas.List.{length-map}
+use Rattle.std.proofs.lemmas.Option.{slice_get-map, slice_get-get_or, slice_get_within, get_or_from_slice_get}
+use Rattle.points_in.specs.declared.point.Point.{Point}
+use Rattle.full_tree.specs.declared.way.Way.{Way}
+use Rattle.full_tree.specs.declared.straight.Piece.{Piece}
+use Rattle.full_tree.specs.declared.code.TreeCode.TheVariants.{Long}
+use Rattle.full_tree.specs.Geometry.{point_at}
+use Rattle.full_tree.specs.Form.{across_of}
+use Rattle.full_tree.specs.Pieces.{piece_between, line_over, foot, side_foot, long_leg, short_leg, drop_pieces, side_piece, pieces_of}
+
+-- what stands in the first of two lists stands there in both together
+slice_get-append_left : {X : Type 0} (xs ys : List X) (n : ℕ) (x : X) → slice_get xs n ≡ Some x → slice_get (xs ++ ys) n ≡ Some x
+slice_get-append_left [] ys n x at = cc
+slice_get-append_left (y ∷ xs) ys zero x at = at
+slice_get-append_left (y ∷ xs) ys (suc n) x at = slice_get-append_left xs ys n x at
+
+-- what stands in the second stands behind the first
+slice_get-append_right : {X : Type 0} (xs ys : List X) (n k : ℕ) (x : X) → n ≡ length xs + k → slice_get ys k ≡ Some x → slice_get (xs ++ ys) n ≡ Some x
+slice_get-append_right [] ys n k x is at = let here : n ≡ k = omega arith in rw here at
+slice_get-append_right (y ∷ xs) ys zero k x is at = absurd (omega arith)
+slice_get-append_right (y ∷ xs) ys (suc n) k x is at = slice_get-append_right xs ys n k x (omega arith) at
+
+-- what holds of all holds of what stands at a number
+pub All-slice_get : {X : Type 0} (P : X → Type 0) (xs : List X) (n : ℕ) (x : X) → All P xs → slice_get xs n ≡ Some x → P x
+All-slice_get P xs n x all at = subst P (get_or_from_slice_get xs n x x at) (all n x (slice_get_within xs n x at))
+
+-- a piece is known by its ends
+pub same_piece : (x : Piece) (p q : Point) → x.from ≡ p → x.to ≡ q → piece_between p q ≡ x
+same_piece x p q from to =
+    let piece : Point → Point → Piece = λ a b. record { from = a; to = b } in
+    ap (λ a. piece a q) (sym from) ∙ ap (λ b. piece x.from b) (sym to)
+
+-- a line's pieces lead from each of its points to the next one
+pub slice_get-line_over : (p : Point) (qs : List Point) (n : ℕ) (d : Point) → n < length qs → slice_get (line_over p qs) n ≡ Some (piece_between (get_or (p ∷ qs) n d) (get_or (p ∷ qs) (n + 1) d))
+slice_get-line_over p [] n d inside = absurd (omega arith)
+slice_get-line_over p (q ∷ qs) zero d inside = refl
+slice_get-line_over p (q ∷ qs) (suc n) d inside = let next : suc n + 1 ≡ suc (n + 1) = omega arith in rw next (slice_get-line_over q qs n d (omega arith))
+
+-- how many pieces there are
+length-line_over : (p : Point) (qs : List Point) → length (line_over p qs) ≡ length qs
+length-line_over p [] = refl
+length-line_over p (q ∷ qs) = omega (arith, length-line_over q qs)
+
+pub length-long_leg : (ps : List Point) (root : ℕ) (w : Way) (drops : List ℕ) (tip : ℕ) → length (long_leg ps root w drops tip) ≡ length drops + 1
+length-long_leg ps root w drops tip =
+    let qs = map (foot ps root w) drops ++ foot ps root w tip ∷ [] in
+    omega (arith, length-line_over (point_at ps root) qs, length-append (map (foot ps root w) drops) (foot ps root w tip ∷ []), length-map drops (foot ps root w))
+
+-- a side counts as one, and none as nothing
+pub side_counts : (side : Option ℕ) → bool_byte (is_some side) ≡ length (option_to_list side)
+side_counts None = refl
+side_counts (Some q) = refl
+
+-- a short leg has a piece, and one more where there is a side
+pub length-short_leg : (ps : List Point) (root : ℕ) (w : Way) (side : Option ℕ) (tip : ℕ) → int_eq (across_of ps root w tip) (pos 0) ≡ false → length (short_leg ps root w side tip) ≡ 1 + length (option_to_list side)
+length-short_leg ps root w None tip bent = rw bent refl
+length-short_leg ps root w (Some q) tip bent = rw bent refl
+
+pub length-no_leg : (ps : List Point) (root : ℕ) (w : Way) (side : Option ℕ) (tip : ℕ) → int_eq (across_of ps root w tip) (pos 0) ≡ true → length (short_leg ps root w side tip) ≡ 0
+length-no_leg ps root w side tip level = rw level refl
+
+pub length-pieces_of : (ps : List Point) (root : ℕ) (w : Way) (drops : List ℕ) (side : Option ℕ) (tip : ℕ) → length (pieces_of ps (Long root w drops side tip)) ≡ length drops + 1 + length (short_leg ps root w side tip) + length drops + length (option_to_list side)
+length-pieces_of ps root w drops side tip =
+    let long = long_leg ps root w drops tip in
+    let short = short_leg ps root w side tip in
+    let hung = drop_pieces ps root w drops in
+    let last = side_piece ps root w side tip in
+    omega (arith, length-append (long ++ short ++ hung) last, length-append (long ++ short) hung, length-append long short, length-long_leg ps root w drops tip, length-map drops (λ k. piece_between (foot ps root w k) (point_at ps k)), length-map (option_to_list side) (λ k. piece_between (side_foot ps root w tip k) (point_at ps k)))
+
+-- ---- the parts of a long code
+
+module _ (ps : List Point) (root : ℕ) (w : Way) (drops : List ℕ) (side : Option ℕ) (tip : ℕ) (n : ℕ) (x : Piece) where
+  pub nth_of_long_leg : slice_get (long_leg ps root w drops tip) n ≡ Some x → slice_get (pieces_of ps (Long root w drops side tip)) n ≡ Some x
+  nth_of_long_leg at =
+      let long = long_leg ps root w drops tip in
+      let short = short_leg ps root w side tip in
+      let hung = drop_pieces ps root w drops in
+      let last = side_piece ps root w side tip in
+      slice_get-append_left (long ++ short ++ hung) last n x (slice_get-append_left (long ++ short) hung n x (slice_get-append_left long short n x at))
+
+  pub nth_of_short_leg : (k : ℕ) → n ≡ length drops + 1 + k → slice_get (short_leg ps root w side tip) k ≡ Some x → slice_get (pieces_of ps (Long root w drops side tip)) n ≡ Some x
+  nth_of_short_leg k is at =
+      let long = long_leg ps root w drops tip in
+      let short = short_leg ps root w side tip in
+      let hung = drop_pieces ps root w drops in
+      let last = side_piece ps root w side tip in
+      slice_get-append_left (long ++ short ++ hung) last n x (slice_get-append_left (long ++ short) hung n x
+      (slice_get-append_right long short n k x (omega (arith, length-long_leg ps root w drops tip)) at))
+
+  pub nth_of_drops : (k : ℕ) → n ≡ length drops + 1 + length (short_leg ps root w side tip) + k → k < length drops
+      → x.from ≡ foot ps root w (get_or drops k 0) → x.to ≡ point_at ps (get_or drops k 0) → slice_get (pieces_of ps (Long root w drops side tip)) n ≡ Some x
+  nth_of_drops k is inside from to =
+      let long = long_leg ps root w drops tip in
+      let short = short_leg ps root w side tip in
+      let hung = drop_pieces ps root w drops in
+      let last = side_piece ps root w side tip in
+      let piece_to = λ (j : ℕ). piece_between (foot ps root w j) (point_at ps j) in
+      let at = slice_get-map piece_to drops k ∙ ap (option_map piece_to) (slice_get-get_or drops k 0 inside) ∙ ap Some (same_piece x (foot ps root w (get_or drops k 0)) (point_at ps (get_or drops k 0)) from to) in
+      slice_get-append_left (long ++ short ++ hung) last n x
+      (slice_get-append_right (long ++ short) hung n k x (omega (arith, length-append long short, length-long_leg ps root w drops tip)) at)
+
+-- the side's piece is the last
+pub nth_of_side : (ps : List Point) (root : ℕ) (w : Way) (drops : List ℕ) (q : ℕ) (tip : ℕ) (n : ℕ) (x : Piece) → n ≡ length drops + 1 + length (short_leg ps root w (Some q) tip) + length drops
+    → x.from ≡ side_foot ps root w tip q → x.to ≡ point_at ps q → slice_get (pieces_of ps (Long root w drops (Some q) tip)) n ≡ Some x
+nth_of_side ps root w drops q tip n x is from to =
+    let long = long_leg ps root w drops tip in
+    let short = short_leg ps root w (Some q) tip in
+    let hung = drop_pieces ps root w drops in
+    slice_get-append_right (long ++ short ++ hung) (side_piece ps root w (Some q) tip) n 0 x
+    (omega (arith, length-append (long ++ short) hung, length-append long short, length-long_leg ps root w drops tip, length-map drops (λ k. piece_between (foot ps root w k) (point_at ps k))))
+    (ap Some (same_piece x (side_foot ps root w tip q) (point_at ps q) from to))
