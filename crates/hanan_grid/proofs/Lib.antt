@@ -4,3 +4,4 @@ pub mod Readings
 pub mod Rows
 pub mod Spans
 pub mod Sorting
+pub mod Stretches

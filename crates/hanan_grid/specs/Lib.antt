@@ -9,4 +9,8 @@ pub mod Tables
 pub mod GridLaws
 pub mod TotalLaws
 pub mod NamesLaws
+pub mod Runs
+pub mod RunsLaws
+pub mod Stretch
+pub mod StretchLaws
 pub mod Whole

@@ -1,7 +1,8 @@
-//! Why there is no grid of a list of points.
+//! Why there is no grid of a list of points, and no stretch between two points.
 
 ghost use Rattle.std.specs.Prelude.{◌≡◌};
 ghost use Rattle.hanan_grid.specs.declared.fault.GridFault.TheVariants.{Memory};
+ghost use Rattle.hanan_grid.specs.declared.fault.SegmentFault.TheVariants as segment_fault;
 ghost use Rattle.hanan_grid.specs.Fault.{IsTotalOrMemory, ComesFrom};
 
 use net_graph::GraphFault;
@@ -24,6 +25,28 @@ impl From<AllocError> for GridFault {
 
     fn from(error: AllocError) -> GridFault {
         GridFault::Memory(error)
+    }
+}
+
+/// Why there is no straight stretch of a grid between two points.
+#[derive(Debug, Drop, Error)]
+pub enum SegmentFault {
+    /// Neither the x nor the y of the two points is the same.
+    #[error("the two points are on no common line")]
+    Crooked,
+    /// One of the points is no crossing of the grid.
+    #[error("one of the points is no crossing of the grid")]
+    OffGrid,
+    /// Want of memory.
+    #[error("there is not enough memory for the stretch")]
+    Memory(AllocError),
+}
+
+impl From<AllocError> for SegmentFault {
+    ghost from_gives = { λ error fault. fault ≡ segment_fault.Memory error };
+
+    fn from(error: AllocError) -> SegmentFault {
+        SegmentFault::Memory(error)
     }
 }
 

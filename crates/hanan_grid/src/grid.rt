@@ -4,6 +4,7 @@ ghost use Rattle.std.specs.Prelude.{◌≡◌, ℕ, ◌+◌, ◌<◌, ◌≤◌,
 ghost use Rattle.points_in.specs.declared.point.Point.{Point};
 ghost use Rattle.net_graph.specs.Graph.{IsGraph, total_of};
 ghost use Rattle.hanan_grid.specs.Grid.{xs_of, ys_of, vertex_number, vertex_of, horizontal, vertical, hanan_grid_of};
+ghost use Rattle.hanan_grid.specs.Lines.{place_of};
 ghost use Rattle.hanan_grid.specs.Names.{IsCrossing, crossing, point_of_vertex, name_of_edge, name_of_crossings, NamesNoEdge};
 ghost use Rattle.hanan_grid.specs.Distance.{distance_of};
 ghost use Rattle.hanan_grid.specs.Fault.{IsFaultOf};
@@ -11,7 +12,7 @@ ghost use Rattle.hanan_grid.specs.Fault.{IsFaultOf};
 use crate::distance::distance_between;
 use crate::edges::{line_edges, point_vertices};
 use crate::fault::{GridFault, grid_fault};
-use crate::lines::{found_in, x_lines, y_lines};
+use crate::lines::{found_in, place_in, x_lines, y_lines};
 use crate::name::{EdgeName, name_between, named_points};
 use crate::place::{Place, crossing_at};
 use net_graph::{EdgeList, NetGraph, VertexList};
@@ -193,6 +194,18 @@ impl Grid {
         let column = found_in(&self.xs, point.x)?;
         let row = found_in(&self.ys, point.y)?;
         Some(Place { column, row })
+    }
+
+    // The column and the row of a crossing.
+    pub(crate) fn crossing_place(&self, point: Point) -> Place
+        requires { IsCrossing (xs_of self.now) (ys_of self.now) point }
+        ensures column { result.column ≡ place_of point.x (xs_of self.now) }
+        ensures row { result.row ≡ place_of point.y (ys_of self.now) }
+    {
+        Place {
+            column: place_in(&self.xs, point.x),
+            row: place_in(&self.ys, point.y),
+        }
     }
 
     /// The vertex of a point, where it is a crossing.

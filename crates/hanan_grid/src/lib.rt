@@ -8,8 +8,9 @@ mod grid;
 mod lines;
 mod name;
 mod place;
+mod segment;
 
-pub use fault::GridFault;
+pub use fault::{GridFault, SegmentFault};
 pub use grid::Grid;
 pub use name::EdgeName;
 pub use place::Place;

@@ -102,6 +102,42 @@ fn makes_thin_grids(rt: HostRuntime) -> Result<(), Fail> {
 }
 
 #[test]
+fn takes_the_edges_of_straight_stretches(rt: HostRuntime) -> Result<(), Fail> {
+    let points = points_of(&rt, at(0, 0), &[at(1, 0), at(0, 1), at(1, 1)])?;
+    let grid = Grid::new(rt.alloc(), &points)?;
+    let table: [(Point, Point, &[u32], &str); 6] = [
+        (at(0, 0), at(1, 0), &[0], "none"),
+        (at(1, 1), at(0, 1), &[1], "none"),
+        (at(1, 1), at(1, 0), &[3], "none"),
+        (at(1, 1), at(1, 1), &[], "none"),
+        (
+            at(0, 0),
+            at(1, 1),
+            &[],
+            "the two points are on no common line",
+        ),
+        (
+            at(0, 0),
+            at(0, 2),
+            &[],
+            "one of the points is no crossing of the grid",
+        ),
+    ];
+    for (from, to, edges, text) in table {
+        match grid.segment(rt.alloc(), from, to) {
+            Ok(set) => {
+                let held: Vec<u32> = (0..set.len()).filter(|e| set.has(*e)).collect(rt.alloc())?;
+                assert_eq!(rt; held.as_slice(), edges);
+            }
+            Err(fault) => {
+                assert_eq!(rt; format!(in rt.alloc(); "{fault}")?.as_str(), text);
+            }
+        }
+    }
+    Ok(())
+}
+
+#[test]
 fn names_a_total_that_is_too_long(rt: HostRuntime) -> Result<(), Fail> {
     let points = points_of(&rt, at(i64::MIN, 0), &[at(i64::MAX, 0)])?;
     match Grid::new(rt.alloc(), &points) {

@@ -1,6 +1,6 @@
 -- What the length of an edge set comes to.
-use Rattle.std.specs.Prelude.{ℕ, zero, suc, ◌≡◌, ◌+◌, ◌<◌, ◌≤◌, ◌^◌, Bool, true, false, List, [], ◌∷◌, length, slice_get, slice_set, slice_index_or, sum_by, replicate, take, Some, All, if◌then◌else◌}
-use Rattle.std.proofs.Common.{arith, refl, None, add-one}
+use Rattle.std.specs.Prelude.{ℕ, zero, suc, ◌≡◌, ◌+◌, ◌<◌, ◌≤◌, ◌^◌, Bool, true, false, List, [], ◌∷◌, length, slice_get, slice_set, slice_index_or, sum_by, replicate, take, Some, All, ◌⊎◌, if◌then◌else◌}
+use Rattle.std.proofs.Common.{arith, refl, None, add-one, inl, inr, ⊎_elim}
 use Rattle.std.proofs.lemmas.List.Sums.{sum_by-cons}
 use Rattle.std.proofs.lemmas.Option.{same_Some, slice_get_within, slice_get-get_or}
 use Rattle.net_graph.specs.declared.edge.Edge.{Edge}
@@ -110,3 +110,48 @@ no_edge_from_length edges set positive size none n inside =
 -- no set is longer than 2^63 - 1
 pub length_of-small : (g : Graph) (set : List Bool) → IsGraph g → length_of g set < 2 ^ 63
 length_of-small g set graph = omega (arith, graph.total, length_of_edges-le-sum g.edges set)
+
+-- the flags but the first
+abbrev rest_of : List Bool → List Bool
+rest_of [] = []
+rest_of (flag ∷ set) = set
+
+-- .. are the flags of the edges but the first
+slice_get-rest_of : (set : List Bool) (n : ℕ) → slice_get set (suc n) ≡ Some true → slice_get (rest_of set) n ≡ Some true
+slice_get-rest_of [] n inside = absurd cc
+slice_get-rest_of (flag ∷ set) n inside = inside
+
+-- .. in one of two sets as before
+among_rest : (set first second : List Bool) (n : ℕ) →
+    (slice_get first (suc n) ≡ Some true) ⊎ (slice_get second (suc n) ≡ Some true) →
+    (slice_get (rest_of first) n ≡ Some true) ⊎ (slice_get (rest_of second) n ≡ Some true)
+among_rest set first second n either =
+    ⊎_elim (λ here. inl (slice_get-rest_of first n here)) (λ here. inr (slice_get-rest_of second n here)) either
+
+-- .. whose length is no more
+length_of_edges-rest : (x : Edge) (edges : List Edge) (set : List Bool) →
+    length_of_edges edges (rest_of set) ≤ length_of_edges (x ∷ edges) set
+length_of_edges-rest x edges [] = omega (arith, length_of_edges-past edges)
+length_of_edges-rest x edges (true ∷ set) = omega arith
+length_of_edges-rest x edges (false ∷ set) = omega arith
+
+-- .. and less by the first edge, where that is in the set
+length_of_edges-first : (x : Edge) (edges : List Edge) (set : List Bool) → slice_get set 0 ≡ Some true →
+    x.length + length_of_edges edges (rest_of set) ≤ length_of_edges (x ∷ edges) set
+length_of_edges-first x edges [] inside = absurd cc
+length_of_edges-first x edges (true ∷ set) inside = omega arith
+length_of_edges-first x edges (false ∷ set) inside = absurd cc
+
+-- a set whose edges are each in one of two sets is no longer than both
+pub length_of_edges-union : (edges : List Edge) (set first second : List Bool) →
+    ((n : ℕ) → slice_get set n ≡ Some true → (slice_get first n ≡ Some true) ⊎ (slice_get second n ≡ Some true)) →
+    length_of_edges edges set ≤ length_of_edges edges first + length_of_edges edges second
+length_of_edges-union [] set first second among = omega arith
+length_of_edges-union (x ∷ edges) [] first second among = omega arith
+length_of_edges-union (x ∷ edges) (false ∷ set) first second among =
+    let rest = length_of_edges-union edges set (rest_of first) (rest_of second) (λ n inside. among_rest set first second n (among (suc n) inside)) in
+    omega (arith, rest, length_of_edges-rest x edges first, length_of_edges-rest x edges second)
+length_of_edges-union (x ∷ edges) (true ∷ set) first second among =
+    let rest = length_of_edges-union edges set (rest_of first) (rest_of second) (λ n inside. among_rest set first second n (among (suc n) inside)) in
+    ⊎_elim (λ here. omega (arith, rest, length_of_edges-first x edges first here, length_of_edges-rest x edges second))
+    (λ here. omega (arith, rest, length_of_edges-rest x edges first, length_of_edges-first x edges second here)) (among 0 refl)

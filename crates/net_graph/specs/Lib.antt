@@ -1,4 +1,6 @@
 pub mod Flags
+pub mod Adds
+pub mod AddsLaws
 pub mod Members
 pub mod MembersLaws
 pub mod Graph

@@ -1,3 +1,2 @@
-pub mod AddsLaws
 pub mod Steps
 pub mod Walks

@@ -9,32 +9,10 @@ use Rattle.hanan_grid.specs.Grid.{xs_of, ys_of, horizontal, vertical, hanan_grid
 use Rattle.hanan_grid.specs.GridLaws.{horizontal_number, vertical_number, slice_get-horizontal, slice_get-vertical, IsRising-xs_of, IsRising-ys_of}
 use Rattle.hanan_grid.specs.Names.{crossing, name_of, no_edge}
 use Rattle.hanan_grid.specs.NamesLaws.{IsHorizontal, IsVertical, same_edge}
-use Rattle.trunk_network.specs.Trunk.{column_of, row_of, IsInColumn, IsInRow, IsTrunkEdge}
-use Rattle.trunk_network.specs.Adds.{Adds}
-use Rattle.trunk_network.proofs.AddsLaws.{Adds-one, Adds-then, Adds-holds}
-
--- an edge of a grid has one number
-same_number : (ps : List Point) (e f : ℕ) (edge : Edge) → slice_get (hanan_grid_of ps).edges e ≡ Some edge → slice_get (hanan_grid_of ps).edges f ≡ Some edge → e ≡ f
-same_number ps e f edge at there =
-    let edges = (hanan_grid_of ps).edges in
-    same_edge ps e f (slice_get_within edges e edge at) (slice_get_within edges f edge there)
-    (ap (name_of (xs_of ps) (ys_of ps)) (get_or_from_slice_get edges e edge no_edge at ∙ sym (get_or_from_slice_get edges f edge no_edge there)))
-
--- the number of a vertical edge
-pub IsVertical-from_edge : (ps : List Point) (e row column : ℕ) → row + 1 < length (ys_of ps) → column < length (xs_of ps) → slice_get (hanan_grid_of ps).edges e ≡ Some (vertical (length (xs_of ps)) (ys_of ps) row column) → IsVertical (xs_of ps) (ys_of ps) e row column
-IsVertical-from_edge ps e row column row_in column_in at = record {
-  row = row_in;
-  column = column_in;
-  number = same_number ps e (vertical_number (xs_of ps) (ys_of ps) row column) (vertical (length (xs_of ps)) (ys_of ps) row column) at (slice_get-vertical (xs_of ps) (ys_of ps) row column row_in column_in);
-}
-
--- the number of a horizontal edge
-pub IsHorizontal-from_edge : (ps : List Point) (e row column : ℕ) → row < length (ys_of ps) → column + 1 < length (xs_of ps) → slice_get (hanan_grid_of ps).edges e ≡ Some (horizontal (xs_of ps) row column) → IsHorizontal (xs_of ps) (ys_of ps) e row column
-IsHorizontal-from_edge ps e row column row_in column_in at = record {
-  row = row_in;
-  column = column_in;
-  number = same_number ps e (horizontal_number (xs_of ps) row column) (horizontal (xs_of ps) row column) at (slice_get-horizontal (xs_of ps) (ys_of ps) row column row_in column_in);
-}
+use Rattle.hanan_grid.specs.Runs.{IsInRow}
+use Rattle.trunk_network.specs.Trunk.{column_of, row_of, IsInColumn, IsTrunkEdge}
+use Rattle.net_graph.specs.Adds.{Adds}
+use Rattle.net_graph.specs.AddsLaws.{Adds-one, Adds-then, Adds-holds}
 
 -- the edges of a column below a row
 abbrev pub IsInColumnBelow : List Point → ℕ → ℕ → ℕ → Type 0
@@ -60,39 +38,6 @@ column_all ps column bound old set top adds = record {
   kept = adds.kept;
   put = λ e is. adds.put e (is.0, omega (arith, is.1.row), is.1);
   only = λ e inside. ⊎_elim (λ before. inl before) (λ is. inr (is.0, is.2)) (adds.only e inside);
-}
-
--- the edges of a row from the lower of two columns to a column
-abbrev pub IsInRowBelow : List Point → ℕ → ℕ → ℕ → ℕ → Type 0
-IsInRowBelow ps row low bound e = (column : ℕ) × (low ≤ column) × (column < bound) × IsHorizontal (xs_of ps) (ys_of ps) e row column
-
--- one edge more of a row
-pub row_more : (ps : List Point) (row low column n : ℕ) (old set : List Bool) → low ≤ column → n < length set → IsHorizontal (xs_of ps) (ys_of ps) n row column →
-    Adds (IsInRowBelow ps row low column) old set → Adds (IsInRowBelow ps row low (column + 1)) old (slice_set set n true)
-row_more ps row low column n old set above within is adds =
-    Adds-then (IsInRowBelow ps row low column) (λ e. e ≡ n) (IsInRowBelow ps row low (column + 1)) old set (slice_set set n true) adds (Adds-one set n within)
-    (λ e below. (below.0, below.1, omega (arith, below.2), below.3))
-    (λ e here. (column, above, omega arith, subst (λ m. IsHorizontal (xs_of ps) (ys_of ps) m row column) (sym here) is))
-    (λ e one. elim (cases_lt one.0 column) [
-      | inl below ↦ inl (one.0, one.1, below, one.3)
-      | inr at ↦ let same : one.0 ≡ column = omega (arith, one.2) in
-          inr (one.3.number ∙ ap (λ i. horizontal_number (xs_of ps) row i) same ∙ sym is.number)
-    ])
-
--- all edges of a row between two columns
-pub row_all : (ps : List Point) (row from to bound : ℕ) (old set : List Bool) → max from to ≤ bound → bound ≤ max from to → Adds (IsInRowBelow ps row (min from to) bound) old set → Adds (IsInRow ps row from to) old set
-row_all ps row from to bound old set top end adds = record {
-  size = adds.size;
-  kept = adds.kept;
-  put = λ e is. adds.put e (is.0, ⊎_elim (λ p. omega (arith, p.0)) (λ p. omega (arith, p.0)) is.2, ⊎_elim (λ p. omega (arith, p.1)) (λ p. omega (arith, p.1)) is.2, is.1);
-  only = λ e inside. ⊎_elim (λ before. inl before) (λ is. inr (
-    is.0,
-    is.3,
-    elim (cases_lt from to) [
-      | inl up ↦ inl (omega (arith, is.1), omega (arith, is.2))
-      | inr down ↦ inr (omega (arith, is.1), omega (arith, is.2))
-    ],
-  )) (adds.only e inside);
 }
 
 -- the edges in the rows of the terminals before one, between a column and the terminals' columns

@@ -7,38 +7,13 @@ use Rattle.points_in.specs.declared.point.Point.{Point}
 use Rattle.net_graph.specs.Graph.{Graph, root_of}
 use Rattle.net_graph.specs.Network.{Links, IsNetwork}
 use Rattle.net_graph.specs.Search.{Leads}
-use Rattle.net_graph.specs.SearchLaws.{Leads-start, Leads-more, Leads-trans, Leads-back}
+use Rattle.net_graph.specs.SearchLaws.{Leads-trans}
+use Rattle.net_graph.specs.JoinsLaws.{Links-back}
+use Rattle.hanan_grid.specs.RunsLaws.{line_leads}
 use Rattle.hanan_grid.specs.LinesLaws.{place_of-below}
 use Rattle.hanan_grid.specs.Grid.{xs_of, ys_of, vertex_number, vertex_of, horizontal, vertical, hanan_grid_of}
 use Rattle.hanan_grid.specs.GridLaws.{horizontal_number, vertical_number, slice_get-horizontal, slice_get-vertical, IsRising-xs_of, IsRising-ys_of, Contains-xs_of, Contains-ys_of}
 use Rattle.trunk_network.specs.Trunk.{column_of, row_of, IsTrunkEdge}
-
--- the place is passed on the way from one place to another
-abbrev IsPassed : ℕ → ℕ → ℕ → Type 0
-IsPassed from to t = ((from ≤ t) × (t < to)) ⊎ ((to ≤ t) × (t < from))
-
--- steps from each place to the next lead upwards
-line_up : (Step : ℕ → ℕ → Type 0) (f : ℕ → ℕ) (low n : ℕ) → ((t : ℕ) → low ≤ t → t < low + n → Step (f t) (f (t + 1))) → Leads Step (f low) (f (low + n))
-line_up Step f low zero steps =
-    let same : low ≡ low + 0 = omega arith in subst (λ t. Leads Step (f low) (f t)) same (Leads-start Step (f low))
-line_up Step f low (suc n) steps =
-    let so_far = line_up Step f low n (λ t above below. steps t above (omega arith)) in
-    let same : low + n + 1 ≡ low + suc n = omega arith in
-    subst (λ t. Leads Step (f low) (f t)) same (Leads-more Step (f low) (f (low + n)) (f (low + n + 1)) so_far (steps (low + n) (omega arith) (omega arith)))
-
--- steps that can be taken back lead from any place to any other
-line_leads : (Step : ℕ → ℕ → Type 0) (f : ℕ → ℕ) (from to : ℕ) → ((u w : ℕ) → Step u w → Step w u) → ((t : ℕ) → IsPassed from to t → Step (f t) (f (t + 1))) → Leads Step (f from) (f to)
-line_leads Step f from to back steps = elim (cases_lt from to) [
-  | inl above ↦ let same : from + (to - from) ≡ to = omega arith in
-      subst (λ t. Leads Step (f from) (f t)) same (line_up Step f from (to - from) (λ t low high. steps t (inl (low, omega arith))))
-  | inr below ↦ let same : to + (from - to) ≡ from = omega arith in
-      Leads-back Step Step back (f to) (f from) (subst (λ t. Leads Step (f to) (f t)) same (line_up Step f to (from - to) (λ t low high. steps t (inr (low, omega arith)))))
-]
-
--- an edge joins its ends either way
-links_back : (g : Graph) (set : List Bool) (u w : ℕ) → Links g set u w → Links g set w u
-links_back g set u w (n, e, inside, at, ends) =
-    (n, e, inside, at, ⊎_elim (λ along. inr along) (λ against. inl against) ends)
 
 -- the column of a terminal is one, and so is the row
 pub column_of-below : (ps : List Point) (k : ℕ) (d : Point) → k < length ps → column_of ps (get_or ps k d) < length (xs_of ps)
@@ -55,7 +30,7 @@ column_leads ps set root from to is_root column from_in to_in holds =
     let xs = xs_of ps in
     let ys = ys_of ps in
     let c = column_of ps root in
-    line_leads (Links (hanan_grid_of ps) set) (λ j. vertex_number (length xs) c j) from to (links_back (hanan_grid_of ps) set) (λ j passed.
+    line_leads (Links (hanan_grid_of ps) set) (λ j. vertex_number (length xs) c j) from to (Links-back (hanan_grid_of ps) set) (λ j passed.
     let row : j + 1 < length ys = ⊎_elim (λ up. omega (arith, up.1)) (λ down. omega (arith, down.1)) passed in
     let e = vertical_number xs ys j c in
     (e, vertical (length xs) ys j c, holds e (root, is_root, inl (j, record { row = row; column = column; number = refl })), slice_get-vertical xs ys j c row column, inl (refl, refl)))
@@ -68,7 +43,7 @@ row_leads ps set root k p is_root is_p from_in to_in row holds =
     let xs = xs_of ps in
     let ys = ys_of ps in
     let j = row_of ps p in
-    line_leads (Links (hanan_grid_of ps) set) (λ i. vertex_number (length xs) i j) (column_of ps root) (column_of ps p) (links_back (hanan_grid_of ps) set) (λ i passed.
+    line_leads (Links (hanan_grid_of ps) set) (λ i. vertex_number (length xs) i j) (column_of ps root) (column_of ps p) (Links-back (hanan_grid_of ps) set) (λ i passed.
     let column : i + 1 < length xs = ⊎_elim (λ right. omega (arith, right.1)) (λ left. omega (arith, left.1)) passed in
     let e = horizontal_number xs j i in
     (e, horizontal xs j i, holds e (root, is_root, inr (k, p, is_p, (i, record { row = row; column = column; number = refl }, passed))), slice_get-horizontal xs ys j i row column, inl (refl, refl)))

@@ -1,2 +1,1 @@
 pub mod Trunk
-pub mod Adds

@@ -1,9 +1,10 @@
 -- Which edges of a grid the trunk network holds.
-use Rattle.std.specs.Prelude.{◌≡◌, ℕ, ◌<◌, ◌≤◌, ◌⊎◌, List, Some, slice_get}
+use Rattle.std.specs.Prelude.{◌≡◌, ℕ, ◌⊎◌, List, Some, slice_get}
 use Rattle.points_in.specs.declared.point.Point.{Point}
 use Rattle.hanan_grid.specs.Lines.{place_of}
 use Rattle.hanan_grid.specs.Grid.{xs_of, ys_of}
-use Rattle.hanan_grid.specs.NamesLaws.{IsHorizontal, IsVertical}
+use Rattle.hanan_grid.specs.NamesLaws.{IsVertical}
+use Rattle.hanan_grid.specs.Runs.{IsInRow}
 
 -- the column and the row of a terminal
 abbrev pub column_of : List Point → Point → ℕ
@@ -15,10 +16,6 @@ row_of ps p = place_of p.y (ys_of ps)
 -- the edge is vertical and in the column
 abbrev pub IsInColumn : List Point → ℕ → ℕ → Type 0
 IsInColumn ps column e = (row : ℕ) × IsVertical (xs_of ps) (ys_of ps) e row column
-
--- the edge is horizontal, in the row, and between two columns, of which either may be the lower
-abbrev pub IsInRow : List Point → ℕ → ℕ → ℕ → ℕ → Type 0
-IsInRow ps row from to e = (column : ℕ) × IsHorizontal (xs_of ps) (ys_of ps) e row column × (((from ≤ column) × (column < to)) ⊎ ((to ≤ column) × (column < from)))
 
 -- the edge is between the root's column and a terminal, in the terminal's row
 abbrev pub IsBranch : List Point → Point → ℕ → Type 0

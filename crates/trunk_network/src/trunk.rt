@@ -3,8 +3,9 @@
 ghost use Rattle.std.specs.Prelude.{◌≡◌, ℕ, ◌<◌, ◌↔◌, true, length, slice_get, Some, IfOk};
 ghost use Rattle.net_graph.specs.Network.{IsNetwork};
 ghost use Rattle.hanan_grid.specs.Grid.{xs_of, ys_of, hanan_grid_of};
-ghost use Rattle.trunk_network.specs.Trunk.{IsInColumn, IsInRow, IsTrunkEdge};
-ghost use Rattle.trunk_network.specs.Adds.{Adds};
+ghost use Rattle.trunk_network.specs.Trunk.{IsInColumn, IsTrunkEdge};
+ghost use Rattle.hanan_grid.specs.Runs.{IsInRow};
+ghost use Rattle.net_graph.specs.Adds.{Adds};
 
 use hanan_grid::Grid;
 use net_graph::EdgeSet;

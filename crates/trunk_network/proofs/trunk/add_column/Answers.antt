@@ -1,5 +1,6 @@
 use Rattle.std.proofs.Common.{arith}
-use Rattle.trunk_network.proofs.Steps.{IsVertical-from_edge, column_more}
+use Rattle.hanan_grid.specs.RunsLaws.{IsVertical-from_edge}
+use Rattle.trunk_network.proofs.Steps.{column_more}
 use Rattle.trunk_network.proofs.trunk.add_column.Goals as goal
 
 pub loop-row-preserved : goal.loop-row-preserved

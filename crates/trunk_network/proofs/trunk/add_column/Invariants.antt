@@ -1,4 +1,4 @@
-use Rattle.trunk_network.specs.Adds.{Adds}
+use Rattle.net_graph.specs.Adds.{Adds}
 use Rattle.trunk_network.proofs.Steps.{IsInColumnBelow}
 use Rattle.trunk_network.proofs.trunk.add_column.Given as goal
 

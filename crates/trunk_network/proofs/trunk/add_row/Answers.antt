@@ -1,5 +1,5 @@
 use Rattle.std.proofs.Common.{arith}
-use Rattle.trunk_network.proofs.Steps.{IsHorizontal-from_edge, row_more}
+use Rattle.hanan_grid.specs.RunsLaws.{IsHorizontal-from_edge, row_more}
 use Rattle.trunk_network.proofs.trunk.add_row.Goals as goal
 
 pub loop-column-preserved : goal.loop-column-preserved

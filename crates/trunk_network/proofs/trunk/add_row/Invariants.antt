@@ -1,6 +1,6 @@
 use Rattle.std.proofs.Common.{min}
-use Rattle.trunk_network.specs.Adds.{Adds}
-use Rattle.trunk_network.proofs.Steps.{IsInRowBelow}
+use Rattle.net_graph.specs.Adds.{Adds}
+use Rattle.hanan_grid.specs.RunsLaws.{IsInRowBelow}
 use Rattle.trunk_network.proofs.trunk.add_row.Given as goal
 
 -- the row's edges from the lower of the two columns to this one are added

@@ -1,6 +1,6 @@
 use Rattle.std.proofs.Common.{length, replicate, false}
 use Rattle.hanan_grid.specs.Grid.{hanan_grid_of}
-use Rattle.trunk_network.specs.Adds.{Adds}
+use Rattle.net_graph.specs.Adds.{Adds}
 use Rattle.trunk_network.proofs.Steps.{IsTrunkBefore}
 use Rattle.trunk_network.proofs.trunk.trunk_network.Given as goal
 

@@ -4,7 +4,7 @@ use Rattle.std.proofs.Common.{refl, sym, ap, ◌∙◌, inl, inr, ⊎_elim, arit
 use Rattle.std.proofs.lemmas.Bool.{cases_eq, cases_lt}
 use Rattle.std.proofs.lemmas.Option.{slice_get-get_or, slice_get_within, slice_get_past}
 use Rattle.std.proofs.lemmas.List.{get_or-set_same, get_or-set_other, get_or-replicate, length-replicate}
-use Rattle.trunk_network.specs.Adds.{Adds}
+use Rattle.net_graph.specs.Adds.{Adds}
 
 -- the flag that was written
 slice_get-set_same : (set : List Bool) (n : ℕ) (flag : Bool) → n < length set → slice_get (slice_set set n flag) n ≡ Some flag
@@ -63,3 +63,13 @@ Adds-then P Q R old mid new one two first second split = record {
 -- a set that was empty holds just what was put in
 pub Adds-holds : (P : ℕ → Type 0) (size : ℕ) (set : List Bool) → Adds P (replicate size false) set → (e : ℕ) → slice_get set e ≡ Some true → P e
 Adds-holds P size set adds e inside = ⊎_elim (λ before. absurd (none_before size e before)) (λ is. is) (adds.only e inside)
+
+-- the same numbers in other words
+pub Adds-iff : (P Q : ℕ → Type 0) (old new : List Bool) → ((e : ℕ) → P e → Q e) → ((e : ℕ) → Q e → P e) →
+    Adds P old new → Adds Q old new
+Adds-iff P Q old new into back adds = record {
+  size = adds.size;
+  kept = adds.kept;
+  put = λ e is. adds.put e (back e is);
+  only = λ e inside. ⊎_elim (λ before. inl before) (λ is. inr (into e is)) (adds.only e inside);
+}
