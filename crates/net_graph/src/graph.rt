@@ -282,38 +282,4 @@ mod tests {
         }
         Ok(())
     }
-
-    #[test]
-    fn reads_its_parts(rt: HostRuntime) -> Result<(), Fail> {
-        let first = Edge {
-            a: 0,
-            b: 1,
-            length: 1,
-        };
-        let second = Edge {
-            a: 2,
-            b: 0,
-            length: i64::MAX as u64 - 1,
-        };
-        let edges = ItemList::from_vec(vec![in rt.alloc(); first, second]?);
-        let terminals = ItemList::from_vec(vec![in rt.alloc(); 2, 0, 2]?);
-        let g = NetGraph::new(rt.alloc(), 3, edges, terminals)?;
-        assert_eq!(rt;
-            [g.vertex_count(), g.edge_count(), g.root(), g.terminal(1)],
-            [3, 2, 2, 0]
-        );
-        assert_eq!(rt; g.terminal_count(), 3);
-        assert_eq!(rt; g.total(), i64::MAX as u64);
-        assert_eq!(rt; g.edge(1), second);
-        assert_eq!(rt; g.edges(), [first, second].as_slice());
-        assert_eq!(rt; g.terminals(), [2, 0, 2].as_slice());
-        let leaving = [Arc {
-            number: 2,
-            from: 2,
-            to: 0,
-        }];
-        assert_eq!(rt; g.arcs_from(2), leaving.as_slice());
-        assert_eq!(rt; g.arcs_from(0).len(), 2);
-        Ok(())
-    }
 }

@@ -30,33 +30,3 @@ fn sum_of_lengths(edges: &[Edge], set: &EdgeSet) -> u64
     }
     sum
 }
-
-#[cfg(test)]
-mod tests {
-    use super::*;
-    use item_list::ItemList;
-    use std::test::Fail;
-
-    #[test]
-    fn sums_the_edges_of_the_set(rt: HostRuntime) -> Result<(), Fail> {
-        let first = Edge {
-            a: 0,
-            b: 1,
-            length: 5,
-        };
-        let second = Edge {
-            a: 1,
-            b: 2,
-            length: 7,
-        };
-        let edges = ItemList::from_vec(vec![in rt.alloc(); first, second]?);
-        let terminals = ItemList::from_vec(vec![in rt.alloc(); 0, 2]?);
-        let g = NetGraph::new(rt.alloc(), 3, edges, terminals)?;
-        let mut set = EdgeSet::empty(rt.alloc(), g.edge_count())?;
-        assert_eq!(rt; length(&g, &set), 0);
-        assert_eq!(rt; set.len(), 2);
-        set.add(1);
-        assert_eq!(rt; length(&g, &set), 7);
-        Ok(())
-    }
-}

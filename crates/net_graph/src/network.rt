@@ -85,14 +85,4 @@ mod tests {
         assert_eq!(rt; joins(rt.alloc(), &g, &set)?, true);
         Ok(())
     }
-
-    #[test]
-    fn joins_one_vertex(rt: HostRuntime) -> Result<(), Fail> {
-        let none = ItemList::empty(rt.alloc());
-        let one = ItemList::from_vec(vec![in rt.alloc(); 0]?);
-        let g = NetGraph::new(rt.alloc(), 1, none, one)?;
-        let set = EdgeSet::empty(rt.alloc(), 0)?;
-        assert_eq!(rt; joins(rt.alloc(), &g, &set)?, true);
-        Ok(())
-    }
 }

@@ -166,24 +166,15 @@ mod tests {
         let copy = set.copy()?;
         set.clear();
         assert_eq!(rt; [set.has(63), copy.has(63)], [false, true]);
-        assert_eq!(rt; set.len(), 66);
         Ok(())
     }
 
     #[test]
-    fn no_vertices_and_some(rt: HostRuntime) -> Result<(), Fail> {
-        let none = VertexSet::empty(rt.alloc(), 0)?;
-        assert_eq!(rt; none.len(), 0);
+    fn a_vertex_and_its_copy(rt: HostRuntime) -> Result<(), Fail> {
         let mut set = VertexSet::empty(rt.alloc(), 2)?;
-        set.add(0);
         set.add(1);
-        set.remove(0);
         let copy = set.copy()?;
-        set.clear();
-        assert_eq!(rt;
-            [set.has(1), copy.has(0), copy.has(1)],
-            [false, false, true]
-        );
+        assert_eq!(rt; [copy.has(0), copy.has(1)], [false, true]);
         Ok(())
     }
 }
