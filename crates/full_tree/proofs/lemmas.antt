@@ -6,3 +6,4 @@ pub mod Grown
 pub mod Joins
 pub mod Lengths
 pub mod Nth
+pub mod Embeds

@@ -4,4 +4,5 @@ pub mod Form
 pub mod Pieces
 pub mod Order
 pub mod Joined
+pub mod Embedded
 pub mod OrderLaws

@@ -3,6 +3,7 @@
 #![tactic(auto)]
 
 mod code;
+mod embedding;
 mod form;
 mod membership;
 mod order;
@@ -14,6 +15,7 @@ mod straight;
 mod way;
 
 pub use code::{Tree, TreeCode, TreeList};
+pub use embedding::embed;
 pub use form::in_form;
 pub use membership::{member, member_count, members};
 pub use order::{code_order, tree_order};
