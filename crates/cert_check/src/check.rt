@@ -1,6 +1,6 @@
 //! The verdict on a whole answer.
 
-ghost use Rattle.std.specs.Prelude.{◌≡◌, ◌≤◌, ℕ, List, Bool, All, IfOk};
+ghost use Rattle.std.specs.Prelude.{◌≡◌, ℕ, Bool, All, IfOk};
 ghost use Rattle.net_graph.specs.Network.{IsLowerBound};
 ghost use Rattle.hanan_grid.specs.Grid.{hanan_grid_of};
 ghost use Rattle.cert_check.specs.declared.verdict.Finished.{Finished};

@@ -1,6 +1,6 @@
 //! Dual ascent, which packs cuts until saturated arcs lead to every required vertex.
 
-ghost use Rattle.std.specs.Prelude.{◌≡◌, ◌+◌, ◌*◌, ◌≤◌, Bool, List, true, false, length, IfOk};
+ghost use Rattle.std.specs.Prelude.{◌≡◌, ◌+◌, ◌*◌, ◌≤◌, true, false, length, IfOk};
 ghost use Rattle.net_graph.specs.Graph.{total_of};
 ghost use Rattle.net_graph.specs.Decision.{IsLowerBoundUnder};
 ghost use Rattle.net_graph.specs.Packing.{IsFeasible, packing_value};

@@ -13,7 +13,8 @@ use Rattle.hanan_grid.specs.StretchLaws.{IsRowStretch, IsColumnStretch, IsRowStr
 
 -- a stretch of one y is in a row
 pub row_found : (ps : List Point) (p q : Point) (row a b : ℕ) → IsGridStretch ps p q → p.y ≡ q.y →
-    row ≡ place_of p.y (ys_of ps) → a ≡ place_of p.x (xs_of ps) → b ≡ place_of q.x (xs_of ps) → IsRowStretch ps p q row a b
+    row ≡ place_of p.y (ys_of ps) → a ≡ place_of p.x (xs_of ps) → b ≡ place_of q.x (xs_of ps) →
+    IsRowStretch ps p q row a b
 row_found ps p q row a b is same at from to = rw (at, from, to) (IsRowStretch-from_same ps p q is.from is.to same)
 
 -- a straight stretch of two y is of one x
@@ -22,7 +23,8 @@ same_x ps p q is other = elim is.straight [ inl same ↦ same | inr same ↦ abs
 
 -- .. and so in a column
 pub column_found : (ps : List Point) (p q : Point) (column a b : ℕ) → IsGridStretch ps p q → (p.y ≡ q.y → ⊥) →
-    column ≡ place_of p.x (xs_of ps) → a ≡ place_of p.y (ys_of ps) → b ≡ place_of q.y (ys_of ps) → IsColumnStretch ps p q column a b
+    column ≡ place_of p.x (xs_of ps) → a ≡ place_of p.y (ys_of ps) → b ≡ place_of q.y (ys_of ps) →
+    IsColumnStretch ps p q column a b
 column_found ps p q column a b is other at from to =
     rw (at, from, to) (IsColumnStretch-from_same ps p q is.from is.to (same_x ps p q is other))
 
@@ -45,7 +47,8 @@ pub not_level : (p q : Point) (level : Bool) → (IsTrue level ↔ (p.y ≡ q.y)
 not_level p q level tests fails same = let yes : level ≡ true = tests.1 same in absurd cc
 
 -- what was put into the empty set is what the set holds
-pub edges_put : (P : ℕ → Type 0) (size : ℕ) (empty set : List Bool) → empty ≡ replicate size false → Adds P empty set →
+pub edges_put : (P : ℕ → Type 0) (size : ℕ) (empty set : List Bool) → empty ≡ replicate size false →
+    Adds P empty set →
     (e : ℕ) → (slice_get set e ≡ Some true) ↔ P e
 edges_put P size empty set is adds e =
     (Adds-holds P size set (subst (λ old. Adds P old set) is adds) e, adds.put e)

@@ -38,7 +38,8 @@ pub record IsGridStretch (ps : List Point) (p q : Point) : Type 0 where
   pub from : IsCrossing (xs_of ps) (ys_of ps) p
   pub to : IsCrossing (xs_of ps) (ys_of ps) q
 
--- why the grid has no such stretch, in the order in which it is judged; want of memory has no cause in the points
+-- Why the grid has no such stretch, in the order in which it is judged. Want of memory has no cause in the
+-- points.
 abbrev pub IsSegmentFault : List Point → Point → Point → SegmentFault → Type 0
 IsSegmentFault ps p q Crooked = (p.x ≢ q.x) × (p.y ≢ q.y)
 IsSegmentFault ps p q OffGrid =

@@ -1,5 +1,5 @@
 -- Laws of the stretches of a grid: which edges they have, how long they are, and where they lead.
-use Rattle.std.proofs.Common.{ℕ, zero, suc, ◌≡◌, ◌+◌, ◌-◌, ◌*◌, ◌/◌, ◌%◌, ◌<◌, ◌≤◌, min, max, ℤ, pos, ◌+ℤ◌, ◌-ℤ◌, ◌≤ℤ◌, unsigned_abs, Bool, true, false, List, [], ◌∷◌, length, replicate, slice_get, slice_set, Some, ◌⊎◌, refl, inl, inr, ⊎_elim, sym, ap, ◌∙◌, subst, arith}
+use Rattle.std.proofs.Common.{ℕ, zero, suc, ◌≡◌, ◌+◌, ◌-◌, ◌/◌, ◌%◌, ◌<◌, ◌≤◌, min, max, ℤ, pos, ◌+ℤ◌, ◌-ℤ◌, ◌≤ℤ◌, unsigned_abs, Bool, true, false, List, [], ◌∷◌, length, replicate, slice_get, slice_set, Some, ◌⊎◌, refl, inl, inr, ⊎_elim, sym, ap, ◌∙◌, subst, arith}
 use Rattle.std.specs.Prelude.{All, ◌↔◌}
 use Rattle.std.proofs.lemmas.Bool.{cases_lt}
 use Rattle.std.proofs.lemmas.Int.{ints, by_lt_z}
@@ -13,12 +13,12 @@ use Rattle.net_graph.specs.Adds.{Adds}
 use Rattle.net_graph.specs.AddsLaws.{Adds-nothing, Adds-iff, Adds-holds}
 use Rattle.net_graph.specs.JoinsLaws.{Links-back, Joins-from}
 use Rattle.net_graph.specs.LengthLaws.{length_of_edges-none, length_of_edges-add, length_of_edges-within, length_of_edges-union}
-use Rattle.net_graph.specs.Network.{Links, Joins, length_of, length_of_edges}
+use Rattle.net_graph.specs.Network.{Links, Joins, length_of}
 use Rattle.net_graph.specs.Search.{Leads}
 use Rattle.hanan_grid.specs.Distance.{distance_between}
 use Rattle.hanan_grid.specs.Grid.{xs_of, ys_of, vertex_number, vertex_of, horizontal, vertical, hanan_grid_of}
-use Rattle.hanan_grid.specs.GridLaws.{edges_of_lines, horizontal_number, vertical_number, horizontal_number-below, vertical_number-below, slice_get-horizontal, slice_get-vertical, IsRising-xs_of, IsRising-ys_of}
-use Rattle.hanan_grid.specs.Lines.{line_at, gap_after, place_of}
+use Rattle.hanan_grid.specs.GridLaws.{horizontal_number, vertical_number, horizontal_number-below, vertical_number-below, slice_get-horizontal, slice_get-vertical, IsRising-xs_of, IsRising-ys_of}
+use Rattle.hanan_grid.specs.Lines.{line_at, place_of}
 use Rattle.hanan_grid.specs.LinesLaws.{IsRising, place_of-below, line_at-place_of, line_at-rises, same_place, gap_after-is}
 use Rattle.hanan_grid.specs.Names.{IsCrossing, crossing, point_of_vertex}
 use Rattle.hanan_grid.specs.NamesLaws.{IsHorizontal, IsVertical, edge_cases, point_of_vertex-at, vertex_number-parts, column_of-below, row_of-below, vertex_of-crossing-below, point_of_vertex-vertex_of}
@@ -29,14 +29,16 @@ use Rattle.hanan_grid.specs.Stretch.{IsBetween, LiesBetween, IsOnStretch, IsVert
 -- ---- lines between lines
 
 -- a line that is no higher than another stands no later
-place_le : (lines : List ℤ) (i j : ℕ) → i < length lines → IsRising lines → line_at lines i ≤ℤ line_at lines j → i ≤ j
+place_le : (lines : List ℤ) (i j : ℕ) → i < length lines → IsRising lines →
+    line_at lines i ≤ℤ line_at lines j → i ≤ j
 place_le lines i j within rises lower = elim (cases_lt j i) [
   | inl before ↦ absurd (omega (arith, ints, line_at-rises lines j i before within rises))
   | inr after ↦ omega arith
 ]
 
 -- .. and the other way round
-line_le : (lines : List ℤ) (i j : ℕ) → j < length lines → IsRising lines → i ≤ j → line_at lines i ≤ℤ line_at lines j
+line_le : (lines : List ℤ) (i j : ℕ) → j < length lines → IsRising lines → i ≤ j →
+    line_at lines i ≤ℤ line_at lines j
 line_le lines i j within rises no_later = elim (cases_lt i j) [
   | inl before ↦ omega (arith, ints, line_at-rises lines i j before within rises)
   | inr last ↦ let same : i ≡ j = omega arith in rw same (omega (arith, ints))
@@ -51,7 +53,8 @@ between_same : (c : ℤ) → IsBetween c c c
 between_same c = inl (omega (arith, ints), omega (arith, ints))
 
 -- a gap with both lines between two lines is passed on the way between these
-passed_from_between : (lines : List ℤ) (a b t : ℕ) → a < length lines → b < length lines → t + 1 < length lines → IsRising lines →
+passed_from_between : (lines : List ℤ) (a b t : ℕ) → a < length lines → b < length lines →
+    t + 1 < length lines → IsRising lines →
     IsBetween (line_at lines a) (line_at lines b) (line_at lines t) →
     IsBetween (line_at lines a) (line_at lines b) (line_at lines (t + 1)) → IsPassed a b t
 passed_from_between lines a b t a_in b_in t_in rises (inl low) (inl high) =
@@ -64,7 +67,8 @@ passed_from_between lines a b t a_in b_in t_in rises (inr low) (inr high) =
     inr (place_le lines b t b_in rises low.0, omega (arith, place_le lines (t + 1) a t_in rises high.1))
 
 -- .. and the lines of a passed gap are between
-between_from_passed : (lines : List ℤ) (a b t : ℕ) → a < length lines → b < length lines → t + 1 < length lines → IsRising lines →
+between_from_passed : (lines : List ℤ) (a b t : ℕ) → a < length lines → b < length lines →
+    t + 1 < length lines → IsRising lines →
     IsPassed a b t →
     IsBetween (line_at lines a) (line_at lines b) (line_at lines t) × IsBetween (line_at lines a) (line_at lines b) (line_at lines (t + 1))
 between_from_passed lines a b t a_in b_in t_in rises (inl up) = (
@@ -77,7 +81,8 @@ between_from_passed lines a b t a_in b_in t_in rises (inr down) = (
 )
 
 -- what is passed on the way to a line between two is passed on the way between them
-passed_further : (lines : List ℤ) (a b t s : ℕ) → a < length lines → b < length lines → t < length lines → IsRising lines →
+passed_further : (lines : List ℤ) (a b t s : ℕ) → a < length lines → b < length lines → t < length lines →
+    IsRising lines →
     IsBetween (line_at lines a) (line_at lines b) (line_at lines t) → IsPassed a t s → IsPassed a b s
 passed_further lines a b t s a_in b_in t_in rises (inl up) (inl p) =
     inl (p.0, omega (arith, p.1, place_le lines t b t_in rises up.1))
@@ -107,7 +112,8 @@ pub record IsColumnStretch (ps : List Point) (p q : Point) (column a b : ℕ) : 
   pub to : crossing (xs_of ps) (ys_of ps) column b ≡ q
 
 -- a crossing is where its coordinates' lines cross
-crossing-places : (ps : List Point) (p : Point) (x y : ℤ) → IsCrossing (xs_of ps) (ys_of ps) p → x ≡ p.x → y ≡ p.y →
+crossing-places : (ps : List Point) (p : Point) (x y : ℤ) → IsCrossing (xs_of ps) (ys_of ps) p → x ≡ p.x →
+    y ≡ p.y →
     crossing (xs_of ps) (ys_of ps) (place_of x (xs_of ps)) (place_of y (ys_of ps)) ≡ p
 crossing-places ps p x y at same_x same_y =
     rw (same_x, same_y, line_at-place_of p.x (xs_of ps) at.x (IsRising-xs_of ps), line_at-place_of p.y (ys_of ps) at.y (IsRising-ys_of ps)) refl
@@ -137,9 +143,11 @@ IsColumnStretch-from_same ps p q from to same = record {
 }
 
 -- a horizontal edge's ends
-horizontal_ends : (ps : List Point) (p q : Point) (e j i : ℕ) (edge : Edge) → IsHorizontal (xs_of ps) (ys_of ps) e j i →
+horizontal_ends : (ps : List Point) (p q : Point) (e j i : ℕ) (edge : Edge) →
+    IsHorizontal (xs_of ps) (ys_of ps) e j i →
     slice_get (hanan_grid_of ps).edges e ≡ Some edge →
-    LiesBetween p q (point_of_vertex (xs_of ps) (ys_of ps) edge.a) → LiesBetween p q (point_of_vertex (xs_of ps) (ys_of ps) edge.b) →
+    LiesBetween p q (point_of_vertex (xs_of ps) (ys_of ps) edge.a) →
+    LiesBetween p q (point_of_vertex (xs_of ps) (ys_of ps) edge.b) →
     LiesBetween p q (crossing (xs_of ps) (ys_of ps) i j) × LiesBetween p q (crossing (xs_of ps) (ys_of ps) (i + 1) j)
 horizontal_ends ps p q e j i edge h at first second =
     let xs = xs_of ps in
@@ -152,9 +160,11 @@ horizontal_ends ps p q e j i edge h at first second =
     )
 
 -- a vertical edge's ends
-vertical_ends : (ps : List Point) (p q : Point) (e j i : ℕ) (edge : Edge) → IsVertical (xs_of ps) (ys_of ps) e j i →
+vertical_ends : (ps : List Point) (p q : Point) (e j i : ℕ) (edge : Edge) →
+    IsVertical (xs_of ps) (ys_of ps) e j i →
     slice_get (hanan_grid_of ps).edges e ≡ Some edge →
-    LiesBetween p q (point_of_vertex (xs_of ps) (ys_of ps) edge.a) → LiesBetween p q (point_of_vertex (xs_of ps) (ys_of ps) edge.b) →
+    LiesBetween p q (point_of_vertex (xs_of ps) (ys_of ps) edge.a) →
+    LiesBetween p q (point_of_vertex (xs_of ps) (ys_of ps) edge.b) →
     LiesBetween p q (crossing (xs_of ps) (ys_of ps) i j) × LiesBetween p q (crossing (xs_of ps) (ys_of ps) i (j + 1))
 vertical_ends ps p q e j i edge v at first second =
     let xs = xs_of ps in
@@ -166,8 +176,10 @@ vertical_ends ps p q e j i edge v at first second =
     )
 
 -- an edge on a stretch in a row is one of the row's edges
-IsInRow-from_crossings : (ps : List Point) (row a b e : ℕ) → row < length (ys_of ps) → a < length (xs_of ps) → b < length (xs_of ps) →
-    IsOnStretch ps (crossing (xs_of ps) (ys_of ps) a row) (crossing (xs_of ps) (ys_of ps) b row) e → IsInRow ps row a b e
+IsInRow-from_crossings : (ps : List Point) (row a b e : ℕ) → row < length (ys_of ps) →
+    a < length (xs_of ps) → b < length (xs_of ps) →
+    IsOnStretch ps (crossing (xs_of ps) (ys_of ps) a row) (crossing (xs_of ps) (ys_of ps) b row) e →
+    IsInRow ps row a b e
 IsInRow-from_crossings ps row a b e row_in a_in b_in (edge, at, first, second) =
     let xs = xs_of ps in
     let ys = ys_of ps in
@@ -185,7 +197,8 @@ IsInRow-from_crossings ps row a b e row_in a_in b_in (edge, at, first, second) =
 
 -- .. and one of the row's edges is on the stretch
 IsOnStretch-in_row : (ps : List Point) (row a b e : ℕ) → a < length (xs_of ps) → b < length (xs_of ps) →
-    IsInRow ps row a b e → IsOnStretch ps (crossing (xs_of ps) (ys_of ps) a row) (crossing (xs_of ps) (ys_of ps) b row) e
+    IsInRow ps row a b e →
+    IsOnStretch ps (crossing (xs_of ps) (ys_of ps) a row) (crossing (xs_of ps) (ys_of ps) b row) e
 IsOnStretch-in_row ps row a b e a_in b_in (i, h, passed) =
     let xs = xs_of ps in
     let ys = ys_of ps in
@@ -202,8 +215,10 @@ IsOnStretch-in_row ps row a b e a_in b_in (i, h, passed) =
     )
 
 -- an edge on a stretch in a column is one of the column's edges
-IsInColumn-from_crossings : (ps : List Point) (column a b e : ℕ) → column < length (xs_of ps) → a < length (ys_of ps) → b < length (ys_of ps) →
-    IsOnStretch ps (crossing (xs_of ps) (ys_of ps) column a) (crossing (xs_of ps) (ys_of ps) column b) e → IsInColumnBetween ps column a b e
+IsInColumn-from_crossings : (ps : List Point) (column a b e : ℕ) → column < length (xs_of ps) →
+    a < length (ys_of ps) → b < length (ys_of ps) →
+    IsOnStretch ps (crossing (xs_of ps) (ys_of ps) column a) (crossing (xs_of ps) (ys_of ps) column b) e →
+    IsInColumnBetween ps column a b e
 IsInColumn-from_crossings ps column a b e column_in a_in b_in (edge, at, first, second) =
     let xs = xs_of ps in
     let ys = ys_of ps in
@@ -221,7 +236,8 @@ IsInColumn-from_crossings ps column a b e column_in a_in b_in (edge, at, first, 
 
 -- .. and one of the column's edges is on the stretch
 IsOnStretch-in_column : (ps : List Point) (column a b e : ℕ) → a < length (ys_of ps) → b < length (ys_of ps) →
-    IsInColumnBetween ps column a b e → IsOnStretch ps (crossing (xs_of ps) (ys_of ps) column a) (crossing (xs_of ps) (ys_of ps) column b) e
+    IsInColumnBetween ps column a b e →
+    IsOnStretch ps (crossing (xs_of ps) (ys_of ps) column a) (crossing (xs_of ps) (ys_of ps) column b) e
 IsOnStretch-in_column ps column a b e a_in b_in (j, v, passed) =
     let xs = xs_of ps in
     let ys = ys_of ps in
@@ -237,7 +253,8 @@ IsOnStretch-in_column ps column a b e a_in b_in (j, v, passed) =
     )
 
 -- the edges of the row between the columns are those on the stretch
-pub Adds-row_stretch : (ps : List Point) (p q : Point) (row a b : ℕ) (old new : List Bool) → IsRowStretch ps p q row a b →
+pub Adds-row_stretch : (ps : List Point) (p q : Point) (row a b : ℕ) (old new : List Bool) →
+    IsRowStretch ps p q row a b →
     Adds (IsInRow ps row a b) old new → Adds (IsOnStretch ps p q) old new
 Adds-row_stretch ps p q row a b old new is adds =
     let at = Adds-iff (IsInRow ps row a b) (IsOnStretch ps (crossing (xs_of ps) (ys_of ps) a row) (crossing (xs_of ps) (ys_of ps) b row)) old new
@@ -246,7 +263,8 @@ Adds-row_stretch ps p q row a b old new is adds =
     (subst (λ z. Adds (IsOnStretch ps z (crossing (xs_of ps) (ys_of ps) b row)) old new) is.from at)
 
 -- the edges of the column between the rows are those on the stretch
-pub Adds-column_stretch : (ps : List Point) (p q : Point) (column a b : ℕ) (old new : List Bool) → IsColumnStretch ps p q column a b →
+pub Adds-column_stretch : (ps : List Point) (p q : Point) (column a b : ℕ) (old new : List Bool) →
+    IsColumnStretch ps p q column a b →
     Adds (IsInColumnBetween ps column a b) old new → Adds (IsOnStretch ps p q) old new
 Adds-column_stretch ps p q column a b old new is adds =
     let at = Adds-iff (IsInColumnBetween ps column a b) (IsOnStretch ps (crossing (xs_of ps) (ys_of ps) column a) (crossing (xs_of ps) (ys_of ps) column b)) old new
@@ -257,7 +275,8 @@ Adds-column_stretch ps p q column a b old new is adds =
 -- ---- how long they are
 
 -- a number that is not in a set has its flag cleared
-slice_get-absent : (set : List Bool) (n : ℕ) → n < length set → (slice_get set n ≡ Some true → ⊥) → slice_get set n ≡ Some false
+slice_get-absent : (set : List Bool) (n : ℕ) → n < length set → (slice_get set n ≡ Some true → ⊥) →
+    slice_get set n ≡ Some false
 slice_get-absent [] n within absent = absurd (omega arith)
 slice_get-absent (true ∷ set) zero within absent = absurd (absent refl)
 slice_get-absent (false ∷ set) zero within absent = refl
@@ -274,7 +293,8 @@ record RowSet (ps : List Point) (row low high : ℕ) : Type 0 where
   long : line_at (xs_of ps) low +ℤ pos (length_of (hanan_grid_of ps) set) ≡ line_at (xs_of ps) high
 
 -- there is one for each part of a row
-row_set : (ps : List Point) (row low n : ℕ) → row < length (ys_of ps) → low + n < length (xs_of ps) → RowSet ps row low (low + n)
+row_set : (ps : List Point) (row low n : ℕ) → row < length (ys_of ps) → low + n < length (xs_of ps) →
+    RowSet ps row low (low + n)
 row_set ps row low zero row_in within =
     let edges = (hanan_grid_of ps).edges in
     let same : low ≡ low + 0 = omega arith in
@@ -313,7 +333,8 @@ record ColumnSet (ps : List Point) (column low high : ℕ) : Type 0 where
   long : line_at (ys_of ps) low +ℤ pos (length_of (hanan_grid_of ps) set) ≡ line_at (ys_of ps) high
 
 -- there is one for each part of a column
-column_set : (ps : List Point) (column low n : ℕ) → column < length (xs_of ps) → low + n < length (ys_of ps) → ColumnSet ps column low (low + n)
+column_set : (ps : List Point) (column low n : ℕ) → column < length (xs_of ps) →
+    low + n < length (ys_of ps) → ColumnSet ps column low (low + n)
 column_set ps column low zero column_in within =
     let edges = (hanan_grid_of ps).edges in
     let same : low ≡ low + 0 = omega arith in
@@ -369,7 +390,8 @@ apart_by lines a b n long = elim (cases_lt a b) [
 ]
 
 -- there is one for a stretch in a row
-row_stretch_set : (ps : List Point) (p q : Point) (row a b : ℕ) → IsRowStretch ps p q row a b → StretchSet ps p q
+row_stretch_set : (ps : List Point) (p q : Point) (row a b : ℕ) → IsRowStretch ps p q row a b →
+    StretchSet ps p q
 row_stretch_set ps p q row a b is =
     let xs = xs_of ps in
     let ys = ys_of ps in
@@ -387,7 +409,8 @@ row_stretch_set ps p q row a b is =
     }
 
 -- .. and for one in a column
-column_stretch_set : (ps : List Point) (p q : Point) (column a b : ℕ) → IsColumnStretch ps p q column a b → StretchSet ps p q
+column_stretch_set : (ps : List Point) (p q : Point) (column a b : ℕ) → IsColumnStretch ps p q column a b →
+    StretchSet ps p q
 column_stretch_set ps p q column a b is =
     let xs = xs_of ps in
     let ys = ys_of ps in
@@ -439,7 +462,8 @@ length_of-adds_stretch ps p q old new is adds =
 -- ---- where they lead
 
 -- the row's edges lead from one column to every column between
-row_leads : (ps : List Point) (set : List Bool) (row a b t : ℕ) → row < length (ys_of ps) → a < length (xs_of ps) →
+row_leads : (ps : List Point) (set : List Bool) (row a b t : ℕ) → row < length (ys_of ps) →
+    a < length (xs_of ps) →
     b < length (xs_of ps) → t < length (xs_of ps) →
     IsBetween (line_at (xs_of ps) a) (line_at (xs_of ps) b) (line_at (xs_of ps) t) →
     ((e : ℕ) → IsInRow ps row a b e → slice_get set e ≡ Some true) →
@@ -456,7 +480,8 @@ row_leads ps set row a b t row_in a_in b_in t_in between holds =
     ))
 
 -- the column's edges lead from one row to every row between
-column_leads : (ps : List Point) (set : List Bool) (column a b t : ℕ) → column < length (xs_of ps) → a < length (ys_of ps) →
+column_leads : (ps : List Point) (set : List Bool) (column a b t : ℕ) → column < length (xs_of ps) →
+    a < length (ys_of ps) →
     b < length (ys_of ps) → t < length (ys_of ps) →
     IsBetween (line_at (ys_of ps) a) (line_at (ys_of ps) b) (line_at (ys_of ps) t) →
     ((e : ℕ) → IsInColumnBetween ps column a b e → slice_get set e ≡ Some true) →
@@ -474,13 +499,15 @@ column_leads ps set column a b t column_in a_in b_in t_in between holds =
     ))
 
 -- an edge of the row is on the stretch
-IsOnStretch-row : (ps : List Point) (p q : Point) (row a b e : ℕ) → IsRowStretch ps p q row a b → IsInRow ps row a b e → IsOnStretch ps p q e
+IsOnStretch-row : (ps : List Point) (p q : Point) (row a b e : ℕ) → IsRowStretch ps p q row a b →
+    IsInRow ps row a b e → IsOnStretch ps p q e
 IsOnStretch-row ps p q row a b e is on =
     subst (λ z. IsOnStretch ps p z e) is.to
     (subst (λ z. IsOnStretch ps z (crossing (xs_of ps) (ys_of ps) b row) e) is.from (IsOnStretch-in_row ps row a b e is.a_in is.b_in on))
 
 -- an edge of the column is on the stretch
-IsOnStretch-column : (ps : List Point) (p q : Point) (column a b e : ℕ) → IsColumnStretch ps p q column a b → IsInColumnBetween ps column a b e → IsOnStretch ps p q e
+IsOnStretch-column : (ps : List Point) (p q : Point) (column a b e : ℕ) →
+    IsColumnStretch ps p q column a b → IsInColumnBetween ps column a b e → IsOnStretch ps p q e
 IsOnStretch-column ps p q column a b e is on =
     subst (λ z. IsOnStretch ps p z e) is.to
     (subst (λ z. IsOnStretch ps z (crossing (xs_of ps) (ys_of ps) column b) e) is.from (IsOnStretch-in_column ps column a b e is.a_in is.b_in on))
@@ -531,7 +558,8 @@ Leads-stretch ps p q set v is holds on =
     ]
 
 -- .. and so joins all vertices on it
-pub Joins-stretch : (ps : List Point) (p q : Point) (set : List Bool) (vertices : List ℕ) → IsGridStretch ps p q →
+pub Joins-stretch : (ps : List Point) (p q : Point) (set : List Bool) (vertices : List ℕ) →
+    IsGridStretch ps p q →
     ((e : ℕ) → IsOnStretch ps p q e → slice_get set e ≡ Some true) → All (IsVertexOnStretch ps p q) vertices →
     Joins (hanan_grid_of ps) set vertices
 Joins-stretch ps p q set vertices is holds on =
@@ -557,7 +585,8 @@ last_between a b = elim (either_le a b) [
 ]
 
 -- the first end of a stretch is on it
-pub IsVertexOnStretch-from : (ps : List Point) (p q : Point) → IsGridStretch ps p q → IsVertexOnStretch ps p q (vertex_of (xs_of ps) (ys_of ps) p)
+pub IsVertexOnStretch-from : (ps : List Point) (p q : Point) → IsGridStretch ps p q →
+    IsVertexOnStretch ps p q (vertex_of (xs_of ps) (ys_of ps) p)
 IsVertexOnStretch-from ps p q is = record {
   below = vertex_of-crossing-below (xs_of ps) (ys_of ps) p (IsRising-xs_of ps) (IsRising-ys_of ps) is.from;
   between = subst (LiesBetween p q) (sym (point_of_vertex-vertex_of (xs_of ps) (ys_of ps) p (IsRising-xs_of ps) (IsRising-ys_of ps) is.from))
@@ -565,7 +594,8 @@ IsVertexOnStretch-from ps p q is = record {
 }
 
 -- .. and so is the other
-pub IsVertexOnStretch-to : (ps : List Point) (p q : Point) → IsGridStretch ps p q → IsVertexOnStretch ps p q (vertex_of (xs_of ps) (ys_of ps) q)
+pub IsVertexOnStretch-to : (ps : List Point) (p q : Point) → IsGridStretch ps p q →
+    IsVertexOnStretch ps p q (vertex_of (xs_of ps) (ys_of ps) q)
 IsVertexOnStretch-to ps p q is = record {
   below = vertex_of-crossing-below (xs_of ps) (ys_of ps) q (IsRising-xs_of ps) (IsRising-ys_of ps) is.to;
   between = subst (LiesBetween p q) (sym (point_of_vertex-vertex_of (xs_of ps) (ys_of ps) q (IsRising-xs_of ps) (IsRising-ys_of ps) is.to))

@@ -17,9 +17,9 @@ use points_in::Point;
 use std::alloc::Global;
 
 impl Grid {
-    /// The edges of the straight stretch from one point to another: those with both ends on it. Points that are
-    /// the same have none between them. An `Err` says that the points are on no common line, or else that one of
-    /// them is no crossing, or is want of memory.
+    /// The edges of the straight stretch from one point to another: those with both ends on it. Points
+    /// that are the same have none between them. An `Err` says that the points are on no common line, or
+    /// else that one of them is no crossing, or is want of memory.
     pub fn segment(&self, alloc: Global, from: Point, to: Point) -> Result<EdgeSet, SegmentFault>
         ensures size { IfOk result (λ set. length set ≡ length (hanan_grid_of self.now).edges) }
         ensures edges { IfOk result

@@ -1,14 +1,13 @@
 -- What one more edge, and one more terminal, puts into the set.
-use Rattle.std.proofs.Common.{ℕ, ◌≡◌, ◌+◌, ◌<◌, ◌≤◌, min, max, Bool, true, false, List, length, replicate, slice_get, slice_set, Some, ◌⊎◌, ◌↔◌, inl, inr, ⊎_elim, sym, ap, ◌∙◌, subst, arith}
+use Rattle.std.proofs.Common.{ℕ, ◌≡◌, ◌+◌, ◌<◌, ◌≤◌, Bool, true, false, List, length, replicate, slice_get, slice_set, Some, ◌⊎◌, ◌↔◌, inl, inr, ⊎_elim, sym, ap, ◌∙◌, subst, arith}
 use Rattle.std.proofs.lemmas.Bool.{cases_lt}
-use Rattle.std.proofs.lemmas.Option.{get_or_from_slice_get, slice_get_within, same_Some}
+use Rattle.std.proofs.lemmas.Option.{slice_get_within, same_Some}
 use Rattle.points_in.specs.declared.point.Point.{Point}
-use Rattle.net_graph.specs.declared.edge.Edge.{Edge}
 use Rattle.hanan_grid.specs.LinesLaws.{place_of-line_at}
-use Rattle.hanan_grid.specs.Grid.{xs_of, ys_of, horizontal, vertical, hanan_grid_of}
-use Rattle.hanan_grid.specs.GridLaws.{horizontal_number, vertical_number, slice_get-horizontal, slice_get-vertical, IsRising-xs_of, IsRising-ys_of}
-use Rattle.hanan_grid.specs.Names.{crossing, name_of, no_edge}
-use Rattle.hanan_grid.specs.NamesLaws.{IsHorizontal, IsVertical, same_edge}
+use Rattle.hanan_grid.specs.Grid.{xs_of, ys_of}
+use Rattle.hanan_grid.specs.GridLaws.{vertical_number, IsRising-xs_of, IsRising-ys_of}
+use Rattle.hanan_grid.specs.Names.{crossing}
+use Rattle.hanan_grid.specs.NamesLaws.{IsVertical}
 use Rattle.hanan_grid.specs.Runs.{IsInRow}
 use Rattle.trunk_network.specs.Trunk.{column_of, row_of, IsInColumn, IsTrunkEdge}
 use Rattle.net_graph.specs.Adds.{Adds}

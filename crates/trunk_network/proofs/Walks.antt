@@ -1,10 +1,9 @@
 -- A set that holds the edges of the trunk network is a network.
-use Rattle.std.proofs.Common.{ℕ, zero, suc, ◌≡◌, ◌+◌, ◌-◌, ◌<◌, ◌≤◌, Bool, true, List, length, get_or, slice_get, Some, ◌⊎◌, inl, inr, ⊎_elim, refl, subst, arith, pos}
-use Rattle.std.proofs.lemmas.Bool.{cases_lt}
+use Rattle.std.proofs.Common.{ℕ, ◌≡◌, ◌+◌, ◌-◌, ◌<◌, Bool, true, List, length, get_or, slice_get, Some, ◌⊎◌, inl, inr, ⊎_elim, refl, arith, pos}
 use Rattle.std.proofs.lemmas.List.{length-map, get_or-map}
 use Rattle.std.proofs.lemmas.Option.{slice_get-get_or}
 use Rattle.points_in.specs.declared.point.Point.{Point}
-use Rattle.net_graph.specs.Graph.{Graph, root_of}
+use Rattle.net_graph.specs.Graph.{root_of}
 use Rattle.net_graph.specs.Network.{Links, IsNetwork}
 use Rattle.net_graph.specs.Search.{Leads}
 use Rattle.net_graph.specs.SearchLaws.{Leads-trans}
