@@ -18,7 +18,7 @@ Hop pairs set i j = (k : ℕ) × (pair : Pair) × (slice_get set k ≡ Some true
     × HasEnds (edge_of pair) i j
 
 -- the set is one of these pairs, and a chain of its hops leads from 0 to each number below n
-pub record Joins (n : ℕ) (pairs : List Pair) (set : List Bool) : Type 0 where
+pub record JoinsBelow (n : ℕ) (pairs : List Pair) (set : List Bool) : Type 0 where
   pub size : length set ≡ length pairs
   pub chains : (i : ℕ) → i < n → Leads (Hop pairs set) 0 i
 
@@ -34,6 +34,6 @@ all_of pairs = replicate (length pairs) true
 pub record IsLeastJoining (n : ℕ) (pairs : List Pair) (joined : Joined) : Type 0 where
   pub set : List Bool
   pub places : joined.places ≡ members_of set
-  pub joins : Joins n pairs set
+  pub joins : JoinsBelow n pairs set
   pub total : joined.total ≡ total_of pairs set
-  pub least : (other : List Bool) → Joins n pairs other → total_of pairs set ≤ total_of pairs other
+  pub least : (other : List Bool) → JoinsBelow n pairs other → total_of pairs set ≤ total_of pairs other

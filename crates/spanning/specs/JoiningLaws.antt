@@ -1,16 +1,18 @@
 -- What hops and totals of sets of pairs come to.
-use Rattle.std.specs.Prelude.{ℕ, ◌≡◌, ◌+◌, ◌<◌, ◌≤◌, Bool, true, false, List, length, map, replicate, slice_get, slice_set, Some}
+use Rattle.std.specs.Prelude.{ℕ, ◌≡◌, ◌+◌, ◌<◌, ◌≤◌, Bool, true, false, List, length, map, slice_get, slice_set, Some}
 use Rattle.std.proofs.Common.{ap, ◌∙◌, inl, inr, ⊎_elim, arith}
 use Rattle.std.proofs.lemmas.List.{length-replicate, get_or-replicate}
-use Rattle.std.proofs.lemmas.Option.{slice_get-map, slice_get_within, slice_get-get_or}
+use Rattle.std.proofs.lemmas.Option.{slice_get-map, slice_get_within}
 use Rattle.std.specs.Option.{option_map}
 use Rattle.net_graph.specs.declared.edge.Edge.{Edge}
+use Rattle.net_graph.specs.Flags.{has, IsSubset}
+use Rattle.net_graph.specs.Joins.{slice_get-has, has-slice_get}
 use Rattle.net_graph.specs.LengthLaws.{length_of_edges-add, length_of_edges-remove, length_of_edges-within}
 use Rattle.net_graph.specs.Network.{HasEnds}
 use Rattle.net_graph.specs.Search.{Leads}
 use Rattle.net_graph.specs.SearchLaws.{Leads-back, Leads-weaker}
 use Rattle.spanning.specs.declared.pair.Pair.{Pair}
-use Rattle.spanning.specs.Joining.{edge_of, Hop, Joins, total_of, all_of}
+use Rattle.spanning.specs.Joining.{edge_of, Hop, JoinsBelow, total_of, all_of}
 
 -- two numbers are the ends of an edge in either order
 pub HasEnds-back : (e : Edge) (i j : ℕ) → HasEnds e i j → HasEnds e j i
@@ -26,25 +28,24 @@ pub Leads-hops_back : (pairs : List Pair) (set : List Bool) (i j : ℕ) → Lead
 Leads-hops_back pairs set i j led = Leads-back (Hop pairs set) (Hop pairs set) (Hop-back pairs set) i j led
 
 -- more pairs lead at least as far
-pub Leads-hops_more : (pairs : List Pair) (small large : List Bool) →
-    ((k : ℕ) → slice_get small k ≡ Some true → slice_get large k ≡ Some true) →
+pub Leads-hops_more : (pairs : List Pair) (small large : List Bool) → IsSubset small large →
     (i j : ℕ) → Leads (Hop pairs small) i j → Leads (Hop pairs large) i j
 Leads-hops_more pairs small large within i j led =
-    Leads-weaker (Hop pairs small) (Hop pairs large) (λ u w (k, pair, inside, at, ends). (k, pair, within k inside, at, ends)) i j led
+    Leads-weaker (Hop pairs small) (Hop pairs large)
+    (λ u w (k, pair, inside, at, ends). (k, pair, slice_get-has large k (within k (has-slice_get small k inside)), at, ends)) i j led
 
 -- each pair is in the set of all
-pub all_of-has : (pairs : List Pair) (k : ℕ) → k < length pairs → slice_get (all_of pairs) k ≡ Some true
-all_of-has pairs k within =
-    let size = length-replicate (length pairs) true in
-    slice_get-get_or (replicate (length pairs) true) k false (omega (arith, size)) ∙ ap Some (get_or-replicate (length pairs) k true false within)
+pub all_of-has : (pairs : List Pair) (k : ℕ) → k < length pairs → has (all_of pairs) k ≡ true
+all_of-has pairs k within = get_or-replicate (length pairs) k true false within
 
 -- where some set joins, all pairs do
-pub Joins-all : (n : ℕ) (pairs : List Pair) (set : List Bool) → Joins n pairs set →
-    Joins n pairs (all_of pairs)
-Joins-all n pairs set joins = record {
+pub JoinsBelow-all : (n : ℕ) (pairs : List Pair) (set : List Bool) → JoinsBelow n pairs set →
+    JoinsBelow n pairs (all_of pairs)
+JoinsBelow-all n pairs set joins = record {
   size = length-replicate (length pairs) true;
   chains = λ i below. Leads-hops_more pairs set (all_of pairs)
-      (λ k inside. all_of-has pairs k (omega (arith, slice_get_within set k true inside, joins.size))) 0 i (joins.chains i below);
+      (λ k inside. all_of-has pairs k (omega (arith, slice_get_within set k true (slice_get-has set k inside), joins.size)))
+      0 i (joins.chains i below);
 }
 
 -- the edge of the pair at a place
@@ -65,7 +66,8 @@ pub total_of-remove : (pairs : List Pair) (set : List Bool) (k : ℕ) (pair : Pa
 total_of-remove pairs set k pair inside at = length_of_edges-remove (map edge_of pairs) set k (edge_of pair) inside (slice_get-edges pairs k pair at)
 
 -- a set within another has no greater sum
-pub total_of-within : (pairs : List Pair) (small large : List Bool) →
-    ((k : ℕ) → slice_get small k ≡ Some true → slice_get large k ≡ Some true) →
+pub total_of-within : (pairs : List Pair) (small large : List Bool) → IsSubset small large →
     total_of pairs small ≤ total_of pairs large
-total_of-within pairs small large within = length_of_edges-within (map edge_of pairs) small large within
+total_of-within pairs small large within =
+    length_of_edges-within (map edge_of pairs) small large
+    (λ k inside. slice_get-has large k (within k (has-slice_get small k inside)))

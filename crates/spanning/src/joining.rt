@@ -3,7 +3,7 @@
 ghost use Rattle.std.specs.Prelude.{◌≡◌, ◌<◌, ◌≤◌, ◌^◌, ℕ, Bool, true, length, All, IfOk, IfSome, IfNone, OnSome, IsTrue, ◌↔◌};
 ghost use Rattle.net_graph.specs.Flags.{has};
 ghost use Rattle.net_graph.specs.Members.{members_of};
-ghost use Rattle.spanning.specs.Joining.{Joins, IsLeastJoining, all_of, total_of};
+ghost use Rattle.spanning.specs.Joining.{JoinsBelow, IsLeastJoining, all_of, total_of};
 ghost use Rattle.spanning.specs.Leaving.{HasNumbersBelow, NoneLeaves};
 ghost use Rattle.spanning.specs.Part.{IsPart};
 
@@ -28,8 +28,8 @@ pub fn least_joining(alloc: Global, n: u8, pairs: &[Pair]) -> Result<Option<Join
     requires ends { All (HasNumbersBelow n) pairs.now }
     requires few_pairs { length pairs.now ≤ 20000 }
     ensures least { IfOk result (λ answer. IfSome answer (IsLeastJoining n pairs.now)) }
-    ensures all { IfOk result (λ answer. OnSome answer (Joins n pairs.now (all_of pairs.now))) }
-    ensures none { IfOk result (λ answer. IfNone answer (¬ Joins n pairs.now (all_of pairs.now))) }
+    ensures all { IfOk result (λ answer. OnSome answer (JoinsBelow n pairs.now (all_of pairs.now))) }
+    ensures none { IfOk result (λ answer. IfNone answer (¬ JoinsBelow n pairs.now (all_of pairs.now))) }
 {
     let part = whole_part(alloc, n, pairs)?;
     if !is_full(&part.inside) {

@@ -3,16 +3,17 @@ use Rattle.std.proofs.Common.{ℕ, ◌≡◌, ◌≢◌, ◌<◌, ◌≤◌, Boo
 use Rattle.std.proofs.lemmas.Bool.{cases_eq, cases_Bool, both_ways}
 use Rattle.std.proofs.lemmas.List.{length-set}
 use Rattle.std.proofs.lemmas.Option.{slice_get_within, slice_get-get_or, same_Some}
-use Rattle.net_graph.specs.Flags.{has}
+use Rattle.net_graph.specs.Flags.{has, IsSubset}
+use Rattle.net_graph.specs.Joins.{slice_get-has, has-slice_get}
 use Rattle.net_graph.specs.Network.{HasEnds}
 use Rattle.net_graph.specs.Search.{Leads}
 use Rattle.net_graph.specs.SearchLaws.{Leads-start, Leads-more, Leads-keeps, Leads-trans, Leads-weaker}
 use Rattle.spanning.specs.declared.pair.Pair.{Pair}
-use Rattle.spanning.specs.Joining.{edge_of, Hop, Joins, total_of}
+use Rattle.spanning.specs.Joining.{edge_of, Hop, JoinsBelow, total_of}
 use Rattle.spanning.specs.JoiningLaws.{Leads-hops_back, Leads-hops_more, total_of-add, total_of-remove}
 use Rattle.spanning.specs.Leaving.{IsShortestLeaving}
-use Rattle.spanning.specs.Part.{Includes, IsNoWorse, IsPart}
-use Rattle.spanning.proofs.lemmas.Flags.{slice_get-set_same, slice_get-set_other, slice_get-set_true}
+use Rattle.spanning.specs.Part.{IsNoWorse, IsPart}
+use Rattle.spanning.proofs.lemmas.Flags.{slice_get-set_same, slice_get-set_other, slice_get-set_true, has-set_same, has-set_cases}
 use Rattle.spanning.proofs.lemmas.Crossing.{OutsideStep, LastLeaving, last_leaving, LeavesFrom, leaves-from_ends}
 
 -- the set with one pair in place of another
@@ -35,8 +36,8 @@ same_ends pair x y i j first second =
 -- set is the last to leave the part on the way to the outer number of the pair k.
 record Exchanges (n : ℕ) (pairs : List Pair) (inside chosen other : List Bool) (k f : ℕ) : Type 0 where
   part : IsPart n pairs inside chosen
-  joins : Joins n pairs other
-  includes : Includes other chosen
+  joins : JoinsBelow n pairs other
+  includes : IsSubset chosen other
   pair : Pair
   here : slice_get pairs k ≡ Some pair
   from : LeavesFrom inside pair
@@ -53,15 +54,14 @@ record Exchanges (n : ℕ) (pairs : List Pair) (inside chosen other : List Bool)
 
 -- a chosen pair stays, since both its numbers are inside
 keeps_chosen : (n : ℕ) (pairs : List Pair) (inside chosen other : List Bool) (k f : ℕ) →
-    Exchanges n pairs inside chosen other k f →
-    (g : ℕ) → slice_get chosen g ≡ Some true → slice_get (exchanged other f k) g ≡ Some true
+    Exchanges n pairs inside chosen other k f → IsSubset chosen (exchanged other f k)
 keeps_chosen n pairs inside chosen other k f e g is =
-    exchanged-keeps other f k g
+    has-slice_get (exchanged other f k) g (exchanged-keeps other f k g
     (λ same.
-    let both = e.part.closed f e.out (ap (slice_get chosen) (sym same) ∙ is) e.out_here in
+    let both = e.part.closed f e.out (ap (slice_get chosen) (sym same) ∙ slice_get-has chosen g is) e.out_here in
     ⊎_elim (λ along. both_ways (has inside e.y) e.y_out (ap (has inside) (sym along.1) ∙ both.1))
     (λ against. both_ways (has inside e.y) e.y_out (ap (has inside) (sym against.0) ∙ both.0)) e.ends)
-    (e.includes g is)
+    (slice_get-has other g (e.includes g is)))
 
 -- a hop outside the part stays, since a number of the pair that was taken out is inside
 keeps_outside : (n : ℕ) (pairs : List Pair) (inside chosen other : List Bool) (k f : ℕ) →
@@ -116,7 +116,7 @@ hop_linked n pairs inside chosen other k f e u w (g, pair, is, at, ends) =
 -- the set still joins
 exchanged-joins : (n : ℕ) (pairs : List Pair) (inside chosen other : List Bool) (k f : ℕ) →
     Exchanges n pairs inside chosen other k f →
-    Joins n pairs (exchanged other f k)
+    JoinsBelow n pairs (exchanged other f k)
 exchanged-joins n pairs inside chosen other k f e = record {
   size = length-set (set other f false) k true ∙ length-set other f false ∙ e.joins.size;
   chains = λ i below.
@@ -126,14 +126,11 @@ exchanged-joins n pairs inside chosen other k f e = record {
 
 -- .. and holds all chosen pairs and the one that was put in
 exchanged-includes : (n : ℕ) (pairs : List Pair) (inside chosen other : List Bool) (k f : ℕ) →
-    Exchanges n pairs inside chosen other k f →
-    Includes (exchanged other f k) (set chosen k true)
-exchanged-includes n pairs inside chosen other k f e g is = elim (cases_eq g k) [
-  | inl same ↦
-      let within : k < length (set other f false) = omega (arith, slice_get_within other k false e.absent, length-set other f false) in
-      ap (slice_get (exchanged other f k)) same ∙ slice_get-set_same (set other f false) k true within
-  | inr apart ↦ keeps_chosen n pairs inside chosen other k f e g (sym (slice_get-set_other chosen k g true apart) ∙ is)
-]
+    Exchanges n pairs inside chosen other k f → IsSubset (set chosen k true) (exchanged other f k)
+exchanged-includes n pairs inside chosen other k f e g is =
+    let within : k < length (set other f false) = omega (arith, slice_get_within other k false e.absent, length-set other f false) in
+    ⊎_elim (λ (same : g ≡ k). ap (has (exchanged other f k)) same ∙ has-set_same (set other f false) k within)
+    (λ held. keeps_chosen n pairs inside chosen other k f e g held) (has-set_cases chosen k g is)
 
 -- .. and is no longer, where the pair that was put in is no longer than the one that was taken out
 exchanged-total : (n : ℕ) (pairs : List Pair) (inside chosen other : List Bool) (k f : ℕ) →
@@ -149,17 +146,15 @@ pub IsNoWorse-more : (n : ℕ) (pairs : List Pair) (inside chosen other : List B
     IsPart n pairs inside chosen →
     (shortest : IsShortestLeaving pairs inside (length pairs) k) → (from : LeavesFrom inside shortest.pair) →
     from.outer < n →
-    Joins n pairs other → Includes other chosen → IsNoWorse n pairs (set chosen k true) other
+    JoinsBelow n pairs other → IsSubset chosen other → IsNoWorse n pairs (set chosen k true) other
 IsNoWorse-more n pairs inside chosen other k part shortest from below joins includes =
     let k_in : k < length other = omega (arith, slice_get_within pairs k shortest.pair shortest.here, joins.size) in
     elim (cases_Bool (has other k)) [
       | inl held ↦ record {
         set = other;
         joins = joins;
-        includes = λ g is. elim (cases_eq g k) [
-          | inl same ↦ ap (slice_get other) same ∙ slice_get-get_or other k false k_in ∙ ap Some held
-          | inr apart ↦ includes g (sym (slice_get-set_other chosen k g true apart) ∙ is)
-        ];
+        includes = λ g is.
+            ⊎_elim (λ (same : g ≡ k). ap (has other) same ∙ held) (λ before. includes g before) (has-set_cases chosen k g is);
         total = omega arith;
       }
       | inr absent ↦

@@ -5,15 +5,16 @@ use Rattle.std.proofs.lemmas.List.{length-set, length-replicate}
 use Rattle.std.proofs.lemmas.List.Sums.{sum_by-set}
 use Rattle.std.proofs.lemmas.Option.{slice_get_within, same_Some, get_or_from_slice_get}
 use Rattle.net_graph.specs.Flags.{has}
+use Rattle.net_graph.specs.Joins.{slice_get-has}
 use Rattle.net_graph.specs.Network.{HasEnds}
 use Rattle.net_graph.specs.Search.{Leads}
 use Rattle.net_graph.specs.SearchLaws.{Leads-start, Leads-more, Leads-keeps}
 use Rattle.spanning.specs.declared.pair.Pair.{Pair}
-use Rattle.spanning.specs.Joining.{edge_of, Hop, Joins, total_of, all_of}
+use Rattle.spanning.specs.Joining.{edge_of, Hop, JoinsBelow, total_of, all_of}
 use Rattle.spanning.specs.JoiningLaws.{Leads-hops_more, total_of-within}
 use Rattle.spanning.specs.Leaving.{HasNumbersBelow, leaves, NoneLeaves, IsShortestLeaving}
 use Rattle.spanning.specs.Part.{IsNoWorse, IsPart}
-use Rattle.spanning.proofs.lemmas.Flags.{slice_get-set_same, slice_get-set_other, slice_get-set_true, has-set_same, has-set_true, has-set_cases, has-none, none_set}
+use Rattle.spanning.proofs.lemmas.Flags.{slice_get-set_same, slice_get-set_other, has-set_same, has-set_true, has-set_cases, has-none, none_set}
 use Rattle.spanning.proofs.lemmas.Crossing.{LeavesFrom, leaves-from_ends, second_out, second_in}
 use Rattle.spanning.proofs.lemmas.Exchange.{IsNoWorse-more}
 
@@ -32,7 +33,7 @@ IsPart-of_zero n pairs inside chosen some inside_is chosen_is =
           (λ held. absurd (both_ways (has (replicate n false) i) (has-none n i) held))
           (has-set_cases (replicate n false) 0 i (ap (λ flags. has flags i) (sym inside_is) ∙ is));
       closed = λ k pair is at. absurd (nothing k is);
-      least = λ other joins. record { set = other; joins = joins; includes = λ k is. absurd (nothing k is); total = omega arith };
+      least = λ other joins. record { set = other; joins = joins; includes = λ k is. absurd (nothing k (slice_get-has chosen k is)); total = omega arith };
     }
 
 -- the part with one more pair, the shortest that leaves it
@@ -46,7 +47,7 @@ IsPart-more n pairs inside chosen k part shortest from below =
     let o_in : from.outer < length inside = omega (arith, part.numbers) in
     let Step = Hop pairs (set chosen k true) in
     let kept : (i : ℕ) → Leads (Hop pairs chosen) 0 i → Leads Step 0 i =
-    λ i led. Leads-hops_more pairs chosen (set chosen k true) (λ g is. slice_get-set_true chosen k g is) 0 i led in
+    λ i led. Leads-hops_more pairs chosen (set chosen k true) (λ g is. has-set_true chosen k g k_in is) 0 i led in
     let put : slice_get (set chosen k true) k ≡ Some true = slice_get-set_same chosen k true k_in in
     let to_outer : Leads Step 0 from.outer =
     Leads-more Step 0 from.inner from.outer (kept from.inner (part.chains from.inner from.inner_in)) (k, shortest.pair, put, shortest.here, from.ends) in
@@ -81,16 +82,16 @@ outside-less inside i within out =
     let known = rw out at change in omega (arith, known)
 
 -- where the part has all numbers, its chosen pairs join
-pub Joins-from_part : (n : ℕ) (pairs : List Pair) (inside chosen : List Bool) → IsPart n pairs inside chosen →
-    ((i : ℕ) → i < length inside → has inside i ≡ true) → Joins n pairs chosen
-Joins-from_part n pairs inside chosen part full = record {
+pub JoinsBelow-from_part : (n : ℕ) (pairs : List Pair) (inside chosen : List Bool) → IsPart n pairs inside chosen →
+    ((i : ℕ) → i < length inside → has inside i ≡ true) → JoinsBelow n pairs chosen
+JoinsBelow-from_part n pairs inside chosen part full = record {
   size = part.size;
   chains = λ i below. part.chains i (full i (omega (arith, part.numbers)));
 }
 
 -- .. and no set that joins is shorter
 pub least-from_part : (n : ℕ) (pairs : List Pair) (inside chosen other : List Bool) →
-    IsPart n pairs inside chosen → Joins n pairs other → total_of pairs chosen ≤ total_of pairs other
+    IsPart n pairs inside chosen → JoinsBelow n pairs other → total_of pairs chosen ≤ total_of pairs other
 least-from_part n pairs inside chosen other part joins =
     let better : IsNoWorse n pairs chosen other = part.least other joins in
     omega (arith, better.total, total_of-within pairs chosen better.set better.includes)
@@ -106,7 +107,7 @@ hop_stays pairs inside set none u w u_in (k, pair, is, at, ends) = elim (cases_B
 -- where nothing leaves a part that lacks a number, nothing joins
 pub none-from_part : (n : ℕ) (pairs : List Pair) (inside chosen : List Bool) → IsPart n pairs inside chosen →
     NoneLeaves pairs inside (length pairs) →
-    (((i : ℕ) → i < length inside → has inside i ≡ true) → ⊥) → ¬ Joins n pairs (all_of pairs)
+    (((i : ℕ) → i < length inside → has inside i ≡ true) → ⊥) → ¬ JoinsBelow n pairs (all_of pairs)
 none-from_part n pairs inside chosen part none lacks joins =
     lacks (λ i below. Leads-keeps (Hop pairs (all_of pairs)) (λ v. has inside v ≡ true) 0 i part.start (λ u w u_in hop. hop_stays pairs inside (all_of pairs) none u w u_in hop) (joins.chains i (omega (arith, part.numbers))))
 

@@ -1,6 +1,6 @@
 use Rattle.std.proofs.lemmas.Bool.{both_ways}
-use Rattle.spanning.specs.JoiningLaws.{Joins-all}
-use Rattle.spanning.proofs.lemmas.Growing.{Joins-from_part, least-from_part, none-from_part}
+use Rattle.spanning.specs.JoiningLaws.{JoinsBelow-all}
+use Rattle.spanning.proofs.lemmas.Growing.{JoinsBelow-from_part, least-from_part, none-from_part}
 use Rattle.spanning.proofs.joining.least_joining.Goals as goal
 
 pub returns-then-not-is_full-clause-none : goal.returns-then-not-is_full-clause-none
@@ -11,7 +11,7 @@ returns-then-not-is_full-clause-none c =
 pub returns-clause-least : goal.returns-clause-least
 returns-clause-least c =
     let part = c.in_ok-part.ensures.part in
-    let joins = Joins-from_part c.args.n c.args.pairs.now c.in_ok-part.part.inside c.in_ok-part.part.chosen part (c.is_full.ensures.0 c.if-not-is_full.false) in
+    let joins = JoinsBelow-from_part c.args.n c.args.pairs.now c.in_ok-part.part.inside c.in_ok-part.part.chosen part (c.is_full.ensures.0 c.if-not-is_full.false) in
     record {
       set = c.in_ok-part.part.chosen;
       places = c.in_ok-places.ensures;
@@ -22,5 +22,5 @@ returns-clause-least c =
 
 pub returns-clause-all : goal.returns-clause-all
 returns-clause-all c =
-    Joins-all c.args.n c.args.pairs.now c.in_ok-part.part.chosen
-    (Joins-from_part c.args.n c.args.pairs.now c.in_ok-part.part.inside c.in_ok-part.part.chosen c.in_ok-part.ensures.part (c.is_full.ensures.0 c.if-not-is_full.false))
+    JoinsBelow-all c.args.n c.args.pairs.now c.in_ok-part.part.chosen
+    (JoinsBelow-from_part c.args.n c.args.pairs.now c.in_ok-part.part.inside c.in_ok-part.part.chosen c.in_ok-part.ensures.part (c.is_full.ensures.0 c.if-not-is_full.false))
