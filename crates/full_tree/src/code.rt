@@ -25,9 +25,13 @@ pub enum TreeCode {
     },
     /// A horizontal piece from west to east and a vertical one from south to north that cross.
     Cross {
+        /// The terminal at the western end.
         west: u8,
+        /// The terminal at the southern end.
         south: u8,
+        /// The terminal at the eastern end.
         east: u8,
+        /// The terminal at the northern end.
         north: u8,
     },
 }

@@ -24,3 +24,6 @@ pub use pieces::{piece, piece_count, tree_length};
 pub use places::Places;
 pub use straight::Piece;
 pub use way::Way;
+
+#[cfg(test)]
+mod tests;
