@@ -1,2 +1,6 @@
-pub mod Lines
-pub mod Reading
+pub mod WordLemmas
+pub mod NumberLemmas
+pub mod ReadingLemmas
+pub mod FaultLemmas
+pub mod WrittenLemmas
+pub mod Loop

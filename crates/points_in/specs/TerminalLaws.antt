@@ -4,7 +4,7 @@ use Rattle.std.specs.List.{list_any}
 use Rattle.std.specs.Bool.{Decides}
 use Rattle.std.proofs.Common.{arith, refl, ap, sym, ◌∙◌, subst, inl, inr}
 use Rattle.std.proofs.lemmas.Bool.{cases_Bool, false_from_ne_true, true≢false, not-true}
-use Rattle.std.proofs.lemmas.List.{append-nil, get_or_default}
+use Rattle.std.proofs.lemmas.List.{append-nil, get_or_default, length-append}
 use Rattle.std.proofs.lemmas.List.Elements.{All-weaker, filter-append, filter_passes}
 use Rattle.std.proofs.lemmas.List.Kept.{AllPairs-cons, AllPairs-filter}
 use Rattle.std.proofs.lemmas.List.Folds.{list_any_at, Any-from_list_any}
@@ -57,6 +57,13 @@ terminals_of_push (a ∷ ps) p = rw (terminals_of_push ps p) (elim (cases_Bool (
     | inr new ↦ rw (new, filter-append (λ q. not (same_point a q)) (terminals_of ps) (p ∷ []), apart)
   ])
 ])
+
+-- one more point takes no terminal away
+pub length-terminals_of-push : (ps : List Point) (p : Point) → length (terminals_of ps) ≤ length (terminals_of (ps ++ p ∷ []))
+length-terminals_of-push ps p = elim (cases_Bool (holds p (terminals_of ps))) [
+  | inl held ↦ rw (terminals_of_push ps p, held) (omega arith)
+  | inr new ↦ rw (terminals_of_push ps p, new) (omega (arith, length-append (terminals_of ps) (p ∷ [])))
+]
 
 -- a repeat changes nothing
 pub terminals_of_repeat : (ps : List Point) (p : Point) → Contains (terminals_of ps) p → terminals_of (ps ++ p ∷ []) ≡ terminals_of ps

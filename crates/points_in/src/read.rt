@@ -1,85 +1,138 @@
-//! Reading a plain list of points.
+//! Reading a text of points.
 
-ghost use Rattle.std.specs.Prelude.{◌≡◌, ℕ, List, ◌++◌, IfSome, IfNone, IfOk, IsErrOf};
+ghost use Rattle.std.specs.Prelude.{ℕ, List, ◌≡◌, ◌≤◌, ◌<◌, ◌⊎◌, length, slice_index, false};
+ghost use Rattle.std.specs.Prelude.{IfOk, IfErr, IsErrAnd, MatchResult};
+ghost use Rattle.points_in.specs.declared.fault.PointFault.{PointFault};
 ghost use Rattle.points_in.specs.declared.point.Point.{Point};
-ghost use Rattle.points_in.specs.Text.{IsPoint, IsPlainList, point_words, point_line};
 ghost use Rattle.points_in.specs.Terminals.{terminals_of};
+ghost use Rattle.points_in.specs.Text.{ListsPoints, PointFaultOf, HasPointCause, IsMemory};
+ghost use Rattle.points_in.specs.Words.{is_blank};
+ghost use Rattle.points_in.specs.Reading.{words_at, ReadsNumber, ReadsPoint, AnswersPoints};
 
+use crate::fault::PointFault;
+use crate::number::{NumberFault, front_number, separates};
 use crate::point::Point;
-use crate::points::{AddFault, MAX_POINTS, Points};
-use spelled::{signed_spelled, split_line, split_word};
+use crate::points::{AddFault, Points};
 use std::alloc::{AllocError, Global};
-use thiserror::Error;
 
-/// Why bytes gave no points.
-#[derive(Debug, Drop, Error)]
-pub enum PointFault {
-    /// The bytes are not the text of 1 to 50 points, one line a point, each number in its one spelling.
-    #[error("not a plain list of points")]
-    NotPlain,
-    /// There was no memory.
-    #[error(transparent)]
-    Memory(#[from(alloc)] AllocError),
+// A number of the text, the first byte of its word, and the first byte after that word.
+#[derive(Clone, Copy)]
+struct NextNumber {
+    at: usize,
+    value: i64,
+    end: usize,
 }
 
-/// The same fault of a reader. More than 50 distinct points are no plain list.
-fn fault_of(fault: AddFault) -> PointFault
-    ensures full { fault ≡ AddFault.Full → result ≡ PointFault.NotPlain }
+// A point of the text, the first byte of its x, and the first byte after its y.
+#[derive(Clone, Copy)]
+struct NextPoint {
+    at: usize,
+    point: Point,
+    end: usize,
+}
+
+// The first place from this one on where no blank stands; the length where there is none.
+fn next_word(bytes: &[u8], at: usize) -> usize
+    requires { at ≤ length bytes.now }
+    ensures onward { at ≤ result }
+    ensures within { result ≤ length bytes.now }
+    ensures word { result < length bytes.now → is_blank (slice_index bytes.now result) ≡ false }
+    ensures words { words_at bytes.now at ≡ words_at bytes.now result }
+{
+    let mut start = at;
+    while start < bytes.len() {
+        if !separates(bytes[start]) {
+            break;
+        }
+        start += 1;
+    }
+    start
+}
+
+// The next number from a place on. None where no word is left.
+fn next_number(bytes: &[u8], at: usize) -> Result<Option<NextNumber>, PointFault>
+    requires { at ≤ length bytes.now }
+    ensures { ReadsNumber bytes.now at result }
+{
+    let start = next_word(bytes, at);
+    if start == bytes.len() {
+        return Ok(None);
+    }
+    match front_number(&bytes[start..]) {
+        Ok(front) => Ok(Some(NextNumber {
+            at: start,
+            value: front.value,
+            end: start + front.len,
+        })),
+        Err(NumberFault::NotNumber) => Err(PointFault::BadNumber(start as u64)),
+        Err(NumberFault::TooLarge) => Err(PointFault::NumberTooLarge(start as u64)),
+    }
+}
+
+// The next point from a place on. None where no word is left.
+fn next_point(bytes: &[u8], at: usize) -> Result<Option<NextPoint>, PointFault>
+    requires { at ≤ length bytes.now }
+    ensures { ReadsPoint bytes.now at result }
+{
+    let Some(x) = next_number(bytes, at)? else {
+        return Ok(None);
+    };
+    let Some(y) = next_number(bytes, x.end)? else {
+        return Err(PointFault::OddCount);
+    };
+    let point = Point {
+        x: x.value,
+        y: y.value,
+    };
+    Ok(Some(NextPoint {
+        at: x.at,
+        point,
+        end: y.end,
+    }))
+}
+
+// The same fault of a reader that adds the point whose x begins at a byte.
+fn fault_at(fault: AddFault, at: usize) -> PointFault
+    ensures full { fault ≡ AddFault.Full → result ≡ PointFault.TooManyPoints at }
     ensures memory { (e : AllocError) → fault ≡ AddFault.Memory e → result ≡ PointFault.Memory e }
 {
     match fault {
-        AddFault::Full => PointFault::NotPlain,
+        AddFault::Full => PointFault::TooManyPoints(at as u64),
         AddFault::Memory(e) => PointFault::Memory(e),
     }
 }
 
-/// The point whose words the line is. None where it is no point's.
-fn point_of(line: &[u8]) -> Option<Point>
-    ensures found { IfSome result (λ p. line.now ≡ point_words p) }
-    ensures fits { IfSome result IsPoint }
-    ensures none { IfNone result ((p : Point) → IsPoint p → line.now ≡ point_words p → ⊥) }
+// The distinct points of the text, or its first fault.
+fn points_in_text(alloc: Global, bytes: &[u8]) -> Result<Points, PointFault>
+    ensures { AnswersPoints bytes.now result }
 {
-    let (x, y) = split_word(line)?;
-    let x = signed_spelled(x)?;
-    let y = signed_spelled(y)?;
-    Some(Point { x, y })
-}
-
-/// The point whose line the bytes begin with, and the bytes after that line. None where they begin with no
-/// point's line.
-fn first_point(bytes: &[u8]) -> Option<(Point, &[u8])>
-    ensures found { IfSome result (λ r. bytes.now ≡ point_line r.0 ++ r.1.now) }
-    ensures fits { IfSome result (λ r. IsPoint r.0) }
-    ensures none { IfNone result ((p : Point) (rest : List ℕ) → IsPoint p → bytes.now ≡ point_line p ++ rest → ⊥) }
-{
-    let (line, rest) = split_line(bytes)?;
-    let point = point_of(line)?;
-    Some((point, rest))
-}
-
-/// Reads a plain list: the written text of 1 to 50 points, of which each repeat is left out. It is an error where
-/// the bytes are no such text, and where there is no memory for the points.
-pub fn read_points(alloc: Global, bytes: &[u8]) -> Result<Points, PointFault>
-    ensures found { IfOk result (λ points. (ps : List Point) × IsPlainList bytes.now ps × (points ≡ terminals_of ps)) }
-    ensures only { (ps : List Point) → IsPlainList bytes.now ps → IfOk result (λ points. points ≡ terminals_of ps) }
-    ensures not_plain { IsErrOf result PointFault.NotPlain → (ps : List Point) → IsPlainList bytes.now ps → ⊥ }
-{
-    let Some((first, mut left)) = first_point(bytes) else {
-        return Err(PointFault::NotPlain);
+    let Some(first) = next_point(bytes, 0)? else {
+        return Err(PointFault::NoPoints);
     };
-    let mut points = Points::begin(alloc, first).map_err(PointFault::Memory)?;
-    for _lines in 1..MAX_POINTS {
-        if left.is_empty() {
-            break;
+    let mut points = Points::begin(alloc, first.point).map_err(PointFault::Memory)?;
+    let mut at = first.end;
+    while let Some(next) = next_point(bytes, at)? {
+        if let Err(fault) = points.add(next.point) {
+            return Err(fault_at(fault, next.at));
         }
-        let Some((point, rest)) = first_point(left) else {
-            return Err(PointFault::NotPlain);
-        };
-        points.add(point).map_err(fault_of)?;
-        left = rest;
-    }
-    if !left.is_empty() {
-        return Err(PointFault::NotPlain);
+        at = next.end;
     }
     Ok(points)
+}
+
+/// Reads a text of points: words that are x and y in turn, with any blanks, tabs and line ends before, between
+/// and after them. The points are the distinct ones in the order in which they first appear. An error is the
+/// text's first fault from the left, or want of memory.
+pub fn read_points(alloc: Global, bytes: &[u8]) -> Result<Points, PointFault>
+    ensures found { IfOk result (λ points.
+        (ps : List Point) × ListsPoints bytes.now ps × (points ≡ terminals_of ps)) }
+    ensures fault { IfErr result (λ fault. HasPointCause fault bytes.now) }
+
+    // There is no other answer, but that memory may be short.
+    ensures only { (ps : List Point) → ListsPoints bytes.now ps
+        → MatchResult result (λ points. points ≡ terminals_of ps) IsMemory }
+    ensures only_fault { (fault : PointFault) → PointFaultOf bytes.now fault
+        → IsErrAnd result (λ told. IsMemory told ⊎ (told ≡ fault)) }
+{
+    points_in_text(alloc, bytes)
 }

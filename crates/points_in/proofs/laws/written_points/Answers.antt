@@ -1,0 +1,5 @@
+use Rattle.points_in.proofs.WrittenLemmas.{written_lists}
+use Rattle.points_in.proofs.laws.written_points.Goals as goal
+
+pub returns : goal.returns
+returns c = written_lists
