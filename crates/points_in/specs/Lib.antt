@@ -4,5 +4,6 @@ pub mod Text
 pub mod PointLaws
 pub mod Terminals
 pub mod TerminalLaws
+pub mod FaultLaws
 pub mod Points
 pub mod Reading

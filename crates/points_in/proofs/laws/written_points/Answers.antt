@@ -1,4 +1,4 @@
-use Rattle.points_in.proofs.WrittenLemmas.{written_lists}
+use Rattle.points_in.proofs.lemmas.Written.{written_lists}
 use Rattle.points_in.proofs.laws.written_points.Goals as goal
 
 pub returns : goal.returns

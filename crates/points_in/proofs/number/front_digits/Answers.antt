@@ -5,7 +5,7 @@ use Rattle.std.proofs.Common.{arith, sym, ap, subst, ◌∙◌}
 use Rattle.std.proofs.lemmas.Bool.{true≢false}
 use Rattle.std.proofs.lemmas.List.{length-take-le}
 use Rattle.points_in.specs.Words.{is_blank, front_word}
-use Rattle.points_in.proofs.NumberLemmas.{AreDigits, digit_more, digits_front, spoiled}
+use Rattle.points_in.proofs.lemmas.Numbers.{AreDigits, digit_more, digits_front, spoiled}
 use Rattle.points_in.proofs.number.front_digits.Goals as goal
 use Rattle.points_in.proofs.number.front_digits.Goals.{else-loop-len-test, then-loop-len-test+then-not-is_digit, else-len-bytes-via-then-len-bytes+else-not-separates, else-len-bytes-via-else-len-bytes}
 

@@ -1,5 +1,5 @@
 use Rattle.std.specs.Prelude.{length, ◌-◌}
-use Rattle.points_in.proofs.NumberLemmas.{AreDigits}
+use Rattle.points_in.proofs.lemmas.Numbers.{AreDigits}
 use Rattle.points_in.proofs.number.front_digits.Given as goal
 
 abbrev pub invariant-loop-len : goal.invariant-loop-len

@@ -5,8 +5,8 @@ use Rattle.std.specs.Str.Parse.{IsNumeral, digits_value, starts_with_minus}
 use Rattle.std.proofs.Common.{ap, subst, ◌∙◌}
 use Rattle.std.proofs.lemmas.Int.{to_z-of_z}
 use Rattle.points_in.specs.Words.{front_word}
-use Rattle.points_in.proofs.WordLemmas.{slice_from}
-use Rattle.points_in.proofs.NumberLemmas.{HasMagnitude, with_sign, sign_of, number_is, number_found}
+use Rattle.points_in.proofs.lemmas.Words.{slice_from}
+use Rattle.points_in.proofs.lemmas.Numbers.{HasMagnitude, with_sign, sign_of, number_is, number_found}
 use Rattle.points_in.proofs.number.front_number.Goals as goal
 
 -- the digits that were read are those after the sign

@@ -6,8 +6,8 @@ use Rattle.std.proofs.lemmas.Int.{to_z-of_z}
 use Rattle.std.specs.List.{slice_index}
 use Rattle.points_in.specs.Words.{is_blank}
 use Rattle.points_in.specs.Reading.{words_at}
-use Rattle.points_in.proofs.WordLemmas.{words_at-end}
-use Rattle.points_in.proofs.ReadingLemmas.{BeginsWord, takes_number, stops_at_bad, stops_at_large}
+use Rattle.points_in.proofs.lemmas.Words.{words_at-end}
+use Rattle.points_in.proofs.lemmas.Steps.{BeginsWord, takes_number, stops_at_bad, stops_at_large}
 use Rattle.points_in.proofs.read.next_number.Goals as goal
 
 pub returns-then-start-bytes : goal.returns-then-start-bytes

@@ -1,7 +1,7 @@
 -- Which of the two words stops the reader.
 use Rattle.std.proofs.lemmas.Result.{err_from_is_err_and}
 use Rattle.points_in.specs.Reading.{TakesNumber}
-use Rattle.points_in.proofs.ReadingLemmas.{stops_at_x, stops_at_y}
+use Rattle.points_in.proofs.lemmas.Steps.{stops_at_x, stops_at_y}
 use Rattle.points_in.proofs.read.next_point.Goals as goal
 
 pub returns-in_err-x : goal.returns-in_err-x

@@ -1,5 +1,5 @@
 use Rattle.std.proofs.Common.{arith, sym, ◌∙◌}
-use Rattle.points_in.proofs.WordLemmas.{words_at-blank}
+use Rattle.points_in.proofs.lemmas.Words.{words_at-blank}
 use Rattle.points_in.proofs.read.next_word.Goals as goal
 
 -- a blank is passed over

@@ -3,7 +3,7 @@ use Rattle.std.specs.Prelude.{◌≡◌, [], ◌∷◌}
 use Rattle.std.proofs.Common.{rules}
 use Rattle.std.proofs.lemmas.Result.{err_from_is_err_and}
 use Rattle.points_in.specs.Reading.{TakesPoint}
-use Rattle.points_in.proofs.Loop.{Adds, at_front, after_points, stops_with_cause, read_first, read_added, adding_has_cause}
+use Rattle.points_in.proofs.lemmas.ReadSoFar.{Adds, at_front, after_points, stops_with_cause, read_first, read_added, adding_has_cause}
 use Rattle.points_in.proofs.read.points_in_text.Goals as goal
 
 pub returns-in_err-first : goal.returns-in_err-first

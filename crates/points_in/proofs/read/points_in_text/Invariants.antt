@@ -1,5 +1,5 @@
 use Rattle.std.specs.Prelude.{length, ◌-◌}
-use Rattle.points_in.proofs.Loop.{HasRead}
+use Rattle.points_in.proofs.lemmas.ReadSoFar.{HasRead}
 use Rattle.points_in.proofs.read.points_in_text.Given as goal
 
 abbrev pub invariant-loop-points : goal.invariant-loop-points

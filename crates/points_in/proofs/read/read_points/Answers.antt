@@ -1,5 +1,5 @@
 -- The one answer.
-use Rattle.points_in.proofs.Loop.{only_points, only_fault}
+use Rattle.points_in.proofs.lemmas.ReadSoFar.{only_points, only_fault}
 use Rattle.points_in.proofs.read.read_points.Goals as goal
 
 pub returns-clause-only : goal.returns-clause-only

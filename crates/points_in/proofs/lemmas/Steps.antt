@@ -9,7 +9,7 @@ use Rattle.points_in.specs.declared.fault.PointFault.TheVariants.{BadNumber, Num
 use Rattle.points_in.specs.Number.{IsNumberWord, IsNumber, number_of}
 use Rattle.points_in.specs.Reading.{words_at, TakesNumber, StopsAtOnce, StopsBeforePoint}
 use Rattle.points_in.specs.Words.{Word, is_blank, front_word}
-use Rattle.points_in.proofs.WordLemmas.{words_at-word, word_within, slice_from}
+use Rattle.points_in.proofs.lemmas.Words.{words_at-word, word_within, slice_from}
 
 -- Blanks were passed over, and a word begins here.
 pub record BeginsWord (bytes : List ℕ) (at start : ℕ) : Type 0 where

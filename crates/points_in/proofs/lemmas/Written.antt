@@ -17,8 +17,8 @@ use Rattle.points_in.specs.PointLaws.{same_coordinates}
 use Rattle.points_in.specs.Terminals.{terminals_of}
 use Rattle.points_in.specs.Text.{IsPoint, AreNumbers, points_of, ListsPoints, points_text}
 use Rattle.points_in.specs.Words.{Word, is_blank, words_from}
-use Rattle.points_in.proofs.NumberLemmas.{digit_no_blank}
-use Rattle.points_in.proofs.WordLemmas.{words_from-nil, words_from-part}
+use Rattle.points_in.proofs.lemmas.Numbers.{digit_no_blank}
+use Rattle.points_in.proofs.lemmas.Words.{words_from-nil, words_from-part}
 
 -- no blank stands among digits
 digits_lack_blanks : (ds : List ℕ) → AllDigits 10 ds → All (λ b. is_blank b ≡ false) ds

@@ -17,7 +17,7 @@ use Rattle.points_in.specs.Terminals.{terminals_of}
 use Rattle.points_in.specs.TerminalLaws.{terminals_of_new, terminals_of_repeat}
 use Rattle.points_in.specs.Text.{AreNumbers, point_of, points_of, ListsPoints, AreSound, FailsAt, FirstFailure, EndsWithoutY, PointFaultOf, IsMemory, HasPointCause}
 use Rattle.points_in.specs.Words.{Word, words_of}
-use Rattle.points_in.proofs.FaultLemmas.{one_fault, listed_no_fault}
+use Rattle.points_in.specs.FaultLaws.{one_fault, listed_no_fault}
 
 -- Whole points were read, these are they, each once, and the other words come from here on.
 pub record HasRead (bytes : List ℕ) (at : ℕ) (points : List Point) : Type 0 where

@@ -12,7 +12,7 @@ use Rattle.std.proofs.lemmas.Str.{digit_value_digit}
 use Rattle.std.proofs.lemmas.Str.Parse.{digit_at}
 use Rattle.points_in.specs.Words.{is_blank, front_word}
 use Rattle.points_in.specs.Number.{IsNumberWord, IsNumber, number_of}
-use Rattle.points_in.proofs.WordLemmas.{length-front_word}
+use Rattle.points_in.proofs.lemmas.Words.{length-front_word}
 
 -- a digit is no blank
 pub digit_no_blank : (b : ℕ) → IsInRange 48 57 b → is_blank b ≡ false

@@ -157,3 +157,7 @@ listed_no_kind bytes ps fault lists (at_nothing p) = omega (arith, ap length p, 
 -- and none where it lists points
 pub listed_no_fault : (bytes : List ℕ) (ps : List Point) (fault : PointFault) → ListsPoints bytes ps → PointFaultOf bytes fault → ⊥
 listed_no_fault bytes ps fault lists p = listed_no_kind bytes ps fault lists (kind_of bytes fault p)
+
+-- it lists one list of points
+pub one_list : (bytes : List ℕ) (ps qs : List Point) → ListsPoints bytes ps → ListsPoints bytes qs → ps ≡ qs
+one_list bytes ps qs p q = p.points ∙ sym q.points
