@@ -41,11 +41,20 @@ total_text total = codes "the grid is too long: " ++ decimal total
 
 -- a text gives no grid
 abbrev pub list_fault_text : ListFault → List ℕ
-list_fault_text list_fault.NotPlain = codes "not a plain list of points"
+list_fault_text (list_fault.BadNumber at) = codes "not a whole number at byte " ++ decimal at
+list_fault_text (list_fault.NumberTooLarge at) = codes "number out of range at byte " ++ decimal at
+list_fault_text (list_fault.TooManyPoints at) = codes "more than 50 points at byte " ++ decimal at
+list_fault_text list_fault.OddCount = codes "a coordinate is missing"
+list_fault_text list_fault.NoPoints = codes "no points"
 list_fault_text (list_fault.GridTooLong total) = total_text total
 
 abbrev pub list_fault_status : ListFault → FaultStatus
-list_fault_status fault = ends.Malformed
+list_fault_status (list_fault.BadNumber at) = ends.Malformed
+list_fault_status (list_fault.NumberTooLarge at) = ends.Malformed
+list_fault_status (list_fault.TooManyPoints at) = ends.TooLarge
+list_fault_status list_fault.OddCount = ends.Malformed
+list_fault_status list_fault.NoPoints = ends.Malformed
+list_fault_status (list_fault.GridTooLong total) = ends.Malformed
 
 -- a file gives no grid
 abbrev pub points_fault_text : PointsFault → List ℕ

@@ -3,11 +3,12 @@ use Rattle.std.specs.Prelude.{ℕ, ◌≡◌, ◌<◌, ◌≤◌, ◌^◌, List,
 use Rattle.rst_outside.specs.Shelf.{ShelfState}
 use Rattle.points_in.specs.declared.point.Point.{Point}
 use Rattle.points_in.specs.Terminals.{terminals_of}
-use Rattle.points_in.specs.Text.{IsPlainList}
+use Rattle.points_in.specs.declared.fault.PointFault.TheVariants as point_fault
+use Rattle.points_in.specs.Text.{IsPointText, PointFaultOf}
 use Rattle.net_graph.specs.Graph.{Graph, total_of}
 use Rattle.hanan_grid.specs.Grid.{hanan_grid_of}
 use Rattle.frame.specs.declared.points.ListFault.{ListFault}
-use Rattle.frame.specs.declared.points.ListFault.TheVariants.{NotPlain, GridTooLong}
+use Rattle.frame.specs.declared.points.ListFault.TheVariants.{BadNumber, NumberTooLarge, TooManyPoints, OddCount, NoPoints, GridTooLong}
 use Rattle.frame.specs.declared.points.PointsFault.{PointsFault}
 use Rattle.frame.specs.declared.points.PointsFault.TheVariants.{File, List as InList}
 use Rattle.frame.specs.Taking.{IsWholeFile, IsFileFault}
@@ -16,24 +17,28 @@ use Rattle.frame.specs.Taking.{IsWholeFile, IsFileFault}
 abbrev pub grid_of_points : List Point → Graph
 grid_of_points ps = hanan_grid_of (terminals_of ps)
 
--- the bytes are the written text of these points, whose grid isn't too long
+-- the bytes list these points, whose grid isn't too long
 pub record ListsPoints (bytes : List ℕ) (ps : List Point) : Type 0 where
-  pub plain : IsPlainList bytes ps
+  pub text : IsPointText bytes ps
   pub short : total_of (grid_of_points ps) < 2 ^ 63
 
--- Why bytes give no grid: they are the written text of no points, or the edges of the grid of theirs sum to this total,
--- which is too great.
+-- Why bytes give no grid: they are no text of points, by its first fault; or the edges of the grid of theirs sum to this
+-- total, which is too great.
 abbrev pub IsListFault : List ℕ → ListFault → Type 0
-IsListFault bytes NotPlain = (ps : List Point) → IsPlainList bytes ps → ⊥
+IsListFault bytes (BadNumber at) = PointFaultOf bytes (point_fault.BadNumber at)
+IsListFault bytes (NumberTooLarge at) = PointFaultOf bytes (point_fault.NumberTooLarge at)
+IsListFault bytes (TooManyPoints at) = PointFaultOf bytes (point_fault.TooManyPoints at)
+IsListFault bytes OddCount = PointFaultOf bytes point_fault.OddCount
+IsListFault bytes NoPoints = PointFaultOf bytes point_fault.NoPoints
 IsListFault bytes (GridTooLong total) =
-    (ps : List Point) × IsPlainList bytes ps × (total ≡ total_of (grid_of_points ps)) × (2 ^ 63 ≤ total)
+    (ps : List Point) × IsPointText bytes ps × (total ≡ total_of (grid_of_points ps)) × (2 ^ 63 ≤ total)
 
 -- The grid of the points that the bytes list, which contracts see as the points without repeats; or why there is none.
 abbrev pub ReadsGrid : List ℕ → Result (List Point) ListFault → Type 0
 ReadsGrid bytes (Ok grid) = (ps : List Point) × ListsPoints bytes ps × (grid ≡ terminals_of ps)
 ReadsGrid bytes (Err fault) = IsListFault bytes fault
 
--- the file of this name is the written text of these points, whose grid isn't too long
+-- the file of this name lists these points, whose grid isn't too long
 abbrev pub FileLists : ℕ → ShelfState → List ℕ → List Point → Type 0
 FileLists limit shelf name ps = (bytes : List ℕ) × IsWholeFile limit shelf name bytes × ListsPoints bytes ps
 

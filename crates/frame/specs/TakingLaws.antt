@@ -5,7 +5,8 @@ use Rattle.rst_outside.specs.Source.{SourceState}
 use Rattle.rst_outside.specs.SourceLaws.{all_of_the_rest}
 use Rattle.rst_outside.specs.Shelf.{ShelfState}
 use Rattle.points_in.specs.declared.point.Point.{Point}
-use Rattle.points_in.specs.TextLaws.{plain_list_unique}
+use Rattle.points_in.specs.declared.fault.PointFault.TheVariants as point_fault
+use Rattle.points_in.specs.FaultLaws.{one_list, listed_no_fault}
 use Rattle.net_graph.specs.Graph.{total_of}
 use Rattle.frame.specs.declared.take.InputFault.{InputFault}
 use Rattle.frame.specs.declared.take.InputFault.TheVariants as input_fault
@@ -51,9 +52,13 @@ whole_file_is limit before after name bytes taken has whole =
 
 -- A list of points whose grid isn't too long has no fault.
 pub lists_points_faultless : (bytes : List ℕ) (ps : List Point) (fault : ListFault) → ListsPoints bytes ps → IsListFault bytes fault → ⊥
-lists_points_faultless bytes ps list_fault.NotPlain lists none = none ps lists.plain
-lists_points_faultless bytes ps (list_fault.GridTooLong total) lists (qs, plain, is, long) =
-    let one : qs ≡ ps = plain_list_unique bytes qs ps plain lists.plain in
+lists_points_faultless bytes ps (list_fault.BadNumber at) lists is = listed_no_fault bytes ps (point_fault.BadNumber at) lists.text is
+lists_points_faultless bytes ps (list_fault.NumberTooLarge at) lists is = listed_no_fault bytes ps (point_fault.NumberTooLarge at) lists.text is
+lists_points_faultless bytes ps (list_fault.TooManyPoints at) lists is = listed_no_fault bytes ps (point_fault.TooManyPoints at) lists.text is
+lists_points_faultless bytes ps list_fault.OddCount lists is = listed_no_fault bytes ps point_fault.OddCount lists.text is
+lists_points_faultless bytes ps list_fault.NoPoints lists is = listed_no_fault bytes ps point_fault.NoPoints lists.text is
+lists_points_faultless bytes ps (list_fault.GridTooLong total) lists (qs, text, is, long) =
+    let one : qs ≡ ps = one_list bytes qs ps text lists.text in
     let totals : total_of (grid_of_points qs) ≡ total_of (grid_of_points ps) = ap (λ q. total_of (grid_of_points q)) one in
     let short = lists.short in
     absurd (omega (arith, short, totals, is, long))

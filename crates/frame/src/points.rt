@@ -1,9 +1,10 @@
 //! Points and their grid, read from a text or from a file.
 
-ghost use Rattle.std.specs.Prelude.{◌≡◌, IfOk};
+ghost use Rattle.std.specs.Prelude.{◌≡◌, ◌++◌, ℕ, List, IfOk, decimal};
 ghost use Rattle.text_out.specs.Gathers.{Gathers};
 ghost use Rattle.frame.specs.Taking.{KeepsFiles};
-ghost use Rattle.frame.specs.Points.{ReadsGrid, ReadsPointsFile};
+ghost use Rattle.points_in.specs.Text.{HasPointCause};
+ghost use Rattle.frame.specs.Points.{IsListFault, ReadsGrid, ReadsPointsFile};
 ghost use Rattle.frame.specs.FaultTexts.{list_fault_text, list_fault_status, points_fault_text, points_fault_status, total_text};
 
 use crate::fault::Fault;
@@ -15,11 +16,19 @@ use rst_outside::{Shelf, Sink};
 use std::alloc::{AllocError, Global};
 use text_out::{Block, literal, number};
 
-/// Why a text gives no grid of points.
+/// Why a text gives no grid of points. Bytes count from 0.
 #[derive(Clone, Copy, Debug, PartialEq, Eq)]
 pub enum ListFault {
-    /// It is no plain list of points.
-    NotPlain,
+    /// The word that begins at this byte is no number.
+    BadNumber(u64),
+    /// The number that begins at this byte is below -2^63 or above 2^63-1.
+    NumberTooLarge(u64),
+    /// The point whose x begins at this byte is the 51st distinct one.
+    TooManyPoints(u64),
+    /// The last x has no y.
+    OddCount,
+    /// It lists no point.
+    NoPoints,
     /// The edges of its points' grid sum to 2^63 or more: to this total.
     GridTooLong { total: u128 },
 }
@@ -33,14 +42,27 @@ pub enum PointsFault {
     List(ListFault),
 }
 
+// The same fault of a list. An `Err` is want of memory.
+fn list_fault_of(fault: PointFault) -> Result<ListFault, AllocError>
+    ensures { (bytes : List ℕ) → HasPointCause fault bytes → IfOk result (IsListFault bytes) }
+{
+    match fault {
+        PointFault::BadNumber(at) => Ok(ListFault::BadNumber(at)),
+        PointFault::NumberTooLarge(at) => Ok(ListFault::NumberTooLarge(at)),
+        PointFault::TooManyPoints(at) => Ok(ListFault::TooManyPoints(at)),
+        PointFault::OddCount => Ok(ListFault::OddCount),
+        PointFault::NoPoints => Ok(ListFault::NoPoints),
+        PointFault::Memory(error) => Err(error),
+    }
+}
+
 /// The grid of the points that a text lists. An `Err` is want of memory.
 pub fn read_grid(alloc: Global, bytes: &[u8]) -> Result<Result<Grid, ListFault>, AllocError>
     ensures { IfOk result (ReadsGrid bytes.now) }
 {
     let points = match read_points(alloc, bytes) {
         Ok(points) => points,
-        Err(PointFault::NotPlain) => return Ok(Err(ListFault::NotPlain)),
-        Err(PointFault::Memory(error)) => return Err(error),
+        Err(fault) => return Ok(Err(list_fault_of(fault)?)),
     };
     match Grid::new(alloc, &points) {
         Ok(grid) => Ok(Ok(grid)),
@@ -75,12 +97,19 @@ impl Fault for ListFault {
     ghost status = { list_fault_status };
 
     fn status(&self) -> FaultStatus {
-        FaultStatus::Malformed
+        match self {
+            ListFault::TooManyPoints(_) => FaultStatus::TooLarge,
+            _ => FaultStatus::Malformed,
+        }
     }
 
     fn write<R: Sink>(&self, block: &mut Block, err: &mut R) {
         match self {
-            ListFault::NotPlain => literal(block, err, b"not a plain list of points"),
+            ListFault::BadNumber(at) => write_at(block, err, b"not a whole number at byte ", *at),
+            ListFault::NumberTooLarge(at) => write_at(block, err, b"number out of range at byte ", *at),
+            ListFault::TooManyPoints(at) => write_at(block, err, b"more than 50 points at byte ", *at),
+            ListFault::OddCount => literal(block, err, b"a coordinate is missing"),
+            ListFault::NoPoints => literal(block, err, b"no points"),
             ListFault::GridTooLong { total } => write_total(block, err, *total),
         }
     }
@@ -104,6 +133,15 @@ impl Fault for PointsFault {
             PointsFault::List(fault) => fault.write(block, err),
         }
     }
+}
+
+// What is said of a fault, and the byte where it is.
+#[tactic(auto, using(text_out::specs::GatherLaws::pieces))]
+fn write_at<R: Sink>(block: &mut Block, err: &mut R, fault: &[u8], at: u64)
+    ensures { Gathers (R.state err.old) block.old (fault.now ++ decimal at) (R.state err.new) block.new }
+{
+    literal(block, err, fault);
+    number(block, err, at);
 }
 
 // What is said of a grid that is too long.

@@ -8,7 +8,7 @@ use Rattle.points_in.specs.declared.fault.PointFault.TheVariants.{BadNumber, Num
 use Rattle.points_in.specs.Number.{IsNumber}
 use Rattle.points_in.specs.Terminals.{terminals_of}
 use Rattle.points_in.specs.TerminalLaws.{length-terminals_of-push}
-use Rattle.points_in.specs.Text.{AreNumbers, point_of, points_of, ListsPoints, AreSound, FailsAt, FirstFailure, EndsWithoutY, PointFaultOf}
+use Rattle.points_in.specs.Text.{AreNumbers, point_of, points_of, IsPointText, AreSound, FailsAt, FirstFailure, EndsWithoutY, PointFaultOf}
 use Rattle.points_in.specs.Words.{Word, words_of}
 
 -- more points have no fewer terminals
@@ -148,16 +148,16 @@ one_kind words f g (at_nothing p) (at_nothing q) = refl
 pub one_fault : (bytes : List ℕ) (f g : PointFault) → PointFaultOf bytes f → PointFaultOf bytes g → f ≡ g
 one_fault bytes f g p q = one_kind (words_of bytes) f g (kind_of bytes f p) (kind_of bytes g q)
 
-listed_no_kind : (bytes : List ℕ) (ps : List Point) (fault : PointFault) → ListsPoints bytes ps → IsKind (words_of bytes) fault → ⊥
+listed_no_kind : (bytes : List ℕ) (ps : List Point) (fault : PointFault) → IsPointText bytes ps → IsKind (words_of bytes) fault → ⊥
 listed_no_kind bytes ps fault lists (at_word p) =
     first_not_sound (words_of bytes) fault p (record { numbers = lists.numbers; few = subst (λ qs. length (terminals_of qs) ≤ 50) lists.points lists.few })
 listed_no_kind bytes ps fault lists (at_end p) = omega (arith, p.odd, lists.even, ap length lists.points)
 listed_no_kind bytes ps fault lists (at_nothing p) = omega (arith, ap length p, lists.even, lists.some)
 
 -- and none where it lists points
-pub listed_no_fault : (bytes : List ℕ) (ps : List Point) (fault : PointFault) → ListsPoints bytes ps → PointFaultOf bytes fault → ⊥
+pub listed_no_fault : (bytes : List ℕ) (ps : List Point) (fault : PointFault) → IsPointText bytes ps → PointFaultOf bytes fault → ⊥
 listed_no_fault bytes ps fault lists p = listed_no_kind bytes ps fault lists (kind_of bytes fault p)
 
 -- it lists one list of points
-pub one_list : (bytes : List ℕ) (ps qs : List Point) → ListsPoints bytes ps → ListsPoints bytes qs → ps ≡ qs
+pub one_list : (bytes : List ℕ) (ps qs : List Point) → IsPointText bytes ps → IsPointText bytes qs → ps ≡ qs
 one_list bytes ps qs p q = p.points ∙ sym q.points

@@ -7,7 +7,7 @@ use Rattle.points_in.specs.declared.read.NextNumber.{NextNumber}
 use Rattle.points_in.specs.declared.read.NextPoint.{NextPoint}
 use Rattle.points_in.specs.Number.{IsNumber, number_of}
 use Rattle.points_in.specs.Terminals.{terminals_of}
-use Rattle.points_in.specs.Text.{AreNumbers, FailsAt, point_of, ListsPoints, HasPointCause}
+use Rattle.points_in.specs.Text.{AreNumbers, FailsAt, point_of, IsPointText, HasPointCause}
 use Rattle.points_in.specs.Words.{Word, words_from}
 
 -- the words of the text from this place on
@@ -82,5 +82,5 @@ ReadsPoint bytes at (Err fault) = StopsBeforePoint (words_at bytes at) fault
 
 -- The terminals of the points that the text lists, or the text's fault; or memory was short.
 abbrev pub AnswersPoints : List ℕ → Result (List Point) PointFault → Type 0
-AnswersPoints bytes (Ok points) = (ps : List Point) × ListsPoints bytes ps × (points ≡ terminals_of ps)
+AnswersPoints bytes (Ok points) = (ps : List Point) × IsPointText bytes ps × (points ≡ terminals_of ps)
 AnswersPoints bytes (Err fault) = HasPointCause fault bytes

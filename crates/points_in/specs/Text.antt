@@ -30,7 +30,7 @@ points_of (x ∷ []) = []
 points_of (x ∷ y ∷ words) = point_of x y ∷ points_of words
 
 -- The text has no fault, and these are its points in order, repeats among them.
-pub record ListsPoints (bytes : List ℕ) (ps : List Point) : Type 0 where
+pub record IsPointText (bytes : List ℕ) (ps : List Point) : Type 0 where
   pub numbers : AreNumbers (words_of bytes)
   pub points : ps ≡ points_of (words_of bytes)
   pub even : length (words_of bytes) ≡ length ps + length ps

@@ -5,7 +5,7 @@ ghost use Rattle.std.specs.Prelude.{IfOk, IfErr, IsErrAnd, MatchResult};
 ghost use Rattle.points_in.specs.declared.fault.PointFault.{PointFault};
 ghost use Rattle.points_in.specs.declared.point.Point.{Point};
 ghost use Rattle.points_in.specs.Terminals.{terminals_of};
-ghost use Rattle.points_in.specs.Text.{ListsPoints, PointFaultOf, HasPointCause, IsMemory};
+ghost use Rattle.points_in.specs.Text.{IsPointText, PointFaultOf, HasPointCause, IsMemory};
 ghost use Rattle.points_in.specs.Words.{is_blank};
 ghost use Rattle.points_in.specs.Reading.{words_at, ReadsNumber, ReadsPoint, AnswersPoints};
 
@@ -125,11 +125,11 @@ fn points_in_text(alloc: Global, bytes: &[u8]) -> Result<Points, PointFault>
 /// text's first fault from the left, or want of memory.
 pub fn read_points(alloc: Global, bytes: &[u8]) -> Result<Points, PointFault>
     ensures found { IfOk result (λ points.
-        (ps : List Point) × ListsPoints bytes.now ps × (points ≡ terminals_of ps)) }
+        (ps : List Point) × IsPointText bytes.now ps × (points ≡ terminals_of ps)) }
     ensures fault { IfErr result (λ fault. HasPointCause fault bytes.now) }
 
     // There is no other answer, but that memory may be short.
-    ensures only { (ps : List Point) → ListsPoints bytes.now ps
+    ensures only { (ps : List Point) → IsPointText bytes.now ps
         → MatchResult result (λ points. points ≡ terminals_of ps) IsMemory }
     ensures only_fault { (fault : PointFault) → PointFaultOf bytes.now fault
         → IsErrAnd result (λ told. IsMemory told ⊎ (told ≡ fault)) }

@@ -40,7 +40,7 @@ solve_printed before after status s is ends = λ same ended.
       set,
       packing,
       whole.came,
-      solved.points.plain,
+      solved.points.text,
       solved.network,
       solved.leaf,
       subst (λ (p : Print). Appended before.written.out.taken p.text after.written.out.taken) of_points printed.wrote.appended,

@@ -4,7 +4,7 @@ use Rattle.rst_outside.specs.Source.{CameToTheEnd}
 use Rattle.rst_outside.specs.Sink.{Appended}
 use Rattle.points_in.specs.declared.point.Point.{Point}
 use Rattle.points_in.specs.Terminals.{terminals_of}
-use Rattle.points_in.specs.Text.{IsPlainList}
+use Rattle.points_in.specs.Text.{IsPointText}
 use Rattle.net_graph.specs.declared.packing.Cut.{Cut}
 use Rattle.net_graph.specs.Network.{IsNetwork, length_of}
 use Rattle.cert_check.specs.Accepted.{IsAccepted}
@@ -16,7 +16,7 @@ use Rattle.judge_tools.specs.Truth.{ChecksTruly}
 use Rattle.suite.specs.Requests.{Request}
 use Rattle.suite.specs.Requests.Request.{Solve, Check}
 
--- What `solve` printed is true: the input was read to its end, it is the written text of points, and the bytes that went out
+-- What `solve` printed is true: the input was read to its end, it is a text of points, and the bytes that went out
 -- are the answer of a network of their grid with its plain length and of a packing, its one leaf, which is feasible, has
 -- at most 4 E + 1 cuts, is maximal where its value is below the length, and gives the bound. They are accepted as an answer
 -- for the points. No network of the grid is shorter than the bound. The status is 0 exactly where the bound is the length.
@@ -24,7 +24,7 @@ abbrev pub Headline : Option Request → Outside → Outside → ℕ → Type 0
 Headline request before after status = request ≡ Some Solve → (status ≡ 0) ⊎ (status ≡ 3) →
     (bytes : List ℕ) × (ps : List Point) × (network : List Bool) × (packing : List Cut)
     × CameToTheEnd before.read.input.rest bytes after.read.input.rest
-    × IsPlainList bytes ps
+    × IsPointText bytes ps
     × IsNetworkOf (grid_of_points ps) network
     × IsLeafFor (grid_of_points ps) network packing
     × Appended before.written.out.taken (solve_text ps network packing) after.written.out.taken

@@ -69,7 +69,7 @@ fn runs_each_tool(rt: HostRuntime) -> Result<(), Fail> {
             b"1 2 3\n",
             4,
             b"",
-            b"rst: solve: not a plain list of points\n",
+            b"rst: solve: a coordinate is missing\n",
         ),
         (&["fly"], b"", 2, b"", b"usage: rst solve|check [WORDS]\n"),
     ];

@@ -15,7 +15,7 @@ use Rattle.points_in.specs.Number.{IsNumber}
 use Rattle.points_in.specs.Reading.{words_at, TakesPoint, StopsAtNumber, StopsBeforePoint, EndsAfterX, AnswersPoints}
 use Rattle.points_in.specs.Terminals.{terminals_of}
 use Rattle.points_in.specs.TerminalLaws.{terminals_of_new, terminals_of_repeat}
-use Rattle.points_in.specs.Text.{AreNumbers, point_of, points_of, ListsPoints, AreSound, FailsAt, FirstFailure, EndsWithoutY, PointFaultOf, IsMemory, HasPointCause}
+use Rattle.points_in.specs.Text.{AreNumbers, point_of, points_of, IsPointText, AreSound, FailsAt, FirstFailure, EndsWithoutY, PointFaultOf, IsMemory, HasPointCause}
 use Rattle.points_in.specs.Words.{Word, words_of}
 use Rattle.points_in.specs.FaultLaws.{one_fault, listed_no_fault}
 
@@ -233,7 +233,7 @@ adding_has_cause bytes at points after next r (add.Memory e) fault so_far takes 
 
 -- at the end the points are listed
 pub read_to_end : (bytes : List ℕ) (at : ℕ) (points : List Point) (so_far : HasRead bytes at points) → words_at bytes at ≡ []
-    → ListsPoints bytes (points_of so_far.read)
+    → IsPointText bytes (points_of so_far.read)
 read_to_end bytes at points so_far end =
     let words : words_of bytes ≡ so_far.read = so_far.parts ∙ ap (λ ws. so_far.read ++ ws) end ∙ append-nil so_far.read in
     record {
@@ -245,7 +245,7 @@ read_to_end bytes at points so_far end =
     }
 
 -- the answer is the only one
-pub only_points : (bytes : List ℕ) (r : Result (List Point) PointFault) → AnswersPoints bytes r → (ps : List Point) → ListsPoints bytes ps
+pub only_points : (bytes : List ℕ) (r : Result (List Point) PointFault) → AnswersPoints bytes r → (ps : List Point) → IsPointText bytes ps
     → MatchResult r (λ points. points ≡ terminals_of ps) IsMemory
 only_points bytes (Ok points) answers ps lists = answers.2 ∙ ap terminals_of (answers.1.points ∙ sym lists.points)
 only_points bytes (Err (BadNumber at)) answers ps lists = listed_no_fault bytes ps (BadNumber at) lists answers

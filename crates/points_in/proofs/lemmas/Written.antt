@@ -15,7 +15,7 @@ use Rattle.points_in.specs.declared.point.Point.{Point}
 use Rattle.points_in.specs.Number.{IsNumber, number_of}
 use Rattle.points_in.specs.PointLaws.{same_coordinates}
 use Rattle.points_in.specs.Terminals.{terminals_of}
-use Rattle.points_in.specs.Text.{IsPoint, AreNumbers, points_of, ListsPoints, points_text}
+use Rattle.points_in.specs.Text.{IsPoint, AreNumbers, points_of, IsPointText, points_text}
 use Rattle.points_in.specs.Words.{Word, is_blank, words_from}
 use Rattle.points_in.proofs.lemmas.Numbers.{digit_no_blank}
 use Rattle.points_in.proofs.lemmas.Words.{words_from-nil, words_from-part}
@@ -102,7 +102,7 @@ written_words at (p ∷ ps) fits =
         ∙ ap (λ rs. p ∷ rs) same
 
 -- so that they are listed
-pub written_lists : (ps : List Point) → AllByRecursion IsPoint ps → 0 < length ps → length (terminals_of ps) ≤ 50 → ListsPoints (points_text ps) ps
+pub written_lists : (ps : List Point) → AllByRecursion IsPoint ps → 0 < length ps → length (terminals_of ps) ≤ 50 → IsPointText (points_text ps) ps
 written_lists ps fits some few =
     let written = written_words 0 ps fits in
     record { numbers = written.numbers; points = sym written.points; even = written.even; some = some; few = few }
