@@ -2,7 +2,7 @@
 use Rattle.std.specs.Prelude.{ℕ, ◌≡◌, ◌≤◌, Bool, List, codes, Result, Ok, Err}
 use Rattle.points_in.specs.declared.point.Point.{Point}
 use Rattle.points_in.specs.Terminals.{terminals_of}
-use Rattle.net_graph.specs.Network.{IsNetwork, length_of}
+use Rattle.net_graph.specs.Network.{IsLowerBound}
 use Rattle.hanan_grid.specs.Grid.{hanan_grid_of}
 use Rattle.cert_check.specs.declared.verdict.Finished.{Finished}
 use Rattle.cert_check.specs.declared.verdict.Verdict.TheVariants.{Accepted}
@@ -29,7 +29,7 @@ pub record JudgesBytes (terminals : List Point) (bytes : List ℕ) (f : Finished
       → AcceptsAs terminals bytes f.network length bound optimal
   pub complete : IsAccepted terminals bytes → IsAccepting f.verdict
   pub bound : (length bound : ℕ) (optimal : Bool) → f.verdict ≡ Accepted length bound optimal
-      → (other : List Bool) → IsNetwork (hanan_grid_of terminals) other → bound ≤ length_of (hanan_grid_of terminals) other
+      → IsLowerBound (hanan_grid_of terminals) bound
 
 -- The file lists these points, whose grid isn't too long, the input was read to its end, and this is the verdict on its
 -- bytes as an answer for the points.

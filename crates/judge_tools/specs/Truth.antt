@@ -1,11 +1,11 @@
 -- What is true where `check` told a verdict.
-use Rattle.std.specs.Prelude.{ℕ, ◌≡◌, ◌≤◌, Bool, List, ◌↔◌}
+use Rattle.std.specs.Prelude.{ℕ, ◌≡◌, ◌≤◌, Bool, true, List, ◌↔◌}
 use Rattle.rst_outside.specs.Source.{CameToTheEnd}
 use Rattle.rst_outside.specs.Sink.{SinkState, Appended}
 use Rattle.points_in.specs.declared.point.Point.{Point}
 use Rattle.points_in.specs.Terminals.{terminals_of}
 use Rattle.net_graph.specs.declared.packing.Cut.{Cut}
-use Rattle.net_graph.specs.Network.{IsNetwork, length_of}
+use Rattle.net_graph.specs.Network.{IsLowerBound, IsShortest}
 use Rattle.cut_cert.specs.Value.{WrittenAnswer}
 use Rattle.cert_check.specs.Accepted.{Accepts, IsAccepted}
 use Rattle.frame.specs.declared.take.TheConstants.{TEXT_LIMIT}
@@ -13,12 +13,14 @@ use Rattle.frame.specs.Outside.{Outside}
 use Rattle.frame.specs.Points.{FileLists, grid_of_points}
 use Rattle.judge_tools.specs.Verdicts.{accepted_line}
 
--- `out` gained the line of an answer that is accepted, and no network of the points' grid is shorter than its bound.
+-- `out` gained the line of an answer that is accepted, no network of the points' grid is shorter than its bound, and where it
+-- says optimal its network is a shortest one.
 abbrev pub TellsAccepted : List Point → List ℕ → SinkState → SinkState → Type 0
 TellsAccepted ps bytes out out' =
     (answer : WrittenAnswer) × (network : List Bool) × (packing : List Cut) × Accepts (terminals_of ps) bytes answer network packing
     × Appended out.taken (accepted_line answer.head.length answer.head.bound answer.head.optimal) out'.taken
-    × ((other : List Bool) → IsNetwork (grid_of_points ps) other → answer.head.bound ≤ length_of (grid_of_points ps) other)
+    × IsLowerBound (grid_of_points ps) answer.head.bound
+    × (answer.head.optimal ≡ true → IsShortest (grid_of_points ps) network)
 
 -- The file lists points and the input was read to its end; the status is 0 exactly where its bytes are accepted as an answer
 -- for the points, and then `out` gained the line that says so.

@@ -7,7 +7,7 @@ use Rattle.net_graph.specs.declared.packing.EdgeState.TheVariants.{Undecided, In
 use Rattle.net_graph.specs.Graph.{Graph, total_of}
 use Rattle.net_graph.specs.Network.{IsNetwork, length_of}
 use Rattle.net_graph.specs.LengthLaws.{length_of_edges-le-sum}
-use Rattle.net_graph.specs.Decision.{Agrees, nothing_decided}
+use Rattle.net_graph.specs.Decision.{Agrees, IsLowerBoundUnder, nothing_decided}
 use Rattle.net_graph.specs.Packing.{IsFeasible, packing_value}
 use Rattle.net_graph.specs.Saturation.{IsMaximal}
 use Rattle.search_tools.specs.Solution.{IsLeafFor}
@@ -30,7 +30,7 @@ agrees_nothing g set = record {
 leaf_from_ascent : (g : Graph) (packing : List Cut) (closed : Bool) →
     IsFeasible g (nothing_decided g) packing → length packing ≤ 4 * length g.edges + 1 →
     (closed ≡ false → IsMaximal g (nothing_decided g) packing) → (closed ≡ true → total_of g ≤ packing_value g (nothing_decided g) packing) →
-    ((other : List Bool) → Agrees g (nothing_decided g) other → IsNetwork g other → packing_value g (nothing_decided g) packing ≤ length_of g other) →
+    IsLowerBoundUnder g (nothing_decided g) (packing_value g (nothing_decided g) packing) →
     (network : List Bool) → IsLeafFor g network packing
 leaf_from_ascent g packing closed feasible few maximal total bound network = record {
   feasible = feasible;
@@ -47,7 +47,7 @@ leaf_from_ascent g packing closed feasible few maximal total bound network = rec
 pub leaf_of_ascent : (g : Graph) (decision : List EdgeState) (packing : List Cut) (closed : Bool) → decision ≡ nothing_decided g →
     IsFeasible g decision packing → length packing ≤ 4 * length g.edges + 1 →
     (closed ≡ false → IsMaximal g decision packing) → (closed ≡ true → total_of g ≤ packing_value g decision packing) →
-    ((other : List Bool) → Agrees g decision other → IsNetwork g other → packing_value g decision packing ≤ length_of g other) →
+    IsLowerBoundUnder g decision (packing_value g decision packing) →
     (network : List Bool) → IsLeafFor g network packing
 leaf_of_ascent g decision packing closed is feasible few maximal total bound =
     leaf_from_ascent g packing closed

@@ -1,5 +1,5 @@
 -- From the steps of `solve` to what it finds.
-use Rattle.std.proofs.Common.{ℕ, ◌≡◌, Bool, List, Result, Ok, Err, IfOk, cond, refl, subst, ap, ◌∙◌}
+use Rattle.std.proofs.Common.{ℕ, ◌≡◌, ◌<◌, ◌^◌, Bool, List, length, Result, Ok, Err, IfOk, cond, refl, subst, ap, ◌∙◌}
 use Rattle.rst_outside.specs.Source.{SourceState}
 use Rattle.rst_outside.specs.Shelf.{ShelfState}
 use Rattle.points_in.specs.declared.point.Point.{Point}
@@ -52,15 +52,18 @@ accepted_answer s bounds spells =
     (subst (λ (w : WrittenAnswer). SpellsAnswer (hanan_grid_of s.grid).vertices (answer_text w) w) bounds.told spells) bounds.network bounds.leaf
 
 -- An answer for the grid of the points that the bytes list solves them.
-solved : (bytes : List ℕ) (s : Solution) (ps : List Point) → ListsPoints bytes ps → s.grid ≡ terminals_of ps → (bounds : Bounds s) → IsSpelled s →
+solved : (bytes : List ℕ) (s : Solution) (ps : List Point) → ListsPoints bytes ps → s.grid ≡ terminals_of ps → (bounds : Bounds s) → IsSpelled s → length (solution_text s) < 2 ^ 32 →
     IsSolved bytes ps s.answer.network bounds.packing
-solved bytes s ps lists is bounds spells = record {
+solved bytes s ps lists is bounds spells few = record {
   points = lists;
   network = subst (λ (h : List Point). IsNetworkOf (hanan_grid_of h) s.answer.network) is bounds.network;
   leaf = subst (λ (h : List Point). IsLeafFor (hanan_grid_of h) s.answer.network bounds.packing) is bounds.leaf;
   accepted =
       subst (λ (h : List Point). IsAccepted h (answer_text (solution h s.answer.network bounds.packing))) is
       (accepted_answer s bounds spells);
+  few_bytes =
+      subst (λ (w : WrittenAnswer). length (answer_text w) < 2 ^ 32)
+      (bounds.told ∙ ap (λ h. solution h s.answer.network bounds.packing) is) few;
 }
 
 -- It is printed as the points' answer.
@@ -74,8 +77,8 @@ printed_solution s ps is bounds =
 pub found_solution : (input input' : SourceState) (shelf : ShelfState) (found : Result Solution (TextFault ListFault)) →
     FindsSolution input input' found → IfOk found IsSpelled →
     FromText TEXT_LIMIT Solves (readable input shelf) (readable input' shelf) (print_of solution_text solution_status found)
-found_solution input input' shelf (Ok s) (bytes, whole, (ps, lists, is, bounds)) spells =
-    (bytes, whole, (ps, s.answer.network, bounds.packing, solved bytes s ps lists is bounds spells, printed_solution s ps is bounds))
+found_solution input input' shelf (Ok s) (bytes, whole, (ps, lists, is, bounds, few)) spells =
+    (bytes, whole, (ps, s.answer.network, bounds.packing, solved bytes s ps lists is bounds spells few, printed_solution s ps is bounds))
 found_solution input input' shelf (Err (Text fault)) finds spells = finds
 found_solution input input' shelf (Err (Input fault)) finds spells = finds
 

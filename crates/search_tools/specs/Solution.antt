@@ -3,7 +3,7 @@ use Rattle.std.specs.Prelude.{ℕ, ◌≡◌, ◌+◌, ◌*◌, ◌<◌, ◌≤�
 use Rattle.points_in.specs.declared.point.Point.{Point}
 use Rattle.net_graph.specs.declared.packing.Cut.{Cut}
 use Rattle.net_graph.specs.Graph.{Graph}
-use Rattle.net_graph.specs.Network.{IsNetwork, length_of}
+use Rattle.net_graph.specs.Network.{IsNetwork, IsLowerBound, length_of}
 use Rattle.net_graph.specs.Decision.{nothing_decided}
 use Rattle.net_graph.specs.Packing.{IsFeasible, packing_value}
 use Rattle.net_graph.specs.Saturation.{IsMaximal}
@@ -33,7 +33,7 @@ pub record IsLeafFor (g : Graph) (network : List Bool) (packing : List Cut) : Ty
   pub feasible : IsFeasible g (nothing_decided g) packing
   pub few : length packing ≤ 4 * length g.edges + 1
   pub maximal : value_on g packing < length_of g network → IsMaximal g (nothing_decided g) packing
-  pub bounds : (other : List Bool) → IsNetwork g other → value_on g packing ≤ length_of g other
+  pub bounds : IsLowerBound g (value_on g packing)
 
 -- what is told of a network of a length and a packing of a value, with 100 openings and a network whose concatenation was
 -- not sought

@@ -1,5 +1,5 @@
 -- What `solve` finds, by what it read.
-use Rattle.std.specs.Prelude.{ℕ, ◌≡◌, ◌==◌, Bool, List, codes, Result, Ok, Err, if◌then◌else◌}
+use Rattle.std.specs.Prelude.{ℕ, ◌≡◌, ◌<◌, ◌^◌, ◌==◌, Bool, List, length, codes, Result, Ok, Err, if◌then◌else◌}
 use Rattle.points_in.specs.declared.point.Point.{Point}
 use Rattle.points_in.specs.Terminals.{terminals_of}
 use Rattle.net_graph.specs.declared.packing.Cut.{Cut}
@@ -23,12 +23,14 @@ abbrev pub solve_text : List Point → List Bool → List Cut → List ℕ
 solve_text ps set packing = answer_text (solution (terminals_of ps) set packing)
 
 -- The bytes list these points, whose grid isn't too long, the edge set is a network of it, and the packing is a leaf
--- that bounds every network from below. The text that tells both is accepted as an answer for the points.
+-- that bounds every network from below. The text that tells both is accepted as an answer for the points, and has fewer
+-- than 2^32 bytes.
 pub record IsSolved (bytes : List ℕ) (ps : List Point) (set : List Bool) (packing : List Cut) : Type 0 where
   pub points : ListsPoints bytes ps
   pub network : IsNetworkOf (grid_of_points ps) set
   pub leaf : IsLeafFor (grid_of_points ps) set packing
   pub accepted : IsAccepted (terminals_of ps) (solve_text ps set packing)
+  pub few_bytes : length (solve_text ps set packing) < 2 ^ 32
 
 -- the status of an answer: done where the bound is the length
 abbrev pub status_of_bound : ℕ → ℕ → AnswerStatus

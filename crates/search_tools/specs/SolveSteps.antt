@@ -1,5 +1,5 @@
 -- The steps of `solve` before it writes, each with the cause of its refusals.
-use Rattle.std.specs.Prelude.{ℕ, ◌≡◌, List, Result, Ok, Err, if◌then◌else◌}
+use Rattle.std.specs.Prelude.{◌≡◌, ◌<◌, ◌^◌, ℕ, List, length, Result, Ok, Err, if◌then◌else◌}
 use Rattle.rst_outside.specs.Source.{SourceState}
 use Rattle.points_in.specs.declared.point.Point.{Point}
 use Rattle.points_in.specs.Terminals.{terminals_of}
@@ -47,6 +47,6 @@ pub record Bounds (s : Solution) : Type 0 where
 abbrev pub FindsSolution : SourceState → SourceState → Result Solution (TextFault ListFault) → Type 0
 FindsSolution input input' (Ok s) =
     (bytes : List ℕ) × IsWholeInput TEXT_LIMIT input input' bytes
-    × ((ps : List Point) × ListsPoints bytes ps × (s.grid ≡ terminals_of ps) × Bounds s)
+    × ((ps : List Point) × ListsPoints bytes ps × (s.grid ≡ terminals_of ps) × Bounds s × (length (solution_text s) < 2 ^ 32))
 FindsSolution input input' (Err (Text fault)) = (bytes : List ℕ) × IsWholeInput TEXT_LIMIT input input' bytes × IsListFault bytes fault
 FindsSolution input input' (Err (Input fault)) = IsInputFault TEXT_LIMIT input input' fault

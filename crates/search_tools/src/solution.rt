@@ -1,12 +1,12 @@
 //! The answer that `solve` gives for a grid.
 
-ghost use Rattle.std.specs.Prelude.{◌≡◌, IfOk};
+ghost use Rattle.std.specs.Prelude.{◌≡◌, ◌<◌, ◌^◌, length, IfOk};
 ghost use Rattle.points_in.specs.declared.point.Point.{Point};
 ghost use Rattle.search_tools.specs.Solution.{head_with};
 ghost use Rattle.search_tools.specs.SolveSteps.{Bounds, IsPrintable, IsSpelled, solution_text, solution_status};
 
 use crate::bound::{Leaf, leaf_for};
-use cut_cert::{Answer as CutAnswer, AnswerHead, CertTree, ConcatNote, write_answer};
+use cut_cert::{Answer as CutAnswer, AnswerHead, CertTree, ConcatNote, answer_len, write_answer};
 use frame::{Answer, AnswerStatus};
 use hanan_grid::Grid;
 use net_graph::length;
@@ -48,8 +48,10 @@ impl Answer for Solution {
 pub fn solution_on(alloc: Global, grid: Grid) -> Result<Solution, AllocError>
     ensures grid { IfOk result (λ solution. solution.grid ≡ grid) }
     ensures bounds { IfOk result Bounds }
+    ensures few_bytes { IfOk result (λ solution. length (solution_text solution) < 2 ^ 32) }
 {
     let answer = answer_on(alloc, &grid)?;
+    prove!(answer_len(&grid, &answer) < 1 << 32);
     Ok(Solution { grid, answer })
 }
 

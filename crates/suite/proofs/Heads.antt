@@ -34,7 +34,10 @@ solve_printed : (before after : Outside) (status : ℕ) (s : AnswerStatus) → s
     Headline (Some Solve) before after status
 solve_printed before after status s is ends = λ same ended.
     let (print, (bytes, whole, (ps, set, packing, solved, of_points)), printed) =
-    printed_ends (text_fault_status list_fault_status) (text_fault_text list_fault_text) (codes "solve") (FromText TEXT_LIMIT Solves) LeavesShelf before after status s is ends in (
+    printed_ends (text_fault_status list_fault_status) (text_fault_text list_fault_text) (codes "solve") (FromText TEXT_LIMIT Solves) LeavesShelf before after status s is ends in
+    let exact : (status ≡ 0) ↔ (bound_of (grid_of_points ps) set packing ≡ length_of (grid_of_points ps) set) =
+    zero_where_equal (bound_of (grid_of_points ps) set packing) (length_of (grid_of_points ps) set) status
+    (printed.ends ∙ ap (λ (p : Print). answer_code p.status) of_points) in (
       bytes,
       ps,
       set,
@@ -45,9 +48,10 @@ solve_printed before after status s is ends = λ same ended.
       solved.leaf,
       subst (λ (p : Print). Appended before.written.out.taken p.text after.written.out.taken) of_points printed.wrote.appended,
       solved.accepted,
+      solved.few_bytes,
       λ other joins. let bounds = solved.leaf.bounds other joins in omega (arith, bounds),
-      zero_where_equal (bound_of (grid_of_points ps) set packing) (length_of (grid_of_points ps) set) status
-          (printed.ends ∙ ap (λ (p : Print). answer_code p.status) of_points),
+      exact,
+      λ zero. (solved.network.joins, λ other joins. let bounds = solved.leaf.bounds other joins in let equal = exact.0 zero in omega (arith, bounds, equal)),
     )
 
 -- What `solve` printed is true.

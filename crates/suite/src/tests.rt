@@ -1,4 +1,4 @@
-//! Each tool once through the top call, with ample memory. The worked rows stand in the data of the program `rows`.
+//! Each tool once through the top call, with ample memory. The worked rows stand in the data of the program `tool_rows`.
 
 use crate::program::run;
 use rst_outside::{MemShelf, MemSink, MemSource, ShelfFile};
