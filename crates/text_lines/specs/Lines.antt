@@ -3,13 +3,14 @@ use Rattle.std.specs.Prelude.{ℕ, ◌<◌, ◌==◌, List, [], ◌∷◌, ◌++
 use Rattle.std.specs.List.{slice_split, join_with_byte, AllByRecursion}
 use Rattle.spelled.specs.Words.{IsWord}
 
--- The words of a line: what stands before its first blank, between two blanks, and behind the last one. A line of no
--- bytes has one word, which is empty.
+-- The words of a line: what stands before its first blank, between two blanks, and behind the last one. A
+-- line of no bytes has one word, which is empty.
 abbrev pub words_of : List ℕ → List (List ℕ)
 words_of line = slice_split (λ b. b == 32) line
 
--- The lines of a text, each as its words: what stands before its first line feed, between two line feeds, and behind the
--- last one. So the last of them is no whole line, and is empty where the text ends with a line feed.
+-- The lines of a text, each as its words: what stands before its first line feed, between two line feeds, and
+-- behind the last one. So the last of them is no whole line, and is empty where the text ends with a line
+-- feed.
 abbrev pub lines_of : List ℕ → List (List (List ℕ))
 lines_of text = map words_of (slice_split (λ b. b == 10) text)
 

@@ -7,8 +7,8 @@ use crate::words::LineWords;
 use spelled::split_line;
 use std::marker::Model;
 
-/// The lines of a text that are left, and the number of the next one, counted from 1. The last of them is what stands
-/// behind the last line feed of the text, and no whole line.
+/// The lines of a text that are left, and the number of the next one, counted from 1. The last of them is
+/// what stands behind the last line feed of the text, and no whole line.
 #[derive(Drop)]
 pub struct TextLines<'a> {
     left: &'a [u8],
