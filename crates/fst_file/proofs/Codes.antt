@@ -1,15 +1,14 @@
 -- The words of a code: what they determine, and what is kept of them.
-use Rattle.std.specs.Prelude.{ℕ, ◌≡◌, ◌+◌, ◌<◌, ◌≤◌, ◌^◌, ◌⊎◌, List, [], ◌∷◌, ◌++◌, length, map, codes, All, Option, None, Some, IfSome, option_to_list, slice_index_or}
+use Rattle.std.specs.Prelude.{ℕ, ◌≡◌, ◌<◌, ◌≤◌, ◌^◌, List, [], ◌∷◌, ◌++◌, length, map, codes, All, Option, None, Some, IfSome, option_to_list}
 use Rattle.std.specs.Fmt.{decimal}
 use Rattle.std.specs.List.{AllByRecursion}
-use Rattle.std.proofs.Common.{arith, refl, sym, ap, ◌∙◌, inl, inr, get_or}
-use Rattle.std.proofs.lemmas.List.{length_push, length-append}
+use Rattle.std.proofs.Common.{arith, refl, sym, ap, inl, inr, get_or}
+use Rattle.std.proofs.lemmas.List.{length-append}
 use Rattle.std.proofs.lemmas.List.Elements.{All-head, All-tail}
 use Rattle.points_in.specs.declared.point.Point.{Point}
 use Rattle.full_tree.specs.declared.way.Way.{Way}
 use Rattle.full_tree.specs.declared.code.TreeCode.{TreeCode}
 use Rattle.full_tree.specs.declared.code.TreeCode.TheVariants.{Long, Cross}
-use Rattle.full_tree.specs.Code.{named_places}
 use Rattle.full_tree.specs.Form.{IsInForm}
 use Rattle.fst_file.specs.Words.{way_word, side_word, code_words, FitsCode}
 use Rattle.fst_file.specs.Left.{StandsFor, StandsForSide, StandForDrops, StandsForCode}
@@ -147,3 +146,23 @@ cross_stands w' w s' s e' e n' n a b d f ps fifty (inl form) =
 cross_stands w' w s' s e' e n' n a b d f ps fifty (inr form) =
     let all = below (length ps) (w' ∷ s' ∷ e' ∷ n' ∷ []) fifty form.terminals in
     cc (a (inr all.0), b (inr all.1.0), d (inr all.1.1.0), f (inr all.1.1.1.0))
+
+-- a fact of each from a stronger one
+weaker : (xs : List ℕ) → AllByRecursion (λ k. k < 50) xs → AllByRecursion (λ k. k < 2 ^ 32) xs
+weaker [] all = tt
+weaker (x ∷ xs) all = (let here = all.0 in omega arith, weaker xs all.1)
+
+side_fits : (side : Option ℕ) → AllByRecursion (λ k. k < 50) (option_to_list side) → IfSome side (λ q. q < 2 ^ 32)
+side_fits None all = tt
+side_fits (Some q) all = let here = all.0 in omega arith
+
+-- the places of a code in form have 32 bits
+pub fits_form : (ps : List Point) (code : TreeCode) → length ps ≤ 50 → IsInForm ps code → FitsCode code
+fits_form ps (Long root toward drops side tip) fifty form =
+    let told = long_places ps root toward drops side tip fifty form in
+    let low = told.root_below in
+    let end = told.tip_below in
+    (omega arith, omega arith, side_fits side told.side_below, weaker drops told.drops_below)
+fits_form ps (Cross w s e n) fifty form =
+    let all = weaker (w ∷ s ∷ e ∷ n ∷ []) (below (length ps) (w ∷ s ∷ e ∷ n ∷ []) fifty form.terminals) in
+    (all.0, all.1.0, all.1.1.0, all.1.1.1.0)

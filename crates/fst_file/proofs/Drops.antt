@@ -1,5 +1,5 @@
 -- Drops as they are kept, one more at a time.
-use Rattle.std.specs.Prelude.{ℕ, ◌≡◌, ◌+◌, ◌<◌, ◌≤◌, ◌⊎◌, ◌^◌, min, List, [], ◌∷◌, ◌++◌, length, map}
+use Rattle.std.specs.Prelude.{ℕ, ◌≡◌, ◌+◌, ◌<◌, ◌≤◌, ◌^◌, List, [], ◌∷◌, ◌++◌, length, map}
 use Rattle.std.specs.Fmt.{decimal}
 use Rattle.std.specs.List.{AllByRecursion}
 use Rattle.std.proofs.Common.{arith, refl, sym, ap, ◌∙◌, inl, inr}

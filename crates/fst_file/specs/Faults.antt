@@ -1,4 +1,5 @@
--- Why a line is wrong behind what the lines before it told. Of the faults of one line the first in the stated order counts.
+-- Why a line is wrong behind what the lines before it told. Of the faults of one line the first in the stated
+-- order counts.
 use Rattle.std.specs.Prelude.{ℕ, suc, zero, ◌≡◌, ◌≢◌, ◌-◌, ◌<◌, ◌≤◌, ◌^◌, ◌⊎◌, List, [], ◌∷◌, ◌++◌, length, slice_get, Contains, IfSome}
 use Rattle.std.specs.declared.cmp.Ordering.TheVariants.{Less}
 use Rattle.points_in.specs.declared.point.Point.{Point}
@@ -12,8 +13,8 @@ use Rattle.fst_file.specs.declared.fault.FileFault.TheVariants.{BadLine, TooMany
 use Rattle.fst_file.specs.Value.{IsTreeOf, grid_total}
 use Rattle.fst_file.specs.Words.{title_words, end_words, points_words, trees_words, point_words, tree_words, IsSpelled}
 
--- What the lines so far told: nothing, the title, some of the points of which others are due, all points and some of the
--- trees of which others are due, or all.
+-- What the lines so far told: nothing, the title, some of the points of which others are due, all points and
+-- some of the trees of which others are due, or all.
 pub data Told : Type 0 where
   nothing : Told
   title : Told
@@ -54,13 +55,17 @@ pub record IsTooLong (ps : List Point) (total : ℕ) : Type 0 where
   pub total_is : total ≡ grid_total ps
   pub long : 2 ^ 63 ≤ total
 
--- the next line is right behind what was told, and this is told with it; the grid is judged with the last point
+-- the next line is right behind what was told, and this is told with it; the grid is judged with the last
+-- point
 abbrev pub Passes : Told → List (List ℕ) → Told → Type 0
 Passes nothing words t' = (words ≡ title_words) × (t' ≡ title)
-Passes title words t' = (count : ℕ) × SpellsCount points_words words count × (0 < count) × (count ≤ 50) × (t' ≡ points count [])
-Passes (points zero ps) words t' = (count : ℕ) × SpellsCount trees_words words count × (count ≤ 20000) × (t' ≡ trees ps count [])
+Passes title words t' =
+    (count : ℕ) × SpellsCount points_words words count × (0 < count) × (count ≤ 50) × (t' ≡ points count [])
+Passes (points zero ps) words t' =
+    (count : ℕ) × SpellsCount trees_words words count × (count ≤ 20000) × (t' ≡ trees ps count [])
 Passes (points (suc due) ps) words t' =
-    (p : Point) × SpellsPoint words p × ¬ Contains ps p × (due ≡ 0 → grid_total (ps ++ p ∷ []) < 2 ^ 63) × (t' ≡ points due (ps ++ p ∷ []))
+    (p : Point) × SpellsPoint words p × ¬ Contains ps p × (due ≡ 0 → grid_total (ps ++ p ∷ []) < 2 ^ 63)
+    × (t' ≡ points due (ps ++ p ∷ []))
 Passes (trees ps zero ts) words t' = (words ≡ end_words) × (t' ≡ ended ps ts)
 Passes (trees ps (suc due) ts) words t' =
     (t : Tree) × SpellsTree words t × IsTreeOf ps t × Follows ts t × (t' ≡ trees ps due (ts ++ t ∷ []))
@@ -70,7 +75,8 @@ Passes (ended ps ts) words t' = ⊥
 abbrev pub IsTreeFault : List Point → List Tree → ℕ → Tree → FileFault → Type 0
 IsTreeFault ps ts n t f =
     (¬ IsInForm ps t.code × (f ≡ NotInForm n))
-    ⊎ (IsInForm ps t.code × (t.length ≢ code_length ps t.code) × (f ≡ WrongLength n t.length (code_length ps t.code)))
+    ⊎ (IsInForm ps t.code × (t.length ≢ code_length ps t.code)
+    × (f ≡ WrongLength n t.length (code_length ps t.code)))
     ⊎ (IsTreeOf ps t × ¬ Follows ts t × (f ≡ OutOfOrder n))
 
 -- the next line, of number n, is wrong behind what was told
@@ -86,7 +92,8 @@ Fails (points zero ps) n words f =
 Fails (points (suc due) ps) n words f =
     (SpellsNoPoint words × (f ≡ BadLine n))
     ⊎ ((p : Point) × SpellsPoint words p × Contains ps p × (f ≡ RepeatedPoint n))
-    ⊎ ((p : Point) × (total : ℕ) × SpellsPoint words p × ¬ Contains ps p × (due ≡ 0) × IsTooLong (ps ++ p ∷ []) total × (f ≡ TooLong total))
+    ⊎ ((p : Point) × (total : ℕ) × SpellsPoint words p × ¬ Contains ps p × (due ≡ 0)
+    × IsTooLong (ps ++ p ∷ []) total × (f ≡ TooLong total))
 Fails (trees ps zero ts) n words f = (words ≢ end_words) × (f ≡ BadLine n)
 Fails (trees ps (suc due) ts) n words f =
     (SpellsNoTree words × (f ≡ BadLine n))

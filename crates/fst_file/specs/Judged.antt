@@ -4,16 +4,18 @@ use Rattle.text_lines.specs.Lines.{lines_of, empty_line}
 use Rattle.fst_file.specs.declared.fault.FileFault.{FileFault}
 use Rattle.fst_file.specs.declared.fault.FileFault.TheVariants.{BadLine, Memory}
 use Rattle.fst_file.specs.Value.{FstValue}
-use Rattle.fst_file.specs.Faults.{Told, nothing, title, points, trees, ended, Passes, Fails}
+use Rattle.fst_file.specs.Faults.{Told, nothing, ended, Passes, Fails}
 
--- Behind the last line feed stands nothing where all was told. Else the text ends too soon, or goes on after its end.
+-- Behind the last line feed stands nothing where all was told. Else the text ends too soon, or goes on after
+-- its end.
 abbrev pub Ends : Told → ℕ → List (List ℕ) → Result FstValue FileFault → Type 0
 Ends (ended ps ts) n last o =
-    ((last ≡ empty_line) × (o ≡ Ok (record { points = ps; trees = ts }))) ⊎ ((last ≢ empty_line) × (o ≡ Err (BadLine n)))
+    ((last ≡ empty_line) × (o ≡ Ok (record { points = ps; trees = ts })))
+    ⊎ ((last ≢ empty_line) × (o ≡ Err (BadLine n)))
 Ends _ n last o = o ≡ Err (BadLine n)
 
--- What lines come to behind what was told, where n is the number of the first of them: the first wrong one decides, or else
--- the end. The last of them is no whole line.
+-- What lines come to behind what was told, where n is the number of the first of them: the first wrong one
+-- decides, or else the end. The last of them is no whole line.
 abbrev pub Judges : Told → ℕ → List (List (List ℕ)) → Result FstValue FileFault → Type 0
 Judges told n [] o = ⊥
 Judges told n (last ∷ []) o = Ends told n last o
@@ -29,3 +31,8 @@ IsOutcome bytes o = Judges nothing 1 (lines_of bytes) o
 abbrev pub IsFirstFault : List ℕ → FileFault → Type 0
 IsFirstFault bytes (Memory e) = Unit {0}
 IsFirstFault bytes f = IsOutcome bytes (Err f)
+
+-- what a reader answered is this outcome, unless memory ran out
+abbrev pub Answers : Result FstValue FileFault → Result FstValue FileFault → Type 0
+Answers (Err (Memory e)) o = Unit {0}
+Answers result o = result ≡ o

@@ -1,16 +1,13 @@
 -- What is left of a text, and what it comes to.
-use Rattle.std.specs.Prelude.{ℕ, zero, suc, ◌≡◌, ◌+◌, ◌<◌, ◌≤◌, ◌^◌, ◌⊎◌, List, [], ◌∷◌, ◌++◌, length, Option, None, Some, Result, Ok, Err}
+use Rattle.std.specs.Prelude.{ℕ, zero, suc, ◌≡◌, ◌+◌, ◌<◌, ◌≤◌, ◌^◌, ◌⊎◌, List, ◌∷◌, length, Option, None, Some, Result, Err}
 use Rattle.std.specs.List.{AllByRecursion}
-use Rattle.std.specs.Fmt.{decimal}
 use Rattle.points_in.specs.declared.point.Point.{Point}
-use Rattle.full_tree.specs.declared.way.Way.{Way}
 use Rattle.full_tree.specs.declared.code.TreeCode.{TreeCode}
 use Rattle.full_tree.specs.Form.{IsInForm}
 use Rattle.text_lines.specs.Lines.{LinesLeft}
 use Rattle.fst_file.specs.declared.fault.FileFault.{FileFault}
 use Rattle.fst_file.specs.declared.fault.FileFault.TheVariants.{TooLong, Memory}
 use Rattle.fst_file.specs.Value.{FstValue, grid_total}
-use Rattle.fst_file.specs.Words.{FitsCode, code_words}
 use Rattle.fst_file.specs.Faults.{Told, points, ended, IsTooLong}
 use Rattle.fst_file.specs.Judged.{Judges}
 
@@ -36,7 +33,8 @@ IsFaultLeft told left f = JudgesLeft told left (Err f)
 
 -- it comes to what the text that is left later comes to
 abbrev pub LeadsTo : Told → LinesLeft → Told → LinesLeft → Type 0
-LeadsTo told before told' after = (o : Result FstValue FileFault) → JudgesLeft told' after o → JudgesLeft told before o
+LeadsTo told before told' after =
+    (o : Result FstValue FileFault) → JudgesLeft told' after o → JudgesLeft told before o
 
 -- Behind a point line: where all points were told, their grid decides first.
 abbrev pub JudgesPoints : ℕ → List Point → LinesLeft → Result FstValue FileFault → Type 0
@@ -65,4 +63,5 @@ pub record StandForDrops (kept ds : List ℕ) : Type 0 where
 
 -- a code as it is kept: where one of the two is in form, they are the same
 abbrev pub StandsForCode : TreeCode → TreeCode → Type 0
-StandsForCode kept code = (ps : List Point) → length ps ≤ 50 → IsInForm ps code ⊎ IsInForm ps kept → kept ≡ code
+StandsForCode kept code =
+    (ps : List Point) → length ps ≤ 50 → IsInForm ps code ⊎ IsInForm ps kept → kept ≡ code

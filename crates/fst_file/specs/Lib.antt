@@ -4,3 +4,4 @@ pub mod Text
 pub mod Faults
 pub mod Judged
 pub mod Left
+pub mod Pieces

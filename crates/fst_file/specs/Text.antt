@@ -4,11 +4,12 @@ use Rattle.text_lines.specs.Lines.{text_of}
 use Rattle.fst_file.specs.Value.{FstValue, IsFstValue}
 use Rattle.fst_file.specs.Words.{title_words, end_words, points_words, trees_words, point_words, tree_words}
 
--- The lines: the title, how many points there are, the points, how many trees there are, the trees, and the end.
+-- The lines: the title, how many points there are, the points, how many trees there are, the trees, and the
+-- end.
 abbrev pub fst_lines : FstValue → List (List (List ℕ))
 fst_lines v =
     title_words ∷ points_words (length v.points) ∷ map point_words v.points
-    ++ trees_words (length v.trees) ∷ map tree_words v.trees ++ end_words ∷ []
+    ++ (trees_words (length v.trees) ∷ map tree_words v.trees ++ end_words ∷ [])
 
 -- the spelling of a value
 abbrev pub fst_text : FstValue → List ℕ

@@ -39,7 +39,8 @@ abbrev pub side_word : Option ℕ → List ℕ
 side_word None = codes "-"
 side_word (Some place) = decimal place
 
--- A code: its kind and the places that it names. Of a long one the root, the direction, the tip, the side and the drops.
+-- A code: its kind and the places that it names. Of a long one the root, the direction, the tip, the side and
+-- the drops.
 abbrev pub code_words : TreeCode → List (List ℕ)
 code_words (Long root toward drops side tip) =
     codes "long" ∷ decimal root ∷ way_word toward ∷ decimal tip ∷ side_word side ∷ map decimal drops
@@ -54,7 +55,8 @@ tree_words t = decimal t.length ∷ code_words t.code
 abbrev pub FitsCode : TreeCode → Type 0
 FitsCode (Long root toward drops side tip) =
     (root < 2 ^ 32) × (tip < 2 ^ 32) × IfSome side (λ q. q < 2 ^ 32) × AllByRecursion (λ d. d < 2 ^ 32) drops
-FitsCode (Cross west south east north) = (west < 2 ^ 32) × (south < 2 ^ 32) × (east < 2 ^ 32) × (north < 2 ^ 32)
+FitsCode (Cross west south east north) =
+    (west < 2 ^ 32) × (south < 2 ^ 32) × (east < 2 ^ 32) × (north < 2 ^ 32)
 
 pub record IsSpelled (t : Tree) : Type 0 where
   pub length_fits : t.length < 2 ^ 64

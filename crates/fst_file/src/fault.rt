@@ -3,12 +3,13 @@
 use std::alloc::AllocError;
 use thiserror::Error;
 
-/// Why bytes are no file between the phases: the first fault of their lines, and of one line the first in this order, but
-/// for `TooLong`, which comes after the last point and before the next line. Lines are counted from 1.
+/// Why bytes are no file between the phases: the first fault of their lines, and of one line the first in
+/// this order, but for `TooLong`, which comes after the last point and before the next line. Lines are
+/// counted from 1.
 #[derive(Debug, Drop, Error)]
 pub enum FileFault {
-    /// The line is not in the format. A text that ends too soon fails in the line counted as one more than its line feeds,
-    /// and one that goes on after its end in the line after it.
+    /// The line is not in the format. A text that ends too soon fails in the line counted as one more than
+    /// its line feeds, and one that goes on after its end in the line after it.
     #[error("line {0} is not in the format")]
     BadLine(u64),
     /// The line asks for more than 50 points.

@@ -4,8 +4,8 @@ use full_tree::TreeList;
 use hanan_grid::Grid;
 use std::marker::Model;
 
-/// Points, by their grid, and at most 20,000 full trees of them, each in form and with its length, in strictly ascending
-/// file order. Contracts see the points and the trees.
+/// Points, by their grid, and at most 20,000 full trees of them, each in form and with its length, in
+/// strictly ascending file order. Contracts see the points and the trees.
 #[derive(Debug, Drop)]
 pub struct FstFile {
     /// The grid of the points.

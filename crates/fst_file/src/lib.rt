@@ -4,10 +4,19 @@
 mod fault;
 mod file;
 mod head;
+mod laws;
 mod line;
 mod points;
+mod read;
+#[cfg(test)]
+mod tests;
 mod tree_line;
+mod trees;
+mod write;
 
 pub use fault::FileFault;
 pub use file::FstFile;
 pub use head::MAX_TREES;
+pub use laws::{one_outcome, one_reading, values_are_spelled};
+pub use read::read_file;
+pub use write::write_file;

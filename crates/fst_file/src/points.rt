@@ -21,12 +21,17 @@ fn point_in(words: &mut LineWords<'_>) -> Option<Point>
 {
     let x = words.next_signed()?;
     let y = words.next_signed()?;
-    if words.is_empty() { Some(Point { x, y }) } else { None }
+    if words.is_empty() {
+        Some(Point { x, y })
+    } else {
+        None
+    }
 }
 
 // Reads the line of a point.
 fn next_point(text: &mut TextLines<'_>) -> Result<Point, FileFault>
-    ensures found { IfOk result (λ p. (words : List (List ℕ)) × SpellsPoint words p × TakesLine text.old words text.new) }
+    ensures found { IfOk result (λ p. (words : List (List ℕ)) × SpellsPoint words p
+        × TakesLine text.old words text.new) }
     ensures err { IfErr result (λ f. (due : ℕ) (ps : List Point)
         → JudgesLeft (points_told (suc due) ps) text.old (Err f)) }
 {
@@ -38,8 +43,8 @@ fn next_point(text: &mut TextLines<'_>) -> Result<Point, FileFault>
 // Reads one more point.
 fn add_next(text: &mut TextLines<'_>, points: &mut Points) -> Result<(), FileFault>
     requires { length points.old < 50 }
-    ensures ok { OnOk result ((due : ℕ) (o : Result FstValue FileFault) → JudgesPoints due points.new text.new o
-        → JudgesLeft (points_told (suc due) points.old) text.old o) }
+    ensures ok { OnOk result ((due : ℕ) (o : Result FstValue FileFault)
+        → JudgesPoints due points.new text.new o → JudgesLeft (points_told (suc due) points.old) text.old o) }
     ensures one_more { OnOk result (length points.new ≡ length points.old + 1) }
     ensures err { IfErr result (λ f. (due : ℕ) → IsFaultLeft (points_told (suc due) points.old) text.old f) }
 {
@@ -70,7 +75,11 @@ fn read_points(alloc: Global, text: &mut TextLines<'_>, count: u32) -> Result<Po
 }
 
 // Reads so many points, and makes their grid.
-pub(crate) fn read_grid(alloc: Global, text: &mut TextLines<'_>, count: u32) -> Result<Grid, FileFault>
+pub(crate) fn read_grid(
+    alloc: Global,
+    text: &mut TextLines<'_>,
+    count: u32,
+) -> Result<Grid, FileFault>
     requires some { 0 < count }
     requires few { count ≤ 50 }
     ensures ok { IfOk result (λ ps. LeadsTo (points_told count []) text.old (points_told 0 ps) text.new) }

@@ -20,7 +20,8 @@ const KEPT_DROPS: usize = 8;
 
 // The place that a word spells, or, of one above 255, that place: neither is a place of 50 points.
 fn place_in(word: &[u8]) -> Option<u8>
-    ensures found { IfSome result (λ kept. (k : ℕ) × (k < 2 ^ 32) × (word.now ≡ decimal k) × StandsFor kept k) }
+    ensures found { IfSome result (λ kept. (k : ℕ) × (k < 2 ^ 32) × (word.now ≡ decimal k)
+        × StandsFor kept k) }
     ensures none { IfNone result ((k : ℕ) → k < 2 ^ 32 → word.now ≡ decimal k → ⊥) }
 {
     let place = unsigned_spelled(word)?;
@@ -34,7 +35,8 @@ fn place_in(word: &[u8]) -> Option<u8>
 fn next_place(words: &mut LineWords<'_>) -> Option<u8>
     ensures found { IfSome result (λ kept. (k : ℕ) × (k < 2 ^ 32) × (words.old ≡ decimal k ∷ words.new)
         × StandsFor kept k) }
-    ensures none { IfNone result ((k : ℕ) (rest : List (List ℕ)) → k < 2 ^ 32 → words.old ≡ decimal k ∷ rest → ⊥) }
+    ensures none { IfNone result ((k : ℕ) (rest : List (List ℕ)) → k < 2 ^ 32
+        → words.old ≡ decimal k ∷ rest → ⊥) }
 {
     place_in(words.next_word()?)
 }
@@ -141,8 +143,8 @@ fn code_in(alloc: Global, words: &mut LineWords<'_>) -> Option<TreeCode>
     }
 }
 
-// The tree that the words spell. Where its code is in form, it is kept as it is; where it isn't, the kept code isn't
-// either.
+// The tree that the words spell. Where its code is in form, it is kept as it is; where it isn't, the kept
+// code isn't either.
 pub(crate) fn tree_in(alloc: Global, words: &mut LineWords<'_>) -> Option<Tree>
     ensures found { IfSome result (λ kept. (t : Tree) × SpellsTree words.old t × (kept.length ≡ t.length)
         × StandsForCode kept.code t.code) }

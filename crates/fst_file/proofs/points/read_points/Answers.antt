@@ -1,14 +1,12 @@
 -- What each way out of the loop shows of the text.
-use Rattle.std.specs.Prelude.{ℕ, zero, suc, ◌≡◌, ◌+◌, ◌-◌, ◌<◌, ◌≤◌, List, [], ◌∷◌, ◌++◌, length, Contains, Result, Err}
-use Rattle.std.proofs.Common.{arith, refl, sym, ap, ◌∙◌, subst}
+use Rattle.std.specs.Prelude.{ℕ, zero, suc, ◌+◌, ◌-◌, ◌<◌, ◌≤◌, [], Err}
+use Rattle.std.proofs.Common.{arith}
 use Rattle.std.proofs.lemmas.Result.{err_from_is_err_and}
-use Rattle.points_in.specs.declared.point.Point.{Point}
 use Rattle.text_lines.specs.Lines.{LinesLeft}
 use Rattle.fst_file.specs.declared.fault.FileFault.{FileFault}
-use Rattle.fst_file.specs.Value.{FstValue}
-use Rattle.fst_file.specs.Faults.{points, SpellsPoint}
-use Rattle.fst_file.specs.Left.{TakesLine, JudgesLeft, JudgesPoints, IsFaultLeft}
-use Rattle.fst_file.proofs.Steps.{point_leads, fault_left, leads_fault}
+use Rattle.fst_file.specs.Faults.{points}
+use Rattle.fst_file.specs.Left.{JudgesLeft, IsFaultLeft}
+use Rattle.fst_file.proofs.Steps.{fault_left, leads_fault}
 use Rattle.fst_file.proofs.points.read_points.Goals as goal
 
 -- the first point is wrong

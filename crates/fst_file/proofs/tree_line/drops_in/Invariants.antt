@@ -1,7 +1,4 @@
-use Rattle.std.specs.Prelude.{ℕ, ◌≡◌, ◌<◌, ◌^◌, List, ◌++◌, length, map}
-use Rattle.std.specs.Fmt.{decimal}
-use Rattle.std.specs.List.{AllByRecursion}
-use Rattle.fst_file.specs.Left.{StandForDrops}
+use Rattle.std.specs.Prelude.{length}
 use Rattle.fst_file.proofs.Drops.{DropsSoFar}
 use Rattle.fst_file.proofs.tree_line.drops_in.Given as goal
 

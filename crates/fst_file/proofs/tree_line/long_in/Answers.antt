@@ -13,8 +13,7 @@ returns-clause-found c =
     let w = c.in_ok-toward.ensures.found in
     let t = c.in_ok-tip.ensures.found in
     let q = c.in_ok-side.ensures.found in
-    let d = c.in_ok-drops.ensures.found in
-    (
+    let d = c.in_ok-drops.ensures.found in (
       Long r.0 c.in_ok-toward.toward d.0 q.0 t.0,
       (r.1, t.1, q.1, d.2),
       cc (r.2, w, t.2, q.2, d.1),

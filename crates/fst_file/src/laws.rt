@@ -1,0 +1,24 @@
+//! Laws of the text of a file. The functions do nothing: each is there for its clauses.
+
+ghost use Rattle.std.specs.Prelude.{◌≡◌, ◌↔◌, ℕ, List, [], ◌++◌, Result, Ok};
+ghost use Rattle.fst_file.specs.declared.fault.FileFault.{FileFault};
+ghost use Rattle.fst_file.specs.Value.{FstValue};
+ghost use Rattle.fst_file.specs.Text.{SpellsFstFile};
+ghost use Rattle.fst_file.specs.Judged.{IsOutcome};
+
+/// Bytes come to one outcome at most: to one value, or to one first fault.
+pub fn one_outcome()
+    ensures { (bytes : List ℕ) (o o' : Result FstValue FileFault) → IsOutcome bytes o → IsOutcome bytes o'
+        → o ≡ o' }
+{}
+
+/// Bytes come to a value exactly where they spell it.
+pub fn values_are_spelled()
+    ensures { (bytes : List ℕ) (v : FstValue) → IsOutcome bytes (Ok v) ↔ SpellsFstFile bytes v }
+{}
+
+/// Bytes spell one value at most, and no spelling is a proper prefix of another.
+pub fn one_reading()
+    ensures { (bytes more : List ℕ) (v w : FstValue) → SpellsFstFile bytes v → SpellsFstFile (bytes ++ more) w
+        → (v ≡ w) × (more ≡ []) }
+{}
