@@ -13,7 +13,7 @@ mod text_fault;
 pub use answer::Answer;
 pub use ending::conclude;
 pub use fault::Fault;
-pub use points::{ListFault, PointsFault, read_grid, read_points_file};
+pub use points::{ListFault, PointsFault, read_grid, read_points_file, write_total};
 pub use reports::report;
 pub use status::{AnswerStatus, FaultStatus, MISUSED, NO_MEMORY, UNWRITTEN};
 pub use take::{FileFault, InputFault, TEXT_LIMIT, take_file, take_input};

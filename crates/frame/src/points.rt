@@ -106,8 +106,18 @@ impl Fault for ListFault {
     fn write<R: Sink>(&self, block: &mut Block, err: &mut R) {
         match self {
             ListFault::BadNumber(at) => write_at(block, err, b"not a whole number at byte ", *at),
-            ListFault::NumberTooLarge(at) => write_at(block, err, b"number out of range at byte ", *at),
-            ListFault::TooManyPoints(at) => write_at(block, err, b"more than 50 points at byte ", *at),
+            ListFault::NumberTooLarge(at) => write_at(
+                block,
+                err,
+                b"number out of range at byte ",
+                *at,
+            ),
+            ListFault::TooManyPoints(at) => write_at(
+                block,
+                err,
+                b"more than 50 points at byte ",
+                *at,
+            ),
             ListFault::OddCount => literal(block, err, b"a coordinate is missing"),
             ListFault::NoPoints => literal(block, err, b"no points"),
             ListFault::GridTooLong { total } => write_total(block, err, *total),
@@ -144,9 +154,9 @@ fn write_at<R: Sink>(block: &mut Block, err: &mut R, fault: &[u8], at: u64)
     number(block, err, at);
 }
 
-// What is said of a grid that is too long.
+/// Writes what is said of a grid whose edges sum to this total, which is too great.
 #[tactic(auto, using(text_out::specs::GatherLaws::pieces))]
-fn write_total<R: Sink>(block: &mut Block, err: &mut R, total: u128)
+pub fn write_total<R: Sink>(block: &mut Block, err: &mut R, total: u128)
     ensures { Gathers (R.state err.old) block.old (total_text total) (R.state err.new) block.new }
 {
     literal(block, err, b"the grid is too long: ");

@@ -26,7 +26,13 @@ use Rattle.judge_tools.specs.declared.judge.CheckFault.{CheckFault}
 use Rattle.judge_tools.specs.declared.judge.CheckFault.TheVariants as check_fault
 use Rattle.judge_tools.specs.Verdicts.{status_of_verdict}
 use Rattle.judge_tools.specs.Check.{Checks, EndsCheck, check_fault_text, check_fault_status}
-use Rattle.suite.specs.Requests.Request.{Solve, Check}
+use Rattle.fst_file.specs.Value.{FstValue}
+use Rattle.fst_file.specs.Text.{SpellsFstFile}
+use Rattle.tree_tools.specs.declared.fst_fault.FstFault.{FstFault}
+use Rattle.tree_tools.specs.FstFaults.{fst_fault_text, fst_fault_status}
+use Rattle.tree_tools.specs.Files.{ReadsFst, SpelledHasNoFault}
+use Rattle.tree_tools.specs.Dump.{Dumps, EndsDumpfst}
+use Rattle.suite.specs.Requests.Request.{Solve, Check, Dumpfst}
 use Rattle.suite.specs.Complete.{Completes}
 
 -- an input that lists points has no fault
@@ -73,4 +79,19 @@ check_completes name before after status ends = λ points bytes ps file lists ha
       | inl seven ↦ inr seven
       | inr (print, (qs, taken, f, checked, of_verdict), answers) ↦
           inl (zero_or_one f.verdict status (answers ∙ ap (λ (p : Print). answer_code p.status) of_verdict))
+    ]
+
+-- an input that spells a file of full trees has no fault
+dump_faultless : SpelledHasNoFault → (before after : Readable) (bytes : List ℕ) (file : FstValue) → HasInput TEXT_LIMIT before.input after.input bytes → SpellsFstFile bytes file →
+    (fault : TextFault FstFault) → FromText TEXT_LIMIT (Dumps false) before after (Err fault) → ⊥
+dump_faultless law before after bytes file has spells (text_fault.Input fault) is = input_is_taken TEXT_LIMIT before.input after.input bytes fault has is
+dump_faultless law before after bytes file has spells (text_fault.Text fault) (taken, whole, is) =
+    law bytes file fault spells (subst (λ b. ReadsFst b (Err fault)) (whole_input_is TEXT_LIMIT before.input after.input bytes taken has whole) is)
+
+pub dump_completes : SpelledHasNoFault → (before after : Outside) (status : ℕ) → EndsDumpfst before after status → Completes (Some Dumpfst) before after status
+dump_completes law before after status ends = λ bytes file has spells writes.
+    elim (complete_ends (text_fault_status fst_fault_status) (text_fault_text fst_fault_text) (codes "dumpfst") (FromText TEXT_LIMIT (Dumps false)) LeavesShelf before after status
+    (dump_faultless law before.read after.read bytes file has spells) writes ends) [
+      | inl seven ↦ inr seven
+      | inr (print, (taken, whole, (other, spelled, of_file)), answers) ↦ inl (answers ∙ ap (λ (p : Print). answer_code p.status) of_file)
     ]

@@ -8,8 +8,10 @@ use Rattle.frame.specs.Outside.{Outside}
 use Rattle.frame.specs.Complete.{HasInput, HasFile}
 use Rattle.frame.specs.Points.{ListsPoints}
 use Rattle.judge_tools.specs.declared.judge.TheConstants.{ANSWER_LIMIT}
+use Rattle.fst_file.specs.Value.{FstValue}
+use Rattle.fst_file.specs.Text.{SpellsFstFile}
 use Rattle.suite.specs.Requests.{Request}
-use Rattle.suite.specs.Requests.Request.{Solve, Check}
+use Rattle.suite.specs.Requests.Request.{Solve, Check, Dumpfst}
 
 -- no write to `out` fails
 abbrev pub IsWritable : Outside → Outside → Type 0
@@ -26,3 +28,6 @@ Completes (Some (Check name)) before after status =
     (points bytes : List ℕ) (ps : List Point) → HasFile TEXT_LIMIT before.read.shelf after.read.shelf name points → ListsPoints points ps →
     HasInput ANSWER_LIMIT before.read.input after.read.input bytes →
     IsWritable before after → ((status ≡ 0) ⊎ (status ≡ 1)) ⊎ (status ≡ NO_MEMORY)
+Completes (Some Dumpfst) before after status =
+    (bytes : List ℕ) (file : FstValue) → HasInput TEXT_LIMIT before.read.input after.read.input bytes → SpellsFstFile bytes file →
+    IsWritable before after → (status ≡ 0) ⊎ (status ≡ NO_MEMORY)

@@ -8,11 +8,13 @@ use Rattle.suite.specs.declared.request.Request.TheVariants as asked
 pub data Request : Type 0 where
   Solve : Request
   Check : (points : List ℕ) → Request
+  Dumpfst : Request
 
--- what the words ask for: `solve` alone, or `check` and a file's name
+-- what the words ask for: `solve` or `dumpfst` alone, or `check` and a file's name
 abbrev pub request_of : List (List ℕ) → Option Request
 request_of [] = None
-request_of (word ∷ []) = if bytes_eq word (codes "solve") then Some Request.Solve else None
+request_of (word ∷ []) = if bytes_eq word (codes "solve") then Some Request.Solve
+    else (if bytes_eq word (codes "dumpfst") then Some Request.Dumpfst else None)
 request_of (word ∷ name ∷ []) = if bytes_eq word (codes "check") then Some (Request.Check name) else None
 request_of (word ∷ name ∷ other ∷ more) = None
 
@@ -20,3 +22,4 @@ request_of (word ∷ name ∷ other ∷ more) = None
 abbrev pub meaning : Asked → Request
 meaning asked.Solve = Request.Solve
 meaning (asked.Check points) = Request.Check points.now
+meaning asked.Dumpfst = Request.Dumpfst

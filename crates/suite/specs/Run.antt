@@ -5,12 +5,13 @@ use Rattle.frame.specs.Outside.{Outside}
 use Rattle.frame.specs.Ends.{Reports}
 use Rattle.search_tools.specs.Solve.{EndsSolve}
 use Rattle.judge_tools.specs.Check.{EndsCheck}
+use Rattle.tree_tools.specs.Dump.{EndsDumpfst}
 use Rattle.suite.specs.Requests.{Request}
-use Rattle.suite.specs.Requests.Request.{Solve, Check}
+use Rattle.suite.specs.Requests.Request.{Solve, Check, Dumpfst}
 
 -- the text on `err` where the words ask for nothing
 abbrev pub usage_line : List ℕ
-usage_line = codes "usage: rst solve|check [WORDS]\n"
+usage_line = codes "usage: rst solve|check|dumpfst [WORDS]\n"
 
 -- The words ask for no tool: nothing is read or printed.
 pub record IsMisused (before after : Outside) (status : ℕ) : Type 0 where
@@ -24,3 +25,4 @@ abbrev pub IsRun : Option Request → Outside → Outside → ℕ → Type 0
 IsRun None before after status = IsMisused before after status
 IsRun (Some Solve) before after status = EndsSolve before after status
 IsRun (Some (Check points)) before after status = EndsCheck points before after status
+IsRun (Some Dumpfst) before after status = EndsDumpfst before after status

@@ -13,6 +13,7 @@ use judge_tools::check;
 use rst_outside::{Shelf, Sink, Source};
 use search_tools::solve;
 use std::alloc::Global;
+use tree_tools::{dumpfst, spelled_has_no_fault};
 
 /// Runs the tool that the words after the program's name ask for, and gives the status that the program ends with.
 ///
@@ -42,8 +43,12 @@ pub fn run<I: Source, O: Sink, R: Sink, S: Shelf>(
     match request_in(words) {
         Some(Request::Solve) => solve(alloc, input, out, err),
         Some(Request::Check { points }) => check(alloc, points, input, out, err, shelf),
+        Some(Request::Dumpfst) => {
+            spelled_has_no_fault();
+            dumpfst(alloc, input, out, err)
+        }
         None => {
-            report(err, b"usage: rst solve|check [WORDS]\n");
+            report(err, b"usage: rst solve|check|dumpfst [WORDS]\n");
             MISUSED
         }
     }

@@ -10,14 +10,17 @@ pub enum Request<'a> {
     Solve,
     /// Judges an answer for the points of the file of this name.
     Check { points: &'a str },
+    /// Reads a file of full trees and prints a line for each of them.
+    Dumpfst,
 }
 
-/// What the words ask for: `solve` alone, or `check` and the name of a file. None where they are any others.
+/// What the words ask for: `solve` or `dumpfst` alone, or `check` and the name of a file. None where they are any others.
 pub fn request_in(words: &[String]) -> Option<Request<'_>>
     ensures { option_map meaning result ≡ request_of (map string_bytes words.now) }
 {
     match words {
         [word] if word.as_str() == "solve" => Some(Request::Solve),
+        [word] if word.as_str() == "dumpfst" => Some(Request::Dumpfst),
         [word, points] if word.as_str() == "check" => Some(Request::Check {
             points: points.as_str(),
         }),

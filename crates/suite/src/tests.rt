@@ -22,6 +22,9 @@ const POINTS: &[u8] = b"0 0\n2 0\n1 1\n";
 const ANSWER: &[u8] =
     b"rst answer 1\nlength 4\nbound 3\nstatus stopped\nopenings 100\nconcat spent 4\nedges 4\n0 0 1 0\n1 0 2 0\n0 1 1 1\n0 0 0 1\ntree\nleaf 3\ncut 1 20\ncut 1 08\ncut 1 64\nend\n";
 
+/// A file of one full tree.
+const FILE: &[u8] = b"rst fst 1\npoints 2\n0 0\n2 0\ntrees 1\n2 long 0 E 1 -\nend\n";
+
 /// Runs the program on words and an input, over a shelf with the one file `P` of these points.
 fn ran(rt: &HostRuntime, words: &[&str], input: &[u8]) -> Result<Outcome, Fail> {
     let alloc = rt.alloc();
@@ -55,7 +58,7 @@ fn ran(rt: &HostRuntime, words: &[&str], input: &[u8]) -> Result<Outcome, Fail> 
 
 #[test]
 fn runs_each_tool(rt: HostRuntime) -> Result<(), Fail> {
-    let rows: [(&[&str], &[u8], u8, &[u8], &[u8]); 4] = [
+    let rows: [(&[&str], &[u8], u8, &[u8], &[u8]); 5] = [
         (&["solve"], POINTS, 3, ANSWER, b""),
         (
             &["check", "P"],
@@ -71,7 +74,14 @@ fn runs_each_tool(rt: HostRuntime) -> Result<(), Fail> {
             b"",
             b"rst: solve: a coordinate is missing\n",
         ),
-        (&["fly"], b"", 2, b"", b"usage: rst solve|check [WORDS]\n"),
+        (&["dumpfst"], FILE, 0, b"0 1 length 2\n", b""),
+        (
+            &["fly"],
+            b"",
+            2,
+            b"",
+            b"usage: rst solve|check|dumpfst [WORDS]\n",
+        ),
     ];
     for (words, input, status, out, err) in rows {
         let left = ran(&rt, words, input)?;
