@@ -1,5 +1,5 @@
 -- A run that nothing troubles ends with an answer, or memory was wanting.
-use Rattle.std.proofs.Common.{ℕ, ◌≡◌, List, codes, Some, Err, ◌⊎◌, inl, inr, subst, ap, ◌∙◌}
+use Rattle.std.proofs.Common.{ℕ, ◌≡◌, List, codes, Some, Err, ◌⊎◌, inl, inr, subst, ap, ◌∙◌, false}
 use Rattle.std.proofs.lemmas.Bool.Decides.{eqb_tells}
 use Rattle.points_in.specs.declared.point.Point.{Point}
 use Rattle.net_graph.specs.Network.{length_of}

@@ -1,12 +1,10 @@
 -- From the file that was read to the list that is printed.
-use Rattle.std.proofs.Common.{ℕ, ◌≡◌, Bool, List, Result, Ok, Err, IfOk, refl, subst, ap, sym}
-use Rattle.points_in.specs.declared.point.Point.{Point}
+use Rattle.std.proofs.Common.{Bool, Result, Ok, Err, IfOk, ap}
 use Rattle.frame.specs.declared.take.TheConstants.{TEXT_LIMIT}
-use Rattle.frame.specs.declared.status.AnswerStatus.TheVariants.{Done}
 use Rattle.frame.specs.declared.text_fault.TextFault.{TextFault}
 use Rattle.frame.specs.declared.text_fault.TextFault.TheVariants.{Input, Text}
 use Rattle.frame.specs.Outside.{Readable}
-use Rattle.frame.specs.Ends.{Print, print_of}
+use Rattle.frame.specs.Ends.{print_of}
 use Rattle.frame.specs.FromText.{FromText}
 use Rattle.tree_tools.specs.declared.fst_fault.FstFault.{FstFault}
 use Rattle.tree_tools.specs.declared.listing.Listing.{Listing}

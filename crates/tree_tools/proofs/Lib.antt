@@ -1,1 +1,2 @@
 pub mod DumpLaws
+pub mod FaultLaws

@@ -3,7 +3,6 @@ use Rattle.std.specs.Prelude.{ℕ, ◌≡◌, Bool, false, List, codes, Result, 
 use Rattle.fst_file.specs.Value.{FstValue}
 use Rattle.fst_file.specs.Text.{SpellsFstFile}
 use Rattle.dump_plot.specs.Trees.{tree_list_text}
-use Rattle.frame.specs.declared.status.AnswerStatus.{AnswerStatus}
 use Rattle.frame.specs.declared.status.AnswerStatus.TheVariants.{Done}
 use Rattle.frame.specs.declared.take.TheConstants.{TEXT_LIMIT}
 use Rattle.frame.specs.Outside.{Outside}

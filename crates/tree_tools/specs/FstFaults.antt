@@ -12,7 +12,8 @@ line_text line said = codes "line " ++ decimal line ++ said
 
 -- what is said of a line with another length than the tree's
 abbrev pub length_text : ℕ → ℕ → ℕ → List ℕ
-length_text line printed found = line_text line (codes " says length ") ++ decimal printed ++ codes ", found " ++ decimal found
+length_text line printed found =
+    codes "line " ++ decimal line ++ codes " says length " ++ decimal printed ++ codes ", found " ++ decimal found
 
 abbrev pub fst_fault_text : FstFault → List ℕ
 fst_fault_text (BadLine line) = line_text line (codes " is not in the format")

@@ -5,7 +5,6 @@ use Rattle.frame.specs.declared.status.AnswerStatus.{AnswerStatus}
 use Rattle.frame.specs.declared.status.AnswerStatus.TheVariants.{Done}
 use Rattle.frame.specs.declared.take.TheConstants.{TEXT_LIMIT}
 use Rattle.frame.specs.declared.text_fault.TextFault.{TextFault}
-use Rattle.frame.specs.declared.text_fault.TextFault.TheVariants.{Input, Text}
 use Rattle.frame.specs.Outside.{Readable}
 use Rattle.frame.specs.FromText.{FromText}
 use Rattle.tree_tools.specs.declared.fst_fault.FstFault.{FstFault}

@@ -80,7 +80,9 @@ fn write_line<R: Sink>(block: &mut Block, err: &mut R, line: u64, said: &[u8])
 fn write_length<R: Sink>(block: &mut Block, err: &mut R, line: u64, printed: u64, found: u64)
     ensures { Gathers (R.state err.old) block.old (length_text line printed found) (R.state err.new) block.new }
 {
-    write_line(block, err, line, b" says length ");
+    literal(block, err, b"line ");
+    number(block, err, line);
+    literal(block, err, b" says length ");
     number(block, err, printed);
     literal(block, err, b", found ");
     number(block, err, found);

@@ -1,4 +1,4 @@
-use Rattle.std.proofs.Common.{false, refl, codes, IfOk}
+use Rattle.std.proofs.Common.{false, refl, codes}
 use Rattle.frame.specs.declared.take.TheConstants.{TEXT_LIMIT}
 use Rattle.frame.specs.Outside.{outside, readable}
 use Rattle.frame.specs.EndLaws.{ends_with}
@@ -7,7 +7,7 @@ use Rattle.frame.specs.FromText.{FromText}
 use Rattle.frame.specs.Leaves.{LeavesShelf}
 use Rattle.tree_tools.specs.Dump.{Dumps}
 use Rattle.tree_tools.specs.FstFaults.{fst_fault_text, fst_fault_status}
-use Rattle.tree_tools.specs.Listing.{FindsListing, listing_text, listing_status}
+use Rattle.tree_tools.specs.Listing.{listing_text, listing_status}
 use Rattle.tree_tools.proofs.DumpLaws.{found_or_not}
 use Rattle.tree_tools.proofs.dump.dumpfst.Goals as goal
 
