@@ -55,8 +55,9 @@ mod tests {
         };
         assert!(rt; in_form(&grid, &code));
         let set = embed(rt.alloc(), &grid, &code)?;
-        let held: Vec<u32> = (0..set.len()).filter(|e| set.has(*e)).collect(rt.alloc())?;
-        assert_eq!(rt; held.as_slice(), [2, 3, 7, 10].as_slice());
+        for e in 0..set.len() {
+            assert_eq!(rt; set.has(e), [2, 3, 7, 10].contains(&e));
+        }
         Ok(())
     }
 }
