@@ -1,4 +1,3 @@
-pub mod Members
 pub mod Signs
 pub mod FormTests
 pub mod Meets
@@ -7,3 +6,6 @@ pub mod Joins
 pub mod Lengths
 pub mod Nth
 pub mod Embeds
+pub mod Passing
+pub mod Spine
+pub mod Clear

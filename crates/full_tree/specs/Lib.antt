@@ -6,3 +6,8 @@ pub mod Order
 pub mod Joined
 pub mod Embedded
 pub mod OrderLaws
+pub mod MembersLaws
+pub mod Stations
+pub mod StationsLaws
+pub mod LongLaws
+pub mod Passing

@@ -103,8 +103,8 @@ fn has_long_shape(
         }
 }
 
-// Whether the drops and the tip lie ahead of the root, each further than the one before it.
-fn goes_forward(points: &[Point], root: u8, toward: Way, drops: &[u8], tip: u8) -> bool
+/// Whether the drops and the tip lie ahead of the root, each further than the one before it.
+pub fn goes_forward(points: &[Point], root: u8, toward: Way, drops: &[u8], tip: u8) -> bool
     requires root { root < length points.now }
     requires drops { All (λ k. k < length points.now) drops.now }
     requires tip { tip < length points.now }
@@ -122,9 +122,9 @@ fn goes_forward(points: &[Point], root: u8, toward: Way, drops: &[u8], tip: u8) 
     along_order(toward, before, point_at(points, tip)).is_lt()
 }
 
-// Whether the drops lie beside the long leg, on its two sides in turn, and the last one across from the
-// tip where there is a short leg.
-fn lie_in_turn(points: &[Point], root: u8, toward: Way, drops: &[u8], tip: u8) -> bool
+/// Whether the drops lie beside the long leg, on its two sides in turn, and the last one across from the
+/// tip where there is a short leg.
+pub fn lie_in_turn(points: &[Point], root: u8, toward: Way, drops: &[u8], tip: u8) -> bool
     requires root { root < length points.now }
     requires drops { All (λ k. k < length points.now) drops.now }
     requires tip { tip < length points.now }
@@ -143,8 +143,8 @@ fn lie_in_turn(points: &[Point], root: u8, toward: Way, drops: &[u8], tip: u8) -
     turn.is_eq() || turn != before
 }
 
-// Whether a side hangs on the short leg to the tip.
-fn is_on_short_leg(points: &[Point], root: u8, toward: Way, tip: u8, side: u8) -> bool
+/// Whether a side hangs on the short leg to the tip.
+pub fn is_on_short_leg(points: &[Point], root: u8, toward: Way, tip: u8, side: u8) -> bool
     requires root { root < length points.now }
     requires tip { tip < length points.now }
     requires side { side < length points.now }
@@ -169,8 +169,8 @@ fn is_cross(west: Point, south: Point, east: Point, north: Point) -> bool
     go_right(west, south, east) && go_up(south, west, north)
 }
 
-// Whether two points lie on a horizontal line.
-fn are_level(p: Point, q: Point) -> bool
+/// Whether two points lie on a horizontal line.
+pub fn are_level(p: Point, q: Point) -> bool
     ensures { IsTrue result ↔ (p.y ≡ q.y) }
 {
     p.y == q.y
@@ -183,8 +183,8 @@ fn are_upright(p: Point, q: Point) -> bool
     p.x == q.x
 }
 
-// Whether each of three points lies to the right of the one before it.
-fn go_right(p: Point, q: Point, r: Point) -> bool
+/// Whether each of three points lies to the right of the one before it.
+pub fn go_right(p: Point, q: Point, r: Point) -> bool
     ensures { IsTrue result ↔ ((p.x <ℤ q.x) × (q.x <ℤ r.x)) }
 {
     p.x < q.x && q.x < r.x

@@ -270,8 +270,8 @@ fn side_piece(points: &[Point], root: u8, toward: Way, tip: u8, side: u8) -> Pie
     }
 }
 
-// The point of the long leg beside a terminal.
-fn foot(points: &[Point], root: u8, toward: Way, place: u8) -> Point
+/// The point of the long leg beside a terminal.
+pub fn foot(points: &[Point], root: u8, toward: Way, place: u8) -> Point
     requires root { root < length points.now }
     requires place { place < length points.now }
     ensures { result ≡ foot points.now root toward place }
@@ -279,8 +279,8 @@ fn foot(points: &[Point], root: u8, toward: Way, place: u8) -> Point
     meeting_point(toward, point_at(points, place), point_at(points, root))
 }
 
-// The point of the short leg to the tip beside a terminal.
-fn side_foot(points: &[Point], root: u8, toward: Way, tip: u8, place: u8) -> Point
+/// The point of the short leg to the tip beside a terminal.
+pub fn side_foot(points: &[Point], root: u8, toward: Way, tip: u8, place: u8) -> Point
     requires root { root < length points.now }
     requires tip { tip < length points.now }
     requires place { place < length points.now }

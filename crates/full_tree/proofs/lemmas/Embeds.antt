@@ -23,7 +23,7 @@ use Rattle.full_tree.specs.Code.{named_places, members_of}
 use Rattle.full_tree.specs.Pieces.{pieces_of, length_of_piece}
 use Rattle.full_tree.specs.Joined.{IsStraight, IsOnGrid, GrowsFrom, HangsTogether, ends_of, JoinsMembers}
 use Rattle.full_tree.specs.Embedded.{IsOnPiece, terminal_vertex, member_vertices, Embeds}
-use Rattle.full_tree.proofs.lemmas.Members.{Contains-from_ascending_places}
+use Rattle.full_tree.specs.MembersLaws.{Contains-from_ascending_places}
 
 -- ---- how they add up
 

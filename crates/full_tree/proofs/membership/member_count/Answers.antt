@@ -1,6 +1,6 @@
 use Rattle.std.proofs.Common.{◌∙◌, sym}
 use Rattle.full_tree.specs.Code.{named_places}
-use Rattle.full_tree.proofs.lemmas.Members.{length-ascending_places}
+use Rattle.full_tree.specs.MembersLaws.{length-ascending_places}
 use Rattle.full_tree.proofs.membership.member_count.Goals as goal
 
 pub returns : goal.returns

@@ -1,5 +1,5 @@
 use Rattle.full_tree.specs.Code.{named_places}
-use Rattle.full_tree.proofs.lemmas.Members.{ascending_places_from_sort}
+use Rattle.full_tree.specs.MembersLaws.{ascending_places_from_sort}
 use Rattle.full_tree.proofs.membership.sorted.Goals as goal
 
 pub returns : goal.returns

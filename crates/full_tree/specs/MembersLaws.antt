@@ -174,7 +174,7 @@ same_rest p q r ps qs same climbs into member = elim (Contains-cases q r qs (int
   | inr later ↦ later
 ]
 
-same_from_members : (ps qs : List ℕ) → Climbs ps → Climbs qs → ((r : ℕ) → Contains ps r → Contains qs r) → ((r : ℕ) → Contains qs r → Contains ps r) → ps ≡ qs
+pub same_from_members : (ps qs : List ℕ) → Climbs ps → Climbs qs → ((r : ℕ) → Contains ps r → Contains qs r) → ((r : ℕ) → Contains qs r → Contains ps r) → ps ≡ qs
 same_from_members [] [] climbs climbs' into back = refl
 same_from_members [] (q ∷ qs) climbs climbs' into back = Contains-none q (back q (Contains-first q qs))
 same_from_members (p ∷ ps) [] climbs climbs' into back = Contains-none p (into p (Contains-first p ps))
