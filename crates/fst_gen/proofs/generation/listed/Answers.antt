@@ -1,0 +1,15 @@
+use Rattle.fst_gen.proofs.lemmas.Listing.{few_of_values, listed_trees, listed_few}
+use Rattle.fst_gen.proofs.generation.listed.Goals as goal
+
+pub gathered-requires : goal.gathered-requires
+gathered-requires c = few_of_values c.args.grid.now c.args.most c.args.trees c.requires.store c.len-kept.ensures.ordered
+
+pub returns-clause-trees : goal.returns-clause-trees
+returns-clause-trees c = listed_trees c.args.grid.now c.args.most c.args.trees c.requires.store c.len-kept.ensures.ordered
+    c.in_ok-list.list.items c.put_in_order.new.list.items c.in_ok-list.ensures c.put_in_order.ensures.permutation c.put_in_order.ensures.sorted
+    c.freed.result c.freed.ensures c.requires.covers
+
+pub returns-clause-few : goal.returns-clause-few
+returns-clause-few c = listed_few c.args.grid.now c.args.most c.args.trees c.requires.store c.len-kept.ensures.ordered
+    c.in_ok-list.list.items c.put_in_order.new.list.items c.in_ok-list.ensures c.put_in_order.ensures.permutation c.put_in_order.ensures.sorted
+    c.freed.result c.freed.ensures

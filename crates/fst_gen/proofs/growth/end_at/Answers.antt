@@ -1,0 +1,12 @@
+use Rattle.std.proofs.Common.{◌∙◌}
+use Rattle.fst_gen.proofs.lemmas.Steps.{EndsAt-far, EndsAt-both}
+use Rattle.fst_gen.proofs.growth.end_at.Goals as goal
+
+pub returns-then-not-is_near : goal.returns-then-not-is_near
+returns-then-not-is_near c = EndsAt-far c.args.grid.now c.as_slice.result.now c.args.most c.args.prefix.now c.args.tip c.args.trees.now
+    (c.as_slice.ensures ∙ c.points.ensures) c.requires.prefix c.requires.store
+    (λ near. let no = c.if-not-is_near.ensures.1 near in cc)
+
+pub returns : goal.returns
+returns c = EndsAt-both c.args.grid.now c.args.most c.args.prefix.now.root c.args.prefix.now.toward c.args.prefix.now.drops
+    c.args.tip c.code_of.result c.args.trees.now c.try_code.new.trees _ c.hang_sides.result c.code_of.ensures c.in_ok-try_code.ensures c.hang_sides.ensures

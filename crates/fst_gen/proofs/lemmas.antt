@@ -1,0 +1,4 @@
+pub mod Kept
+pub mod Tries
+pub mod Steps
+pub mod Listing

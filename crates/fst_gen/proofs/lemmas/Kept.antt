@@ -1,0 +1,94 @@
+-- A tree put in if it is the least under its word, and words of sets.
+use Rattle.std.proofs.Common.{ℕ, ◌≡◌, ◌+◌, ◌*◌, ◌^◌, ◌%◌, ◌<◌, Bool, List, [], ◌∷◌, ◌++◌, length, take, get_or, refl, ap, sym, subst, ◌∙◌, arith, inl, inr, ⊎_elim}
+use Rattle.std.specs.Prelude.{◌≢◌, Some, bit_or, Contains}
+use Rattle.std.specs.Bool.{MatchBool}
+use Rattle.std.specs.declared.cmp.Ordering.{Ordering}
+use Rattle.std.specs.declared.cmp.Ordering.TheVariants.{Less, Equal, Greater}
+use Rattle.std.specs.Int.{bit_at}
+use Rattle.std.specs.Ordering.{nat_cmp, is_lt, is_gt, ordering_reverse}
+use Rattle.std.specs.BTreeMap.{BTreeMap, get, Updates}
+use Rattle.std.proofs.lemmas.Bool.{cases_eq}
+use Rattle.std.proofs.lemmas.Bool.Decides.{nat_tests}
+use Rattle.std.proofs.lemmas.Cmp.{tied_itself}
+use Rattle.std.proofs.lemmas.List.{take_more}
+use Rattle.std.proofs.lemmas.List.Elements.{Contains-append_left, Contains-push, Contains-push_cases}
+use Rattle.std.proofs.lemmas.Nat.Bits.{bit_at_set_same, bit_at_set_other}
+use mir.Syntax.{w64}
+use Rattle.full_tree.specs.declared.code.Tree.{Tree}
+use Rattle.full_tree.specs.Code.{members_of}
+use Rattle.full_tree.specs.Order.{tree_cmp}
+use Rattle.full_tree.specs.OrderLaws.{tree_cmp_total}
+use Rattle.fst_gen.specs.Trees.{IsNotAfter}
+use Rattle.fst_gen.specs.Word.{IsWordOf}
+use Rattle.fst_gen.specs.Kept.{IsBetter, IsWorse, PutsLeast}
+
+-- one place more
+pub IsWordOf-more : (word : ℕ) (xs : List ℕ) (i : ℕ) → i < length xs → get_or xs i 0 < 64 → IsWordOf word (take i xs)
+    → IsWordOf (bit_or word (1 * 2 ^ get_or xs i 0 % 18446744073709551616)) (take (i + 1) xs)
+IsWordOf-more word xs i inside small is =
+    let x = get_or xs i 0 in
+    let new = bit_or word (1 * 2 ^ x % 18446744073709551616) in
+    let here : bit_at new x ≡ 1 = bit_at_set_same w64 word x small in
+    let other : (q : ℕ) → q ≢ x → bit_at new q ≡ bit_at word q = λ q apart. bit_at_set_other w64 word x small q apart in
+    subst (λ zs. IsWordOf new zs) (sym (take_more xs i 0 inside)) record {
+      has = λ q member. ⊎_elim
+          (λ (same : q ≡ x). subst (λ r. bit_at new r ≡ 1) (sym same) here)
+          (λ (apart : q ≡ x → ⊥). other q apart ∙ ⊎_elim
+          (λ (old : Contains (take i xs) q). is.has q old)
+          (λ (same : x ≡ q). absurd (apart (sym same)))
+          (Contains-push_cases (take i xs) x q member))
+          (cases_eq q x);
+      only = λ q one. ⊎_elim
+          (λ (same : q ≡ x). subst (λ r. Contains (take i xs ++ x ∷ []) r) (sym same) (Contains-push (take i xs) x))
+          (λ (apart : q ≡ x → ⊥). Contains-append_left (take i xs) (x ∷ []) q (is.only q (sym (other q apart) ∙ one)))
+          (cases_eq q x);
+    }
+
+some_same : (x y : Tree) → Some x ≡ Some y → x ≡ y
+some_same x y e = cc
+
+-- a tree isn't after itself
+pub IsNotAfter-refl : (tree : Tree) → IsNotAfter tree tree
+IsNotAfter-refl tree = ap is_gt (tied_itself tree_cmp_total tree)
+
+IsNotAfter-less : (a b : Tree) → tree_cmp a b ≡ Less → IsNotAfter a b
+IsNotAfter-less a b less = ap is_gt less
+
+-- what the order of a tree and the stored one tells
+pub told_by_order : (tree old : Tree) (trees : BTreeMap ℕ Tree) (word : ℕ) (b : Bool) (o : Ordering)
+    → b ≡ is_lt o → o ≡ tree_cmp tree old → get nat_cmp trees word ≡ Some old
+    → MatchBool b (IsBetter tree trees word) (IsWorse tree trees word)
+told_by_order tree old trees word b Less tells is at = subst (λ v. MatchBool v (IsBetter tree trees word) (IsWorse tree trees word)) (sym tells)
+    (λ other there. subst (λ t. tree_cmp tree t ≡ Less) (some_same _ _ (sym at ∙ there)) (sym is))
+told_by_order tree old trees word b Equal tells is at = subst (λ v. MatchBool v (IsBetter tree trees word) (IsWorse tree trees word)) (sym tells)
+    (old, at, ap is_gt (tree_cmp_total.antisymm old tree ∙ ap ordering_reverse (sym is)))
+told_by_order tree old trees word b Greater tells is at = subst (λ v. MatchBool v (IsBetter tree trees word) (IsWorse tree trees word)) (sym tells)
+    (old, at, ap is_gt (tree_cmp_total.antisymm old tree ∙ ap ordering_reverse (sym is)))
+
+-- nothing is put in
+pub PutsLeast-worse : (tree : Tree) (trees : BTreeMap ℕ Tree) (word : ℕ) → IsWordOf word (members_of tree.code) → IsWorse tree trees word
+    → PutsLeast tree trees trees
+PutsLeast-worse tree trees word is (old, at, after) = record {
+  word = word;
+  word_is = is;
+  kept = old;
+  here = at;
+  either = inr at;
+  least = after;
+  no_worse = λ was there. subst (λ t. IsNotAfter old t) (some_same _ _ (sym at ∙ there)) (IsNotAfter-refl old);
+  others = λ q apart. refl;
+}
+
+-- the tree is put in
+pub PutsLeast-better : (tree : Tree) (old new : BTreeMap ℕ Tree) (word : ℕ) → IsWordOf word (members_of tree.code) → IsBetter tree old word
+    → Updates nat_cmp old new word (Some tree) → PutsLeast tree old new
+PutsLeast-better tree old new word is better updates = record {
+  word = word;
+  word_is = is;
+  kept = tree;
+  here = updates.1;
+  either = inl refl;
+  least = IsNotAfter-refl tree;
+  no_worse = λ was there. IsNotAfter-less tree was (better was there);
+  others = λ q apart. updates.2 q (grind (arith, nat_tests));
+}

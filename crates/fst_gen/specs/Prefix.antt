@@ -1,0 +1,67 @@
+-- The beginnings of long codes: a root, a direction and the first drops.
+use Rattle.std.specs.Prelude.{ℕ, ◌≡◌, ◌+◌, ◌<◌, ◌≤◌, pos, List, [], ◌∷◌, ◌++◌, length, map, All, Option, Some}
+use Rattle.points_in.specs.declared.point.Point.{Point}
+use Rattle.full_tree.specs.declared.way.Way.{Way}
+use Rattle.full_tree.specs.declared.code.TreeCode.{TreeCode}
+use Rattle.full_tree.specs.declared.code.TreeCode.TheVariants.{Long}
+use Rattle.full_tree.specs.Geometry.{point_at, RisesFrom}
+use Rattle.full_tree.specs.Form.{along_of, LieInTurn}
+use Rattle.full_tree.specs.Stations.{first_stations, last_foot}
+use Rattle.full_tree.specs.Passing.{Passes, KeepsUpTo}
+use Rattle.fst_gen.specs.declared.prefix.Prefix.{Prefix}
+
+-- the last drop, or the root where there is none
+abbrev pub last_member : ℕ → List ℕ → ℕ
+last_member root [] = root
+last_member root (d ∷ ds) = last_member d ds
+
+-- what is kept beside a root, a direction and drops is so
+pub record IsPrefix (ps : List Point) (prefix : Prefix) : Type 0 where
+  pub root_in : prefix.root < length ps
+  pub drops_in : All (λ k. k < length ps) prefix.drops
+  pub few : length prefix.drops ≤ 6
+  pub last_in : prefix.last < length ps
+  pub last_is : prefix.last ≡ last_member prefix.root prefix.drops
+  pub foot_is : prefix.foot ≡ last_foot ps prefix.root prefix.toward (point_at ps prefix.root) prefix.drops
+  pub stations_are : prefix.stations ≡ first_stations ps prefix.root prefix.toward prefix.drops
+
+module _ (root : ℕ) (toward : Way) (drops : List ℕ) where
+  -- the code begins with this root, this direction and these drops
+  abbrev pub HasPrefix : TreeCode → Type 0
+  HasPrefix code = (more : List ℕ) × (side : Option ℕ) × (tip : ℕ) × (code ≡ Long root toward (drops ++ more) side tip)
+
+  -- .. and has no further drop, with this tip
+  abbrev pub EndsAt : ℕ → TreeCode → Type 0
+  EndsAt tip code = (side : Option ℕ) × (code ≡ Long root toward drops side tip)
+
+  abbrev pub EndsBelow : ℕ → TreeCode → Type 0
+  EndsBelow n code = (tip : ℕ) × (tip < n) × EndsAt tip code
+
+  -- .. and with a side
+  abbrev pub IsHung : ℕ → ℕ → TreeCode → Type 0
+  IsHung side tip code = code ≡ Long root toward drops (Some side) tip
+
+  abbrev pub HangsBelow : ℕ → ℕ → TreeCode → Type 0
+  HangsBelow tip n code = (side : ℕ) × (side < n) × IsHung side tip code
+
+-- the code begins so, and has a further drop, which is below n
+abbrev pub ContinuesBelow : ℕ → Way → List ℕ → ℕ → TreeCode → Type 0
+ContinuesBelow root toward drops n code = (d : ℕ) × (d < n) × HasPrefix root toward (drops ++ d ∷ []) code
+
+-- What a further drop must meet, by the root and the drops so far alone: it lies ahead of them, and
+-- across from the last drop or on the long leg itself; and it and each earlier member keep their bottleneck.
+pub record MayFollow (ps : List Point) (root : ℕ) (toward : Way) (drops : List ℕ) (d : ℕ) : Type 0 where
+  pub ahead : RisesFrom (pos 0) (map (along_of ps root toward) (drops ++ d ∷ []))
+  pub sides : LieInTurn ps root toward drops d
+  pub keeps : KeepsUpTo ps (first_stations ps root toward (drops ++ d ∷ [])) (length drops + 1)
+
+-- no code of this kind passes
+abbrev pub NonePasses : List Point → (TreeCode → Type 0) → Type 0
+NonePasses ps Kind = (code : TreeCode) → Kind code → Passes ps code → ⊥
+
+-- a beginning with one drop more than another
+pub record IsLongerBy (ps : List Point) (prefix : Prefix) (d : ℕ) (longer : Prefix) : Type 0 where
+  pub is_prefix : IsPrefix ps longer
+  pub root : longer.root ≡ prefix.root
+  pub toward : longer.toward ≡ prefix.toward
+  pub drops : longer.drops ≡ prefix.drops ++ d ∷ []

@@ -1,0 +1,17 @@
+//! Generation of full Steiner trees of terminals.
+#![tactic(auto)]
+
+mod begin;
+mod crosses;
+mod fault;
+mod generation;
+mod growth;
+mod listed;
+mod listing;
+mod prefix;
+mod store;
+mod tries;
+mod word;
+
+pub use fault::GenFault;
+pub use generation::generate;
