@@ -11,3 +11,4 @@ pub mod Stations
 pub mod StationsLaws
 pub mod LongLaws
 pub mod Passing
+pub mod LengthBound

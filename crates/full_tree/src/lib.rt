@@ -5,6 +5,7 @@
 mod code;
 mod embedding;
 mod form;
+mod length_laws;
 mod membership;
 mod order;
 mod order_laws;
@@ -20,6 +21,7 @@ mod way;
 pub use code::{Tree, TreeCode, TreeList};
 pub use embedding::embed;
 pub use form::{are_level, go_right, goes_forward, in_form, is_on_short_leg, lie_in_turn};
+pub use length_laws::lengths_are_within_the_grid;
 pub use membership::{member, member_count, members};
 pub use order::{code_order, tree_order};
 pub use order_laws::{code_order_is_total, file_order_is_total};

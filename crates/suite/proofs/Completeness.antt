@@ -32,7 +32,13 @@ use Rattle.tree_tools.specs.declared.fst_fault.FstFault.{FstFault}
 use Rattle.tree_tools.specs.FstFaults.{fst_fault_text, fst_fault_status}
 use Rattle.tree_tools.specs.Files.{ReadsFst, SpelledHasNoFault}
 use Rattle.tree_tools.specs.Dump.{Dumps, EndsDumpfst}
-use Rattle.suite.specs.Requests.Request.{Solve, Check, Dumpfst}
+use Rattle.points_in.specs.FaultLaws.{one_list}
+use Rattle.points_in.specs.Terminals.{terminals_of}
+use Rattle.fst_gen.specs.Trees.{HasMoreSets}
+use Rattle.tree_tools.specs.declared.generation.GenerationFault.{GenerationFault}
+use Rattle.tree_tools.specs.declared.generation.GenerationFault.TheVariants as generation_fault
+use Rattle.tree_tools.specs.Generation.{GeneratesFile, EndsRfst, most_members, generation_fault_text, generation_fault_status}
+use Rattle.suite.specs.Requests.Request.{Rfst, Solve, Check, Dumpfst}
 use Rattle.suite.specs.Complete.{Completes}
 
 -- an input that lists points has no fault
@@ -94,4 +100,29 @@ dump_completes law before after status ends = λ bytes file has spells writes.
     (dump_faultless law before.read after.read bytes file has spells) writes ends) [
       | inl seven ↦ inr seven
       | inr (print, (taken, whole, (other, spelled, of_file)), answers) ↦ inl (answers ∙ ap (λ (p : Print). answer_code p.status) of_file)
+    ]
+
+-- bytes that list points with no more trees than a file holds have no fault
+file_has_no_fault : (bytes : List ℕ) (ps : List Point) → ListsPoints bytes ps → ¬ HasMoreSets (terminals_of ps) most_members 20000 →
+    (fault : GenerationFault) → GeneratesFile most_members bytes (Err fault) → ⊥
+file_has_no_fault bytes ps lists few (generation_fault.List fault) is = lists_points_faultless bytes ps fault lists is
+file_has_no_fault bytes ps lists few generation_fault.TooManyTrees (qs, other, more) =
+    few (subst (λ rs. HasMoreSets (terminals_of rs) most_members 20000) (one_list bytes qs ps other.text lists.text) more)
+
+-- an input of such bytes has none
+rfst_faultless : (before after : Readable) (bytes : List ℕ) (ps : List Point) → HasInput TEXT_LIMIT before.input after.input bytes → ListsPoints bytes ps →
+    ¬ HasMoreSets (terminals_of ps) most_members 20000 →
+    (fault : TextFault GenerationFault) → FromText TEXT_LIMIT (GeneratesFile most_members) before after (Err fault) → ⊥
+rfst_faultless before after bytes ps has lists few (text_fault.Input fault) is = input_is_taken TEXT_LIMIT before.input after.input bytes fault has is
+rfst_faultless before after bytes ps has lists few (text_fault.Text fault) (taken, whole, is) =
+    file_has_no_fault bytes ps lists few fault
+    (subst (λ b. GeneratesFile most_members b (Err fault)) (whole_input_is TEXT_LIMIT before.input after.input bytes taken has whole) is)
+
+pub rfst_completes : (before after : Outside) (status : ℕ) → EndsRfst before after status → Completes (Some Rfst) before after status
+rfst_completes before after status ends = λ bytes ps has lists few writes.
+    elim (complete_ends (text_fault_status generation_fault_status) (text_fault_text generation_fault_text) (codes "rfst")
+    (FromText TEXT_LIMIT (GeneratesFile most_members)) LeavesShelf before after status
+    (rfst_faultless before.read after.read bytes ps has lists few) writes ends) [
+      | inl seven ↦ inr seven
+      | inr (print, (taken, whole, (qs, trees, listed, are, of_file)), answers) ↦ inl (answers ∙ ap (λ (p : Print). answer_code p.status) of_file)
     ]

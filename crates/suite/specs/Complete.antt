@@ -8,10 +8,13 @@ use Rattle.frame.specs.Outside.{Outside}
 use Rattle.frame.specs.Complete.{HasInput, HasFile}
 use Rattle.frame.specs.Points.{ListsPoints}
 use Rattle.judge_tools.specs.declared.judge.TheConstants.{ANSWER_LIMIT}
+use Rattle.points_in.specs.Terminals.{terminals_of}
+use Rattle.fst_gen.specs.Trees.{HasMoreSets}
+use Rattle.tree_tools.specs.Generation.{most_members}
 use Rattle.fst_file.specs.Value.{FstValue}
 use Rattle.fst_file.specs.Text.{SpellsFstFile}
 use Rattle.suite.specs.Requests.{Request}
-use Rattle.suite.specs.Requests.Request.{Solve, Check, Dumpfst}
+use Rattle.suite.specs.Requests.Request.{Rfst, Solve, Check, Dumpfst}
 
 -- no write to `out` fails
 abbrev pub IsWritable : Outside → Outside → Type 0
@@ -21,6 +24,9 @@ IsWritable before after = Rose before.written.out.faults after.written.out.fault
 -- tool answers with, or memory was wanting.
 abbrev pub Completes : Option Request → Outside → Outside → ℕ → Type 0
 Completes None before after status = status ≡ MISUSED
+Completes (Some Rfst) before after status =
+    (bytes : List ℕ) (ps : List Point) → HasInput TEXT_LIMIT before.read.input after.read.input bytes → ListsPoints bytes ps →
+    ¬ HasMoreSets (terminals_of ps) most_members 20000 → IsWritable before after → (status ≡ 0) ⊎ (status ≡ NO_MEMORY)
 Completes (Some Solve) before after status =
     (bytes : List ℕ) (ps : List Point) → HasInput TEXT_LIMIT before.read.input after.read.input bytes → ListsPoints bytes ps →
     IsWritable before after → ((status ≡ 0) ⊎ (status ≡ 3)) ⊎ (status ≡ NO_MEMORY)

@@ -6,12 +6,13 @@ use Rattle.frame.specs.Ends.{Reports}
 use Rattle.search_tools.specs.Solve.{EndsSolve}
 use Rattle.judge_tools.specs.Check.{EndsCheck}
 use Rattle.tree_tools.specs.Dump.{EndsDumpfst}
+use Rattle.tree_tools.specs.Generation.{EndsRfst}
 use Rattle.suite.specs.Requests.{Request}
-use Rattle.suite.specs.Requests.Request.{Solve, Check, Dumpfst}
+use Rattle.suite.specs.Requests.Request.{Rfst, Solve, Check, Dumpfst}
 
 -- the text on `err` where the words ask for nothing
 abbrev pub usage_line : List ℕ
-usage_line = codes "usage: rst solve|check|dumpfst [WORDS]\n"
+usage_line = codes "usage: rst rfst|solve|check|dumpfst [WORDS]\n"
 
 -- The words ask for no tool: nothing is read or printed.
 pub record IsMisused (before after : Outside) (status : ℕ) : Type 0 where
@@ -23,6 +24,7 @@ pub record IsMisused (before after : Outside) (status : ℕ) : Type 0 where
 -- A run of the program with the request that its words make.
 abbrev pub IsRun : Option Request → Outside → Outside → ℕ → Type 0
 IsRun None before after status = IsMisused before after status
+IsRun (Some Rfst) before after status = EndsRfst before after status
 IsRun (Some Solve) before after status = EndsSolve before after status
 IsRun (Some (Check points)) before after status = EndsCheck points before after status
 IsRun (Some Dumpfst) before after status = EndsDumpfst before after status

@@ -13,7 +13,7 @@ use judge_tools::check;
 use rst_outside::{Shelf, Sink, Source};
 use search_tools::solve;
 use std::alloc::Global;
-use tree_tools::{dumpfst, spelled_has_no_fault};
+use tree_tools::{dumpfst, rfst, spelled_has_no_fault};
 
 /// Runs the tool that the words after the program's name ask for, and gives the status that the program ends with.
 ///
@@ -41,6 +41,7 @@ pub fn run<I: Source, O: Sink, R: Sink, S: Shelf>(
         (outside (I.state input.new) (O.state out.new) (R.state err.new) (S.state shelf.new)) result }
 {
     match request_in(words) {
+        Some(Request::Rfst) => rfst(alloc, input, out, err),
         Some(Request::Solve) => solve(alloc, input, out, err),
         Some(Request::Check { points }) => check(alloc, points, input, out, err, shelf),
         Some(Request::Dumpfst) => {
@@ -48,7 +49,7 @@ pub fn run<I: Source, O: Sink, R: Sink, S: Shelf>(
             dumpfst(alloc, input, out, err)
         }
         None => {
-            report(err, b"usage: rst solve|check|dumpfst [WORDS]\n");
+            report(err, b"usage: rst rfst|solve|check|dumpfst [WORDS]\n");
             MISUSED
         }
     }

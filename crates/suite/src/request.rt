@@ -6,6 +6,8 @@ ghost use Rattle.suite.specs.Requests.{request_of, meaning};
 /// A tool of the program, with what its words tell it.
 #[derive(Clone, Copy, Debug)]
 pub enum Request<'a> {
+    /// Reads points and prints the file of their full trees.
+    Rfst,
     /// Reads points and prints a network that joins them.
     Solve,
     /// Judges an answer for the points of the file of this name.
@@ -14,13 +16,14 @@ pub enum Request<'a> {
     Dumpfst,
 }
 
-/// What the words ask for: `solve` or `dumpfst` alone, or `check` and the name of a file. None where they are any others.
+/// What the words ask for: `rfst`, `solve` or `dumpfst` alone, or `check` and the name of a file. None where they are any others.
 pub fn request_in(words: &[String]) -> Option<Request<'_>>
     ensures { option_map meaning result ≡ request_of (map string_bytes words.now) }
 {
     match words {
         [word] if word.as_str() == "solve" => Some(Request::Solve),
         [word] if word.as_str() == "dumpfst" => Some(Request::Dumpfst),
+        [word] if word.as_str() == "rfst" => Some(Request::Rfst),
         [word, points] if word.as_str() == "check" => Some(Request::Check {
             points: points.as_str(),
         }),

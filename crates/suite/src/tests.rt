@@ -58,7 +58,7 @@ fn ran(rt: &HostRuntime, words: &[&str], input: &[u8]) -> Result<Outcome, Fail> 
 
 #[test]
 fn runs_each_tool(rt: HostRuntime) -> Result<(), Fail> {
-    let rows: [(&[&str], &[u8], u8, &[u8], &[u8]); 5] = [
+    let rows: [(&[&str], &[u8], u8, &[u8], &[u8]); 6] = [
         (&["solve"], POINTS, 3, ANSWER, b""),
         (
             &["check", "P"],
@@ -74,13 +74,14 @@ fn runs_each_tool(rt: HostRuntime) -> Result<(), Fail> {
             b"",
             b"rst: solve: a coordinate is missing\n",
         ),
+        (&["rfst"], b"0 0\n2 0\n", 0, FILE, b""),
         (&["dumpfst"], FILE, 0, b"0 1 length 2\n", b""),
         (
             &["fly"],
             b"",
             2,
             b"",
-            b"usage: rst solve|check|dumpfst [WORDS]\n",
+            b"usage: rst rfst|solve|check|dumpfst [WORDS]\n",
         ),
     ];
     for (words, input, status, out, err) in rows {

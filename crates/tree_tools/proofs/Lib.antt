@@ -1,2 +1,3 @@
 pub mod DumpLaws
 pub mod FaultLaws
+pub mod GenerationLaws

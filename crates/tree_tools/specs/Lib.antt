@@ -2,3 +2,5 @@ pub mod FstFaults
 pub mod Files
 pub mod Dump
 pub mod Listing
+pub mod Generation
+pub mod FileAnswer

@@ -4,7 +4,7 @@ use Rattle.frame.specs.Outside.{outside}
 use Rattle.suite.specs.Requests.{request_of}
 use Rattle.suite.specs.declared.request.Request.TheVariants as asked
 use Rattle.suite.proofs.Heads.{solve_headline}
-use Rattle.suite.proofs.Asked.{asked_is, solve_asked_completes, check_asked_completes, dump_asked_completes, check_asked_headline}
+use Rattle.suite.proofs.Asked.{asked_is, solve_asked_completes, check_asked_completes, dump_asked_completes, rfst_asked_completes, check_asked_headline}
 use Rattle.suite.proofs.program.run.Goals as goal
 
 pub returns-in-Some-Solve-clause-headline : goal.returns-in-Some-Solve-clause-headline
@@ -53,3 +53,13 @@ returns-in-Some-Dumpfst-clause-complete g c =
     c.dumpfst.result
     (asked_is c.request_in.result request c.in-Some-Dumpfst.field-0 asked.Dumpfst c.request_in.ensures c.in-Some-Dumpfst.is c.in-Some-Dumpfst.field-0-is)
     (c.dumpfst.ensures (g.S.Shelf.state c.args.shelf.now))
+
+pub returns-in-Some-Rfst-clause-complete : goal.returns-in-Some-Rfst-clause-complete
+returns-in-Some-Rfst-clause-complete g c =
+    let request = request_of (map string_bytes c.args.words.now) in
+    rfst_asked_completes request
+    (outside (g.I.Source.state c.args.input.now) (g.O.Sink.state c.args.out.now) (g.R.Sink.state c.args.err.now) (g.S.Shelf.state c.args.shelf.now))
+    (outside (g.I.Source.state c.rfst.new.input) (g.O.Sink.state c.rfst.new.out) (g.R.Sink.state c.rfst.new.err) (g.S.Shelf.state c.args.shelf.now))
+    c.rfst.result
+    (asked_is c.request_in.result request c.in-Some-Rfst.field-0 asked.Rfst c.request_in.ensures c.in-Some-Rfst.is c.in-Some-Rfst.field-0-is)
+    (c.rfst.ensures (g.S.Shelf.state c.args.shelf.now))

@@ -1,0 +1,31 @@
+//! A file of full trees, as an answer of a tool.
+
+ghost use Rattle.tree_tools.specs.FileAnswer.{file_text, file_status, IsWritable};
+
+use frame::{Answer, AnswerStatus};
+use fst_file::{FstFile, write_file};
+use rst_outside::{PutFault, Sink};
+
+/// A file of full trees that a tool prints.
+#[derive(Debug, Drop)]
+pub struct FileAnswer {
+    pub file: FstFile,
+}
+
+impl Answer for FileAnswer {
+    ghost text = { file_text };
+
+    ghost status = { file_status };
+
+    ghost fits = { IsWritable };
+
+    ghost told = { IsWritable };
+
+    fn status(&self) -> AnswerStatus {
+        AnswerStatus::Done
+    }
+
+    fn write<O: Sink>(&self, out: &mut O) -> Result<(), PutFault> {
+        write_file(out, &self.file)
+    }
+}
