@@ -5,7 +5,6 @@ use Rattle.points_in.specs.Terminals.{terminals_of}
 use Rattle.full_tree.specs.declared.code.Tree.{Tree}
 use Rattle.fst_file.specs.Text.{fst_text}
 use Rattle.fst_gen.specs.Trees.{AreTreesOf, HasMoreSets}
-use Rattle.frame.specs.declared.status.AnswerStatus.{AnswerStatus}
 use Rattle.frame.specs.declared.status.AnswerStatus.TheVariants.{Done}
 use Rattle.frame.specs.declared.status.FaultStatus.{FaultStatus}
 use Rattle.frame.specs.declared.status.FaultStatus.TheVariants.{TooLarge}
