@@ -1,0 +1,4 @@
+pub mod Concatenation
+pub mod Choices
+pub mod Trails
+pub mod Partitions

@@ -1,0 +1,7 @@
+//! Concatenations of full trees: sublists of a list of trees that join all terminals, what a search for the least one
+//! leaves behind, and the laws by which such a search says that a total is least.
+#![tactic(auto)]
+
+mod choice;
+
+pub use choice::Choice;
