@@ -4,7 +4,7 @@ use Rattle.std.specs.Prelude.{option_map}
 use Rattle.frame.specs.Outside.{Outside}
 use Rattle.judge_tools.specs.Check.{EndsCheck}
 use Rattle.search_tools.specs.Solve.{EndsSolve}
-use Rattle.tree_tools.specs.Files.{SpelledHasNoFault}
+use Rattle.tree_inputs.specs.Files.{SpelledHasNoFault}
 use Rattle.tree_tools.specs.Dump.{EndsDumpfst}
 use Rattle.tree_tools.specs.Generation.{EndsRfst}
 use Rattle.suite.specs.declared.request.Request.{Request as Asked}

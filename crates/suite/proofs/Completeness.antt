@@ -28,16 +28,18 @@ use Rattle.judge_tools.specs.Verdicts.{status_of_verdict}
 use Rattle.judge_tools.specs.Check.{Checks, EndsCheck, check_fault_text, check_fault_status}
 use Rattle.fst_file.specs.Value.{FstValue}
 use Rattle.fst_file.specs.Text.{SpellsFstFile}
-use Rattle.tree_tools.specs.declared.fst_fault.FstFault.{FstFault}
-use Rattle.tree_tools.specs.FstFaults.{fst_fault_text, fst_fault_status}
-use Rattle.tree_tools.specs.Files.{ReadsFst, SpelledHasNoFault}
+use Rattle.tree_inputs.specs.declared.fst_fault.FstFault.{FstFault}
+use Rattle.tree_inputs.specs.FstFaults.{fst_fault_text, fst_fault_status}
+use Rattle.tree_inputs.specs.Files.{ReadsFst, SpelledHasNoFault}
 use Rattle.tree_tools.specs.Dump.{Dumps, EndsDumpfst}
 use Rattle.points_in.specs.FaultLaws.{one_list}
 use Rattle.points_in.specs.Terminals.{terminals_of}
 use Rattle.fst_gen.specs.Trees.{HasMoreSets}
-use Rattle.tree_tools.specs.declared.generation.GenerationFault.{GenerationFault}
-use Rattle.tree_tools.specs.declared.generation.GenerationFault.TheVariants as generation_fault
-use Rattle.tree_tools.specs.Generation.{GeneratesFile, EndsRfst, most_members, generation_fault_text, generation_fault_status}
+use Rattle.tree_inputs.specs.declared.generation_fault.GenerationFault.{GenerationFault}
+use Rattle.tree_inputs.specs.declared.generation_fault.GenerationFault.TheVariants as generation_fault
+use Rattle.tree_inputs.specs.GenerationFaults.{generation_fault_text, generation_fault_status}
+use Rattle.tree_inputs.specs.Generation.{most_members}
+use Rattle.tree_tools.specs.Generation.{GeneratesFile, EndsRfst}
 use Rattle.suite.specs.Requests.Request.{Rfst, Solve, Check, Dumpfst}
 use Rattle.suite.specs.Complete.{Completes}
 

@@ -10,7 +10,7 @@ use Rattle.frame.specs.Points.{ListsPoints}
 use Rattle.judge_tools.specs.declared.judge.TheConstants.{ANSWER_LIMIT}
 use Rattle.points_in.specs.Terminals.{terminals_of}
 use Rattle.fst_gen.specs.Trees.{HasMoreSets}
-use Rattle.tree_tools.specs.Generation.{most_members}
+use Rattle.tree_inputs.specs.Generation.{most_members}
 use Rattle.fst_file.specs.Value.{FstValue}
 use Rattle.fst_file.specs.Text.{SpellsFstFile}
 use Rattle.suite.specs.Requests.{Request}

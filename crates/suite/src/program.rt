@@ -13,7 +13,8 @@ use judge_tools::check;
 use rst_outside::{Shelf, Sink, Source};
 use search_tools::solve;
 use std::alloc::Global;
-use tree_tools::{dumpfst, rfst, spelled_has_no_fault};
+use tree_inputs::spelled_has_no_fault;
+use tree_tools::{dumpfst, rfst};
 
 /// Runs the tool that the words after the program's name ask for, and gives the status that the program ends with.
 ///

@@ -1,3 +1,2 @@
-pub mod DumpLaws
-pub mod FaultLaws
-pub mod GenerationLaws
+mod DumpLaws
+mod GenerationLaws

@@ -6,21 +6,17 @@ use Rattle.full_tree.specs.declared.code.Tree.{Tree}
 use Rattle.fst_file.specs.Text.{fst_text}
 use Rattle.fst_gen.specs.Trees.{AreTreesOf, HasMoreSets}
 use Rattle.frame.specs.declared.status.AnswerStatus.TheVariants.{Done}
-use Rattle.frame.specs.declared.status.FaultStatus.{FaultStatus}
-use Rattle.frame.specs.declared.status.FaultStatus.TheVariants.{TooLarge}
 use Rattle.frame.specs.declared.take.TheConstants.{TEXT_LIMIT}
 use Rattle.frame.specs.Outside.{Outside}
 use Rattle.frame.specs.Ends.{Print, Ends}
-use Rattle.frame.specs.FaultTexts.{list_fault_text, list_fault_status, text_fault_text, text_fault_status}
+use Rattle.frame.specs.FaultTexts.{text_fault_text, text_fault_status}
 use Rattle.frame.specs.FromText.{FromText}
 use Rattle.frame.specs.Leaves.{LeavesShelf}
 use Rattle.frame.specs.Points.{ListsPoints, IsListFault}
-use Rattle.tree_tools.specs.declared.generation.GenerationFault.{GenerationFault}
-use Rattle.tree_tools.specs.declared.generation.GenerationFault.TheVariants.{List as InList, TooManyTrees}
-
--- how many members a tree has at most
-abbrev pub most_members : ℕ
-most_members = 6
+use Rattle.tree_inputs.specs.declared.generation_fault.GenerationFault.{GenerationFault}
+use Rattle.tree_inputs.specs.declared.generation_fault.GenerationFault.TheVariants.{List as InList, TooManyTrees}
+use Rattle.tree_inputs.specs.GenerationFaults.{generation_fault_text, generation_fault_status}
+use Rattle.tree_inputs.specs.Generation.{most_members}
 
 -- what is printed of points and their trees: the file that holds them
 abbrev pub fst_print : List Point → List Tree → Print
@@ -33,16 +29,6 @@ GeneratesFile k bytes (Ok print) = (ps : List Point) × (trees : List Tree) × L
     × AreTreesOf (terminals_of ps) k trees × (print ≡ fst_print (terminals_of ps) trees)
 GeneratesFile k bytes (Err (InList fault)) = IsListFault bytes fault
 GeneratesFile k bytes (Err TooManyTrees) = (ps : List Point) × ListsPoints bytes ps × HasMoreSets (terminals_of ps) k 20000
-
--- what is said of a fault
-abbrev pub generation_fault_text : GenerationFault → List ℕ
-generation_fault_text (InList fault) = list_fault_text fault
-generation_fault_text TooManyTrees = codes "more than 20000 trees"
-
--- the status of a fault
-abbrev pub generation_fault_status : GenerationFault → FaultStatus
-generation_fault_status (InList fault) = list_fault_status fault
-generation_fault_status TooManyTrees = TooLarge
 
 -- A run of `rfst`.
 abbrev pub EndsRfst : Outside → Outside → ℕ → Type 0

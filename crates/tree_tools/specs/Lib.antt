@@ -1,5 +1,3 @@
-pub mod FstFaults
-pub mod Files
 pub mod Dump
 pub mod Listing
 pub mod Generation

@@ -7,9 +7,9 @@ use Rattle.frame.specs.declared.take.TheConstants.{TEXT_LIMIT}
 use Rattle.frame.specs.declared.text_fault.TextFault.{TextFault}
 use Rattle.frame.specs.Outside.{Readable}
 use Rattle.frame.specs.FromText.{FromText}
-use Rattle.tree_tools.specs.declared.fst_fault.FstFault.{FstFault}
+use Rattle.tree_inputs.specs.declared.fst_fault.FstFault.{FstFault}
 use Rattle.tree_tools.specs.declared.listing.Listing.{Listing}
-use Rattle.tree_tools.specs.Files.{ReadsFst}
+use Rattle.tree_inputs.specs.Files.{ReadsFst}
 
 abbrev pub listing_text : Listing → List ℕ
 listing_text l = tree_list_text l.file.points l.pieces l.file.trees

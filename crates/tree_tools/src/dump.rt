@@ -7,12 +7,11 @@ ghost use Rattle.frame.specs.Taking.{TakesSome};
 ghost use Rattle.tree_tools.specs.Dump.{EndsDumpfst};
 ghost use Rattle.tree_tools.specs.Listing.{FindsListing};
 
-use crate::fst_fault::FstFault;
-use crate::fst_input::take_fst;
 use crate::listing::Listing;
 use frame::{TextFault, conclude};
 use rst_outside::{Sink, Source};
 use std::alloc::{AllocError, Global};
+use tree_inputs::{FstFault, take_fst};
 
 /// Runs `dumpfst`: reads a file of full trees from the input and prints its trees, each with its members and its length.
 /// Gives the status that the program ends with.

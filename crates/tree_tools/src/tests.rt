@@ -1,10 +1,10 @@
 //! The list of a file's trees with their pieces, which no word asks for yet.
 
-use crate::fst_input::fst_in;
 use crate::listing::Listing;
 use frame::Answer;
 use rst_outside::MemSink;
 use std::test::Fail;
+use tree_inputs::fst_in;
 
 #[test]
 fn lists_pieces_behind_their_tree(rt: HostRuntime) -> Result<(), Fail> {

@@ -5,7 +5,9 @@ use Rattle.frame.specs.EndLaws.{ends_with}
 use Rattle.frame.specs.FaultTexts.{text_fault_text, text_fault_status}
 use Rattle.frame.specs.FromText.{FromText}
 use Rattle.frame.specs.Leaves.{LeavesShelf}
-use Rattle.tree_tools.specs.Generation.{GeneratesFile, most_members, generation_fault_text, generation_fault_status}
+use Rattle.tree_inputs.specs.GenerationFaults.{generation_fault_text, generation_fault_status}
+use Rattle.tree_inputs.specs.Generation.{most_members}
+use Rattle.tree_tools.specs.Generation.{GeneratesFile}
 use Rattle.tree_tools.specs.FileAnswer.{file_text, file_status}
 use Rattle.tree_tools.proofs.GenerationLaws.{found_or_not}
 use Rattle.tree_tools.proofs.generation.rfst.Goals as goal

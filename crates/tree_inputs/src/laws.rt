@@ -1,6 +1,6 @@
 //! Laws of the inputs of these tools. A law does nothing: it is there for its clause.
 
-ghost use Rattle.tree_tools.specs.Files.{SpelledHasNoFault};
+ghost use Rattle.tree_inputs.specs.Files.{SpelledHasNoFault};
 
 use fst_file::{one_outcome, values_are_spelled};
 

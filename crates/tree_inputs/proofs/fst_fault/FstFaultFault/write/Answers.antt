@@ -1,5 +1,5 @@
 -- In each arm the text of the fault is the one that was written.
-use Rattle.tree_tools.proofs.fst_fault.FstFaultFault.write.Goals as goal
+use Rattle.tree_inputs.proofs.fst_fault.FstFaultFault.write.Goals as goal
 
 pub returns-in-TooManyPoints : goal.returns-in-TooManyPoints
 returns-in-TooManyPoints g c = rw c.in-TooManyPoints.is c.write_line-in-TooManyPoints.ensures

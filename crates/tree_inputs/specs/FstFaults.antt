@@ -3,8 +3,8 @@ use Rattle.std.specs.Prelude.{ℕ, List, ◌++◌, codes, decimal}
 use Rattle.frame.specs.declared.status.FaultStatus.{FaultStatus}
 use Rattle.frame.specs.declared.status.FaultStatus.TheVariants.{Malformed, TooLarge}
 use Rattle.frame.specs.FaultTexts.{total_text}
-use Rattle.tree_tools.specs.declared.fst_fault.FstFault.{FstFault}
-use Rattle.tree_tools.specs.declared.fst_fault.FstFault.TheVariants.{BadLine, TooManyPoints, RepeatedPoint, GridTooLong, TooManyTrees, NotInForm, WrongLength, OutOfOrder}
+use Rattle.tree_inputs.specs.declared.fst_fault.FstFault.{FstFault}
+use Rattle.tree_inputs.specs.declared.fst_fault.FstFault.TheVariants.{BadLine, TooManyPoints, RepeatedPoint, GridTooLong, TooManyTrees, NotInForm, WrongLength, OutOfOrder}
 
 -- what is said of a line
 abbrev pub line_text : ℕ → List ℕ → List ℕ

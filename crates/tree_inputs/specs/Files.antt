@@ -5,8 +5,8 @@ use Rattle.fst_file.specs.declared.fault.FileFault.TheVariants as file_fault
 use Rattle.fst_file.specs.Value.{FstValue}
 use Rattle.fst_file.specs.Text.{SpellsFstFile}
 use Rattle.fst_file.specs.Judged.{IsFirstFault}
-use Rattle.tree_tools.specs.declared.fst_fault.FstFault.{FstFault}
-use Rattle.tree_tools.specs.declared.fst_fault.FstFault.TheVariants.{BadLine, TooManyPoints, RepeatedPoint, GridTooLong, TooManyTrees, NotInForm, WrongLength, OutOfOrder}
+use Rattle.tree_inputs.specs.declared.fst_fault.FstFault.{FstFault}
+use Rattle.tree_inputs.specs.declared.fst_fault.FstFault.TheVariants.{BadLine, TooManyPoints, RepeatedPoint, GridTooLong, TooManyTrees, NotInForm, WrongLength, OutOfOrder}
 
 -- the fault as the reader of files names it
 abbrev pub file_fault_of : FstFault → FileFault

@@ -5,7 +5,7 @@ ghost use Rattle.rst_outside.specs.Shelf.{ShelfState};
 ghost use Rattle.frame.specs.Outside.{readable};
 ghost use Rattle.frame.specs.Taking.{TakesSome};
 ghost use Rattle.frame.specs.FromText.{FromText};
-ghost use Rattle.tree_tools.specs.Files.{ReadsFst};
+ghost use Rattle.tree_inputs.specs.Files.{ReadsFst};
 
 use crate::fst_fault::FstFault;
 use frame::{TEXT_LIMIT, TextFault, take_input};

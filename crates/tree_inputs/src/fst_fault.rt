@@ -2,7 +2,7 @@
 
 ghost use Rattle.text_out.specs.Gathers.{Gathers};
 ghost use Rattle.frame.specs.FaultTexts.{total_text};
-ghost use Rattle.tree_tools.specs.FstFaults.{fst_fault_text, fst_fault_status, line_text, length_text};
+ghost use Rattle.tree_inputs.specs.FstFaults.{fst_fault_text, fst_fault_status, line_text, length_text};
 
 use frame::{Fault, FaultStatus, write_total};
 use rst_outside::Sink;

@@ -4,9 +4,9 @@ use Rattle.fst_file.specs.declared.fault.FileFault.{FileFault}
 use Rattle.fst_file.specs.Value.{FstValue}
 use Rattle.fst_file.specs.Text.{SpellsFstFile}
 use Rattle.fst_file.specs.Judged.{IsOutcome, IsFirstFault}
-use Rattle.tree_tools.specs.declared.fst_fault.FstFault.{FstFault}
-use Rattle.tree_tools.specs.declared.fst_fault.FstFault.TheVariants.{BadLine, TooManyPoints, RepeatedPoint, GridTooLong, TooManyTrees, NotInForm, WrongLength, OutOfOrder}
-use Rattle.tree_tools.specs.Files.{file_fault_of, SpelledHasNoFault}
+use Rattle.tree_inputs.specs.declared.fst_fault.FstFault.{FstFault}
+use Rattle.tree_inputs.specs.declared.fst_fault.FstFault.TheVariants.{BadLine, TooManyPoints, RepeatedPoint, GridTooLong, TooManyTrees, NotInForm, WrongLength, OutOfOrder}
+use Rattle.tree_inputs.specs.Files.{file_fault_of, SpelledHasNoFault}
 
 -- a fault is an outcome, since it is no want of memory
 fault_is_outcome : (bytes : List ℕ) (fault : FstFault) → IsFirstFault bytes (file_fault_of fault) → IsOutcome bytes (Err (file_fault_of fault))

@@ -1,6 +1,6 @@
 use Rattle.std.proofs.Common.{append_assoc}
 use Rattle.text_out.specs.GatherLaws.{gathers_six}
-use Rattle.tree_tools.proofs.fst_fault.write_length.Goals as goal
+use Rattle.tree_inputs.proofs.fst_fault.write_length.Goals as goal
 
 pub returns : goal.returns
 returns g c =

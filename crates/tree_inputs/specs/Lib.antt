@@ -1,0 +1,4 @@
+pub mod FstFaults
+pub mod Files
+pub mod GenerationFaults
+pub mod Generation

@@ -1,0 +1,14 @@
+//! Full trees as what tools work on: read from a file, or generated from points.
+#![tactic(auto)]
+
+mod fst_fault;
+mod fst_input;
+mod generation;
+mod generation_fault;
+mod laws;
+
+pub use fst_fault::FstFault;
+pub use fst_input::{fst_in, take_fst};
+pub use generation::{MOST_MEMBERS, take_generated};
+pub use generation_fault::GenerationFault;
+pub use laws::spelled_has_no_fault;

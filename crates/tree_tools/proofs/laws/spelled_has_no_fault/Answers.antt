@@ -1,5 +1,0 @@
-use Rattle.tree_tools.proofs.FaultLaws.{no_fault_spelled}
-use Rattle.tree_tools.proofs.laws.spelled_has_no_fault.Goals as goal
-
-pub returns : goal.returns
-returns c = no_fault_spelled c.one_outcome.ensures c.values_are_spelled.ensures
