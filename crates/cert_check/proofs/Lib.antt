@@ -1,4 +1,3 @@
-pub mod ApartLemmas
 pub mod ValueLemmas
 pub mod JudgeLemmas
 pub mod LeafLemmas

@@ -3,10 +3,10 @@ use Rattle.std.proofs.Common.{ℕ, ◌≡◌, ◌<◌, Bool, List, length, get_o
 use Rattle.std.proofs.lemmas.Bool.{cases_lt}
 use Rattle.std.proofs.lemmas.Option.{slice_get_within, get_or_from_slice_get}
 use Rattle.net_graph.specs.Graph.{Graph}
-use Rattle.net_graph.specs.Network.{Reaches, IsNetwork}
+use Rattle.net_graph.specs.Network.{Reaches, IsNetwork, IsFirstApart}
 use Rattle.cert_check.specs.declared.verdict.Cause.{Cause}
 use Rattle.cert_check.specs.declared.verdict.Cause.TheVariants.{NotJoined, WrongLength}
-use Rattle.cert_check.specs.Networks.{IsMeasured, IsFirstApart, IsMismeasured, NetworkFault}
+use Rattle.cert_check.specs.Networks.{IsMeasured, IsMismeasured, NetworkFault}
 
 -- the two causes
 network_causes : (g : Graph) (printed : ℕ) (network : List Bool) (cause : Cause) → NetworkFault g printed network cause →

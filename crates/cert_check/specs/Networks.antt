@@ -1,7 +1,7 @@
 -- When an answer's edges are the network that it says, and why they are not.
-use Rattle.std.specs.Prelude.{ℕ, ◌≡◌, ◌≢◌, ◌<◌, Bool, List, slice_get, Some}
+use Rattle.std.specs.Prelude.{ℕ, ◌≡◌, ◌≢◌, Bool, List}
 use Rattle.net_graph.specs.Graph.{Graph}
-use Rattle.net_graph.specs.Network.{Reaches, IsNetwork, length_of}
+use Rattle.net_graph.specs.Network.{IsNetwork, IsFirstApart, length_of}
 use Rattle.cert_check.specs.declared.verdict.Cause.{Cause}
 use Rattle.cert_check.specs.declared.verdict.Cause.TheVariants.{NotJoined, WrongLength}
 
@@ -9,13 +9,6 @@ use Rattle.cert_check.specs.declared.verdict.Cause.TheVariants.{NotJoined, Wrong
 pub record IsMeasured (g : Graph) (printed : ℕ) (network : List Bool) : Type 0 where
   pub joins : IsNetwork g network
   pub told : printed ≡ length_of g network
-
--- the terminal at this place is not reached, and those before it are
-pub record IsFirstApart (g : Graph) (network : List Bool) (place : ℕ) : Type 0 where
-  pub terminal : ℕ
-  pub at : slice_get g.terminals place ≡ Some terminal
-  pub apart : Reaches g network terminal → ⊥
-  pub before : (p v : ℕ) → p < place → slice_get g.terminals p ≡ Some v → Reaches g network v
 
 -- the edges are a network of another length than the printed one
 pub record IsMismeasured (g : Graph) (length : ℕ) (network : List Bool) (printed found : ℕ) : Type 0 where

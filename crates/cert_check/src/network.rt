@@ -1,11 +1,10 @@
 //! Whether the edges of an answer are the network that it says.
 
 ghost use Rattle.std.specs.Prelude.{◌≡◌, ◌≤◌, length, IfOk, IfSome, IfNone};
-ghost use Rattle.net_graph.specs.Network.{IsNetwork};
-ghost use Rattle.cert_check.specs.Networks.{IsMeasured, IsFirstApart, NetworkFault};
+ghost use Rattle.cert_check.specs.Networks.{IsMeasured, NetworkFault};
 
 use crate::verdict::Cause;
-use net_graph::{EdgeSet, NetGraph, length, reached};
+use net_graph::{EdgeSet, NetGraph, first_apart, length};
 use std::alloc::{AllocError, Global};
 
 /// Why the edges are not a network of the printed length: None where they are. An `Err` is want of memory.
@@ -29,20 +28,4 @@ pub(crate) fn network_fault(
     } else {
         Ok(Some(Cause::WrongLength { printed, found }))
     }
-}
-
-// The place of the first terminal that the edges don't join to the root. An `Err` is want of memory.
-fn first_apart(alloc: Global, g: &NetGraph, network: &EdgeSet) -> Result<Option<u8>, AllocError>
-    requires size { length network.now ≡ length g.now.edges }
-    requires few { length g.now.terminals ≤ 255 }
-    ensures none { IfOk result (λ place. IfNone place (IsNetwork g.now network.now)) }
-    ensures first { IfOk result (λ place. IfSome place (IsFirstApart g.now network.now)) }
-{
-    let marks = reached(alloc, g, network)?;
-    for (place, terminal) in g.terminals().iter().enumerate() {
-        if !marks.has(*terminal) {
-            return Ok(Some(place as u8));
-        }
-    }
-    Ok(None)
 }

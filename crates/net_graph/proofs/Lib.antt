@@ -2,6 +2,7 @@ pub mod ArcLemmas
 pub mod FoundLemmas
 pub mod SearchLemmas
 pub mod NetworkLemmas
+pub mod ApartLemmas
 pub mod FlagWords
 pub mod LengthLemmas
 pub mod DecisionLemmas

@@ -1,6 +1,6 @@
--- Walks, reached vertices, networks, their length and bounds on it. An edge set is the list of its flags: one
+-- Walks, reached vertices, networks, terminals apart, lengths and bounds on them. An edge set is the list of its flags: one
 -- for each edge, true where the edge is in it.
-use Rattle.std.specs.Prelude.{ℕ, ◌≡◌, ◌+◌, ◌≤◌, Bool, true, List, [], ◌∷◌, slice_get, Some, ◌⊎◌, All, Contains, if◌then◌else◌}
+use Rattle.std.specs.Prelude.{ℕ, ◌≡◌, ◌+◌, ◌<◌, ◌≤◌, Bool, true, List, [], ◌∷◌, slice_get, Some, ◌⊎◌, All, Contains, if◌then◌else◌}
 use Rattle.net_graph.specs.declared.edge.Edge.{Edge}
 use Rattle.net_graph.specs.Graph.{Graph, root_of}
 use Rattle.net_graph.specs.Search.{StepWalk, Leads}
@@ -28,6 +28,13 @@ Joins g set vertices = (v w : ℕ) → Contains vertices v → Contains vertices
 -- every terminal is reached
 abbrev pub IsNetwork : Graph → List Bool → Type 0
 IsNetwork g set = All (Reaches g set) g.terminals
+
+-- the terminal at this place is not reached, and those before it are
+pub record IsFirstApart (g : Graph) (set : List Bool) (place : ℕ) : Type 0 where
+  pub terminal : ℕ
+  pub at : slice_get g.terminals place ≡ Some terminal
+  pub apart : Reaches g set terminal → ⊥
+  pub before : (p v : ℕ) → p < place → slice_get g.terminals p ≡ Some v → Reaches g set v
 
 -- the sum of the lengths of the edges whose flag is set
 abbrev pub length_of_edges : List Edge → List Bool → ℕ

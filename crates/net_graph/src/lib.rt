@@ -14,9 +14,9 @@ mod network;
 mod packing;
 mod rooted;
 mod search;
-#[cfg(test)]
-mod search_tests;
 mod sets;
+#[cfg(test)]
+mod tests;
 
 pub use arcs::{Arc, partner};
 pub use counted::{CountedSet, counted_leading_to};
@@ -25,7 +25,7 @@ pub use edge::{Edge, EdgeList, VertexList};
 pub use feasibility::feasible;
 pub use graph::{GraphFault, NetGraph};
 pub use lengths::length;
-pub use network::{joins, reached};
+pub use network::{first_apart, joins, reached};
 pub use packing::{Cut, EdgeState, Packing, value};
 pub use rooted::root_part;
 pub use search::{Passage, leading_to, reached_from};

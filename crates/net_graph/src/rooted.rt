@@ -37,35 +37,3 @@ fn is_in_root_part(g: &NetGraph, set: &EdgeSet, marks: &VertexSet, n: u32) -> bo
     let e = g.edge(n);
     set.has(n) && (marks.has(e.a) || marks.has(e.b))
 }
-
-#[cfg(test)]
-mod tests {
-    use super::*;
-    use crate::edge::Edge;
-    use item_list::ItemList;
-    use std::test::Fail;
-
-    #[test]
-    fn leaves_out_an_edge_apart(rt: HostRuntime) -> Result<(), Fail> {
-        let edge = |a: u32, b: u32| Edge { a, b, length: 1 };
-        let edges = vec![in rt.alloc(); edge(2, 1), edge(1, 0), edge(3, 4), edge(2, 3)]?;
-        let terminals = vec![in rt.alloc(); 0, 2]?;
-        let g = NetGraph::new(
-            rt.alloc(),
-            5,
-            ItemList::from_vec(edges),
-            ItemList::from_vec(terminals),
-        )?;
-        let mut set = EdgeSet::empty(rt.alloc(), g.edge_count())?;
-        assert_eq!(rt; set.len(), 4);
-        set.add(0);
-        set.add(1);
-        set.add(2);
-        let part = root_part(rt.alloc(), &g, &set)?;
-        assert_eq!(rt;
-            [part.has(0), part.has(1), part.has(2), part.has(3)],
-            [true, true, false, false]
-        );
-        Ok(())
-    }
-}

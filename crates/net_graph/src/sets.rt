@@ -148,33 +148,3 @@ impl VertexSet {
         Ok(VertexSet { flags })
     }
 }
-
-#[cfg(test)]
-mod tests {
-    use super::*;
-    use std::test::Fail;
-
-    #[test]
-    fn edges_round_the_end_of_a_word(rt: HostRuntime) -> Result<(), Fail> {
-        let mut set = EdgeSet::empty(rt.alloc(), 66)?;
-        set.add(63);
-        set.add(64);
-        set.add(65);
-        set.remove(64);
-        let held = [set.has(62), set.has(63), set.has(64), set.has(65)];
-        assert_eq!(rt; held, [false, true, false, true]);
-        let copy = set.copy()?;
-        set.clear();
-        assert_eq!(rt; [set.has(63), copy.has(63)], [false, true]);
-        Ok(())
-    }
-
-    #[test]
-    fn a_vertex_and_its_copy(rt: HostRuntime) -> Result<(), Fail> {
-        let mut set = VertexSet::empty(rt.alloc(), 2)?;
-        set.add(1);
-        let copy = set.copy()?;
-        assert_eq!(rt; [copy.has(0), copy.has(1)], [false, true]);
-        Ok(())
-    }
-}

@@ -5,21 +5,20 @@ use Rattle.std.proofs.lemmas.Bool.{cases_lt}
 use Rattle.std.proofs.lemmas.Option.{slice_get-get_or, get_or_from_slice_get}
 use Rattle.net_graph.specs.Flags.{has}
 use Rattle.net_graph.specs.Graph.{Graph}
-use Rattle.net_graph.specs.Network.{Reaches, IsNetwork}
-use Rattle.cert_check.specs.Networks.{IsFirstApart}
+use Rattle.net_graph.specs.Network.{Reaches, IsNetwork, IsFirstApart}
 
 -- the marks are those of the reached vertices
 abbrev pub MarksReached : Graph → List Bool → List Bool → Type 0
-MarksReached g network marks = (v : ℕ) → (has marks v ≡ true) ↔ Reaches g network v
+MarksReached g set marks = (v : ℕ) → (has marks v ≡ true) ↔ Reaches g set v
 
 -- the terminals before a place are reached
 abbrev pub ReachedBefore : Graph → List Bool → ℕ → Type 0
-ReachedBefore g network place = (p v : ℕ) → p < place → slice_get g.terminals p ≡ Some v → Reaches g network v
+ReachedBefore g set place = (p v : ℕ) → p < place → slice_get g.terminals p ≡ Some v → Reaches g set v
 
 -- the first terminal without a mark
-pub first_unmarked : (g : Graph) (network marks : List Bool) (terminals : List ℕ) (place : ℕ) → terminals ≡ g.terminals → MarksReached g network marks
-    → place < length terminals → has marks (get_or terminals place 0) ≡ false → ReachedBefore g network place → IsFirstApart g network place
-first_unmarked g network marks terminals place same reached inside unmarked before = record {
+pub first_unmarked : (g : Graph) (set marks : List Bool) (terminals : List ℕ) (place : ℕ) → terminals ≡ g.terminals → MarksReached g set marks
+    → place < length terminals → has marks (get_or terminals place 0) ≡ false → ReachedBefore g set place → IsFirstApart g set place
+first_unmarked g set marks terminals place same reached inside unmarked before = record {
   terminal = get_or terminals place 0;
   at = ap (λ ts. slice_get ts place) (sym same) ∙ slice_get-get_or terminals place 0 inside;
   apart = λ reach. let marked : has marks (get_or terminals place 0) ≡ true = (reached (get_or terminals place 0)).1 reach in absurd cc;
@@ -27,9 +26,9 @@ first_unmarked g network marks terminals place same reached inside unmarked befo
 }
 
 -- one more terminal with a mark
-pub reached_more : (g : Graph) (network marks : List Bool) (terminals : List ℕ) (place : ℕ) → terminals ≡ g.terminals → MarksReached g network marks
-    → has marks (get_or terminals place 0) ≡ true → ReachedBefore g network place → ReachedBefore g network (place + 1)
-reached_more g network marks terminals place same reached marked before p v below at = ⊎_elim
+pub reached_more : (g : Graph) (set marks : List Bool) (terminals : List ℕ) (place : ℕ) → terminals ≡ g.terminals → MarksReached g set marks
+    → has marks (get_or terminals place 0) ≡ true → ReachedBefore g set place → ReachedBefore g set (place + 1)
+reached_more g set marks terminals place same reached marked before p v below at = ⊎_elim
     (λ (sooner : p < place). before p v sooner at)
     (λ (later : place ≤ p).
     let here : place ≡ p = omega arith in
@@ -38,5 +37,5 @@ reached_more g network marks terminals place same reached marked before p v belo
     (cases_lt p place)
 
 -- all of them
-pub reached_all : (g : Graph) (network : List Bool) (place : ℕ) → length g.terminals ≤ place → ReachedBefore g network place → IsNetwork g network
-reached_all g network place past before k d inside = before k (get_or g.terminals k d) (omega arith) (slice_get-get_or g.terminals k d inside)
+pub reached_all : (g : Graph) (set : List Bool) (place : ℕ) → length g.terminals ≤ place → ReachedBefore g set place → IsNetwork g set
+reached_all g set place past before k d inside = before k (get_or g.terminals k d) (omega arith) (slice_get-get_or g.terminals k d inside)

@@ -1,0 +1,236 @@
+//! Each public function once, on a triangle with an edge apart from it.
+
+ghost use Rattle.std.specs.Prelude.{◌≡◌, ◌*◌, ◌<◌, ◌≤◌, ◌%◌, ◌==◌, length, All, IfOk};
+
+use crate::counted::counted_leading_to;
+use crate::decision::{Decision, required};
+use crate::edge::Edge;
+use crate::feasibility::feasible;
+use crate::graph::{GraphFault, NetGraph};
+use crate::lengths::length;
+use crate::network::{first_apart, joins};
+use crate::packing::{Cut, EdgeState, Packing, value};
+use crate::rooted::root_part;
+use crate::search::{Passage, leading_to, reached_from};
+use crate::sets::{EdgeSet, VertexSet};
+use item_list::ItemList;
+use std::alloc::{AllocError, Global};
+use std::test::Fail;
+
+// The edge between two vertices, of a length.
+fn edge(a: u32, b: u32, length: u64) -> Edge {
+    Edge { a, b, length }
+}
+
+// The graph of five vertices with these edges and terminals.
+fn graph_of(alloc: Global, edges: &[Edge], terminals: &[u32]) -> Result<NetGraph, GraphFault>
+    requires { length edges.now ≤ 4900 }
+    ensures vertices { IfOk result (λ g. g.vertices ≡ 5) }
+    ensures edges { IfOk result (λ g. length g.edges ≡ length edges.now) }
+    ensures terminals { IfOk result (λ g. length g.terminals ≡ length terminals.now) }
+{
+    let edges = edges.to_vec(alloc).map_err(GraphFault::Memory)?;
+    let terminals = terminals.to_vec(alloc).map_err(GraphFault::Memory)?;
+    NetGraph::new(
+        alloc,
+        5,
+        ItemList::from_vec(edges),
+        ItemList::from_vec(terminals),
+    )
+}
+
+// What is said of these edges and terminals.
+fn said_of(alloc: Global, edges: &[Edge], terminals: &[u32]) -> Result<String, Fail>
+    requires { length edges.now ≤ 4900 }
+{
+    match graph_of(alloc, edges, terminals) {
+        Ok(_) => Ok(String::new(alloc)),
+        Err(fault) => Ok(format!(in alloc; "{fault}")?),
+    }
+}
+
+#[test]
+fn names_the_first_fault(rt: HostRuntime) -> Result<(), Fail> {
+    let cases: [(u32, u64, &[u32], &str); 5] = [
+        (5, 0, &[5], "edge 1 has an end that is no vertex"),
+        (2, 0, &[], "edge 1 has no length"),
+        (2, 5, &[], "there is no terminal"),
+        (2, 5, &[0, 5], "terminal 1 is no vertex"),
+        (
+            2,
+            i64::MAX as u64,
+            &[0],
+            "the lengths sum to 9223372036854775808, which is above 2^63 - 1",
+        ),
+    ];
+    for (b, length, terminals, text) in cases {
+        let said = said_of(rt.alloc(), &[edge(0, 1, 1), edge(1, b, length)], terminals)?;
+        assert_eq!(rt; said.as_str(), text);
+    }
+    Ok(())
+}
+
+// A triangle, and an edge apart from it. The root is 1.
+fn triangle(alloc: Global) -> Result<NetGraph, GraphFault>
+    ensures vertices { IfOk result (λ g. g.vertices ≡ 5) }
+    ensures edges { IfOk result (λ g. length g.edges ≡ 4) }
+    ensures terminals { IfOk result (λ g. length g.terminals ≡ 3) }
+{
+    graph_of(
+        alloc,
+        &[edge(0, 1, 3), edge(2, 1, 4), edge(0, 2, 5), edge(3, 4, 6)],
+        &[1, 0, 2],
+    )
+}
+
+// Whether the set is a network, the first terminal apart, and its length.
+fn told(alloc: Global, g: &NetGraph, set: &EdgeSet) -> Result<(bool, Option<u8>, u64), AllocError>
+    requires size { length set.now ≡ length g.now.edges }
+    requires few { length g.now.terminals ≤ 255 }
+{
+    let joined = joins(alloc, g, set)?;
+    let apart = first_apart(alloc, g, set)?;
+    Ok((joined, apart, length(g, set)))
+}
+
+#[test]
+fn joins_a_triangle(rt: HostRuntime) -> Result<(), Fail> {
+    let g = triangle(rt.alloc())?;
+    let mut set = EdgeSet::empty(rt.alloc(), 4)?;
+    set.add(0);
+    set.add(3);
+    assert_eq!(rt; told(rt.alloc(), &g, &set)?, (false, Some(2), 9));
+    set.add(2);
+    assert_eq!(rt; told(rt.alloc(), &g, &set)?, (true, None, 14));
+    Ok(())
+}
+
+// Which of the edges 0 and 3 are in the root part of all edges.
+fn in_root_part(alloc: Global, g: &NetGraph) -> Result<[bool; 2], AllocError>
+    requires { length g.now.edges ≡ 4 }
+{
+    let mut set = EdgeSet::empty(alloc, 4)?;
+    set.add(0);
+    set.add(3);
+    let part = root_part(alloc, g, &set)?;
+    Ok([part.has(0), part.has(3)])
+}
+
+#[test]
+fn leaves_out_an_edge_apart(rt: HostRuntime) -> Result<(), Fail> {
+    let g = triangle(rt.alloc())?;
+    assert_eq!(rt; in_root_part(rt.alloc(), &g)?, [true, false]);
+    Ok(())
+}
+
+// Each edge may be walked from its end a to its end b alone.
+struct OneWay;
+
+impl Passage for OneWay {
+    ghost opens = { λ _ arc. arc % 2 == 0 };
+
+    ghost edges = { λ _. 4 };
+
+    fn is_open(&self, arc: u32) -> bool {
+        arc % 2 == 0
+    }
+}
+
+// Which of the vertices 0, 1 and 2 are in the set.
+fn first_three(set: &VertexSet) -> [bool; 3]
+    requires { 3 ≤ length set.now }
+{
+    [set.has(0), set.has(1), set.has(2)]
+}
+
+// What is reached from 2, and from where 2 is reached, with the count of that.
+fn ways(alloc: Global, g: &NetGraph) -> Result<([bool; 3], [bool; 3], usize), AllocError>
+    requires vertices { g.now.vertices ≡ 5 }
+    requires edges { length g.now.edges ≡ 4 }
+{
+    let along = first_three(&reached_from(alloc, g, 2, &OneWay)?);
+    let against = first_three(&leading_to(alloc, g, 2, &OneWay)?);
+    let counted = counted_leading_to(alloc, g, 2, &OneWay)?;
+    Ok((along, against, counted.count))
+}
+
+#[test]
+fn searches_along_and_against(rt: HostRuntime) -> Result<(), Fail> {
+    let g = triangle(rt.alloc())?;
+    assert_eq!(rt;
+        ways(rt.alloc(), &g)?,
+        ([false, true, true], [true, false, true], 2)
+    );
+    Ok(())
+}
+
+// A set round the end of a word, and whether a copy of it keeps what is cleared.
+fn round_a_word(alloc: Global) -> Result<[bool; 5], AllocError> {
+    let mut set = EdgeSet::empty(alloc, 66)?;
+    set.add(63);
+    set.add(64);
+    set.remove(64);
+    let copy = set.copy()?;
+    let held = [set.has(62), set.has(63), set.has(64)];
+    set.clear();
+    Ok([held[0], held[1], held[2], set.has(63), copy.has(63)])
+}
+
+#[test]
+fn edges_round_the_end_of_a_word(rt: HostRuntime) -> Result<(), Fail> {
+    assert_eq!(rt;
+        round_a_word(rt.alloc())?,
+        [false, true, false, false, true]
+    );
+    Ok(())
+}
+
+// Whether 3 is required, before and after an edge at it is inside.
+fn required_at_three(alloc: Global, g: &NetGraph) -> Result<[bool; 2], AllocError>
+    requires { length g.now.edges ≡ 4 }
+{
+    let mut d = Decision::none(alloc, g)?;
+    let before = required(g, &d, 3);
+    d.decide(3, EdgeState::Inside);
+    let d = d.copy()?;
+    Ok([before, required(g, &d, 3)])
+}
+
+#[test]
+fn an_inside_edge_requires_its_ends(rt: HostRuntime) -> Result<(), Fail> {
+    let g = triangle(rt.alloc())?;
+    assert_eq!(rt; required_at_three(rt.alloc(), &g)?, [false, true]);
+    Ok(())
+}
+
+// The packing of the cut around one vertex, made as a copy.
+fn one_cut(alloc: Global, v: u32, weight: u64) -> Result<Packing, AllocError>
+    requires { v < 5 }
+    ensures count { IfOk result (λ p. length p ≡ 1) }
+    ensures members { IfOk result (λ p. All (λ c. length c.members ≡ 5) p) }
+{
+    let mut members = VertexSet::empty(alloc, 5)?;
+    members.add(v);
+    let mut p = Packing::empty(alloc);
+    p.push(Cut { weight, members })?;
+    p.copy()
+}
+
+// Whether the cut around a vertex is feasible where nothing is decided, and its value.
+fn judged(alloc: Global, g: &NetGraph, v: u32, weight: u64) -> Result<(bool, u128), AllocError>
+    requires vertices { g.now.vertices ≡ 5 }
+    requires vertex { v < 5 }
+{
+    let d = Decision::none(alloc, g)?;
+    let p = one_cut(alloc, v, weight)?;
+    Ok((feasible(alloc, g, &d, &p)?, value(g, &d, &p)))
+}
+
+#[test]
+fn loads_no_edge_beyond_its_length(rt: HostRuntime) -> Result<(), Fail> {
+    let g = triangle(rt.alloc())?;
+    assert_eq!(rt; judged(rt.alloc(), &g, 2, 4)?, (true, 4));
+    assert_eq!(rt; judged(rt.alloc(), &g, 2, 5)?, (false, 5));
+    assert_eq!(rt; judged(rt.alloc(), &g, 1, 1)?, (false, 1));
+    Ok(())
+}
