@@ -1,5 +1,5 @@
 -- What is joined by an edge set, in any graph and from any root.
-use Rattle.std.specs.Prelude.{ℕ, ◌≡◌, Bool, List, [], ◌∷◌, ◌++◌, All, Contains, flat_map, ◌⊎◌}
+use Rattle.std.specs.Prelude.{ℕ, ◌≡◌, Bool, List, [], ◌∷◌, ◌++◌, All, Contains, flat_map}
 use Rattle.std.proofs.Common.{sym, inl, inr, ⊎_elim, append_assoc, append-nil, subst}
 use Rattle.std.proofs.lemmas.List.Elements.{All-contains, All-head, All-tail, Contains-append_cases}
 use Rattle.net_graph.specs.Flags.{IsSubset}

@@ -71,16 +71,16 @@ fn names_the_first_fault(rt: HostRuntime) -> Result<(), Fail> {
 }
 
 // A triangle, and an edge apart from it. The root is 1.
-fn triangle(alloc: Global) -> Result<NetGraph, GraphFault>
+fn triangle(alloc: Global) -> Result<NetGraph, AllocError>
     ensures vertices { IfOk result (λ g. g.vertices ≡ 5) }
     ensures edges { IfOk result (λ g. length g.edges ≡ 4) }
     ensures terminals { IfOk result (λ g. length g.terminals ≡ 3) }
 {
-    graph_of(
-        alloc,
-        &[edge(0, 1, 3), edge(2, 1, 4), edge(0, 2, 5), edge(3, 4, 6)],
-        &[1, 0, 2],
-    )
+    let edges = [edge(0, 1, 3), edge(2, 1, 4), edge(0, 2, 5), edge(3, 4, 6)];
+    match graph_of(alloc, &edges, &[1, 0, 2]) {
+        Ok(g) => Ok(g),
+        Err(_) => Err(AllocError),
+    }
 }
 
 // Whether the set is a network, the first terminal apart, and its length.
@@ -93,33 +93,37 @@ fn told(alloc: Global, g: &NetGraph, set: &EdgeSet) -> Result<(bool, Option<u8>,
     Ok((joined, apart, length(g, set)))
 }
 
-#[test]
-fn joins_a_triangle(rt: HostRuntime) -> Result<(), Fail> {
-    let g = triangle(rt.alloc())?;
-    let mut set = EdgeSet::empty(rt.alloc(), 4)?;
-    set.add(0);
-    set.add(3);
-    assert_eq!(rt; told(rt.alloc(), &g, &set)?, (false, Some(2), 9));
-    set.add(2);
-    assert_eq!(rt; told(rt.alloc(), &g, &set)?, (true, None, 14));
-    Ok(())
-}
-
-// Which of the edges 0 and 3 are in the root part of all edges.
-fn in_root_part(alloc: Global, g: &NetGraph) -> Result<[bool; 2], AllocError>
-    requires { length g.now.edges ≡ 4 }
-{
+// What is told of the edges 0 and 3, and of these with the edge 2.
+fn told_of_two(alloc: Global) -> Result<[(bool, Option<u8>, u64); 2], AllocError> {
+    let g = triangle(alloc)?;
     let mut set = EdgeSet::empty(alloc, 4)?;
     set.add(0);
     set.add(3);
-    let part = root_part(alloc, g, &set)?;
+    let less = told(alloc, &g, &set)?;
+    set.add(2);
+    Ok([less, told(alloc, &g, &set)?])
+}
+
+#[test]
+fn joins_a_triangle(rt: HostRuntime) -> Result<(), AllocError> {
+    let wanted = [(false, Some(2), 9), (true, None, 14)];
+    assert_eq!(rt; told_of_two(rt.alloc())?, wanted);
+    Ok(())
+}
+
+// Which of the edges 0 and 3 are in the root part of the two.
+fn in_root_part(alloc: Global) -> Result<[bool; 2], AllocError> {
+    let g = triangle(alloc)?;
+    let mut set = EdgeSet::empty(alloc, 4)?;
+    set.add(0);
+    set.add(3);
+    let part = root_part(alloc, &g, &set)?;
     Ok([part.has(0), part.has(3)])
 }
 
 #[test]
-fn leaves_out_an_edge_apart(rt: HostRuntime) -> Result<(), Fail> {
-    let g = triangle(rt.alloc())?;
-    assert_eq!(rt; in_root_part(rt.alloc(), &g)?, [true, false]);
+fn leaves_out_an_edge_apart(rt: HostRuntime) -> Result<(), AllocError> {
+    assert_eq!(rt; in_root_part(rt.alloc())?, [true, false]);
     Ok(())
 }
 
@@ -143,63 +147,61 @@ fn first_three(set: &VertexSet) -> [bool; 3]
     [set.has(0), set.has(1), set.has(2)]
 }
 
-// What is reached from 2, and from where 2 is reached, with the count of that.
-fn ways(alloc: Global, g: &NetGraph) -> Result<([bool; 3], [bool; 3], usize), AllocError>
-    requires vertices { g.now.vertices ≡ 5 }
-    requires edges { length g.now.edges ≡ 4 }
-{
-    let along = first_three(&reached_from(alloc, g, 2, &OneWay)?);
-    let against = first_three(&leading_to(alloc, g, 2, &OneWay)?);
-    let counted = counted_leading_to(alloc, g, 2, &OneWay)?;
-    Ok((along, against, counted.count))
+// What is reached from 2, and from where 2 is reached.
+fn ways(alloc: Global) -> Result<[[bool; 3]; 2], AllocError> {
+    let g = triangle(alloc)?;
+    let along = first_three(&reached_from(alloc, &g, 2, &OneWay)?);
+    let against = leading_to(alloc, &g, 2, &OneWay)?;
+    Ok([along, first_three(&against)])
+}
+
+// From how many vertices 2 is reached.
+fn ways_to_two(alloc: Global) -> Result<usize, AllocError> {
+    let g = triangle(alloc)?;
+    Ok(counted_leading_to(alloc, &g, 2, &OneWay)?.count)
 }
 
 #[test]
-fn searches_along_and_against(rt: HostRuntime) -> Result<(), Fail> {
-    let g = triangle(rt.alloc())?;
+fn searches_along_and_against(rt: HostRuntime) -> Result<(), AllocError> {
     assert_eq!(rt;
-        ways(rt.alloc(), &g)?,
-        ([false, true, true], [true, false, true], 2)
+        ways(rt.alloc())?,
+        [[false, true, true], [true, false, true]]
     );
+    assert_eq!(rt; ways_to_two(rt.alloc())?, 2);
     Ok(())
 }
 
-// A set round the end of a word, and whether a copy of it keeps what is cleared.
-fn round_a_word(alloc: Global) -> Result<[bool; 5], AllocError> {
+// A set round the end of a word, and its copy behind a clear.
+fn round_a_word(alloc: Global) -> Result<[bool; 4], AllocError> {
     let mut set = EdgeSet::empty(alloc, 66)?;
     set.add(63);
     set.add(64);
     set.remove(64);
     let copy = set.copy()?;
-    let held = [set.has(62), set.has(63), set.has(64)];
     set.clear();
-    Ok([held[0], held[1], held[2], set.has(63), copy.has(63)])
+    Ok([set.has(63), copy.has(62), copy.has(63), copy.has(64)])
 }
 
 #[test]
-fn edges_round_the_end_of_a_word(rt: HostRuntime) -> Result<(), Fail> {
-    assert_eq!(rt;
-        round_a_word(rt.alloc())?,
-        [false, true, false, false, true]
-    );
+fn edges_round_the_end_of_a_word(rt: HostRuntime) -> Result<(), AllocError> {
+    let held = round_a_word(rt.alloc())?;
+    assert!(rt; held == [false, false, true, false], "{held:?}");
     Ok(())
 }
 
 // Whether 3 is required, before and after an edge at it is inside.
-fn required_at_three(alloc: Global, g: &NetGraph) -> Result<[bool; 2], AllocError>
-    requires { length g.now.edges ≡ 4 }
-{
-    let mut d = Decision::none(alloc, g)?;
-    let before = required(g, &d, 3);
+fn required_at_three(alloc: Global) -> Result<[bool; 2], AllocError> {
+    let g = triangle(alloc)?;
+    let mut d = Decision::none(alloc, &g)?;
+    let before = required(&g, &d, 3);
     d.decide(3, EdgeState::Inside);
     let d = d.copy()?;
-    Ok([before, required(g, &d, 3)])
+    Ok([before, required(&g, &d, 3)])
 }
 
 #[test]
-fn an_inside_edge_requires_its_ends(rt: HostRuntime) -> Result<(), Fail> {
-    let g = triangle(rt.alloc())?;
-    assert_eq!(rt; required_at_three(rt.alloc(), &g)?, [false, true]);
+fn an_inside_edge_requires_its_ends(rt: HostRuntime) -> Result<(), AllocError> {
+    assert!(rt; required_at_three(rt.alloc())? == [false, true]);
     Ok(())
 }
 
@@ -217,20 +219,20 @@ fn one_cut(alloc: Global, v: u32, weight: u64) -> Result<Packing, AllocError>
 }
 
 // Whether the cut around a vertex is feasible where nothing is decided, and its value.
-fn judged(alloc: Global, g: &NetGraph, v: u32, weight: u64) -> Result<(bool, u128), AllocError>
-    requires vertices { g.now.vertices ≡ 5 }
-    requires vertex { v < 5 }
+fn judged(alloc: Global, v: u32, weight: u64) -> Result<(bool, u128), AllocError>
+    requires { v < 5 }
 {
-    let d = Decision::none(alloc, g)?;
+    let g = triangle(alloc)?;
+    let d = Decision::none(alloc, &g)?;
     let p = one_cut(alloc, v, weight)?;
-    Ok((feasible(alloc, g, &d, &p)?, value(g, &d, &p)))
+    Ok((feasible(alloc, &g, &d, &p)?, value(&g, &d, &p)))
 }
 
 #[test]
-fn loads_no_edge_beyond_its_length(rt: HostRuntime) -> Result<(), Fail> {
-    let g = triangle(rt.alloc())?;
-    assert_eq!(rt; judged(rt.alloc(), &g, 2, 4)?, (true, 4));
-    assert_eq!(rt; judged(rt.alloc(), &g, 2, 5)?, (false, 5));
-    assert_eq!(rt; judged(rt.alloc(), &g, 1, 1)?, (false, 1));
+fn loads_no_edge_beyond_its_length(rt: HostRuntime) -> Result<(), AllocError> {
+    for (is_root, weight, fits) in [(false, 4, true), (false, 5, false), (true, 1, false)] {
+        let told = judged(rt.alloc(), if is_root { 1 } else { 2 }, weight)?;
+        assert_eq!(rt; told, (fits, u128::from(weight)));
+    }
     Ok(())
 }
