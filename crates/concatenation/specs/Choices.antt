@@ -1,5 +1,5 @@
 -- What a search has decided of the trees of a list: a list of choices, one for each tree.
-use Rattle.std.specs.Prelude.{ℕ, ◌≡◌, ◌<◌, ◌≤◌, Bool, true, false, List, length, map, slice_get, Some}
+use Rattle.std.specs.Prelude.{ℕ, ◌≡◌, ◌≤◌, Bool, true, false, List, map, slice_get, Some}
 use Rattle.full_tree.specs.declared.code.Tree.{Tree}
 use Rattle.concatenation.specs.declared.choice.Choice.{Choice}
 use Rattle.concatenation.specs.declared.choice.Choice.TheVariants.{Open, Taken, LeftOut}

@@ -1,4 +1,6 @@
 pub mod Concatenation
+pub mod SetLaws
 pub mod Choices
 pub mod Trails
+pub mod TrailLaws
 pub mod Partitions

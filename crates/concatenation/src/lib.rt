@@ -3,5 +3,7 @@
 #![tactic(auto)]
 
 mod choice;
+mod laws;
 
 pub use choice::Choice;
+pub use laws::{closed_trail_is_least, more_trees, spent_trails_are_short};
