@@ -4,3 +4,4 @@ pub mod Choices
 pub mod Trails
 pub mod TrailLaws
 pub mod Partitions
+pub mod PartitionLaws

@@ -1,12 +1,10 @@
 -- Partitions of the terminals, with amounts, as a bound on concatenations. A partition is the list of its labels, one
 -- for each terminal: terminals of one label are one part.
-use Rattle.std.specs.Prelude.{ℕ, ◌≡◌, ◌+◌, ◌*◌, ◌-◌, ◌≤◌, ◌<◌, Bool, List, [], ◌∷◌, length, map, slice_get, slice_index, Some, All}
+use Rattle.std.specs.Prelude.{ℕ, ◌≡◌, ◌+◌, ◌*◌, ◌-◌, ◌≤◌, List, [], ◌∷◌, length, map, slice_get, slice_index, Some, All}
 use Rattle.full_tree.specs.declared.code.Tree.{Tree}
 use Rattle.full_tree.specs.Code.{ascending_places, members_of}
 use Rattle.concatenation.specs.declared.choice.Choice.{Choice}
 use Rattle.concatenation.specs.declared.choice.Choice.TheVariants.{Open, Taken}
-use Rattle.concatenation.specs.Choices.{taken_of, Respects}
-use Rattle.concatenation.specs.Concatenation.{IsConcatenation, total_of}
 
 -- a partition with its amount
 pub record Layer : Type 0 where
@@ -39,12 +37,3 @@ pub record PacksLayers (n scale : ℕ) (trees : List Tree) (choices : List Choic
       → All (λ layer. touched_count layer.labels tree ≤ 1) layers
   pub loads : (k : ℕ) (tree : Tree) → slice_get choices k ≡ Some Open → slice_get trees k ≡ Some tree
       → load_of layers tree ≤ scale * tree.length
-
--- A concatenation joins the parts of each partition, so its further trees touch them at least as often as there are
--- parts, less one, each tree counted one time less: its total is at least what is taken and what the partitions bound.
-abbrev pub PartitionBound : Type 0
-PartitionBound = (n scale : ℕ) (trees : List Tree) (choices : List Choice) (layers : List Layer) (set : List Bool)
-    → length choices ≡ length trees
-    → All (λ tree. All (λ i. i < n) (members_of tree.code)) trees
-    → PacksLayers n scale trees choices layers → IsConcatenation n trees set → Respects choices set
-    → scale * total_of trees (taken_of choices) + bound_of layers ≤ scale * total_of trees set

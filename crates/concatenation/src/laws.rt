@@ -1,5 +1,6 @@
 //! The laws on concatenations. A law is a call that does nothing, and its caller knows the fact from there on.
 
+ghost use Rattle.concatenation.specs.PartitionLaws.{PartitionBound, BoundWithTree};
 ghost use Rattle.concatenation.specs.SetLaws.{MoreTreesJoin, AllJoin, TotalsRise};
 ghost use Rattle.concatenation.specs.TrailLaws.{BoundedTrailIsLeast, ClosedTrailIsLeast, SpentTrailsAreShort};
 
@@ -21,4 +22,11 @@ pub fn closed_trail_is_least()
 /// A spent trail over m trees has fewer than 2^m - 1 splits.
 pub fn spent_trails_are_short()
     ensures { SpentTrailsAreShort }
+{}
+
+/// Partitions whose amounts pack into the trees that are open bound every concatenation that respects the choices, and
+/// one that has some open tree by the more the less they take of it.
+pub fn partition_bound()
+    ensures bound { PartitionBound }
+    ensures with_tree { BoundWithTree }
 {}

@@ -6,4 +6,4 @@ mod choice;
 mod laws;
 
 pub use choice::Choice;
-pub use laws::{closed_trail_is_least, more_trees, spent_trails_are_short};
+pub use laws::{closed_trail_is_least, more_trees, partition_bound, spent_trails_are_short};
