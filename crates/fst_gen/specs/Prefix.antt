@@ -1,13 +1,15 @@
 -- The beginnings of long codes: a root, a direction and the first drops.
 use Rattle.std.specs.Prelude.{ℕ, ◌≡◌, ◌+◌, ◌<◌, ◌≤◌, pos, List, [], ◌∷◌, ◌++◌, length, map, All, Option, Some}
 use Rattle.points_in.specs.declared.point.Point.{Point}
+use Rattle.hanan_grid.specs.Distance.{distance_between}
 use Rattle.full_tree.specs.declared.way.Way.{Way}
 use Rattle.full_tree.specs.declared.code.TreeCode.{TreeCode}
 use Rattle.full_tree.specs.declared.code.TreeCode.TheVariants.{Long}
 use Rattle.full_tree.specs.Geometry.{point_at, RisesFrom}
 use Rattle.full_tree.specs.Form.{along_of, LieInTurn}
+use Rattle.full_tree.specs.Pieces.{foot}
 use Rattle.full_tree.specs.Stations.{first_stations, last_foot}
-use Rattle.full_tree.specs.Passing.{Passes, KeepsUpTo}
+use Rattle.full_tree.specs.Passing.{Passes, KeepsUpTo, IsWithinBottleneck}
 use Rattle.fst_gen.specs.declared.prefix.Prefix.{Prefix}
 
 -- the last drop, or the root where there is none
@@ -58,6 +60,19 @@ pub record MayFollow (ps : List Point) (root : ℕ) (toward : Way) (drops : List
 -- no code of this kind passes
 abbrev pub NonePasses : List Point → (TreeCode → Type 0) → Type 0
 NonePasses ps Kind = (code : TreeCode) → Kind code → Passes ps code → ⊥
+
+-- no code passes that begins with drops behind which the last one may not follow
+abbrev pub FailingDropNeverPasses : Type 0
+FailingDropNeverPasses = (ps : List Point) (root : ℕ) (toward : Way) (drops : List ℕ) (d : ℕ)
+    → ¬ MayFollow ps root toward drops d → NonePasses ps (HasPrefix root toward (drops ++ d ∷ []))
+
+-- no code passes whose long leg goes on from its last foot, or from the root, to the corner for longer than
+-- the bottleneck of its last drop, or of the root, and the tip
+abbrev pub FarTipNeverPasses : Type 0
+FarTipNeverPasses = (ps : List Point) (root : ℕ) (toward : Way) (drops : List ℕ) (tip : ℕ)
+    → ¬ IsWithinBottleneck ps (last_member root drops) tip
+    (distance_between (last_foot ps root toward (point_at ps root) drops) (foot ps root toward tip))
+    → NonePasses ps (EndsAt root toward drops tip)
 
 -- a beginning with one drop more than another
 pub record IsLongerBy (ps : List Point) (prefix : Prefix) (d : ℕ) (longer : Prefix) : Type 0 where

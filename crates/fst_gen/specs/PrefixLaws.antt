@@ -19,7 +19,7 @@ use Rattle.full_tree.specs.Passing.{Passes, IsWithinBottleneck, KeepsUpTo, Keeps
 use Rattle.full_tree.specs.StationsLaws.{member_of}
 use Rattle.spanning.specs.Bottleneck.{IsBottleneck}
 use Rattle.fst_gen.specs.declared.prefix.Prefix.{Prefix}
-use Rattle.fst_gen.specs.Prefix.{last_member, MayFollow, HasPrefix, IsPrefix, IsLongerBy}
+use Rattle.fst_gen.specs.Prefix.{last_member, MayFollow, HasPrefix, FailingDropNeverPasses, FarTipNeverPasses, IsPrefix, IsLongerBy}
 
 -- ---- the form
 
@@ -242,6 +242,15 @@ near_from_passing ps root toward drops (Some q) tip passes most bottleneck =
     let keeps = passes.bottlenecks (m + 2) (omega (arith, size, long)) m (omega arith) in
     let b = IsBottleneck-at ps _ _ _ _ most (sym here) (sym (ap member_of last)) bottleneck in
     omega (arith, keeps.spine (m + 1) (omega arith) (omega arith) most b, ap before_of next)
+
+-- ---- what fails in a beginning
+
+pub failing_drop : FailingDropNeverPasses
+failing_drop ps root toward drops d fails code kind passes = fails (MayFollow-from_passing ps root toward drops d code kind passes)
+
+pub far_tip : FarTipNeverPasses
+far_tip ps root toward drops tip far code (side, is) passes =
+    far (near_from_passing ps root toward drops side tip (subst (λ c. Passes ps c) is passes))
 
 -- ---- a beginning's stations
 

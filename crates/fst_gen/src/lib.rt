@@ -6,6 +6,7 @@ mod crosses;
 mod fault;
 mod generation;
 mod growth;
+mod laws;
 mod listed;
 mod listing;
 mod prefix;
@@ -15,3 +16,4 @@ mod word;
 
 pub use fault::GenFault;
 pub use generation::generate;
+pub use laws::failing_prefix_never_passes;

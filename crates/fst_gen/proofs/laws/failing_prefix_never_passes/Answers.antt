@@ -1,0 +1,5 @@
+use Rattle.fst_gen.specs.PrefixLaws.{failing_drop, far_tip}
+use Rattle.fst_gen.proofs.laws.failing_prefix_never_passes.Goals as goal
+
+pub returns : goal.returns
+returns c = record { drop = failing_drop; tip = far_tip }
