@@ -1,4 +1,6 @@
 pub mod Trees
+pub mod Joins
+pub mod PairLaws
 pub mod Word
 pub mod Kept
 pub mod Store

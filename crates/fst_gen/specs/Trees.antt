@@ -30,10 +30,18 @@ pub record IsTreeOf (ps : List Point) (k : ℕ) (tree : Tree) : Type 0 where
   pub least : (other : TreeCode) → Passes ps other → members_of other ≡ members_of tree.code
       → IsNotAfter tree (tree_of ps other)
 
--- the list of all trees of the points for k, in file order
+-- some tree of the list has the members of the code
+pub record HasTreeOf (trees : List Tree) (code : TreeCode) : Type 0 where
+  pub tree : Tree
+  pub listed : Contains trees tree
+  pub same : members_of tree.code ≡ members_of code
+
+-- The list of all trees of the points for k, in file order: no tree is wanting, no other is there, and each
+-- set of at most k members that has a passing code has its tree.
 pub record AreTreesOf (ps : List Point) (k : ℕ) (trees : List Tree) : Type 0 where
   pub ordered : IsInFileOrder trees
   pub exact : (tree : Tree) → Contains trees tree ↔ IsTreeOf ps k tree
+  pub each_set : (code : TreeCode) → IsWanted ps k code → HasTreeOf trees code
 
 -- More than n sets of at most k members have passing codes: these codes are of so many sets. Each set
 -- has one tree.

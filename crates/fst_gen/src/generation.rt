@@ -5,6 +5,7 @@ ghost use Rattle.std.specs.Ordering.{nat_cmp};
 ghost use Rattle.std.specs.BTreeMap.{IsOrdered, btree_map_len};
 ghost use Rattle.fst_gen.specs.declared.fault.GenFault.TheVariants.{TooManyTrees};
 ghost use Rattle.fst_gen.specs.Trees.{AreTreesOf, HasMoreSets};
+ghost use Rattle.fst_gen.specs.Joins.{JoinsAll, PairsJoinAll};
 ghost use Rattle.fst_gen.specs.Store.{IsStore, CoversAll, Generates};
 
 use crate::crosses::cross_all;
@@ -18,13 +19,15 @@ use std::alloc::{AllocError, Global};
 use std::collections::BTreeMap;
 
 /// The trees of a grid's terminals for `k`: for each set of 2 to `k` terminals that has a passing code, the
-/// least such code by length and then code, in file order. An `Err` says that there are more than 20,000
-/// of them, or is want of memory.
+/// least such code by length and then code, in file order. They join all terminals, and so do those of two
+/// members alone. An `Err` says that there are more than 20,000 of them, or is want of memory.
 pub fn generate(alloc: Global, grid: &Grid, k: u8) -> Result<TreeList, GenFault>
     requires least { 2 ≤ k }
     requires most { k ≤ 8 }
     ensures trees { IfOk result (AreTreesOf grid.now k) }
     ensures few { IfOk result (λ trees. length trees ≤ 20000) }
+    ensures joins { IfOk result (JoinsAll (length grid.now)) }
+    ensures pairs_join { IfOk result (PairsJoinAll (length grid.now)) }
     ensures too_many { IsErrOf result TooManyTrees → HasMoreSets grid.now k 20000 }
 {
     let table = bottlenecks(alloc, grid)?;
@@ -57,10 +60,13 @@ fn listed(
     most: usize,
     trees: BTreeMap<u64, Tree>,
 ) -> Result<TreeList, AllocError>
+    requires least { 2 ≤ most }
     requires store { IsStore grid.now most trees }
     requires covers { CoversAll grid.now most trees }
     ensures trees { IfOk result (AreTreesOf grid.now most) }
     ensures few { IfOk result (λ list. length list ≤ 20000) }
+    ensures joins { IfOk result (JoinsAll (length grid.now)) }
+    ensures pairs_join { IfOk result (PairsJoinAll (length grid.now)) }
 {
     let _kept = trees.len();
     let _points = grid.points().len();

@@ -16,11 +16,15 @@ use Rattle.std.proofs.lemmas.Map.Keys.{below_from_sorted, IsDistinct-from_apart,
 use Rattle.std.proofs.lemmas.Map.Entries.{btree_map_get_place, place_from_lookup}
 use Rattle.std.proofs.lemmas.Option.{slice_get-get_or, slice_get_within}
 use Rattle.points_in.specs.declared.point.Point.{Point}
+use Rattle.points_in.specs.Terminals.{AreDistinct}
 use Rattle.full_tree.specs.declared.code.Tree.{Tree}
+use Rattle.full_tree.specs.declared.code.TreeCode.{TreeCode}
 use Rattle.full_tree.specs.Code.{members_of, HasFewMembers}
 use Rattle.full_tree.specs.Order.{tree_cmp, IsInFileOrder}
 use Rattle.full_tree.specs.OrderLaws.{tree_cmp_total, same_tree, in_file_order_by_neighbours}
-use Rattle.fst_gen.specs.Trees.{IsNotAfter, tree_of, IsTreeOf, AreTreesOf}
+use Rattle.fst_gen.specs.Trees.{IsNotAfter, IsWanted, tree_of, IsTreeOf, HasTreeOf, AreTreesOf}
+use Rattle.fst_gen.specs.Joins.{JoinsAll, PairsJoinAll}
+use Rattle.fst_gen.specs.PairLaws.{trees-join}
 use Rattle.fst_gen.specs.Word.{IsWordOf}
 use Rattle.fst_gen.specs.Store.{IsStore, CoversAll}
 use Rattle.fst_gen.proofs.lemmas.Tries.{same_word, same_set}
@@ -163,10 +167,21 @@ module _ (ps : List Point) (k : ℕ) (trees : BTreeMap ℕ Tree) (store : IsStor
         Contains-permutation (values trees) list tree moved
         (subst (λ (t : Tree). Contains (values trees) t) one (value_of_found covered.word covered.tree covered.found))
 
+    pub tree_of_set : (code : TreeCode) → CoversAll ps k trees → IsWanted ps k code → HasTreeOf list code
+    tree_of_set code covers wanted =
+        let covered = covers code wanted in
+        let kept = store.sound covered.word covered.tree covered.found in
+        record {
+          tree = covered.tree;
+          listed = Contains-permutation (values trees) list covered.tree moved (value_of_found covered.word covered.tree covered.found);
+          same = same_set covered.word covered.tree.code code kept.word_is covered.word_is;
+        }
+
     pub AreTreesOf-listed : CoversAll ps k trees → AreTreesOf ps k list
     AreTreesOf-listed covers = record {
       ordered = in_order;
       exact = λ tree. (λ member. each_is_tree tree member covers, λ is. each_tree_is tree covers is);
+      each_set = λ code wanted. tree_of_set code covers wanted;
     }
 
 -- what a list that may fail for memory holds
@@ -184,3 +199,19 @@ module _ (ps : List Point) (k : ℕ) (trees : BTreeMap ℕ Tree) (store : IsStor
 
   pub listed_few : {E : Type 0} (result : Result (List Tree) E) → IfOk result (λ ts. ts ≡ new) → IfOk result (λ ts. length ts ≤ 20000)
   listed_few result is = if_ok (λ ts. length ts ≤ 20000) new result is (list_few ps k trees store ordered new permuted sorted)
+
+-- what follows for a list that may fail for memory
+if_all : {E : Type 0} (P Q R : List Tree → Type 0) (result : Result (List Tree) E) → IfOk result P → IfOk result Q
+    → ((ts : List Tree) → P ts → Q ts → R ts) → IfOk result R
+if_all P Q R (Ok ts) p q then' = then' ts p q
+if_all P Q R (Err e) p q then' = tt
+
+module _ {E : Type 0} (ps : List Point) (k : ℕ) (result : Result (List Tree) E) (trees : IfOk result (AreTreesOf ps k)) where
+  module _ (distinct : AreDistinct ps) (many : 2 ≤ k) where
+    pub listed_join : IfOk result (JoinsAll (length ps))
+    listed_join = if_all (AreTreesOf ps k) (AreTreesOf ps k) (JoinsAll (length ps)) result trees trees
+        (λ ts are are'. (trees-join ps k ts distinct many are).0)
+
+    pub listed_pairs_join : IfOk result (PairsJoinAll (length ps))
+    listed_pairs_join = if_all (AreTreesOf ps k) (AreTreesOf ps k) (PairsJoinAll (length ps)) result trees trees
+        (λ ts are are'. (trees-join ps k ts distinct many are).1)

@@ -1,4 +1,6 @@
-use Rattle.fst_gen.proofs.lemmas.Listing.{few_of_values, listed_trees, listed_few}
+use Rattle.std.proofs.Common.{subst}
+use Rattle.points_in.specs.Terminals.{AreDistinct}
+use Rattle.fst_gen.proofs.lemmas.Listing.{few_of_values, listed_trees, listed_few, listed_join, listed_pairs_join}
 use Rattle.fst_gen.proofs.generation.listed.Goals as goal
 
 pub gathered-requires : goal.gathered-requires
@@ -13,3 +15,9 @@ pub returns-clause-few : goal.returns-clause-few
 returns-clause-few c = listed_few c.args.grid.now c.args.most c.args.trees c.requires.store c.len-kept.ensures.ordered
     c.in_ok-list.list.items c.put_in_order.new.list.items c.in_ok-list.ensures c.put_in_order.ensures.permutation c.put_in_order.ensures.sorted
     c.freed.result c.freed.ensures
+
+pub returns-clause-joins : goal.returns-clause-joins
+returns-clause-joins c = listed_join c.args.grid.now c.args.most c.freed.result (returns-clause-trees c) (subst AreDistinct c.points.ensures c.len-points.ensures.distinct) c.requires.least
+
+pub returns-clause-pairs_join : goal.returns-clause-pairs_join
+returns-clause-pairs_join c = listed_pairs_join c.args.grid.now c.args.most c.freed.result (returns-clause-trees c) (subst AreDistinct c.points.ensures c.len-points.ensures.distinct) c.requires.least

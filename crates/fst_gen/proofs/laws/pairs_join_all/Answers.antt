@@ -1,0 +1,5 @@
+use Rattle.fst_gen.specs.PairLaws.{trees-join}
+use Rattle.fst_gen.proofs.laws.pairs_join_all.Goals as goal
+
+pub returns : goal.returns
+returns c = trees-join
