@@ -1,6 +1,7 @@
 pub mod Trees
 pub mod Joins
 pub mod PairLaws
+pub mod ListLaws
 pub mod Word
 pub mod Kept
 pub mod Store

@@ -29,6 +29,7 @@ pub fn generate(alloc: Global, grid: &Grid, k: u8) -> Result<TreeList, GenFault>
     ensures joins { IfOk result (JoinsAll (length grid.now)) }
     ensures pairs_join { IfOk result (PairsJoinAll (length grid.now)) }
     ensures too_many { IsErrOf result TooManyTrees → HasMoreSets grid.now k 20000 }
+    ensures not_many { IfOk result (λ trees. ¬ HasMoreSets grid.now k 20000) }
 {
     let table = bottlenecks(alloc, grid)?;
     let mut trees = BTreeMap::new(alloc);
@@ -67,6 +68,7 @@ fn listed(
     ensures few { IfOk result (λ list. length list ≤ 20000) }
     ensures joins { IfOk result (JoinsAll (length grid.now)) }
     ensures pairs_join { IfOk result (PairsJoinAll (length grid.now)) }
+    ensures not_many { IfOk result (λ list. ¬ HasMoreSets grid.now most 20000) }
 {
     let _kept = trees.len();
     let _points = grid.points().len();

@@ -1,5 +1,9 @@
 //! Laws of codes and of lists of trees. The functions do nothing: each is there for its clauses.
 
+ghost use Rattle.std.specs.Prelude.{ℕ, ◌≡◌, ◌<◌, List, length};
+ghost use Rattle.points_in.specs.declared.point.Point.{Point};
+ghost use Rattle.full_tree.specs.declared.code.Tree.{Tree};
+ghost use Rattle.fst_gen.specs.Trees.{AreTreesOf, HasMoreSets};
 ghost use Rattle.fst_gen.specs.Joins.{TreesJoin};
 ghost use Rattle.fst_gen.specs.Prefix.{FailingDropNeverPasses, FarTipNeverPasses};
 
@@ -7,6 +11,15 @@ ghost use Rattle.fst_gen.specs.Prefix.{FailingDropNeverPasses, FarTipNeverPasses
 /// members by themselves.
 pub fn pairs_join_all()
     ensures { TreesJoin }
+{}
+
+/// Points have one list of trees for a greatest number of members, and where more than n sets have passing
+/// codes, it has more than n trees.
+pub fn trees_are_one_list()
+    ensures one { (ps : List Point) (k : ℕ) (some other : List Tree)
+        → AreTreesOf ps k some → AreTreesOf ps k other → some ≡ other }
+    ensures more { (ps : List Point) (k n : ℕ) (trees : List Tree)
+        → AreTreesOf ps k trees → HasMoreSets ps k n → n < length trees }
 {}
 
 /// What fails in the beginning of a code fails in each code that begins so.

@@ -22,9 +22,10 @@ use Rattle.full_tree.specs.declared.code.TreeCode.{TreeCode}
 use Rattle.full_tree.specs.Code.{members_of, HasFewMembers}
 use Rattle.full_tree.specs.Order.{tree_cmp, IsInFileOrder}
 use Rattle.full_tree.specs.OrderLaws.{tree_cmp_total, same_tree, in_file_order_by_neighbours}
-use Rattle.fst_gen.specs.Trees.{IsNotAfter, IsWanted, tree_of, IsTreeOf, HasTreeOf, AreTreesOf}
+use Rattle.fst_gen.specs.Trees.{IsNotAfter, IsWanted, tree_of, IsTreeOf, HasTreeOf, AreTreesOf, HasMoreSets}
 use Rattle.fst_gen.specs.Joins.{JoinsAll, PairsJoinAll}
 use Rattle.fst_gen.specs.PairLaws.{trees-join}
+use Rattle.fst_gen.specs.ListLaws.{more_trees}
 use Rattle.fst_gen.specs.Word.{IsWordOf}
 use Rattle.fst_gen.specs.Store.{IsStore, CoversAll}
 use Rattle.fst_gen.proofs.lemmas.Tries.{same_word, same_set}
@@ -215,3 +216,7 @@ module _ {E : Type 0} (ps : List Point) (k : ℕ) (result : Result (List Tree) E
     pub listed_pairs_join : IfOk result (PairsJoinAll (length ps))
     listed_pairs_join = if_all (AreTreesOf ps k) (AreTreesOf ps k) (PairsJoinAll (length ps)) result trees trees
         (λ ts are are'. (trees-join ps k ts distinct many are).1)
+
+  pub listed_not_many : IfOk result (λ ts. length ts ≤ 20000) → IfOk result (λ ts. ¬ HasMoreSets ps k 20000)
+  listed_not_many few = if_all (AreTreesOf ps k) (λ ts. length ts ≤ 20000) (λ ts. ¬ HasMoreSets ps k 20000) result trees few
+      (λ ts are most more. omega (arith, more_trees ps k ts are 20000 more))

@@ -1,6 +1,6 @@
 use Rattle.std.proofs.Common.{subst}
 use Rattle.points_in.specs.Terminals.{AreDistinct}
-use Rattle.fst_gen.proofs.lemmas.Listing.{few_of_values, listed_trees, listed_few, listed_join, listed_pairs_join}
+use Rattle.fst_gen.proofs.lemmas.Listing.{few_of_values, listed_trees, listed_few, listed_join, listed_pairs_join, listed_not_many}
 use Rattle.fst_gen.proofs.generation.listed.Goals as goal
 
 pub gathered-requires : goal.gathered-requires
@@ -21,3 +21,6 @@ returns-clause-joins c = listed_join c.args.grid.now c.args.most c.freed.result 
 
 pub returns-clause-pairs_join : goal.returns-clause-pairs_join
 returns-clause-pairs_join c = listed_pairs_join c.args.grid.now c.args.most c.freed.result (returns-clause-trees c) (subst AreDistinct c.points.ensures c.len-points.ensures.distinct) c.requires.least
+
+pub returns-clause-not_many : goal.returns-clause-not_many
+returns-clause-not_many c = listed_not_many c.args.grid.now c.args.most c.freed.result (returns-clause-trees c) (returns-clause-few c)
