@@ -2,7 +2,6 @@
 use Rattle.std.proofs.Common.{ℕ, List, Result, Ok, Err, IfOk, subst, ap}
 use Rattle.points_in.specs.declared.point.Point.{Point}
 use Rattle.fst_file.specs.Value.{FstValue}
-use Rattle.fst_gen.specs.Trees as gen
 use Rattle.frame.specs.declared.take.TheConstants.{TEXT_LIMIT}
 use Rattle.frame.specs.declared.text_fault.TextFault.{TextFault}
 use Rattle.frame.specs.declared.text_fault.TextFault.TheVariants.{Input, Text}
@@ -11,7 +10,7 @@ use Rattle.frame.specs.Ends.{print_of}
 use Rattle.frame.specs.FromText.{FromText}
 use Rattle.tree_inputs.specs.declared.generation_fault.GenerationFault.{GenerationFault}
 use Rattle.tree_inputs.specs.declared.generation_fault.GenerationFault.TheVariants.{List as InList, TooManyTrees}
-use Rattle.tree_inputs.specs.Generation.{GeneratesFst}
+use Rattle.tree_inputs.specs.Generation.{IsTreeList, GeneratesFst}
 use Rattle.tree_tools.specs.declared.file_answer.FileAnswer.{FileAnswer}
 use Rattle.tree_tools.specs.Generation.{GeneratesFile, fst_print}
 use Rattle.tree_tools.specs.FileAnswer.{FindsFile, file_text, file_status}
@@ -26,7 +25,7 @@ fault_found k before after (Input fault) is = is
 found_file : (k : ℕ) (before after : Readable) (found : Result FileAnswer (TextFault GenerationFault)) → FromText TEXT_LIMIT (FindsFile k) before after found →
     FromText TEXT_LIMIT (GeneratesFile k) before after (print_of file_text file_status found)
 found_file k before after (Ok answer) (bytes, whole, (ps, lists, is, trees)) =
-    (bytes, whole, (ps, answer.file.trees, lists, subst (λ h. gen.AreTreesOf h k answer.file.trees) is trees, ap (λ h. fst_print h answer.file.trees) is))
+    (bytes, whole, (ps, answer.file.trees, lists, subst (λ h. IsTreeList h k answer.file.trees) is trees, ap (λ h. fst_print h answer.file.trees) is))
 found_file k before after (Err (Text (InList fault))) finds = finds
 found_file k before after (Err (Text TooManyTrees)) finds = finds
 found_file k before after (Err (Input fault)) finds = finds

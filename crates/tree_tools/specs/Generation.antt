@@ -4,7 +4,7 @@ use Rattle.points_in.specs.declared.point.Point.{Point}
 use Rattle.points_in.specs.Terminals.{terminals_of}
 use Rattle.full_tree.specs.declared.code.Tree.{Tree}
 use Rattle.fst_file.specs.Text.{fst_text}
-use Rattle.fst_gen.specs.Trees.{AreTreesOf, HasMoreSets}
+use Rattle.fst_gen.specs.Trees.{HasMoreSets}
 use Rattle.frame.specs.declared.status.AnswerStatus.TheVariants.{Done}
 use Rattle.frame.specs.declared.take.TheConstants.{TEXT_LIMIT}
 use Rattle.frame.specs.Outside.{Outside}
@@ -16,17 +16,17 @@ use Rattle.frame.specs.Points.{ListsPoints, IsListFault}
 use Rattle.tree_inputs.specs.declared.generation_fault.GenerationFault.{GenerationFault}
 use Rattle.tree_inputs.specs.declared.generation_fault.GenerationFault.TheVariants.{List as InList, TooManyTrees}
 use Rattle.tree_inputs.specs.GenerationFaults.{generation_fault_text, generation_fault_status}
-use Rattle.tree_inputs.specs.Generation.{most_members}
+use Rattle.tree_inputs.specs.Generation.{IsTreeList, most_members}
 
 -- what is printed of points and their trees: the file that holds them
 abbrev pub fst_print : List Point → List Tree → Print
 fst_print points trees = record { text = fst_text (record { points = points; trees = trees }); status = Done }
 
--- What `rfst` finds in a text: the file of the points that it lists and of their trees of up to k members. Or it lists none,
--- or there are more than 20,000 such trees.
+-- What `rfst` finds in a text: the file of the points that it lists and of their trees of up to k members, which join these
+-- points. Or it lists none, or there are more than 20,000 such trees.
 abbrev pub GeneratesFile : ℕ → List ℕ → Result Print GenerationFault → Type 0
 GeneratesFile k bytes (Ok print) = (ps : List Point) × (trees : List Tree) × ListsPoints bytes ps
-    × AreTreesOf (terminals_of ps) k trees × (print ≡ fst_print (terminals_of ps) trees)
+    × IsTreeList (terminals_of ps) k trees × (print ≡ fst_print (terminals_of ps) trees)
 GeneratesFile k bytes (Err (InList fault)) = IsListFault bytes fault
 GeneratesFile k bytes (Err TooManyTrees) = (ps : List Point) × ListsPoints bytes ps × HasMoreSets (terminals_of ps) k 20000
 
