@@ -1,0 +1,11 @@
+//! Pruning of lists of full trees: which trees of a list are kept, and that the least total stays.
+#![tactic(auto)]
+
+mod copying;
+mod firsts;
+mod pair_array;
+mod pruning;
+mod within;
+mod word;
+
+pub use pruning::prune;
