@@ -1,0 +1,6 @@
+//! Networks of a grid that full trees make up.
+#![tactic(auto)]
+
+mod network;
+
+pub use network::network_of;
