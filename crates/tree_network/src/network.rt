@@ -16,7 +16,7 @@ use net_graph::EdgeSet;
 use std::alloc::{AllocError, Global};
 
 /// The grid edges on which the trees at these places of the list lie. Where the places are those of a set of the
-/// trees, an edge on several trees counts once, so the edges are together no longer than the set's trees; and where
+/// trees, the edges are together no longer than the set's trees, since an edge on several trees counts once; and where
 /// the set is a concatenation, they are a network. An `Err` is want of memory.
 pub fn network_of(
     alloc: Global,
