@@ -6,3 +6,5 @@ pub mod Pairs
 pub mod Sums
 pub mod Replaced
 pub mod Flags
+pub mod Sublists
+pub mod Totals

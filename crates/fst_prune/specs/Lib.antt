@@ -1,3 +1,4 @@
 pub mod Kept
 pub mod Firsts
 pub mod Within
+pub mod LeastTotal

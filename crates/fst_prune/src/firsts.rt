@@ -1,12 +1,8 @@
 //! The first tree of each set of members.
 
-ghost use Rattle.std.specs.Prelude.{◌≡◌, ◌+◌, ◌<◌, All, IfOk, OnOk, length, Some, None, slice_get};
-ghost use Rattle.std.specs.Bool.{MatchBool};
+ghost use Rattle.std.specs.Prelude.{◌+◌, ◌<◌, All, IfOk, OnOk, length, Some};
 ghost use Rattle.std.specs.Ordering.{nat_cmp};
 ghost use Rattle.std.specs.BTreeMap.{Updates};
-ghost use Rattle.full_tree.specs.Code.{members_of};
-ghost use Rattle.full_tree.specs.declared.code.Tree.{Tree};
-ghost use Rattle.fst_prune.specs.Kept.{IsRepeat};
 ghost use Rattle.fst_prune.specs.Firsts.{AreFirsts, StandsUnder, IsSmall};
 
 use crate::word::word_of;

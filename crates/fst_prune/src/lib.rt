@@ -3,9 +3,11 @@
 
 mod copying;
 mod firsts;
+mod laws;
 mod pair_array;
 mod pruning;
 mod within;
 mod word;
 
+pub use laws::pruning_keeps_least_total;
 pub use pruning::prune;

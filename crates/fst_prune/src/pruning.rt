@@ -1,12 +1,11 @@
 //! Pruning.
 
-ghost use Rattle.std.specs.Prelude.{◌≡◌, ◌<◌, ◌≤◌, All, IfOk, length, slice_get, Some, IsTrue, ◌↔◌};
+ghost use Rattle.std.specs.Prelude.{◌<◌, ◌≤◌, All, IfOk, length};
 ghost use Rattle.std.specs.Bool.{MatchBool};
-ghost use Rattle.full_tree.specs.Code.{members_of};
-ghost use Rattle.full_tree.specs.MembersLaws.{Climbs};
-ghost use Rattle.full_tree.specs.declared.code.Tree.{Tree};
+ghost use Rattle.full_tree.specs.Order.{IsInFileOrder};
 ghost use Rattle.fst_prune.specs.Kept.{IsRepeat, IsReplaced, IsDropped, AreKeptTrees};
 ghost use Rattle.fst_prune.specs.Firsts.{AreFirsts, HasMembers, IsSmall};
+ghost use Rattle.fst_prune.specs.LeastTotal.{IsNoWorse, IsMatched, HaveOneLeastTotal};
 
 use crate::copying::copy;
 use crate::firsts::{first_of, firsts};
@@ -20,8 +19,12 @@ use std::collections::BTreeMap;
 /// where it has three or more members and kept trees of two of its members join them all at no greater length. An `Err` is
 /// want of memory.
 pub fn prune(alloc: Global, trees: &TreeList) -> Result<TreeList, AllocError>
-    requires { All IsSmall trees.now }
-    ensures { IfOk result (AreKeptTrees trees.now) }
+    requires small { All IsSmall trees.now }
+    requires order { IsInFileOrder trees.now }
+    ensures kept { IfOk result (AreKeptTrees trees.now) }
+    ensures no_worse { IfOk result (IsNoWorse trees.now) }
+    ensures matched { IfOk result (λ kept. IsMatched kept trees.now) }
+    ensures least { IfOk result (HaveOneLeastTotal trees.now) }
 {
     let firsts = firsts(alloc, trees)?;
     let mut kept = TreeList::empty(alloc);

@@ -1,6 +1,6 @@
 //! The kept pairs between members of a tree.
 
-ghost use Rattle.std.specs.Prelude.{◌≡◌, ◌<◌, ◌≤◌, ◌+◌, All, length};
+ghost use Rattle.std.specs.Prelude.{◌<◌, ◌≤◌, ◌+◌, All, length};
 ghost use Rattle.full_tree.specs.MembersLaws.{Climbs};
 ghost use Rattle.fst_prune.specs.Firsts.{AreFirsts};
 ghost use Rattle.fst_prune.specs.Within.{ArePairsWithin};

@@ -2,7 +2,9 @@ use Rattle.std.proofs.Common.{◌≡◌, ◌+◌, ◌∙◌, Bool, List, ℕ, le
 use Rattle.std.specs.Bool.{MatchBool}
 use Rattle.std.specs.Prelude.{slice_get, Some}
 use Rattle.full_tree.specs.declared.code.Tree.{Tree}
-use Rattle.fst_prune.specs.Kept.{IsDropped}
+use Rattle.fst_prune.specs.Kept.{IsDropped, AreKeptTrees}
+use Rattle.fst_prune.specs.LeastTotal.{KeepsTotals}
+use Rattle.fst_prune.proofs.lemmas.Totals.{pruning_keeps_totals}
 use Rattle.fst_prune.proofs.lemmas.Flags.{AreKeptOf, kept_of_none, kept_of_kept, kept_of_dropped, kept_of_all}
 use Rattle.fst_prune.proofs.pruning.prune.Goals.{then-not-branch+in_ok-push, else-not-branch}
 use Rattle.fst_prune.proofs.pruning.prune.Goals as goal
@@ -29,4 +31,7 @@ pub returns : goal.returns
 returns c =
     let all : c.loop-place.place ≡ length c.args.trees.now =
     omega (arith, c.loop-place-test.false, c.loop-place.auto.place-end, c.len-place-end.ensures) in
-    kept_of_all c.args.trees.now c.loop-place.kept (subst (λ (m : ℕ). AreKeptOf c.args.trees.now m c.loop-place.kept) all c.loop-place.invariant)
+    let kept : AreKeptTrees c.args.trees.now c.loop-place.kept =
+    kept_of_all c.args.trees.now c.loop-place.kept (subst (λ (m : ℕ). AreKeptOf c.args.trees.now m c.loop-place.kept) all c.loop-place.invariant) in
+    let totals : KeepsTotals c.args.trees.now c.loop-place.kept = pruning_keeps_totals c.args.trees.now c.loop-place.kept c.requires.order kept in
+    record { kept = kept; no_worse = totals.no_worse; matched = totals.matched; least = totals.least }
