@@ -1,6 +1,6 @@
 //! Pruning.
 
-ghost use Rattle.std.specs.Prelude.{◌<◌, ◌≤◌, All, IfOk, length};
+ghost use Rattle.std.specs.Prelude.{◌<◌, ◌≤◌, All, Contains, IfOk, length};
 ghost use Rattle.std.specs.Bool.{MatchBool};
 ghost use Rattle.full_tree.specs.Order.{IsInFileOrder};
 ghost use Rattle.fst_prune.specs.Kept.{IsRepeat, IsReplaced, IsDropped, AreKeptTrees};
@@ -22,6 +22,9 @@ pub fn prune(alloc: Global, trees: &TreeList) -> Result<TreeList, AllocError>
     requires small { All IsSmall trees.now }
     requires order { IsInFileOrder trees.now }
     ensures kept { IfOk result (AreKeptTrees trees.now) }
+    ensures among { IfOk result (All (Contains trees.now)) }
+    ensures few { IfOk result (λ kept. length kept ≤ length trees.now) }
+    ensures order { IfOk result IsInFileOrder }
     ensures no_worse { IfOk result (IsNoWorse trees.now) }
     ensures matched { IfOk result (λ kept. IsMatched kept trees.now) }
     ensures least { IfOk result (HaveOneLeastTotal trees.now) }

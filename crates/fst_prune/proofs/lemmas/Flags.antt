@@ -1,7 +1,9 @@
 -- How the kept trees are listed one after another.
-use Rattle.std.proofs.Common.{ℕ, ◌≡◌, ◌+◌, Bool, true, false, List, [], ◌∷◌, ◌++◌, length, refl, ap, sym, subst, ◌∙◌, arith, ⊎_elim, Some}
-use Rattle.std.specs.Prelude.{slice_get}
+use Rattle.std.proofs.Common.{ℕ, suc, ◌≤◌, ◌≡◌, ◌+◌, Bool, true, false, List, [], ◌∷◌, ◌++◌, length, refl, ap, sym, subst, ◌∙◌, arith, ⊎_elim, Some}
+use Rattle.std.specs.Prelude.{All, AllPairs, slice_get}
 use Rattle.std.proofs.lemmas.List.{length_push}
+use Rattle.std.proofs.lemmas.List.Elements.{All-nil, All-cons}
+use Rattle.std.proofs.lemmas.List.Kept.{AllPairs-cons}
 use Rattle.std.proofs.lemmas.Option.{same_Some}
 use Rattle.full_tree.specs.declared.code.Tree.{Tree}
 use Rattle.fst_prune.specs.Kept.{IsDropped, trees_of, AreKeptTrees}
@@ -32,6 +34,30 @@ trees_of_dropped [] set = refl
 trees_of_dropped (t ∷ trees) [] = trees_of_none trees
 trees_of_dropped (t ∷ trees) (true ∷ set) = ap (λ ts. t ∷ ts) (trees_of_dropped trees set)
 trees_of_dropped (t ∷ trees) (false ∷ set) = trees_of_dropped trees set
+
+-- ---- what holds of all trees of a list holds of a set's
+
+pub length-trees_of : (trees : List Tree) (set : List Bool) → length (trees_of trees set) ≤ length trees
+length-trees_of [] set = omega arith
+length-trees_of (t ∷ trees) [] = omega arith
+length-trees_of (t ∷ trees) (true ∷ set) = omega (arith, length-trees_of trees set)
+length-trees_of (t ∷ trees) (false ∷ set) = omega (arith, length-trees_of trees set)
+
+pub All-trees_of : (P : Tree → Type 0) (trees : List Tree) (set : List Bool) → All P trees → All P (trees_of trees set)
+All-trees_of P [] set all = all
+All-trees_of P (t ∷ trees) [] all = All-nil P
+All-trees_of P (t ∷ trees) (true ∷ set) all =
+    All-cons P t (trees_of trees set) (all 0 t (omega arith)) (All-trees_of P trees set (λ k d inside. all (suc k) d (omega (arith, inside))))
+All-trees_of P (t ∷ trees) (false ∷ set) all = All-trees_of P trees set (λ k d inside. all (suc k) d (omega (arith, inside)))
+
+pub AllPairs-trees_of : (R : Tree → Tree → Type 0) (trees : List Tree) (set : List Bool) → AllPairs R trees → AllPairs R (trees_of trees set)
+AllPairs-trees_of R [] set all = all
+AllPairs-trees_of R (t ∷ trees) [] all = λ i j d before inside. absurd (omega (arith, inside))
+AllPairs-trees_of R (t ∷ trees) (true ∷ set) all = AllPairs-cons R t (trees_of trees set)
+    (All-trees_of (R t) trees set (λ k d inside. all 0 (suc k) d (omega arith) (omega (arith, inside))))
+    (AllPairs-trees_of R trees set (λ i j d before inside. all (suc i) (suc j) d (omega (arith, before)) (omega (arith, inside))))
+AllPairs-trees_of R (t ∷ trees) (false ∷ set) all =
+    AllPairs-trees_of R trees set (λ i j d before inside. all (suc i) (suc j) d (omega (arith, before)) (omega (arith, inside)))
 
 module _ (trees : List Tree) where
   pub kept_of_none : AreKeptOf trees 0 []
