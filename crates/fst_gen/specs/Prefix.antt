@@ -57,6 +57,12 @@ pub record MayFollow (ps : List Point) (root : ℕ) (toward : Way) (drops : List
   pub sides : LieInTurn ps root toward drops d
   pub keeps : KeepsUpTo ps (first_stations ps root toward (drops ++ d ∷ [])) (length drops + 1)
 
+-- What a tip must meet, by the root and the drops alone: it lies ahead of them, and across from the last
+-- drop or on the long leg itself.
+pub record MayEndAt (ps : List Point) (root : ℕ) (toward : Way) (drops : List ℕ) (tip : ℕ) : Type 0 where
+  pub ahead : RisesFrom (pos 0) (map (along_of ps root toward) (drops ++ tip ∷ []))
+  pub sides : LieInTurn ps root toward drops tip
+
 -- no code of this kind passes
 abbrev pub NonePasses : List Point → (TreeCode → Type 0) → Type 0
 NonePasses ps Kind = (code : TreeCode) → Kind code → Passes ps code → ⊥

@@ -5,7 +5,7 @@ ghost use Rattle.std.specs.Prelude.{ℕ, ◌≡◌, ◌+◌, ◌<◌, ◌≤◌,
 ghost use Rattle.hanan_grid.specs.Distance.{distance_between};
 ghost use Rattle.full_tree.specs.Pieces.{foot};
 ghost use Rattle.full_tree.specs.Passing.{IsWithinBottleneck};
-ghost use Rattle.fst_gen.specs.Prefix.{IsPrefix, HasPrefix, EndsAt, EndsBelow, IsHung, HangsBelow};
+ghost use Rattle.fst_gen.specs.Prefix.{IsPrefix, HasPrefix, MayEndAt, EndsAt, EndsBelow, IsHung, HangsBelow};
 ghost use Rattle.fst_gen.specs.Kinds.{IsRootedAt, IsRootedBelow};
 ghost use Rattle.fst_gen.specs.Store.{IsStore, Generates};
 
@@ -13,7 +13,7 @@ use crate::begin::{begin, code_of, with_drop};
 use crate::fault::GenFault;
 use crate::prefix::Prefix;
 use crate::tries::try_code;
-use full_tree::{Tree, Way, foot, gap, is_on_short_leg};
+use full_tree::{Tree, Way, foot, gap, goes_forward, is_on_short_leg, lie_in_turn};
 use hanan_grid::Grid;
 use points_in::Point;
 use spanning::Table;
@@ -156,11 +156,31 @@ fn end_at(
     ensures { Generates grid.now most
         (EndsAt prefix.now.root prefix.now.toward prefix.now.drops tip) trees.old trees.new result }
 {
-    if !is_near(grid.points().as_slice(), table, prefix, tip) {
+    let points = grid.points().as_slice();
+    if !may_end_at(points, prefix, tip) {
+        return Ok(());
+    }
+    if !is_near(points, table, prefix, tip) {
         return Ok(());
     }
     try_code(alloc, grid, table, most, trees, code_of(prefix, None, tip))?;
     hang_sides(alloc, grid, table, most, trees, prefix, tip)
+}
+
+// Whether a tip lies ahead of the drops, and across from the last one or on the long leg itself.
+fn may_end_at(points: &[Point], prefix: &Prefix, tip: u8) -> bool
+    requires prefix { IsPrefix points.now prefix.now }
+    requires tip { tip < length points.now }
+    ensures { IsTrue result ↔ MayEndAt points.now prefix.now.root prefix.now.toward prefix.now.drops tip }
+{
+    let drops = prefix.drops.as_slice();
+    if !goes_forward(points, prefix.root, prefix.toward, drops, tip) {
+        return false;
+    }
+    if !lie_in_turn(points, prefix.root, prefix.toward, drops, tip) {
+        return false;
+    }
+    true
 }
 
 // Whether the long leg from the last foot to a tip's corner is at most the bottleneck of the last member

@@ -25,7 +25,7 @@ use Rattle.fst_gen.specs.declared.prefix.Prefix.{Prefix}
 use Rattle.fst_gen.specs.Trees.{IsWanted}
 use Rattle.fst_gen.specs.Store.{IsStore, Stores, Generates}
 use Rattle.fst_gen.specs.StoreLaws.{Stores-none, Stores-then, Stores-only, Generates-then}
-use Rattle.fst_gen.specs.Prefix.{IsPrefix, HasPrefix, EndsAt, EndsBelow, IsHung, HangsBelow, ContinuesBelow, MayFollow, last_member}
+use Rattle.fst_gen.specs.Prefix.{IsPrefix, HasPrefix, EndsAt, EndsBelow, IsHung, HangsBelow, ContinuesBelow, MayFollow, MayEndAt, last_member}
 use Rattle.fst_gen.specs.PrefixLaws.{MayFollow-from_passing, near_from_passing}
 use Rattle.fst_gen.specs.Kinds.{GrownBelow, IsRootedAt, IsRootedBelow, Below, OfAny, CrossesHalf, CrossesLevel, IsAnyCross}
 
@@ -181,6 +181,17 @@ module _ (ps : List Point) (k : ℕ) (root : ℕ) (toward : Way) (drops : List �
       (subst (λ (w : Way). HasPrefix root w longer.drops code) (sym f)
       (subst (λ (ds : List ℕ). HasPrefix root toward ds code) (sym g) here))))
       (GrownBelow-more n m code kind))
+
+-- a tip at which no code may end
+pub EndsAt-out : (ps qs : List Point) (k : ℕ) (prefix : Prefix) (tip : ℕ) (trees : BTreeMap ℕ Tree) → qs ≡ ps → IsStore ps k trees
+    → (MayEndAt qs prefix.root prefix.toward prefix.drops tip → ⊥)
+    → Stores ps k (EndsAt prefix.root prefix.toward prefix.drops tip) trees trees
+EndsAt-out ps qs k prefix tip trees same store out = Stores-none ps k (EndsAt prefix.root prefix.toward prefix.drops tip) trees store
+    (λ code ends wanted.
+    let there = subst (λ c. IsWanted ps k c) ends.1 wanted in
+    let shape = there.passes.form.shape in
+    let may : MayEndAt ps prefix.root prefix.toward prefix.drops tip = record { ahead = shape.forward; sides = shape.sides } in
+    out (subst (λ (rs : List Point). MayEndAt rs prefix.root prefix.toward prefix.drops tip) (sym same) may))
 
 -- a tip that is not near
 pub EndsAt-far : (ps qs : List Point) (k : ℕ) (prefix : Prefix) (tip : ℕ) (trees : BTreeMap ℕ Tree) → qs ≡ ps → IsPrefix ps prefix → IsStore ps k trees
