@@ -1,0 +1,10 @@
+pub mod TrailCode
+pub mod PartitionLaws
+pub mod Pairs
+pub mod Steps
+pub mod Chosen
+pub mod Listed
+pub mod Parts
+pub mod Levels
+pub mod Verdict
+pub mod UnderWay

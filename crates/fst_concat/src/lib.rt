@@ -1,0 +1,27 @@
+//! The search for a concatenation of full trees of least total: what it finds joins all terminals, and it is told as
+//! least only where a trail of bounded ends shows it.
+#![tactic(auto)]
+
+mod best;
+mod bound;
+mod choosing;
+mod chosen;
+
+mod fault;
+mod growth;
+mod judge;
+mod law;
+mod level;
+mod listed;
+mod parts;
+mod search;
+mod start;
+mod trail;
+
+pub use chosen::{Chosen, ChosenKind};
+pub use choosing::concat;
+pub use fault::ConcatFault;
+pub use trail::Trail;
+
+#[cfg(test)]
+mod tests;
