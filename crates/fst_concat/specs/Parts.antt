@@ -4,9 +4,13 @@ use Rattle.net_graph.specs.Search.{Leads}
 use Rattle.full_tree.specs.declared.code.Tree.{Tree}
 use Rattle.concatenation.specs.Concatenation.{IsMember, SharesTree}
 
+-- a label, or the other one where it is the one
+abbrev pub merge_label : ℕ → ℕ → ℕ → ℕ
+merge_label from to label = if label == from then to else label
+
 -- the labels where those of one are given the other
 abbrev pub merged : ℕ → ℕ → List ℕ → List ℕ
-merged from to labels = map (λ label. if label == from then to else label) labels
+merged from to labels = map (merge_label from to) labels
 
 -- the labels where the parts of members are joined to that of the first one
 abbrev pub joined_with : ℕ → List ℕ → List ℕ → List ℕ

@@ -8,7 +8,7 @@ ghost use Rattle.concatenation.specs.Partitions.{PacksLayers};
 ghost use Rattle.fst_concat.specs.Levels.{layers_of, FitsChoice};
 ghost use Rattle.fst_concat.specs.Listed.{IsListed};
 
-use crate::level::{Level, MAX_LEVELS, bound, lies_inside, load};
+use crate::level::{Level, MAX_LEVELS, are_sized, bound, lies_inside, load};
 use crate::law::partition_bound;
 use concatenation::{Choice, more_trees};
 use full_tree::{Places, Tree};
@@ -51,6 +51,9 @@ fn packs(points: u8, trees: &[Tree], listed: &[Places], levels: &[Level], choice
     requires few_levels { length levels.now ≤ 64 }
     ensures { IsTrue result → PacksLayers points 12 trees.now choices.now (layers_of points levels.now) }
 {
+    if !are_sized(points, levels) {
+        return false;
+    }
     for place in 0..trees.len() {
         if !fits(points, levels, choices[place], &trees[place], listed[place].as_slice()) {
             return false;

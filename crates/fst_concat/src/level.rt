@@ -17,6 +17,19 @@ pub struct Level {
     pub amount: u64,
 }
 
+/// Whether each level has as many labels.
+pub fn are_sized(points: u8, levels: &[Level]) -> bool
+    requires few { points ≤ 50 }
+    ensures { IsTrue result → All (λ layer. length layer.labels ≡ points) (layers_of points levels.now) }
+{
+    for level in levels {
+        if level.labels[..points as usize].len() != points as usize {
+            return false;
+        }
+    }
+    true
+}
+
 /// What a tree of these members takes of all amounts.
 pub fn load(points: u8, levels: &[Level], tree: &Tree, members: &[u8]) -> u128
     requires few { points ≤ 50 }
@@ -73,7 +86,7 @@ fn touched(labels: &[u8], members: &[u8]) -> usize
     let mut count = 0;
     for place in (0..members.len()).rev() {
         let label = labels[members[place] as usize];
-        if !holds(labels, &members[place + 1..], label) {
+        if !is_touched(labels, &members[place + 1..], label) {
             count += 1;
         }
     }
@@ -81,7 +94,7 @@ fn touched(labels: &[u8], members: &[u8]) -> usize
 }
 
 // Whether one of the members has the label.
-fn holds(labels: &[u8], members: &[u8], label: u8) -> bool
+fn is_touched(labels: &[u8], members: &[u8], label: u8) -> bool
     requires below { All (λ i. i < length labels.now) members.now }
     ensures { result ≡ any_label label (map (slice_index labels.now) members.now) }
 {
@@ -100,9 +113,21 @@ fn part_count(labels: &[u8]) -> usize
 {
     let mut count = 0;
     for place in (0..labels.len()).rev() {
-        if !labels[place + 1..].contains(&labels[place]) {
+        if !is_among(&labels[place + 1..], labels[place]) {
             count += 1;
         }
     }
     count
+}
+
+// Whether a label is among others.
+fn is_among(labels: &[u8], label: u8) -> bool
+    ensures { result ≡ any_label label labels.now }
+{
+    for other in labels {
+        if *other == label {
+            return true;
+        }
+    }
+    false
 }

@@ -1,0 +1,93 @@
+-- What choices say of the sets that respect them, and of searches that go on or end there.
+use Rattle.std.specs.Prelude.{slice_get, slice_set, if◌then◌else◌}
+use Rattle.std.proofs.Common.{ℕ, zero, suc, ◌≡◌, ◌+◌, ◌<◌, ◌≤◌, ◌⊎◌, Bool, true, false, Option, Some, None, List, [], ◌∷◌, length, map, replicate, refl, ap, sym, subst, ◌∙◌, inl, inr, ⊎_elim, arith}
+use Rattle.std.specs.Option.{option_map}
+use Rattle.std.proofs.lemmas.Option.{slice_get-map, slice_get_within}
+use Rattle.std.proofs.lemmas.List.{length-map}
+use Rattle.full_tree.specs.declared.code.Tree.{Tree}
+use Rattle.concatenation.specs.declared.choice.Choice.{Choice}
+use Rattle.concatenation.specs.declared.choice.Choice.TheVariants.{Open, Taken, LeftOut}
+use Rattle.concatenation.specs.Concatenation.{IsConcatenation, total_of}
+use Rattle.concatenation.specs.SetLaws.{IsWithin, MoreTreesJoin, TotalsRise}
+use Rattle.concatenation.specs.Choices.{is_taken, is_left, taken_of, remaining_of, Respects, IsLeastUnder, AreTakenJoining, AreRemainingJoining}
+use Rattle.concatenation.specs.Trails.{CanGoOn, IsNoBetter, IsOpenPlace}
+
+-- the choice behind a flag
+choice_of : (flag_of : Choice → Bool) (found : Option Choice) (flag : Bool) → option_map flag_of found ≡ Some flag
+    → (choice : Choice) × (found ≡ Some choice) × (flag_of choice ≡ flag)
+choice_of flag_of None flag at = (cc)
+choice_of flag_of (Some choice) flag at = let same : flag_of choice ≡ flag = (cc) in (choice, refl, same)
+
+taken_only : (choice : Choice) → is_taken choice ≡ true → choice ≡ Taken
+taken_only Open is = (cc)
+taken_only Taken is = refl
+taken_only LeftOut is = (cc)
+
+-- the item at a place of a list
+item_at : {X : Type 0} (xs : List X) (k : ℕ) → k < length xs → (x : X) × (slice_get xs k ≡ Some x)
+item_at [] k within = absurd (omega arith)
+item_at (x ∷ xs) zero within = (x, refl)
+item_at (x ∷ xs) (suc k) within = item_at xs k (omega arith)
+
+flags_differ : Some true ≡ Some false → ⊥
+flags_differ same = (cc)
+
+-- a set that respects choices holds the taken trees
+pub taken_within : (choices : List Choice) (set : List Bool) → Respects choices set → IsWithin (taken_of choices) set
+taken_within choices set respects = λ k inside.
+    let (choice, at, is) = choice_of is_taken (slice_get choices k) true (sym (slice_get-map is_taken choices k) ∙ inside) in
+    respects.takes k (at ∙ ap Some (taken_only choice is))
+
+-- .. and is within the remaining ones
+left_cases : (choice : Choice) → (choice ≡ LeftOut) ⊎ (is_left choice ≡ true)
+left_cases Open = inr refl
+left_cases Taken = inr refl
+left_cases LeftOut = inl refl
+
+pub within_remaining : (choices : List Choice) (set : List Bool) → length set ≡ length choices → Respects choices set
+    → IsWithin set (remaining_of choices)
+within_remaining choices set size respects = λ k inside.
+    let below : k < length choices = omega (arith, slice_get_within set k true inside) in
+    let (choice, at) = item_at choices k below in
+    ⊎_elim (λ out. absurd (flags_differ (sym inside ∙ respects.leaves k (at ∙ ap Some out))))
+    (λ left. slice_get-map is_left choices k ∙ ap (option_map is_left) at ∙ ap Some left)
+    (left_cases choice)
+
+-- the taken trees are among the remaining ones
+pub taken_remain : (choices : List Choice) → IsWithin (taken_of choices) (remaining_of choices)
+taken_remain choices = λ k inside.
+    let (choice, at, is) = choice_of is_taken (slice_get choices k) true (sym (slice_get-map is_taken choices k) ∙ inside) in
+    let taken : slice_get choices k ≡ Some Taken = at ∙ ap Some (taken_only choice is) in
+    slice_get-map is_left choices k ∙ ap (option_map is_left) taken
+
+-- no set respects choices whose remaining trees don't join
+pub none_respects : (n : ℕ) (trees : List Tree) (choices : List Choice) (total : ℕ) → MoreTreesJoin → length choices ≡ length trees
+    → ¬ AreRemainingJoining n trees choices → IsNoBetter n trees total choices × IsLeastUnder n trees choices total
+none_respects n trees choices total more size apart =
+    let length_is : length (remaining_of choices) ≡ length trees = length-map choices is_left ∙ size in
+    (λ joins. absurd (apart (more n trees (taken_of choices) (remaining_of choices) (taken_remain choices) length_is joins)),
+    λ set joins respects. absurd (apart (more n trees set (remaining_of choices)
+        (within_remaining choices set (joins.size ∙ sym size) respects) length_is joins)))
+
+-- a set that respects choices has at least the taken total
+pub taken_least : (n : ℕ) (trees : List Tree) (choices : List Choice) (total : ℕ) → TotalsRise
+    → total ≤ total_of trees (taken_of choices) → IsNoBetter n trees total choices × IsLeastUnder n trees choices total
+taken_least n trees choices total rise below =
+    (λ joins. below,
+    λ set joins respects. omega (arith, rise trees (taken_of choices) set (taken_within choices set respects)))
+
+-- choices where a search can go on are done with where their bound reaches the total
+pub bound_done : (n : ℕ) (trees : List Tree) (choices : List Choice) (least total : ℕ) → CanGoOn n trees choices
+    → IsLeastUnder n trees choices least → total ≤ least → IsNoBetter n trees total choices × IsLeastUnder n trees choices total
+bound_done n trees choices least total can bounded reached =
+    (λ joins. absurd (can.taken joins), λ set joins respects. omega (arith, bounded set joins respects))
+
+-- where a search can go on, some place is open
+none_open : (choices : List Choice) → ((k : ℕ) → ¬ IsOpenPlace choices k) → remaining_of choices ≡ taken_of choices
+none_open [] none = refl
+none_open (Open ∷ choices) none = absurd (none 0 refl)
+none_open (Taken ∷ choices) none = ap (λ rest. true ∷ rest) (none_open choices (λ k is. none (suc k) is))
+none_open (LeftOut ∷ choices) none = ap (λ rest. false ∷ rest) (none_open choices (λ k is. none (suc k) is))
+
+pub some_open : (n : ℕ) (trees : List Tree) (choices : List Choice) → CanGoOn n trees choices → ((k : ℕ) → ¬ IsOpenPlace choices k) → ⊥
+some_open n trees choices can none = can.taken (subst (IsConcatenation n trees) (none_open choices none) can.remaining)

@@ -1,0 +1,158 @@
+-- Counts of labels, and sums over levels.
+use Rattle.std.specs.Prelude.{slice_get, slice_index, slice_index_or, Contains, nat_lt, ◌==◌, ◌||◌}
+use Rattle.std.proofs.Common.{ℕ, zero, suc, ◌≡◌, ◌+◌, ◌-◌, ◌*◌, ◌<◌, ◌≤◌, ◌⊎◌, Bool, true, false, List, [], ◌∷◌, All, length, map, drop, take, get_or, drop-cons, length-drop, take_all, refl, ap, sym, subst, ◌∙◌, inl, inr, ⊎_elim, arith}
+use Rattle.std.specs.List.{AllByRecursion}
+use Rattle.std.proofs.lemmas.Bool.{eqb-true, eq-eqb, cases_order}
+use Rattle.std.proofs.lemmas.Bool.Decides.{nat_tests}
+use Rattle.full_tree.specs.declared.code.Tree.{Tree}
+use Rattle.full_tree.specs.Code.{ascending_places, with_place}
+use Rattle.full_tree.specs.MembersLaws.{Climbs, Climbs-ascending_places, Contains-ascending_places, Contains-from_ascending_places}
+use Rattle.concatenation.specs.Partitions.{Layer, load_of, bound_of, touched_count, part_count}
+use Rattle.fst_concat.specs.declared.level.Level.{Level}
+use Rattle.fst_concat.specs.Levels.{layer_of, layers_of, any_label}
+
+-- ---- a place more in a climbing list
+
+below_none : (p q : ℕ) (qs : List ℕ) → AllByRecursion (λ r. q < r) qs → p < q → Contains qs p → ⊥
+below_none p q [] above lower (k, inside, is) = absurd (omega arith)
+below_none p q (r ∷ rs) above lower (zero, inside, is) = omega (arith, above.0, is)
+below_none p q (r ∷ rs) above lower (suc k, inside, is) = below_none p q rs above.1 lower (k, omega arith, is)
+
+with_place-below : (p q : ℕ) (qs : List ℕ) → p < q → with_place p (q ∷ qs) ≡ p ∷ q ∷ qs
+with_place-below p q qs below = let test : nat_lt p q ≡ true = grind (arith, nat_tests) in rw test refl
+
+with_place-same : (p q : ℕ) (qs : List ℕ) → p ≡ q → with_place p (q ∷ qs) ≡ q ∷ qs
+with_place-same p q qs same =
+    let lower : nat_lt p q ≡ false = grind (arith, nat_tests) in
+    let equal : (p == q) ≡ true = grind (arith, nat_tests) in
+    rw (lower, equal) refl
+
+with_place-above : (p q : ℕ) (qs : List ℕ) → q < p → with_place p (q ∷ qs) ≡ q ∷ with_place p qs
+with_place-above p q qs above =
+    let lower : nat_lt p q ≡ false = grind (arith, nat_tests) in
+    let equal : (p == q) ≡ false = grind (arith, nat_tests) in
+    rw (lower, equal) refl
+
+-- a place that is below the first of a climbing list isn't in it
+not_below : (p q : ℕ) (qs : List ℕ) → Climbs (q ∷ qs) → p < q → Contains (q ∷ qs) p → ⊥
+not_below p q qs climbs lower (zero, inside, is) = omega (arith, is)
+not_below p q qs climbs lower (suc k, inside, is) = below_none p q qs climbs.0 lower (k, omega arith, is)
+
+-- a place that is above the first one is among the rest
+among_rest : (p q : ℕ) (qs : List ℕ) → q < p → Contains (q ∷ qs) p → Contains qs p
+among_rest p q qs above (zero, inside, is) = absurd (omega (arith, is))
+among_rest p q qs above (suc k, inside, is) = (k, omega arith, is)
+
+length-with_place_there : (p : ℕ) (qs : List ℕ) → Climbs qs → Contains qs p → length (with_place p qs) ≡ length qs
+length-with_place_there p [] climbs (k, inside, is) = absurd (omega arith)
+length-with_place_there p (q ∷ qs) climbs there = elim (cases_order p q) [
+  | inl same ↦ ap length (with_place-same p q qs same)
+  | inr (inl below) ↦ absurd (not_below p q qs climbs below there)
+  | inr (inr above) ↦ ap length (with_place-above p q qs above)
+      ∙ ap suc (length-with_place_there p qs climbs.1 (among_rest p q qs above there))
+]
+
+length-with_place_new : (p : ℕ) (qs : List ℕ) → (Contains qs p → ⊥) → length (with_place p qs) ≡ length qs + 1
+length-with_place_new p [] new = omega arith
+length-with_place_new p (q ∷ qs) new = elim (cases_order p q) [
+  | inl same ↦ absurd (new (0, omega arith, sym same))
+  | inr (inl below) ↦ omega (arith, ap length (with_place-below p q qs below))
+  | inr (inr above) ↦ omega (arith, ap length (with_place-above p q qs above),
+      length-with_place_new p qs (λ (k, inside, is). new (suc k, omega arith, is)))
+]
+
+-- ---- what a test says
+
+or_cases : (a b : Bool) → (a || b) ≡ true → (a ≡ true) ⊎ (b ≡ true)
+or_cases true b test = inl refl
+or_cases false b test = inr test
+
+or_none : (a b : Bool) → (a || b) ≡ false → (a ≡ false) × (b ≡ false)
+or_none true b test = (cc)
+or_none false b test = (refl, test)
+
+any_label-there : (label : ℕ) (labels : List ℕ) → any_label label labels ≡ true → Contains labels label
+any_label-there label [] test = (cc)
+any_label-there label (other ∷ others) test = ⊎_elim
+    (λ here. (0, omega arith, eqb-true other label here))
+    (λ later. let (k, inside, is) = any_label-there label others later in (suc k, omega (arith, inside), is))
+    (or_cases (other == label) (any_label label others) test)
+
+any_label-new : (label : ℕ) (labels : List ℕ) → any_label label labels ≡ false → Contains labels label → ⊥
+any_label-new label [] test (k, inside, is) = absurd (omega arith)
+any_label-new label (other ∷ others) test (zero, inside, is) =
+    let here : (other == label) ≡ true = eq-eqb other label is in
+    let none : (other == label) ≡ false = (or_none (other == label) (any_label label others) test).0 in (cc)
+any_label-new label (other ∷ others) test (suc k, inside, is) =
+    any_label-new label others (or_none (other == label) (any_label label others) test).1 (k, omega arith, is)
+
+-- a label more that is there already, or isn't
+pub ascending_there : (label : ℕ) (labels : List ℕ) → any_label label labels ≡ true
+    → length (ascending_places (label ∷ labels)) ≡ length (ascending_places labels)
+ascending_there label labels test = length-with_place_there label (ascending_places labels) (Climbs-ascending_places labels)
+    (Contains-ascending_places labels label (any_label-there label labels test))
+
+pub ascending_new : (label : ℕ) (labels : List ℕ) → any_label label labels ≡ false
+    → length (ascending_places (label ∷ labels)) ≡ length (ascending_places labels) + 1
+ascending_new label labels test = length-with_place_new label (ascending_places labels)
+    (λ there. any_label-new label labels test (Contains-from_ascending_places labels label there))
+
+-- a list from the place before one on
+drop_before : (xs : List ℕ) (i : ℕ) → 0 < i → i ≤ length xs → drop (i - 1) xs ≡ get_or xs (i - 1) 0 ∷ drop i xs
+drop_before xs i some within =
+    let next : suc (i - 1) ≡ i = omega arith in
+    drop-cons xs (i - 1) 0 (omega arith) ∙ ap (λ n. get_or xs (i - 1) 0 ∷ drop n xs) next
+
+-- the rest behind that place
+rest_is : (xs : List ℕ) (i : ℕ) → 0 < i → i ≤ length xs → take (length xs - (i - 1 + 1)) (drop (i - 1 + 1) xs) ≡ drop i xs
+rest_is xs i some within =
+    let next : i - 1 + 1 ≡ i = omega arith in
+    let size : length (drop i xs) ≡ length xs - i = length-drop i xs in
+    rw next (take_all (length xs - i) (drop i xs) (omega arith))
+
+-- one label more, from the back
+pub counts_new : (xs : List ℕ) (i count : ℕ) (f : ℕ → ℕ) → 0 < i → i ≤ length xs
+    → any_label (f (get_or xs (i - 1) 0)) (map f (take (length xs - (i - 1 + 1)) (drop (i - 1 + 1) xs))) ≡ false
+    → count ≡ length (ascending_places (map f (drop i xs))) → count + 1 ≡ length (ascending_places (map f (drop (i - 1) xs)))
+counts_new xs i count f some within test counted =
+    let there : any_label (f (get_or xs (i - 1) 0)) (map f (drop i xs)) ≡ false =
+        subst (λ rest. any_label (f (get_or xs (i - 1) 0)) (map f rest) ≡ false) (rest_is xs i some within) test in
+    rw (drop_before xs i some within) (omega (arith, counted, ascending_new (f (get_or xs (i - 1) 0)) (map f (drop i xs)) there))
+
+pub counts_there : (xs : List ℕ) (i count : ℕ) (f : ℕ → ℕ) → 0 < i → i ≤ length xs
+    → any_label (f (get_or xs (i - 1) 0)) (map f (take (length xs - (i - 1 + 1)) (drop (i - 1 + 1) xs))) ≡ true
+    → count ≡ length (ascending_places (map f (drop i xs))) → count ≡ length (ascending_places (map f (drop (i - 1) xs)))
+counts_there xs i count f some within test counted =
+    let there : any_label (f (get_or xs (i - 1) 0)) (map f (drop i xs)) ≡ true =
+        subst (λ rest. any_label (f (get_or xs (i - 1) 0)) (map f rest) ≡ true) (rest_is xs i some within) test in
+    rw (drop_before xs i some within) (omega (arith, counted, ascending_there (f (get_or xs (i - 1) 0)) (map f (drop i xs)) there))
+
+-- .. of labels themselves
+pub labels_new : (xs : List ℕ) (i count : ℕ) → 0 < i → i ≤ length xs
+    → any_label (get_or xs (i - 1) 0) (take (length xs - (i - 1 + 1)) (drop (i - 1 + 1) xs)) ≡ false
+    → count ≡ length (ascending_places (drop i xs)) → count + 1 ≡ length (ascending_places (drop (i - 1) xs))
+labels_new xs i count some within test counted =
+    let there : any_label (get_or xs (i - 1) 0) (drop i xs) ≡ false =
+        subst (λ rest. any_label (get_or xs (i - 1) 0) rest ≡ false) (rest_is xs i some within) test in
+    rw (drop_before xs i some within) (omega (arith, counted, ascending_new (get_or xs (i - 1) 0) (drop i xs) there))
+
+pub labels_there : (xs : List ℕ) (i count : ℕ) → 0 < i → i ≤ length xs
+    → any_label (get_or xs (i - 1) 0) (take (length xs - (i - 1 + 1)) (drop (i - 1 + 1) xs)) ≡ true
+    → count ≡ length (ascending_places (drop i xs)) → count ≡ length (ascending_places (drop (i - 1) xs))
+labels_there xs i count some within test counted =
+    let there : any_label (get_or xs (i - 1) 0) (drop i xs) ≡ true =
+        subst (λ rest. any_label (get_or xs (i - 1) 0) rest ≡ true) (rest_is xs i some within) test in
+    rw (drop_before xs i some within) (omega (arith, counted, ascending_there (get_or xs (i - 1) 0) (drop i xs) there))
+
+-- ---- sums over levels
+
+all_cons : {X : Type 0} (P : X → Type 0) (x : X) (xs : List X) → P x → All P xs → All P (x ∷ xs)
+all_cons P x xs here rest zero d within = here
+all_cons P x xs here rest (suc k) d within = rest k d (omega arith)
+
+-- where each of the levels has it, so does each layer
+pub All-layers : (P : Layer → Type 0) (n : ℕ) (levels : List Level)
+    → ((k : ℕ) (d : Level) → k < length levels → P (layer_of n (slice_index_or levels k d))) → All P (layers_of n levels)
+All-layers P n [] each = λ k d within. absurd (omega arith)
+All-layers P n (level ∷ levels) each = all_cons P (layer_of n level) (layers_of n levels) (each 0 level (omega arith))
+    (All-layers P n levels (λ k d within. each (suc k) d (omega arith)))
