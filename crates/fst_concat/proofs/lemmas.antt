@@ -1,3 +1,4 @@
+pub mod Ways
 pub mod Totals
 pub mod Steps
 pub mod Parts

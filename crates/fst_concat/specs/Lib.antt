@@ -1,5 +1,4 @@
 pub mod TrailCode
-pub mod PartitionLaws
 pub mod Pairs
 pub mod Steps
 pub mod Chosen

@@ -9,8 +9,7 @@ ghost use Rattle.fst_concat.specs.Levels.{layers_of, FitsChoice};
 ghost use Rattle.fst_concat.specs.Listed.{IsListed};
 
 use crate::level::{Level, MAX_LEVELS, are_sized, bound, lies_inside, load};
-use crate::law::partition_bound;
-use concatenation::{Choice, more_trees};
+use concatenation::{Choice, more_trees, partition_bound};
 use full_tree::{Places, Tree};
 
 // How many units of the amounts make one of length.

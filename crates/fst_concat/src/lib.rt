@@ -10,7 +10,6 @@ mod chosen;
 mod fault;
 mod growth;
 mod judge;
-mod law;
 mod level;
 mod listed;
 mod parts;

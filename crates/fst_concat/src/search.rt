@@ -1,6 +1,6 @@
 //! The search, depth first: a split opens the part with its tree before the part without it.
 
-ghost use Rattle.std.specs.Prelude.{ℕ, ◌≡◌, ◌<◌, ◌≤◌, ◌+◌, min, length, IfOk, OnOk, slice_set, reverse, ◌∷◌, ◌++◌, []};
+ghost use Rattle.std.specs.Prelude.{ℕ, ◌≡◌, ◌<◌, ◌≤◌, ◌+◌, ◌^◌, min, length, IfOk, OnOk, slice_set, reverse, ◌∷◌, ◌++◌, []};
 ghost use Rattle.fst_concat.specs.Chosen.{IsChosen, KindHolds};
 ghost use Rattle.fst_concat.specs.Listed.{IsListed};
 ghost use Rattle.fst_concat.specs.UnderWay.{IsUnderWay, steps_left};
@@ -76,6 +76,7 @@ impl Way {
         ensures pending { OnOk result (self.new.pending.items ≡ self.old.pending.items) }
         ensures used { OnOk result (self.new.used ≡ self.old.used) }
         ensures low { OnOk result (self.new.low ≡ min self.old.low least) }
+        ensures small { self.old.low < 2 ^ 128 }
     {
         self.low = self.low.min(least);
         self.steps.push(Step::Close)?;

@@ -146,7 +146,7 @@ labels_there xs i count some within test counted =
 
 -- ---- sums over levels
 
-all_cons : {X : Type 0} (P : X → Type 0) (x : X) (xs : List X) → P x → All P xs → All P (x ∷ xs)
+pub all_cons : {X : Type 0} (P : X → Type 0) (x : X) (xs : List X) → P x → All P xs → All P (x ∷ xs)
 all_cons P x xs here rest zero d within = here
 all_cons P x xs here rest (suc k) d within = rest k d (omega arith)
 

@@ -1,7 +1,7 @@
 -- Labels as parts: what a merge of labels keeps, and what labels say once all trees are gone through.
 use Rattle.std.specs.Prelude.{slice_get, slice_index, slice_index_or, Contains}
 use Rattle.std.proofs.lemmas.Grind.{same_number_lists}
-use Rattle.std.specs.Option.{option_map}
+use Rattle.std.specs.Option.{option_map, is_some}
 use Rattle.fst_concat.specs.Listed.{tree_members, IsListed}
 use Rattle.std.proofs.lemmas.Bool.{eqb-true}
 use Rattle.std.proofs.lemmas.List.{length-map}
@@ -345,3 +345,18 @@ apart_answer n trees set labels (Some place) size parts alike within other befor
 -- as many members are listed as there are trees
 pub listed_length : (n : ℕ) (trees : List Tree) (listed : List (List ℕ)) → IsListed n trees listed → length listed ≡ length trees
 listed_length n trees listed is = ap length is.same ∙ length-map trees tree_members
+
+-- the set is no concatenation where a terminal is apart
+pub apart_some : (n : ℕ) (trees : List Tree) (set same : List Bool) (answer : Option ℕ)
+    → MatchOption answer (IsConcatenation n trees set) (IsFirstApart n trees set) → is_some answer ≡ true → set ≡ same
+    → ¬ IsConcatenation n trees same
+apart_some n trees set same None holds test equal = (cc)
+apart_some n trees set same (Some place) holds test equal = λ joins.
+    apart_fails n trees set place holds (subst (IsConcatenation n trees) (sym equal) joins)
+
+-- .. and is one where none is
+pub apart_none : (n : ℕ) (trees : List Tree) (set same : List Bool) (answer : Option ℕ)
+    → MatchOption answer (IsConcatenation n trees set) (IsFirstApart n trees set) → is_some answer ≡ false → set ≡ same
+    → IsConcatenation n trees same
+apart_none n trees set same None holds test equal = subst (IsConcatenation n trees) equal holds
+apart_none n trees set same (Some place) holds test equal = (cc)

@@ -1,0 +1,16 @@
+-- At first nothing is decided, and nothing was left open.
+use Rattle.std.specs.Prelude.{reverse}
+use Rattle.std.proofs.Common.{ℕ, ◌≡◌, ◌≤◌, ◌<◌, ◌^◌, ◌-◌, ◌++◌, List, [], ◌∷◌, All, length, replicate, refl, ap, sym, subst, ◌∙◌, arith}
+use Rattle.full_tree.specs.declared.code.Tree.{Tree}
+use Rattle.concatenation.specs.declared.choice.Choice.{Choice}
+use Rattle.concatenation.specs.Trails.{no_choices}
+use Rattle.fst_concat.specs.declared.search.Way.{Way}
+use Rattle.fst_concat.specs.UnderWay.{IsUnderWay}
+use Rattle.fst_concat.proofs.lemmas.Ways.{IsUnderWay-start}
+use Rattle.fst_concat.proofs.search.Way.begin.Goals as goal
+
+pub returns : goal.returns
+returns c =
+    let one : c.push.new.self.items ≡ no_choices c.args.trees.now ∷ [] =
+        c.in_ok-push.ensures.items ∙ rw c.new-pending.ensures.items (ap (λ (choices : List Choice). choices ∷ []) (c.from_vec.ensures ∙ c.in_ok-choices.ensures.items)) in
+    record { under_way = λ n allowed total. IsUnderWay-start n c.args.trees.now allowed total _ c.new.ensures.items one refl refl }
