@@ -18,7 +18,12 @@ pub struct Best {
 
 impl Best {
     /// The concatenation of a set of trees. An `Err` is want of memory.
-    pub fn of_set(alloc: Global, points: u8, trees: &[Tree], set: &[bool]) -> Result<Best, AllocError>
+    pub fn of_set(
+        alloc: Global,
+        points: u8,
+        trees: &[Tree],
+        set: &[bool],
+    ) -> Result<Best, AllocError>
         requires few_trees { length trees.now ≤ 20000 }
         requires joins { IsConcatenation points trees.now set.now }
         ensures chosen { IfOk result (λ best. IsChosen points trees.now best.places best.total) }
@@ -30,7 +35,13 @@ impl Best {
     }
 
     /// Takes the concatenation of a set of trees, where it is shorter. An `Err` is want of memory.
-    pub fn offer(&mut self, alloc: Global, points: u8, trees: &[Tree], set: &[bool]) -> Result<(), AllocError>
+    pub fn offer(
+        &mut self,
+        alloc: Global,
+        points: u8,
+        trees: &[Tree],
+        set: &[bool],
+    ) -> Result<(), AllocError>
         requires few_trees { length trees.now ≤ 20000 }
         requires joins { IsConcatenation points trees.now set.now }
         requires chosen { IsChosen points trees.now self.old.places self.old.total }

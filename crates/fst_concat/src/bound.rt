@@ -43,7 +43,13 @@ pub fn least_under(
 }
 
 // Whether the levels pack into the trees under the choices.
-fn packs(points: u8, trees: &[Tree], listed: &[Places], levels: &[Level], choices: &[Choice]) -> bool
+fn packs(
+    points: u8,
+    trees: &[Tree],
+    listed: &[Places],
+    levels: &[Level],
+    choices: &[Choice],
+) -> bool
     requires few { points ≤ 50 }
     requires listed { IsListed points trees.now listed.now }
     requires size { length choices.now ≡ length trees.now }
@@ -54,7 +60,13 @@ fn packs(points: u8, trees: &[Tree], listed: &[Places], levels: &[Level], choice
         return false;
     }
     for place in 0..trees.len() {
-        if !fits(points, levels, choices[place], &trees[place], listed[place].as_slice()) {
+        if !fits(
+            points,
+            levels,
+            choices[place],
+            &trees[place],
+            listed[place].as_slice(),
+        ) {
             return false;
         }
     }
@@ -71,7 +83,8 @@ fn fits(points: u8, levels: &[Level], choice: Choice, tree: &Tree, members: &[u8
     ensures { IsTrue result → FitsChoice 12 (layers_of points levels.now) tree.now choice }
 {
     match choice {
-        Choice::Open => load(points, levels, tree, members) <= u128::from(SCALE) * u128::from(tree.length),
+        Choice::Open => load(points, levels, tree, members)
+            <= u128::from(SCALE) * u128::from(tree.length),
         Choice::Taken => lies_inside(points, levels, tree, members),
         Choice::LeftOut => true,
     }

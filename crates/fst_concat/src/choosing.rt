@@ -19,7 +19,12 @@ use std::alloc::Global;
 /// splits finds. The kind says whether it is known as least: it is where the allowed splits are at least one fewer than
 /// the sets of trees. `Unspanned` comes exactly where all trees together don't join the terminals, and names the least
 /// terminal that they leave apart from the terminal 0; any other `Err` is want of memory.
-pub fn concat(alloc: Global, points: u8, trees: &TreeList, allowed: u32) -> Result<Chosen, ConcatFault>
+pub fn concat(
+    alloc: Global,
+    points: u8,
+    trees: &TreeList,
+    allowed: u32,
+) -> Result<Chosen, ConcatFault>
     requires some { 0 < points }
     requires few { points ≤ 50 }
     requires few_trees { length trees.now ≤ 20000 }

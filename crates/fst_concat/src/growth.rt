@@ -198,7 +198,10 @@ fn first_used_up(items: &[Item]) -> Option<Pick> {
     for item in items {
         if let Some(growth) = item.rest.checked_div(joins(item.parts)) {
             if is_before(growth, *item, pick) {
-                pick = Some(Pick { item: *item, growth });
+                pick = Some(Pick {
+                    item: *item,
+                    growth,
+                });
             }
         }
     }
@@ -214,7 +217,8 @@ fn joins(parts: u64) -> u64 {
 fn is_before(growth: u64, item: Item, pick: Option<Pick>) -> bool {
     match pick {
         Some(pick) => {
-            growth < pick.growth || (growth == pick.growth && joins(item.parts) < joins(pick.item.parts))
+            growth < pick.growth
+                || (growth == pick.growth && joins(item.parts) < joins(pick.item.parts))
         }
         None => true,
     }

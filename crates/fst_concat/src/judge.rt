@@ -173,12 +173,18 @@ fn first_open(choices: &[Choice]) -> Option<u32>
 fn taken_of(alloc: Global, choices: &[Choice]) -> Result<Vec<bool>, AllocError>
     ensures { IfOk result (λ set. set.items ≡ taken_of choices.now) }
 {
-    choices.iter().map(|choice| matches!(choice, Choice::Taken)).collect(alloc)
+    choices
+        .iter()
+        .map(|choice| matches!(choice, Choice::Taken))
+        .collect(alloc)
 }
 
 // The set of the trees that are not left out. An `Err` is want of memory.
 fn remaining_of(alloc: Global, choices: &[Choice]) -> Result<Vec<bool>, AllocError>
     ensures { IfOk result (λ set. set.items ≡ remaining_of choices.now) }
 {
-    choices.iter().map(|choice| !matches!(choice, Choice::LeftOut)).collect(alloc)
+    choices
+        .iter()
+        .map(|choice| !matches!(choice, Choice::LeftOut))
+        .collect(alloc)
 }

@@ -6,7 +6,6 @@ mod best;
 mod bound;
 mod choosing;
 mod chosen;
-
 mod fault;
 mod growth;
 mod judge;
@@ -17,8 +16,8 @@ mod search;
 mod start;
 mod trail;
 
-pub use chosen::{Chosen, ChosenKind};
 pub use choosing::concat;
+pub use chosen::{Chosen, ChosenKind};
 pub use fault::ConcatFault;
 pub use trail::Trail;
 

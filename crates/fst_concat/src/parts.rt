@@ -10,7 +10,13 @@ use full_tree::{Places, Tree};
 
 /// The least terminal that no chain of the set's trees joins to the terminal 0, where there is one: then the labels
 /// are left as those of the parts. The set is a concatenation exactly where there is none.
-pub fn first_apart(points: u8, trees: &[Tree], listed: &[Places], set: &[bool], labels: &mut [u8]) -> Option<u8>
+pub fn first_apart(
+    points: u8,
+    trees: &[Tree],
+    listed: &[Places],
+    set: &[bool],
+    labels: &mut [u8],
+) -> Option<u8>
     requires some { 0 < points }
     requires few { points ≤ 50 }
     requires listed { IsListed points trees.now listed.now }

@@ -48,7 +48,9 @@ pub fn search(
     let mut best = first;
     let mut way = Way::begin(alloc, trees)?;
     while let Some(choices) = way.pending.pop() {
-        step(alloc, points, trees, listed, allowed, labels, &mut way, &mut best, choices)?;
+        step(
+            alloc, points, trees, listed, allowed, labels, &mut way, &mut best, choices,
+        )?;
     }
     Ok(finish(points, trees, allowed, way, best))
 }
@@ -84,7 +86,12 @@ impl Way {
     }
 
     // Splits choices on an open place. An `Err` is want of memory.
-    fn fork(&mut self, alloc: Global, choices: ItemList<Choice>, place: u32) -> Result<(), AllocError>
+    fn fork(
+        &mut self,
+        alloc: Global,
+        choices: ItemList<Choice>,
+        place: u32,
+    ) -> Result<(), AllocError>
         requires place { place < length choices }
         requires room { self.old.used < 4294967295 }
         ensures steps { OnOk result (self.new.steps.items ≡ self.old.steps.items ++ Step.Fork place ∷ []) }
@@ -129,7 +136,15 @@ fn step(
         (IsUnderWay points trees.now allowed best.new.total way.new (reverse way.new.pending.items)) }
     ensures nearer { OnOk result (steps_left allowed way.new ≤ steps_left allowed way.old) }
 {
-    match judge(alloc, points, trees, listed, choices.as_slice(), labels, best)? {
+    match judge(
+        alloc,
+        points,
+        trees,
+        listed,
+        choices.as_slice(),
+        labels,
+        best,
+    )? {
         Verdict::Undecided { place, .. } if way.used < allowed => way.fork(alloc, choices, place),
         Verdict::Undecided { least, .. } => way.leave(least),
         Verdict::Done => way.leave(u128::MAX),
@@ -137,7 +152,12 @@ fn step(
 }
 
 // Choices with one more decided. An `Err` is want of memory.
-fn decided(alloc: Global, choices: &[Choice], place: usize, choice: Choice) -> Result<ItemList<Choice>, AllocError>
+fn decided(
+    alloc: Global,
+    choices: &[Choice],
+    place: usize,
+    choice: Choice,
+) -> Result<ItemList<Choice>, AllocError>
     requires { place < length choices.now }
     ensures { IfOk result (λ list. list ≡ slice_set choices.now place choice) }
 {

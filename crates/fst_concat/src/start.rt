@@ -42,7 +42,12 @@ pub fn first_best(
 }
 
 // Each tree as a pair. An `Err` is want of memory.
-fn pairs_of(alloc: Global, points: u8, trees: &[Tree], listed: &[Places]) -> Result<Vec<Pair>, AllocError>
+fn pairs_of(
+    alloc: Global,
+    points: u8,
+    trees: &[Tree],
+    listed: &[Places],
+) -> Result<Vec<Pair>, AllocError>
     requires trees { All (HasMembersBelow points) trees.now }
     requires listed { IsListed points trees.now listed.now }
     ensures { IfOk result (λ pairs. pairs.items ≡ map pair_of trees.now) }
@@ -60,7 +65,11 @@ fn pair_of(tree: &Tree, members: &[u8]) -> Pair
     requires members { members.now ≡ members_of tree.now.code }
     ensures { result ≡ pair_of tree.now }
 {
-    let b = if members.len() == 2 { members[1] } else { members[0] };
+    let b = if members.len() == 2 {
+        members[1]
+    } else {
+        members[0]
+    };
     Pair {
         a: members[0],
         b,

@@ -29,10 +29,24 @@ fn chooses_the_cross(rt: HostRuntime) -> Result<(), Fail> {
         if let Some(drop) = drop {
             drops.push(drop);
         }
-        let code = TreeCode::Long { root, toward: Way::East, drops, side: None, tip };
+        let code = TreeCode::Long {
+            root,
+            toward: Way::East,
+            drops,
+            side: None,
+            tip,
+        };
         trees.push(Tree { length, code })?;
     }
-    trees.push(Tree { length: 4, code: TreeCode::Cross { west: 1, south: 0, east: 2, north: 3 } })?;
+    trees.push(Tree {
+        length: 4,
+        code: TreeCode::Cross {
+            west: 1,
+            south: 0,
+            east: 2,
+            north: 3,
+        },
+    })?;
     let chosen = concat(rt.alloc(), 4, &trees, 2047)?;
     assert_eq!(rt; chosen.total, 4);
     assert!(rt; matches!(&chosen.kind, ChosenKind::Least));

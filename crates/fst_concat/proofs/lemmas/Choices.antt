@@ -64,17 +64,19 @@ taken_remain choices = λ k inside.
 pub none_respects : (n : ℕ) (trees : List Tree) (choices : List Choice) (total : ℕ) → MoreTreesJoin → length choices ≡ length trees
     → ¬ AreRemainingJoining n trees choices → IsNoBetter n trees total choices × IsLeastUnder n trees choices total
 none_respects n trees choices total more size apart =
-    let length_is : length (remaining_of choices) ≡ length trees = length-map choices is_left ∙ size in
-    (λ joins. absurd (apart (more n trees (taken_of choices) (remaining_of choices) (taken_remain choices) length_is joins)),
-    λ set joins respects. absurd (apart (more n trees set (remaining_of choices)
-        (within_remaining choices set (joins.size ∙ sym size) respects) length_is joins)))
+    let length_is : length (remaining_of choices) ≡ length trees = length-map choices is_left ∙ size in (
+      λ joins. absurd (apart (more n trees (taken_of choices) (remaining_of choices) (taken_remain choices) length_is joins)),
+      λ set joins respects. absurd (apart (more n trees set (remaining_of choices)
+          (within_remaining choices set (joins.size ∙ sym size) respects) length_is joins)),
+    )
 
 -- a set that respects choices has at least the taken total
 pub taken_least : (n : ℕ) (trees : List Tree) (choices : List Choice) (total : ℕ) → TotalsRise
     → total ≤ total_of trees (taken_of choices) → IsNoBetter n trees total choices × IsLeastUnder n trees choices total
-taken_least n trees choices total rise below =
-    (λ joins. below,
-    λ set joins respects. omega (arith, rise trees (taken_of choices) set (taken_within choices set respects)))
+taken_least n trees choices total rise below = (
+  λ joins. below,
+  λ set joins respects. omega (arith, rise trees (taken_of choices) set (taken_within choices set respects)),
+)
 
 -- choices where a search can go on are done with where their bound reaches the total
 pub bound_done : (n : ℕ) (trees : List Tree) (choices : List Choice) (least total : ℕ) → CanGoOn n trees choices

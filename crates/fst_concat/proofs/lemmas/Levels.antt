@@ -57,8 +57,11 @@ length-with_place_new p [] new = omega arith
 length-with_place_new p (q ∷ qs) new = elim (cases_order p q) [
   | inl same ↦ absurd (new (0, omega arith, sym same))
   | inr (inl below) ↦ omega (arith, ap length (with_place-below p q qs below))
-  | inr (inr above) ↦ omega (arith, ap length (with_place-above p q qs above),
-      length-with_place_new p qs (λ (k, inside, is). new (suc k, omega arith, is)))
+  | inr (inr above) ↦ omega (
+    arith,
+    ap length (with_place-above p q qs above),
+    length-with_place_new p qs (λ (k, inside, is). new (suc k, omega arith, is)),
+  )
 ]
 
 -- ---- what a test says
@@ -116,7 +119,7 @@ pub counts_new : (xs : List ℕ) (i count : ℕ) (f : ℕ → ℕ) → 0 < i →
     → count ≡ length (ascending_places (map f (drop i xs))) → count + 1 ≡ length (ascending_places (map f (drop (i - 1) xs)))
 counts_new xs i count f some within test counted =
     let there : any_label (f (get_or xs (i - 1) 0)) (map f (drop i xs)) ≡ false =
-        subst (λ rest. any_label (f (get_or xs (i - 1) 0)) (map f rest) ≡ false) (rest_is xs i some within) test in
+    subst (λ rest. any_label (f (get_or xs (i - 1) 0)) (map f rest) ≡ false) (rest_is xs i some within) test in
     rw (drop_before xs i some within) (omega (arith, counted, ascending_new (f (get_or xs (i - 1) 0)) (map f (drop i xs)) there))
 
 pub counts_there : (xs : List ℕ) (i count : ℕ) (f : ℕ → ℕ) → 0 < i → i ≤ length xs
@@ -124,7 +127,7 @@ pub counts_there : (xs : List ℕ) (i count : ℕ) (f : ℕ → ℕ) → 0 < i �
     → count ≡ length (ascending_places (map f (drop i xs))) → count ≡ length (ascending_places (map f (drop (i - 1) xs)))
 counts_there xs i count f some within test counted =
     let there : any_label (f (get_or xs (i - 1) 0)) (map f (drop i xs)) ≡ true =
-        subst (λ rest. any_label (f (get_or xs (i - 1) 0)) (map f rest) ≡ true) (rest_is xs i some within) test in
+    subst (λ rest. any_label (f (get_or xs (i - 1) 0)) (map f rest) ≡ true) (rest_is xs i some within) test in
     rw (drop_before xs i some within) (omega (arith, counted, ascending_there (f (get_or xs (i - 1) 0)) (map f (drop i xs)) there))
 
 -- .. of labels themselves
@@ -133,7 +136,7 @@ pub labels_new : (xs : List ℕ) (i count : ℕ) → 0 < i → i ≤ length xs
     → count ≡ length (ascending_places (drop i xs)) → count + 1 ≡ length (ascending_places (drop (i - 1) xs))
 labels_new xs i count some within test counted =
     let there : any_label (get_or xs (i - 1) 0) (drop i xs) ≡ false =
-        subst (λ rest. any_label (get_or xs (i - 1) 0) rest ≡ false) (rest_is xs i some within) test in
+    subst (λ rest. any_label (get_or xs (i - 1) 0) rest ≡ false) (rest_is xs i some within) test in
     rw (drop_before xs i some within) (omega (arith, counted, ascending_new (get_or xs (i - 1) 0) (drop i xs) there))
 
 pub labels_there : (xs : List ℕ) (i count : ℕ) → 0 < i → i ≤ length xs
@@ -141,7 +144,7 @@ pub labels_there : (xs : List ℕ) (i count : ℕ) → 0 < i → i ≤ length xs
     → count ≡ length (ascending_places (drop i xs)) → count ≡ length (ascending_places (drop (i - 1) xs))
 labels_there xs i count some within test counted =
     let there : any_label (get_or xs (i - 1) 0) (drop i xs) ≡ true =
-        subst (λ rest. any_label (get_or xs (i - 1) 0) rest ≡ true) (rest_is xs i some within) test in
+    subst (λ rest. any_label (get_or xs (i - 1) 0) rest ≡ true) (rest_is xs i some within) test in
     rw (drop_before xs i some within) (omega (arith, counted, ascending_there (get_or xs (i - 1) 0) (drop i xs) there))
 
 -- ---- sums over levels

@@ -63,10 +63,22 @@ hop_shares n trees set usable u w (k, pair, inside, at, ends) =
     let a_is : (pair_of tree).a ≡ pair.a = ap (λ (p : Pair). p.a) is in
     let b_is : (pair_of tree).b ≡ pair.b = ap (λ (p : Pair). p.b) is in
     ⊎_elim
-    (λ along. (k, tree, inside, at_tree, subst (IsMember tree) (a_is ∙ along.0) (has_a n tree here),
-        subst (IsMember tree) (b_is ∙ along.1) (has_b n tree here)))
-    (λ against. (k, tree, inside, at_tree, subst (IsMember tree) (b_is ∙ against.1) (has_b n tree here),
-        subst (IsMember tree) (a_is ∙ against.0) (has_a n tree here)))
+    (λ along. (
+      k,
+      tree,
+      inside,
+      at_tree,
+      subst (IsMember tree) (a_is ∙ along.0) (has_a n tree here),
+      subst (IsMember tree) (b_is ∙ along.1) (has_b n tree here),
+    ))
+    (λ against. (
+      k,
+      tree,
+      inside,
+      at_tree,
+      subst (IsMember tree) (b_is ∙ against.1) (has_b n tree here),
+      subst (IsMember tree) (a_is ∙ against.0) (has_a n tree here),
+    ))
     ends
 
 -- pairs that join are a concatenation
@@ -102,13 +114,13 @@ shares_hops trees set alone u w (k, tree, inside, at, has_u, has_w) led =
     let hops : ℕ → ℕ → Type 0 = Hop (map pair_of trees) set in
     ⊎_elim
     (λ u_first. ⊎_elim
-        (λ w_first. subst (λ x. Leads hops 0 x) (sym u_first ∙ w_first) led)
-        (λ w_second. Leads-more hops 0 u w led (k, pair_of tree, inside, at_pair, inl (u_first, second ∙ w_second)))
-        (one_of_two (members_of tree.code) w two has_w))
+    (λ w_first. subst (λ x. Leads hops 0 x) (sym u_first ∙ w_first) led)
+    (λ w_second. Leads-more hops 0 u w led (k, pair_of tree, inside, at_pair, inl (u_first, second ∙ w_second)))
+    (one_of_two (members_of tree.code) w two has_w))
     (λ u_second. ⊎_elim
-        (λ w_first. Leads-more hops 0 u w led (k, pair_of tree, inside, at_pair, inr (w_first, second ∙ u_second)))
-        (λ w_second. subst (λ x. Leads hops 0 x) (sym u_second ∙ w_second) led)
-        (one_of_two (members_of tree.code) w two has_w))
+    (λ w_first. Leads-more hops 0 u w led (k, pair_of tree, inside, at_pair, inr (w_first, second ∙ u_second)))
+    (λ w_second. subst (λ x. Leads hops 0 x) (sym u_second ∙ w_second) led)
+    (one_of_two (members_of tree.code) w two has_w))
     (one_of_two (members_of tree.code) u two has_u)
 
 -- a concatenation of trees of two members joins as pairs

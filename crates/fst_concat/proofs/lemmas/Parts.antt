@@ -106,19 +106,20 @@ joined-meets first rest labels i in_first below (suc k, inside, is) =
 -- a label is the one and becomes the other, or stays
 label_of : (from to x : ℕ) → ((x ≡ from) × (merge_label from to x ≡ to)) ⊎ (merge_label from to x ≡ x)
 label_of from to x = elim (x == from) as (λ b. (x == from) ≡ b → ((x ≡ from) × ((if b then to else x) ≡ to)) ⊎ ((if b then to else x) ≡ x)) [
-      true ↦ λ is. inl (eqb-true x from is, refl)
-    | false ↦ λ is. inr refl ] refl
+  | true ↦ λ is. inl (eqb-true x from is, refl)
+  | false ↦ λ is. inr refl
+] refl
 
 -- labels that are equal after a merge were equal, or were those of the two
 label_cases : (from to x y : ℕ) → merge_label from to x ≡ merge_label from to y
     → (x ≡ y) ⊎ (((x ≡ from) × (y ≡ to)) ⊎ ((x ≡ to) × (y ≡ from)))
 label_cases from to x y same =
     ⊎_elim (λ (x_is, x_to). ⊎_elim
-        (λ (y_is, y_to). inl (x_is ∙ sym y_is))
-        (λ y_stays. inr (inl (x_is, sym y_stays ∙ sym same ∙ x_to))) (label_of from to y))
+    (λ (y_is, y_to). inl (x_is ∙ sym y_is))
+    (λ y_stays. inr (inl (x_is, sym y_stays ∙ sym same ∙ x_to))) (label_of from to y))
     (λ x_stays. ⊎_elim
-        (λ (y_is, y_to). inr (inr (sym x_stays ∙ same ∙ y_to, y_is)))
-        (λ y_stays. inl (sym x_stays ∙ same ∙ y_stays)) (label_of from to y))
+    (λ (y_is, y_to). inr (inr (sym x_stays ∙ same ∙ y_to, y_is)))
+    (λ y_stays. inl (sym x_stays ∙ same ∙ y_stays)) (label_of from to y))
     (label_of from to x)
 
 -- Where terminals of one label are related, and the merged ones are, those of one label are related after the merge.
@@ -132,14 +133,14 @@ merged-related R back onward labels member first in_member in_first related same
     let from : ℕ = slice_index labels member in
     let to : ℕ = slice_index labels first in
     let same_label : merge_label from to (slice_index labels i) ≡ merge_label from to (slice_index labels j) =
-        sym (merged-at from to labels i in_i) ∙ same ∙ merged-at from to labels j in_j in
+    sym (merged-at from to labels i in_i) ∙ same ∙ merged-at from to labels j in_j in
     ⊎_elim (λ equal. same_related i j in_i in_j equal)
     (λ two. ⊎_elim
-        (λ (is_from, is_to). onward i member j (same_related i member in_i in_member is_from)
-            (onward member first j related (same_related first j in_first in_j (sym is_to))))
-        (λ (is_to, is_from). onward i first j (same_related i first in_i in_first is_to)
-            (onward first member j (back member first related) (same_related member j in_member in_j (sym is_from))))
-        two)
+    (λ (is_from, is_to). onward i member j (same_related i member in_i in_member is_from)
+    (onward member first j related (same_related first j in_first in_j (sym is_to))))
+    (λ (is_to, is_from). onward i first j (same_related i first in_i in_first is_to)
+    (onward first member j (back member first related) (same_related member j in_member in_j (sym is_from))))
+    two)
     (label_cases from to (slice_index labels i) (slice_index labels j) same_label)
 
 -- .. and where all members are related to the first one, after all merges
@@ -157,7 +158,7 @@ joined_with-related R back onward first (member ∷ rest) labels in_first below 
     (below_after first member rest labels from to below)
     (λ k d inside. related (suc k) d (omega arith))
     (λ x y in_x in_y equal. merged-related R back onward labels member first (below 0 0 (omega arith)) in_first
-        (related 0 0 (omega arith)) same_related x y (omega (arith, size)) (omega (arith, size)) equal)
+    (related 0 0 (omega arith)) same_related x y (omega (arith, size)) (omega (arith, size)) equal)
     i j (omega (arith, size)) (omega (arith, size)) same
 
 -- ---- the trees of a set, one after the other
@@ -213,9 +214,9 @@ join_case n trees set place tree labels parts all_below inside at [] is below = 
   closed = λ k other i j lower. below_more (λ p. IsClosedAt trees set p labels) place
       (λ p under here u v w. parts.closed p here u v under w)
       (λ here u v in_set at_here first second.
-          let same : here ≡ tree = some_same (sym at_here ∙ at) in
-          let none : Contains [] u = subst (λ xs. Contains xs u) is (subst (λ t. IsMember t u) same first) in
-          absurd (omega (arith, none.1)))
+      let same : here ≡ tree = some_same (sym at_here ∙ at) in
+      let none : Contains [] u = subst (λ xs. Contains xs u) is (subst (λ t. IsMember t u) same first) in
+      absurd (omega (arith, none.1)))
       k lower other i j;
 }
 join_case n trees set place tree labels parts all_below inside at (first ∷ rest) is below =
@@ -223,32 +224,37 @@ join_case n trees set place tree labels parts all_below inside at (first ∷ res
     let after : length (joined_with first rest labels) ≡ length labels = length-joined_with first rest labels in
     let in_first : first < length labels = let h : first < n = below 0 0 (omega arith) in omega arith in
     let in_rest : All (λ i. i < length labels) rest =
-        λ k d within. let h : slice_index_or rest k d < n = below (suc k) d (omega arith) in omega (arith, h) in
+    λ k d within. let h : slice_index_or rest k d < n = below (suc k) d (omega arith) in omega (arith, h) in
     let R : ℕ → ℕ → Type 0 = Leads (SharesTree trees set) in
     let member : (i : ℕ) → Contains (first ∷ rest) i → IsMember tree i =
-        λ i here. subst (λ xs. Contains xs i) (sym is) here in
+    λ i here. subst (λ xs. Contains xs i) (sym is) here in
     record {
       size = after ∙ size;
       chains = λ i j in_i in_j same. joined_with-related R (SharesTree-back trees set)
           (λ x y z. Leads-trans (SharesTree trees set) x y z) first rest labels in_first in_rest
           (λ k d within. Leads-more (SharesTree trees set) (slice_index_or rest k d) (slice_index_or rest k d) first
-              (Leads-start (SharesTree trees set) (slice_index_or rest k d))
-              (place, tree, inside, at, member (slice_index_or rest k d) (All-contains_itself (first ∷ rest) (suc k) d (omega arith)),
-                  member first (All-contains_itself (first ∷ rest) 0 first (omega arith))))
+          (Leads-start (SharesTree trees set) (slice_index_or rest k d)) (
+            place,
+            tree,
+            inside,
+            at,
+            member (slice_index_or rest k d) (All-contains_itself (first ∷ rest) (suc k) d (omega arith)),
+            member first (All-contains_itself (first ∷ rest) 0 first (omega arith)),
+          ))
           (λ x y in_x in_y equal. parts.chains x y (omega arith) (omega arith) equal)
           i j (omega arith) (omega arith) same;
       closed = λ k other i j lower. below_more (λ p. IsClosedAt trees set p (joined_with first rest labels)) place
           (λ p under here u v in_set at_here one two.
-              joined_with-keeps first rest labels u v
-              (let h : u < n = All-contains (λ x. x < n) (members_of here.code) u (all_below p here at_here) one in omega arith)
-              (let h : v < n = All-contains (λ x. x < n) (members_of here.code) v (all_below p here at_here) two in omega arith)
-              (parts.closed p here u v under in_set at_here one two))
+          joined_with-keeps first rest labels u v
+          (let h : u < n = All-contains (λ x. x < n) (members_of here.code) u (all_below p here at_here) one in omega arith)
+          (let h : v < n = All-contains (λ x. x < n) (members_of here.code) v (all_below p here at_here) two in omega arith)
+          (parts.closed p here u v under in_set at_here one two))
           (λ here u v in_set at_here one two.
-              let same : here ≡ tree = some_same (sym at_here ∙ at) in
-              let as_listed : (x : ℕ) → IsMember here x → Contains (first ∷ rest) x =
-                  λ x h. subst (λ xs. Contains xs x) is (subst (λ t. IsMember t x) same h) in
-              joined-meets first rest labels u in_first in_rest (as_listed u one)
-              ∙ sym (joined-meets first rest labels v in_first in_rest (as_listed v two)))
+          let same : here ≡ tree = some_same (sym at_here ∙ at) in
+          let as_listed : (x : ℕ) → IsMember here x → Contains (first ∷ rest) x =
+          λ x h. subst (λ xs. Contains xs x) is (subst (λ t. IsMember t x) same h) in
+          joined-meets first rest labels u in_first in_rest (as_listed u one)
+          ∙ sym (joined-meets first rest labels v in_first in_rest (as_listed v two)))
           k lower other i j;
     }
 
@@ -277,7 +283,7 @@ pub joined_alike : (n : ℕ) (trees : List Tree) (set : List Bool) (labels : Lis
 joined_alike n trees set labels i size parts led =
     Leads-keeps (SharesTree trees set) (λ x. slice_index labels x ≡ slice_index labels 0) 0 i refl
     (λ u w so_far (k, tree, inside, at, first, second).
-        parts.closed k tree w u (omega (arith, slice_get_within trees k tree at)) inside at second first ∙ so_far) led
+    parts.closed k tree w u (omega (arith, slice_get_within trees k tree at)) inside at second first ∙ so_far) led
 
 -- the first terminal of another label is the first apart
 pub first_apart-is : (n : ℕ) (trees : List Tree) (set : List Bool) (labels : List ℕ) (place : ℕ) → length set ≡ length trees
@@ -318,7 +324,7 @@ pub listed_tree : (n : ℕ) (trees : List Tree) (listed : List (List ℕ)) (k : 
     → slice_get listed k ≡ Some members → (tree : Tree) × (slice_get trees k ≡ Some tree) × (members_of tree.code ≡ members)
 listed_tree n trees listed k members is at =
     let at_tree : option_map tree_members (slice_get trees k) ≡ Some members =
-        sym (slice_get-map tree_members trees k) ∙ ap (λ xs. slice_get xs k) (sym is.same) ∙ at in
+    sym (slice_get-map tree_members trees k) ∙ ap (λ xs. slice_get xs k) (sym is.same) ∙ at in
     tree_of (slice_get trees k) members at_tree
 
 -- a listed tree of the set joins its members

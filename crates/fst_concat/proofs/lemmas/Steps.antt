@@ -53,16 +53,18 @@ CompletesAll-close n trees total later_total low later_low used steps choices pe
       trail = before.trail;
       one = unwind-append steps (Close ∷ []) trails ∙ before.one;
       count = omega (arith, before.count);
-      good = λ last_total last_low below_total below_low good. before.good last_total last_low (omega arith) (omega arith)
-          (record {
-            places = tt;
-            splits = tt;
-            ends = EndsWell-later n trees later_total later_low last_total last_low choices below_total below_low well;
-          }, good);
+      good = λ last_total last_low below_total below_low good. before.good last_total last_low (omega arith) (omega arith) (
+        record {
+          places = tt;
+          splits = tt;
+          ends = EndsWell-later n trees later_total later_low last_total last_low choices below_total below_low well;
+        },
+        good,
+      );
       opens = λ open_total one. before.opens open_total (inr one);
       found = λ below. ⊎_elim
           (λ is. let Open_end : ℕ → Type 0 = λ v. HasOpenEnd n trees v (no_choices trees) before.trail in
-              subst Open_end (sym is) (before.found (omega arith)))
+          subst Open_end (sym is) (before.found (omega arith)))
           (λ here. before.opens later_low (inl here)) opened;
     }
 
@@ -72,22 +74,24 @@ pub CompletesAll-fork : (n : ℕ) (trees : List Tree) (total later_total low use
     → CompletesAll n trees total low used steps (choices ∷ pending)
     → later_total ≤ total → IsOpenPlace choices place → CanGoOn n trees choices
     → CompletesAll n trees later_total low (used + 1) (steps ++ Fork place ∷ [])
-        (slice_set choices place Taken ∷ slice_set choices place LeftOut ∷ pending)
+    (slice_set choices place Taken ∷ slice_set choices place LeftOut ∷ pending)
 CompletesAll-fork n trees total later_total low used steps choices pending place all lower_total is_open can [] same = absurd (omega (arith, same))
 CompletesAll-fork n trees total later_total low used steps choices pending place all lower_total is_open can (with_it ∷ []) same = absurd (omega (arith, same))
 CompletesAll-fork n trees total later_total low used steps choices pending place all lower_total is_open can (with_it ∷ without ∷ trails) same =
     let before : Completes n trees total low used steps (choices ∷ pending) (Split place without with_it ∷ trails) =
-        all (Split place without with_it ∷ trails) (omega (arith, same)) in
+    all (Split place without with_it ∷ trails) (omega (arith, same)) in
     record {
       trail = before.trail;
       one = unwind-append steps (Fork place ∷ []) (with_it ∷ without ∷ trails) ∙ before.one;
       count = omega (arith, before.count);
-      good = λ last_total last_low below_total below_low good. before.good last_total last_low (omega arith) below_low
-          (record {
-            places = (is_open, good.1.0.places, good.0.places);
-            splits = (can, good.1.0.splits, good.0.splits);
-            ends = (good.1.0.ends, good.0.ends);
-          }, good.1.1);
+      good = λ last_total last_low below_total below_low good. before.good last_total last_low (omega arith) below_low (
+        record {
+          places = (is_open, good.1.0.places, good.0.places);
+          splits = (can, good.1.0.splits, good.0.splits);
+          ends = (good.1.0.ends, good.0.ends);
+        },
+        good.1.1,
+      );
       opens = λ open_total one. before.opens open_total
           (⊎_elim (λ taken. inl (inr taken)) (λ rest. ⊎_elim (λ left. inl (inl left)) (λ others. inr others) rest) one);
       found = λ below. before.found below;

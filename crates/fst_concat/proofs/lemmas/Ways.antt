@@ -47,9 +47,9 @@ pub IsUnderWay-pop : (n : ℕ) (trees : List Tree) (allowed total : ℕ) (way af
     → IsUnderWay n trees allowed total after (choices ∷ reverse after.pending.items)
 IsUnderWay-pop n trees allowed total way after choices before pending steps used low =
     let shape : reverse way.pending.items ≡ choices ∷ reverse after.pending.items =
-        ap reverse pending ∙ reverse-append after.pending.items (choices ∷ []) in
+    ap reverse pending ∙ reverse-append after.pending.items (choices ∷ []) in
     let here : IsUnderWay n trees allowed total way (choices ∷ reverse after.pending.items) =
-        subst (IsUnderWay n trees allowed total way) shape before in
+    subst (IsUnderWay n trees allowed total way) shape before in
     record {
       completes = rw (steps, used, low) here.completes;
       sizes = here.sizes;
@@ -70,15 +70,15 @@ IsUnderWay-fork n trees allowed total later way after choices place before lower
     let Size : List Choice → Type 0 = λ c. length c ≡ length trees in
     let here : length choices ≡ length trees = before.sizes 0 choices (omega arith) in
     let shape : reverse after.pending.items ≡ with_it ∷ without ∷ reverse way.pending.items =
-        ap reverse pending ∙ reverse_two way.pending.items without with_it in
+    ap reverse pending ∙ reverse_two way.pending.items without with_it in
     let forked : CompletesAll n trees later way.low (way.used + 1) (way.steps.items ++ Fork place ∷ []) (with_it ∷ without ∷ reverse way.pending.items) =
-        CompletesAll-fork n trees total later way.low way.used way.steps.items choices (reverse way.pending.items) place
-        before.completes lower is_open can in
+    CompletesAll-fork n trees total later way.low way.used way.steps.items choices (reverse way.pending.items) place
+    before.completes lower is_open can in
     subst (IsUnderWay n trees allowed later after) (sym shape) (record {
       completes = rw (steps, used, low) forked;
       sizes = all_cons Size with_it (without ∷ reverse way.pending.items) (length-set choices place Taken ∙ here)
           (all_cons Size without (reverse way.pending.items) (length-set choices place LeftOut ∙ here)
-              (all_rest Size choices (reverse way.pending.items) before.sizes));
+          (all_rest Size choices (reverse way.pending.items) before.sizes));
       within = omega arith;
       spent = λ below. absurd (omega (arith, before.spent (omega arith)));
     })
@@ -93,8 +93,8 @@ pub IsUnderWay-leave : (n : ℕ) (trees : List Tree) (allowed total later : ℕ)
 IsUnderWay-leave n trees allowed total later way after choices before lower steps pending used low well left =
     let Size : List Choice → Type 0 = λ c. length c ≡ length trees in
     let closed : CompletesAll n trees later after.low way.used (way.steps.items ++ Close ∷ []) (reverse way.pending.items) =
-        CompletesAll-close n trees total later way.low after.low way.used way.steps.items choices (reverse way.pending.items)
-        before.completes lower low well (⊎_elim (λ same. inl same) (λ (opened, all). inr opened) left) in
+    CompletesAll-close n trees total later way.low after.low way.used way.steps.items choices (reverse way.pending.items)
+    before.completes lower low well (⊎_elim (λ same. inl same) (λ (opened, all). inr opened) left) in
     subst (IsUnderWay n trees allowed later after) (sym (ap reverse pending)) (record {
       completes = rw (steps, used) closed;
       sizes = all_rest Size choices (reverse way.pending.items) before.sizes;

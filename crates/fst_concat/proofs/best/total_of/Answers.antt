@@ -13,12 +13,13 @@ loop-place-preserved c =
     let place = c.loop-place.place in
     let in_trees : place < length trees = omega arith in
     elim c.if-set-place.branch [
-      then-set-place w ↦
-        let more = total-in trees set place w.index-trees-place.result
-            (slice_get_read trees (length trees) place w.index-trees-place.result refl in_trees w.index-trees-place.is)
-            (slice_get-has set place w.if-set-place.true) in
-        let length_is = ap (λ (x : Tree). x.length) w.index-trees-place.is in
-        record { sum = omega (arith, more, length_is, c.loop-place.invariant.sum); small = omega arith }
-    | else-set-place w ↦
-        let more = total-out trees set place (slice_get-get_or set place false (omega arith) ∙ ap Some w.if-set-place.false) in
-        record { sum = omega (arith, more, c.loop-place.invariant.sum); small = omega arith } ]
+      | then-set-place w ↦
+          let more = total-in trees set place w.index-trees-place.result
+          (slice_get_read trees (length trees) place w.index-trees-place.result refl in_trees w.index-trees-place.is)
+          (slice_get-has set place w.if-set-place.true) in
+          let length_is = ap (λ (x : Tree). x.length) w.index-trees-place.is in
+          record { sum = omega (arith, more, length_is, c.loop-place.invariant.sum); small = omega arith }
+      | else-set-place w ↦
+          let more = total-out trees set place (slice_get-get_or set place false (omega arith) ∙ ap Some w.if-set-place.false) in
+          record { sum = omega (arith, more, c.loop-place.invariant.sum); small = omega arith }
+    ]

@@ -10,7 +10,7 @@ pub returns-then-is_some-clause-holds : goal.returns-then-is_some-clause-holds
 returns-then-is_some-clause-holds c = none_respects c.args.points c.args.trees.now c.args.choices.now c.args.best.now.total
     c.more_trees.ensures.more_trees_join c.requires.size
     (apart_some c.args.points c.args.trees.now _ _ c.first_apart.result c.first_apart.ensures
-        (sym c.is_some.ensures ∙ c.if-is_some.true) (c.deref.ensures.value ∙ c.in_ok-remaining.ensures))
+    (sym c.is_some.ensures ∙ c.if-is_some.true) (c.deref.ensures.value ∙ c.in_ok-remaining.ensures))
 
 pub returns-then-is_none-clause-holds : goal.returns-then-is_none-clause-holds
 returns-then-is_none-clause-holds c =

@@ -6,5 +6,5 @@ use Rattle.fst_concat.proofs.level.touched.Given as goal
 abbrev pub invariant-loop-place : goal.invariant-loop-place
 invariant-loop-place l = record {
   count : l.count ≡ length (ascending_places (map (slice_index l.labels) (drop l.place l.members)));
-  few : l.count + l.place ≤ length l.members
+  few : l.count + l.place ≤ length l.members;
 }

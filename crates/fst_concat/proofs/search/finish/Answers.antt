@@ -12,9 +12,10 @@ pub returns-clause-kind : goal.returns-clause-kind
 returns-clause-kind c =
     let over = over_trail c.args.points c.args.trees.now c.args.best.total c.args.way.low c.args.way.used c.args.way.steps.items c.requires.under_way.completes in
     elim c.if-way-best.branch [
-      then-way-best w ↦
-        let below : c.args.way.low < c.args.best.total = w.if-way-best.true in
-        let small : c.args.best.total < 2 ^ 128 = omega arith in
-        rw (w.kind-is, w.of_steps.ensures)
-        (sym (over-splits _ _ _ _ _ _ over) ∙ c.requires.under_way.spent (omega arith), over-spent _ _ _ _ _ _ over below small)
-    | else-way-best w ↦ rw w.kind-is (c.closed_trail_is_least.ensures.bounded _ _ _ _ (over-bounded _ _ _ _ _ _ over (omega arith))) ]
+      | then-way-best w ↦
+          let below : c.args.way.low < c.args.best.total = w.if-way-best.true in
+          let small : c.args.best.total < 2 ^ 128 = omega arith in
+          rw (w.kind-is, w.of_steps.ensures)
+          (sym (over-splits _ _ _ _ _ _ over) ∙ c.requires.under_way.spent (omega arith), over-spent _ _ _ _ _ _ over below small)
+      | else-way-best w ↦ rw w.kind-is (c.closed_trail_is_least.ensures.bounded _ _ _ _ (over-bounded _ _ _ _ _ _ over (omega arith)))
+    ]

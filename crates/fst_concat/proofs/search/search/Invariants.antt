@@ -8,7 +8,7 @@ abbrev pub invariant-loop-choices : goal.invariant-loop-choices
 invariant-loop-choices l = record {
   chosen : IsChosen l.points l.trees l.best.places l.best.total;
   below : l.best.total ≤ l.fn.first.total;
-  under_way : IsUnderWay l.points l.trees l.allowed l.best.total l.way (reverse l.way.pending.items)
+  under_way : IsUnderWay l.points l.trees l.allowed l.best.total l.way (reverse l.way.pending.items);
 }
 
 abbrev pub decreases-loop-choices : goal.decreases-loop-choices

@@ -14,12 +14,12 @@ least_joining-requires-clause-ends c =
 pub returns-in-Some-clause-chosen : goal.returns-in-Some-clause-chosen
 returns-in-Some-clause-chosen c = chosen_of_joined c.args.points c.args.trees.now c.in-Some.joined c.requires.trees
     (joined_of c.args.points c.deref.result.now (map pair_of c.args.trees.now) c.in_ok-joined.field-0 c.in-Some.joined
-        c.in_ok-joined.ensures.least c.in-Some.is (c.deref.ensures.value ∙ c.in_ok-pairs.ensures))
+    c.in_ok-joined.ensures.least c.in-Some.is (c.deref.ensures.value ∙ c.in_ok-pairs.ensures))
 
 pub returns-in-Some-clause-pairs : goal.returns-in-Some-clause-pairs
 returns-in-Some-clause-pairs c = up_to_joined c.args.points c.args.trees.now c.in-Some.joined
     (joined_of c.args.points c.deref.result.now (map pair_of c.args.trees.now) c.in_ok-joined.field-0 c.in-Some.joined
-        c.in_ok-joined.ensures.least c.in-Some.is (c.deref.ensures.value ∙ c.in_ok-pairs.ensures))
+    c.in_ok-joined.ensures.least c.in-Some.is (c.deref.ensures.value ∙ c.in_ok-pairs.ensures))
 
 pub returns-clause-pairs : goal.returns-clause-pairs
 returns-clause-pairs c = if_ok c.of_set.result _ (λ best. up_to_none c.args.points c.args.trees.now c.deref.result.now

@@ -12,5 +12,5 @@ use Rattle.fst_concat.proofs.search.Way.begin.Goals as goal
 pub returns : goal.returns
 returns c =
     let one : c.push.new.self.items ≡ no_choices c.args.trees.now ∷ [] =
-        c.in_ok-push.ensures.items ∙ rw c.new-pending.ensures.items (ap (λ (choices : List Choice). choices ∷ []) (c.from_vec.ensures ∙ c.in_ok-choices.ensures.items)) in
+    c.in_ok-push.ensures.items ∙ rw c.new-pending.ensures.items (ap (λ (choices : List Choice). choices ∷ []) (c.from_vec.ensures ∙ c.in_ok-choices.ensures.items_if_clones_equal (λ choice same. same))) in
     record { under_way = λ n allowed total. IsUnderWay-start n c.args.trees.now allowed total _ c.new.ensures.items one refl refl }
