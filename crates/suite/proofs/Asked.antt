@@ -7,13 +7,14 @@ use Rattle.search_tools.specs.Solve.{EndsSolve}
 use Rattle.tree_inputs.specs.Files.{SpelledHasNoFault}
 use Rattle.tree_tools.specs.Dump.{EndsDumpfst}
 use Rattle.tree_tools.specs.Generation.{EndsRfst}
+use Rattle.tree_tools.specs.Pruning.{EndsPrunefst}
 use Rattle.suite.specs.declared.request.Request.{Request as Asked}
 use Rattle.suite.specs.Requests.{Request, meaning}
-use Rattle.suite.specs.Requests.Request.{Rfst, Solve, Check, Dumpfst}
+use Rattle.suite.specs.Requests.Request.{Rfst, Prunefst, Solve, Check, Dumpfst}
 use Rattle.suite.specs.Headlines.{CheckHeadline}
 use Rattle.suite.specs.Complete.{Completes}
 use Rattle.suite.proofs.Heads.{check_headline}
-use Rattle.suite.proofs.Completeness.{solve_completes, check_completes, dump_completes, rfst_completes}
+use Rattle.suite.proofs.Completeness.{solve_completes, check_completes, dump_completes, rfst_completes, prune_completes}
 
 -- what the words ask for
 pub asked_is : (result : Option Asked) (request : Option Request) (found asked : Asked) → option_map meaning result ≡ request → result ≡ Some found → found ≡ asked →
@@ -37,6 +38,11 @@ dump_asked_completes law request before after status is ends = subst (λ r. Comp
 -- so does `rfst`
 pub rfst_asked_completes : (request : Option Request) (before after : Outside) (status : ℕ) → request ≡ Some Rfst → EndsRfst before after status → Completes request before after status
 rfst_asked_completes request before after status is ends = subst (λ r. Completes r before after status) (sym is) (rfst_completes before after status ends)
+
+-- so does `prunefst`
+pub prune_asked_completes : SpelledHasNoFault → (request : Option Request) (before after : Outside) (status : ℕ) → request ≡ Some Prunefst → EndsPrunefst before after status →
+    Completes request before after status
+prune_asked_completes law request before after status is ends = subst (λ r. Completes r before after status) (sym is) (prune_completes law before after status ends)
 
 -- what `check` told under the name that the words give is true
 pub check_asked_headline : (request : Option Request) (name : List ℕ) (before after : Outside) (status : ℕ) → request ≡ Some (Check name) → EndsCheck name before after status →

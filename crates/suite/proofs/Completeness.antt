@@ -32,6 +32,7 @@ use Rattle.tree_inputs.specs.declared.fst_fault.FstFault.{FstFault}
 use Rattle.tree_inputs.specs.FstFaults.{fst_fault_text, fst_fault_status}
 use Rattle.tree_inputs.specs.Files.{ReadsFst, SpelledHasNoFault}
 use Rattle.tree_tools.specs.Dump.{Dumps, EndsDumpfst}
+use Rattle.tree_tools.specs.Pruning.{PrunesFile, EndsPrunefst}
 use Rattle.points_in.specs.FaultLaws.{one_list}
 use Rattle.points_in.specs.Terminals.{terminals_of}
 use Rattle.fst_gen.specs.Trees.{HasMoreSets}
@@ -40,7 +41,7 @@ use Rattle.tree_inputs.specs.declared.generation_fault.GenerationFault.TheVarian
 use Rattle.tree_inputs.specs.GenerationFaults.{generation_fault_text, generation_fault_status}
 use Rattle.tree_inputs.specs.Generation.{most_members}
 use Rattle.tree_tools.specs.Generation.{GeneratesFile, EndsRfst}
-use Rattle.suite.specs.Requests.Request.{Rfst, Solve, Check, Dumpfst}
+use Rattle.suite.specs.Requests.Request.{Rfst, Prunefst, Solve, Check, Dumpfst}
 use Rattle.suite.specs.Complete.{Completes}
 
 -- an input that lists points has no fault
@@ -102,6 +103,20 @@ dump_completes law before after status ends = λ bytes file has spells writes.
     (dump_faultless law before.read after.read bytes file has spells) writes ends) [
       | inl seven ↦ inr seven
       | inr (print, (taken, whole, (other, spelled, of_file)), answers) ↦ inl (answers ∙ ap (λ (p : Print). answer_code p.status) of_file)
+    ]
+
+prune_faultless : SpelledHasNoFault → (before after : Readable) (bytes : List ℕ) (file : FstValue) → HasInput TEXT_LIMIT before.input after.input bytes → SpellsFstFile bytes file →
+    (fault : TextFault FstFault) → FromText TEXT_LIMIT PrunesFile before after (Err fault) → ⊥
+prune_faultless law before after bytes file has spells (text_fault.Input fault) is = input_is_taken TEXT_LIMIT before.input after.input bytes fault has is
+prune_faultless law before after bytes file has spells (text_fault.Text fault) (taken, whole, is) =
+    law bytes file fault spells (subst (λ b. ReadsFst b (Err fault)) (whole_input_is TEXT_LIMIT before.input after.input bytes taken has whole) is)
+
+pub prune_completes : SpelledHasNoFault → (before after : Outside) (status : ℕ) → EndsPrunefst before after status → Completes (Some Prunefst) before after status
+prune_completes law before after status ends = λ bytes file has spells writes.
+    elim (complete_ends (text_fault_status fst_fault_status) (text_fault_text fst_fault_text) (codes "prunefst") (FromText TEXT_LIMIT PrunesFile) LeavesShelf before after status
+    (prune_faultless law before.read after.read bytes file has spells) writes ends) [
+      | inl seven ↦ inr seven
+      | inr (print, (taken, whole, (other, kept, spelled, are, of_file)), answers) ↦ inl (answers ∙ ap (λ (p : Print). answer_code p.status) of_file)
     ]
 
 -- bytes that list points with no more trees than a file holds have no fault

@@ -14,7 +14,7 @@ use Rattle.tree_inputs.specs.Generation.{most_members}
 use Rattle.fst_file.specs.Value.{FstValue}
 use Rattle.fst_file.specs.Text.{SpellsFstFile}
 use Rattle.suite.specs.Requests.{Request}
-use Rattle.suite.specs.Requests.Request.{Rfst, Solve, Check, Dumpfst}
+use Rattle.suite.specs.Requests.Request.{Rfst, Prunefst, Solve, Check, Dumpfst}
 
 -- no write to `out` fails
 abbrev pub IsWritable : Outside → Outside → Type 0
@@ -27,6 +27,9 @@ Completes None before after status = status ≡ MISUSED
 Completes (Some Rfst) before after status =
     (bytes : List ℕ) (ps : List Point) → HasInput TEXT_LIMIT before.read.input after.read.input bytes → ListsPoints bytes ps →
     ¬ HasMoreSets (terminals_of ps) most_members 20000 → IsWritable before after → (status ≡ 0) ⊎ (status ≡ NO_MEMORY)
+Completes (Some Prunefst) before after status =
+    (bytes : List ℕ) (file : FstValue) → HasInput TEXT_LIMIT before.read.input after.read.input bytes → SpellsFstFile bytes file →
+    IsWritable before after → (status ≡ 0) ⊎ (status ≡ NO_MEMORY)
 Completes (Some Solve) before after status =
     (bytes : List ℕ) (ps : List Point) → HasInput TEXT_LIMIT before.read.input after.read.input bytes → ListsPoints bytes ps →
     IsWritable before after → ((status ≡ 0) ⊎ (status ≡ 3)) ⊎ (status ≡ NO_MEMORY)

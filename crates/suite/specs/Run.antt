@@ -7,12 +7,13 @@ use Rattle.search_tools.specs.Solve.{EndsSolve}
 use Rattle.judge_tools.specs.Check.{EndsCheck}
 use Rattle.tree_tools.specs.Dump.{EndsDumpfst}
 use Rattle.tree_tools.specs.Generation.{EndsRfst}
+use Rattle.tree_tools.specs.Pruning.{EndsPrunefst}
 use Rattle.suite.specs.Requests.{Request}
-use Rattle.suite.specs.Requests.Request.{Rfst, Solve, Check, Dumpfst}
+use Rattle.suite.specs.Requests.Request.{Rfst, Prunefst, Solve, Check, Dumpfst}
 
 -- the text on `err` where the words ask for nothing
 abbrev pub usage_line : List ℕ
-usage_line = codes "usage: rst rfst|solve|check|dumpfst [WORDS]\n"
+usage_line = codes "usage: rst rfst|prunefst|solve|check|dumpfst [WORDS]\n"
 
 -- The words ask for no tool: nothing is read or printed.
 pub record IsMisused (before after : Outside) (status : ℕ) : Type 0 where
@@ -25,6 +26,7 @@ pub record IsMisused (before after : Outside) (status : ℕ) : Type 0 where
 abbrev pub IsRun : Option Request → Outside → Outside → ℕ → Type 0
 IsRun None before after status = IsMisused before after status
 IsRun (Some Rfst) before after status = EndsRfst before after status
+IsRun (Some Prunefst) before after status = EndsPrunefst before after status
 IsRun (Some Solve) before after status = EndsSolve before after status
 IsRun (Some (Check points)) before after status = EndsCheck points before after status
 IsRun (Some Dumpfst) before after status = EndsDumpfst before after status

@@ -14,7 +14,7 @@ use rst_outside::{Shelf, Sink, Source};
 use search_tools::solve;
 use std::alloc::Global;
 use tree_inputs::spelled_has_no_fault;
-use tree_tools::{dumpfst, rfst};
+use tree_tools::{dumpfst, prunefst, rfst};
 
 /// Runs the tool that the words after the program's name ask for, and gives the status that the program ends with.
 ///
@@ -43,6 +43,10 @@ pub fn run<I: Source, O: Sink, R: Sink, S: Shelf>(
 {
     match request_in(words) {
         Some(Request::Rfst) => rfst(alloc, input, out, err),
+        Some(Request::Prunefst) => {
+            spelled_has_no_fault();
+            prunefst(alloc, input, out, err)
+        }
         Some(Request::Solve) => solve(alloc, input, out, err),
         Some(Request::Check { points }) => check(alloc, points, input, out, err, shelf),
         Some(Request::Dumpfst) => {
@@ -50,7 +54,10 @@ pub fn run<I: Source, O: Sink, R: Sink, S: Shelf>(
             dumpfst(alloc, input, out, err)
         }
         None => {
-            report(err, b"usage: rst rfst|solve|check|dumpfst [WORDS]\n");
+            report(
+                err,
+                b"usage: rst rfst|prunefst|solve|check|dumpfst [WORDS]\n",
+            );
             MISUSED
         }
     }

@@ -58,7 +58,7 @@ fn ran(rt: &HostRuntime, words: &[&str], input: &[u8]) -> Result<Outcome, Fail> 
 
 #[test]
 fn runs_each_tool(rt: HostRuntime) -> Result<(), Fail> {
-    let rows: [(&[&str], &[u8], u8, &[u8], &[u8]); 6] = [
+    let rows: [(&[&str], &[u8], u8, &[u8], &[u8]); 7] = [
         (&["solve"], POINTS, 3, ANSWER, b""),
         (
             &["check", "P"],
@@ -75,13 +75,14 @@ fn runs_each_tool(rt: HostRuntime) -> Result<(), Fail> {
             b"rst: solve: a coordinate is missing\n",
         ),
         (&["rfst"], b"0 0\n2 0\n", 0, FILE, b""),
+        (&["prunefst"], FILE, 0, FILE, b""),
         (&["dumpfst"], FILE, 0, b"0 1 length 2\n", b""),
         (
             &["fly"],
             b"",
             2,
             b"",
-            b"usage: rst rfst|solve|check|dumpfst [WORDS]\n",
+            b"usage: rst rfst|prunefst|solve|check|dumpfst [WORDS]\n",
         ),
     ];
     for (words, input, status, out, err) in rows {

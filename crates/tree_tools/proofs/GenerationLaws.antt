@@ -1,6 +1,5 @@
 -- From the file that was found to what is due to the text.
-use Rattle.std.proofs.Common.{ℕ, List, Result, Ok, Err, IfOk, subst, ap}
-use Rattle.points_in.specs.declared.point.Point.{Point}
+use Rattle.std.proofs.Common.{ℕ, Result, Ok, Err, IfOk, subst, ap}
 use Rattle.fst_file.specs.Value.{FstValue}
 use Rattle.frame.specs.declared.take.TheConstants.{TEXT_LIMIT}
 use Rattle.frame.specs.declared.text_fault.TextFault.{TextFault}

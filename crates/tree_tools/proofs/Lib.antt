@@ -1,2 +1,3 @@
 mod DumpLaws
 mod GenerationLaws
+mod PruningLaws

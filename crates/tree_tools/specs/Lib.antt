@@ -2,3 +2,4 @@ pub mod Dump
 pub mod Listing
 pub mod Generation
 pub mod FileAnswer
+pub mod Pruning

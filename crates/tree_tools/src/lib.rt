@@ -5,8 +5,10 @@ mod dump;
 mod file_answer;
 mod generation;
 mod listing;
+mod pruning;
 #[cfg(test)]
 mod tests;
 
 pub use dump::dumpfst;
 pub use generation::rfst;
+pub use pruning::prunefst;

@@ -4,7 +4,7 @@ use Rattle.frame.specs.Outside.{outside}
 use Rattle.suite.specs.Requests.{request_of}
 use Rattle.suite.specs.declared.request.Request.TheVariants as asked
 use Rattle.suite.proofs.Heads.{solve_headline}
-use Rattle.suite.proofs.Asked.{asked_is, solve_asked_completes, check_asked_completes, dump_asked_completes, rfst_asked_completes, check_asked_headline}
+use Rattle.suite.proofs.Asked.{asked_is, solve_asked_completes, check_asked_completes, dump_asked_completes, rfst_asked_completes, prune_asked_completes, check_asked_headline}
 use Rattle.suite.proofs.program.run.Goals as goal
 
 pub returns-in-Some-Solve-clause-headline : goal.returns-in-Some-Solve-clause-headline
@@ -47,12 +47,22 @@ returns-in-Some-Check-clause-complete g c =
 pub returns-in-Some-Dumpfst-clause-complete : goal.returns-in-Some-Dumpfst-clause-complete
 returns-in-Some-Dumpfst-clause-complete g c =
     let request = request_of (map string_bytes c.args.words.now) in
-    dump_asked_completes c.spelled_has_no_fault.ensures request
+    dump_asked_completes c.spelled_has_no_fault-in-Some-Dumpfst.ensures request
     (outside (g.I.Source.state c.args.input.now) (g.O.Sink.state c.args.out.now) (g.R.Sink.state c.args.err.now) (g.S.Shelf.state c.args.shelf.now))
     (outside (g.I.Source.state c.dumpfst.new.input) (g.O.Sink.state c.dumpfst.new.out) (g.R.Sink.state c.dumpfst.new.err) (g.S.Shelf.state c.args.shelf.now))
     c.dumpfst.result
     (asked_is c.request_in.result request c.in-Some-Dumpfst.field-0 asked.Dumpfst c.request_in.ensures c.in-Some-Dumpfst.is c.in-Some-Dumpfst.field-0-is)
     (c.dumpfst.ensures (g.S.Shelf.state c.args.shelf.now))
+
+pub returns-in-Some-Prunefst-clause-complete : goal.returns-in-Some-Prunefst-clause-complete
+returns-in-Some-Prunefst-clause-complete g c =
+    let request = request_of (map string_bytes c.args.words.now) in
+    prune_asked_completes c.spelled_has_no_fault.ensures request
+    (outside (g.I.Source.state c.args.input.now) (g.O.Sink.state c.args.out.now) (g.R.Sink.state c.args.err.now) (g.S.Shelf.state c.args.shelf.now))
+    (outside (g.I.Source.state c.prunefst.new.input) (g.O.Sink.state c.prunefst.new.out) (g.R.Sink.state c.prunefst.new.err) (g.S.Shelf.state c.args.shelf.now))
+    c.prunefst.result
+    (asked_is c.request_in.result request c.in-Some-Prunefst.field-0 asked.Prunefst c.request_in.ensures c.in-Some-Prunefst.is c.in-Some-Prunefst.field-0-is)
+    (c.prunefst.ensures (g.S.Shelf.state c.args.shelf.now))
 
 pub returns-in-Some-Rfst-clause-complete : goal.returns-in-Some-Rfst-clause-complete
 returns-in-Some-Rfst-clause-complete g c =

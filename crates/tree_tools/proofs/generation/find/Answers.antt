@@ -1,10 +1,8 @@
 -- What the input gives is what the tool finds.
 use Rattle.std.proofs.Common.{subst}
-use Rattle.fst_file.specs.Value.{FstValue}
 use Rattle.frame.specs.declared.take.TheConstants.{TEXT_LIMIT}
 use Rattle.frame.specs.Outside.{readable}
 use Rattle.frame.specs.FromText.{FromText}
-use Rattle.tree_inputs.specs.declared.generation_fault.GenerationFault.{GenerationFault}
 use Rattle.tree_inputs.specs.Generation.{GeneratesFst, most_members}
 use Rattle.tree_tools.proofs.GenerationLaws.{fault_found}
 use Rattle.tree_tools.proofs.generation.find.Goals as goal

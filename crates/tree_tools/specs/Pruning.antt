@@ -1,0 +1,39 @@
+-- What `prunefst` finds, by what it read.
+use Rattle.std.specs.Prelude.{ℕ, ◌≡◌, List, codes, Result, Ok, Err}
+use Rattle.full_tree.specs.declared.code.Tree.{Tree}
+use Rattle.fst_file.specs.Value.{FstValue}
+use Rattle.fst_file.specs.Text.{SpellsFstFile}
+use Rattle.fst_prune.specs.Kept.{AreKeptTrees}
+use Rattle.frame.specs.declared.take.TheConstants.{TEXT_LIMIT}
+use Rattle.frame.specs.Outside.{Outside}
+use Rattle.frame.specs.Ends.{Print, Ends}
+use Rattle.frame.specs.FaultTexts.{text_fault_text, text_fault_status}
+use Rattle.frame.specs.FromText.{FromText}
+use Rattle.frame.specs.Leaves.{LeavesShelf}
+use Rattle.tree_tools.specs.declared.file_answer.FileAnswer.{FileAnswer}
+use Rattle.tree_inputs.specs.declared.fst_fault.FstFault.{FstFault}
+use Rattle.tree_inputs.specs.FstFaults.{fst_fault_text, fst_fault_status}
+use Rattle.tree_inputs.specs.Files.{ReadsFst}
+use Rattle.tree_tools.specs.Generation.{fst_print}
+
+-- What `prunefst` finds in a text: the file of the points and the kept trees of the file that it spells; or its first fault.
+abbrev pub PrunesFile : List ℕ → Result Print FstFault → Type 0
+PrunesFile bytes (Ok print) = (file : FstValue) × (kept : List Tree) × SpellsFstFile bytes file × AreKeptTrees file.trees kept
+    × (print ≡ fst_print file.points kept)
+PrunesFile bytes (Err fault) = ReadsFst bytes (Err fault)
+
+-- The answer has the points of the file and its kept trees.
+pub record IsPruned (file : FstValue) (answer : FileAnswer) : Type 0 where
+  pub points : answer.file.points ≡ file.points
+  pub trees : AreKeptTrees file.trees answer.file.trees
+
+-- The file of the points and the kept trees of the file that the bytes spell; or their first fault.
+abbrev pub FindsPruned : List ℕ → Result FileAnswer FstFault → Type 0
+FindsPruned bytes (Ok answer) = (file : FstValue) × SpellsFstFile bytes file × IsPruned file answer
+FindsPruned bytes (Err fault) = ReadsFst bytes (Err fault)
+
+-- A run of `prunefst`.
+abbrev pub EndsPrunefst : Outside → Outside → ℕ → Type 0
+EndsPrunefst before after status =
+    Ends (text_fault_status fst_fault_status) (text_fault_text fst_fault_text) (codes "prunefst") (FromText TEXT_LIMIT PrunesFile) LeavesShelf
+    before after status
