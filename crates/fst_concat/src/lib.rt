@@ -9,6 +9,7 @@ mod chosen;
 mod fault;
 mod growth;
 mod judge;
+mod laws;
 mod level;
 mod listed;
 mod parts;
@@ -19,6 +20,7 @@ mod trail;
 pub use choosing::concat;
 pub use chosen::{Chosen, ChosenKind};
 pub use fault::ConcatFault;
+pub use laws::trees_in_form_have_members;
 pub use trail::Trail;
 
 #[cfg(test)]
