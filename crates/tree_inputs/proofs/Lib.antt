@@ -1,2 +1,3 @@
 mod FaultLaws
 mod GenerationLaws
+mod PruningLaws

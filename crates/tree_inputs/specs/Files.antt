@@ -1,5 +1,5 @@
 -- Files of full trees as an input.
-use Rattle.std.specs.Prelude.{ℕ, List, Result, Ok, Err}
+use Rattle.std.specs.Prelude.{ℕ, ◌≡◌, List, Result, Ok, Err}
 use Rattle.fst_file.specs.declared.fault.FileFault.{FileFault}
 use Rattle.fst_file.specs.declared.fault.FileFault.TheVariants as file_fault
 use Rattle.fst_file.specs.Value.{FstValue}
@@ -27,3 +27,7 @@ ReadsFst bytes (Err fault) = IsFirstFault bytes (file_fault_of fault)
 -- bytes that spell a file have no fault
 abbrev pub SpelledHasNoFault : Type 0
 SpelledHasNoFault = (bytes : List ℕ) (file : FstValue) (fault : FstFault) → SpellsFstFile bytes file → ReadsFst bytes (Err fault) → ⊥
+
+-- bytes spell one file at most
+abbrev pub OneReading : Type 0
+OneReading = (bytes : List ℕ) (v w : FstValue) → SpellsFstFile bytes v → SpellsFstFile bytes w → v ≡ w

@@ -1,13 +1,15 @@
 //! Laws of the inputs of these tools. A law does nothing: it is there for its clause.
 
-ghost use Rattle.tree_inputs.specs.Files.{SpelledHasNoFault};
+ghost use Rattle.tree_inputs.specs.Files.{SpelledHasNoFault, OneReading};
 
-use fst_file::{one_outcome, values_are_spelled};
+use fst_file::{one_outcome, one_reading, values_are_spelled};
 
-/// A text that spells a file has no fault.
+/// A text that spells a file has no fault, and spells no other file.
 pub fn spelled_has_no_fault()
-    ensures { SpelledHasNoFault }
+    ensures no_fault { SpelledHasNoFault }
+    ensures one { OneReading }
 {
     one_outcome();
     values_are_spelled();
+    one_reading();
 }

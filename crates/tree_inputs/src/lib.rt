@@ -6,9 +6,11 @@ mod fst_input;
 mod generation;
 mod generation_fault;
 mod laws;
+mod pruning;
 
 pub use fst_fault::FstFault;
 pub use fst_input::{fst_in, take_fst};
 pub use generation::{MOST_MEMBERS, take_generated};
 pub use generation_fault::GenerationFault;
 pub use laws::spelled_has_no_fault;
+pub use pruning::pruned;

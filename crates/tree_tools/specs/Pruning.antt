@@ -14,6 +14,7 @@ use Rattle.tree_tools.specs.declared.file_answer.FileAnswer.{FileAnswer}
 use Rattle.tree_inputs.specs.declared.fst_fault.FstFault.{FstFault}
 use Rattle.tree_inputs.specs.FstFaults.{fst_fault_text, fst_fault_status}
 use Rattle.tree_inputs.specs.Files.{ReadsFst}
+use Rattle.tree_inputs.specs.Pruning.{IsPruned}
 use Rattle.tree_tools.specs.Generation.{fst_print}
 
 -- What `prunefst` finds in a text: the file of the points and the kept trees of the file that it spells; or its first fault.
@@ -22,14 +23,9 @@ PrunesFile bytes (Ok print) = (file : FstValue) × (kept : List Tree) × SpellsF
     × (print ≡ fst_print file.points kept)
 PrunesFile bytes (Err fault) = ReadsFst bytes (Err fault)
 
--- The answer has the points of the file and its kept trees.
-pub record IsPruned (file : FstValue) (answer : FileAnswer) : Type 0 where
-  pub points : answer.file.points ≡ file.points
-  pub trees : AreKeptTrees file.trees answer.file.trees
-
 -- The file of the points and the kept trees of the file that the bytes spell; or their first fault.
 abbrev pub FindsPruned : List ℕ → Result FileAnswer FstFault → Type 0
-FindsPruned bytes (Ok answer) = (file : FstValue) × SpellsFstFile bytes file × IsPruned file answer
+FindsPruned bytes (Ok answer) = (file : FstValue) × SpellsFstFile bytes file × IsPruned file answer.file
 FindsPruned bytes (Err fault) = ReadsFst bytes (Err fault)
 
 -- A run of `prunefst`.

@@ -5,15 +5,13 @@ ghost use Rattle.rst_outside.specs.Shelf.{ShelfState};
 ghost use Rattle.frame.specs.Outside.{outside, readable};
 ghost use Rattle.frame.specs.Taking.{TakesSome};
 ghost use Rattle.frame.specs.FromText.{FromText};
-ghost use Rattle.tree_tools.specs.Pruning.{EndsPrunefst, FindsPruned, IsPruned};
+ghost use Rattle.tree_tools.specs.Pruning.{EndsPrunefst, FindsPruned};
 
 use crate::file_answer::FileAnswer;
 use frame::{TEXT_LIMIT, TextFault, conclude};
-use fst_file::FstFile;
-use fst_prune::prune;
 use rst_outside::{Sink, Source};
 use std::alloc::{AllocError, Global};
-use tree_inputs::{FstFault, take_fst};
+use tree_inputs::{FstFault, pruned, take_fst};
 
 /// Runs `prunefst`: reads a file of full trees from the input and prints the file of the same points and of the trees that
 /// pruning keeps. Gives the status that the program ends with.
@@ -42,19 +40,9 @@ fn find<I: Source>(
     ensures takes { TakesSome (I.state input.old) (I.state input.new) }
 {
     match take_fst(alloc, input)? {
-        Ok(file) => Ok(Ok(pruned(alloc, file)?)),
+        Ok(file) => Ok(Ok(FileAnswer {
+            file: pruned(alloc, file)?,
+        })),
         Err(fault) => Ok(Err(fault)),
     }
-}
-
-// The file of the same points and of the kept trees. An `Err` is want of memory.
-fn pruned(alloc: Global, file: FstFile) -> Result<FileAnswer, AllocError>
-    ensures { IfOk result (IsPruned file) }
-{
-    let FstFile { grid, trees } = file;
-    let _few = grid.points().len();
-    let kept = prune(alloc, &trees)?;
-    Ok(FileAnswer {
-        file: FstFile { grid, trees: kept },
-    })
 }

@@ -10,7 +10,7 @@ pub returns-in_ok-pruned-in-Ok-clause-finds : goal.returns-in_ok-pruned-in-Ok-cl
 returns-in_ok-pruned-in-Ok-clause-finds g c = λ shelf.
     let before = readable (g.I.Source.state c.args.input.now) shelf in
     let after = readable (g.I.Source.state c.take_fst.new.input) shelf in
-    pruned_of_read before after c.in-Ok.file c.in_ok-pruned-in-Ok.field-0
+    pruned_of_read before after c.in-Ok.file (record { file = c.in_ok-pruned-in-Ok.field-0 })
     (subst (λ found. FromText TEXT_LIMIT ReadsFst before after found) c.in-Ok.is (c.in_ok-file.ensures.reads shelf)) c.in_ok-pruned-in-Ok.ensures
 
 pub returns-in-Err-clause-finds : goal.returns-in-Err-clause-finds
