@@ -1,2 +1,4 @@
 pub mod LeafLaws
-pub mod SolveLaws
+pub mod SearchLaws
+pub mod JoinLaws
+pub mod NetworkLaws

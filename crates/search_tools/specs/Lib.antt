@@ -1,3 +1,7 @@
 pub mod Solution
+pub mod Permitted
 pub mod Solve
-pub mod SolveSteps
+pub mod Build
+pub mod Steps
+pub mod Truth
+pub mod TruthLaws

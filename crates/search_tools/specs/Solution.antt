@@ -1,5 +1,6 @@
--- What `solve` tells of a network and of a packing that bounds every network from below.
-use Rattle.std.specs.Prelude.{ℕ, ◌≡◌, ◌+◌, ◌*◌, ◌<◌, ◌≤◌, ◌==◌, Bool, false, List, length, min}
+-- What the tools that search tell of a network, of a packing that bounds every network from below, and of the
+-- concatenation that the network is made of.
+use Rattle.std.specs.Prelude.{ℕ, ◌≡◌, ◌+◌, ◌*◌, ◌<◌, ◌≤◌, ◌==◌, Bool, List, length, min}
 use Rattle.points_in.specs.declared.point.Point.{Point}
 use Rattle.net_graph.specs.declared.packing.Cut.{Cut}
 use Rattle.net_graph.specs.Graph.{Graph}
@@ -10,6 +11,7 @@ use Rattle.net_graph.specs.Saturation.{IsMaximal}
 use Rattle.net_graph.specs.Members.{members_of}
 use Rattle.hanan_grid.specs.Grid.{hanan_grid_of}
 use Rattle.cut_cert.specs.declared.head.AnswerHead.{AnswerHead}
+use Rattle.cut_cert.specs.declared.head.ConcatNote.{ConcatNote}
 use Rattle.cut_cert.specs.Value.{WrittenAnswer}
 use Rattle.cut_cert.specs.Value.Tree.{Leaf}
 use Rattle.cut_cert.specs.Answers.{names_of}
@@ -35,21 +37,20 @@ pub record IsLeafFor (g : Graph) (network : List Bool) (packing : List Cut) : Ty
   pub maximal : value_on g packing < length_of g network → IsMaximal g (nothing_decided g) packing
   pub bounds : IsLowerBound g (value_on g packing)
 
--- what is told of a network of a length and a packing of a value, with 100 openings and a network whose concatenation was
--- not sought
-abbrev pub head_with : ℕ → ℕ → AnswerHead
-head_with length value = record {
+-- what is told of a network of a length, a packing of a value and a concatenation, with 100 openings
+abbrev pub head_with : ℕ → ℕ → ConcatNote → AnswerHead
+head_with length value note = record {
   length = length;
   bound = min value length;
   optimal = min value length == length;
   openings = 100;
-  concat = record { least = false; total = length };
+  concat = note;
 }
 
--- the answer that tells the network and, as its one leaf, the packing
-abbrev pub solution : List Point → List Bool → List Cut → WrittenAnswer
-solution ps network packing = record {
-  head = head_with (length_of (hanan_grid_of ps) network) (value_on (hanan_grid_of ps) packing);
+-- the answer that tells the network, the concatenation and, as its one leaf, the packing
+abbrev pub solution : List Point → List Bool → List Cut → ConcatNote → WrittenAnswer
+solution ps network packing note = record {
+  head = head_with (length_of (hanan_grid_of ps) network) (value_on (hanan_grid_of ps) packing) note;
   edges = names_of ps (members_of network);
   tree = Leaf packing;
 }

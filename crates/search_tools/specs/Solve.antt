@@ -1,54 +1,43 @@
 -- What `solve` finds, by what it read.
-use Rattle.std.specs.Prelude.{ℕ, ◌≡◌, ◌<◌, ◌^◌, ◌==◌, Bool, List, length, codes, Result, Ok, Err, if◌then◌else◌}
+use Rattle.std.specs.Prelude.{ℕ, ◌≡◌, Bool, List, codes, Result, Ok, Err}
 use Rattle.points_in.specs.declared.point.Point.{Point}
 use Rattle.points_in.specs.Terminals.{terminals_of}
 use Rattle.net_graph.specs.declared.packing.Cut.{Cut}
-use Rattle.net_graph.specs.Network.{length_of}
-use Rattle.cut_cert.specs.Text.{answer_text}
-use Rattle.cert_check.specs.Accepted.{IsAccepted}
-use Rattle.frame.specs.declared.status.AnswerStatus.{AnswerStatus}
-use Rattle.frame.specs.declared.status.AnswerStatus.TheVariants.{Done, Stopped}
+use Rattle.full_tree.specs.declared.code.Tree.{Tree}
+use Rattle.fst_gen.specs.Trees.{AreTreesOf}
+use Rattle.fst_prune.specs.Kept.{AreKeptTrees}
+use Rattle.cut_cert.specs.declared.head.ConcatNote.{ConcatNote}
 use Rattle.frame.specs.declared.take.TheConstants.{TEXT_LIMIT}
-use Rattle.frame.specs.declared.points.ListFault.{ListFault}
 use Rattle.frame.specs.Outside.{Outside}
 use Rattle.frame.specs.Ends.{Print, Ends}
-use Rattle.frame.specs.FaultTexts.{list_fault_text, list_fault_status, text_fault_text, text_fault_status}
+use Rattle.frame.specs.FaultTexts.{text_fault_text, text_fault_status}
 use Rattle.frame.specs.FromText.{FromText}
 use Rattle.frame.specs.Leaves.{LeavesShelf}
-use Rattle.frame.specs.Points.{ListsPoints, IsListFault, grid_of_points}
-use Rattle.search_tools.specs.Solution.{IsNetworkOf, IsLeafFor, bound_of, solution}
+use Rattle.frame.specs.Points.{ListsPoints}
+use Rattle.tree_inputs.specs.declared.generation_fault.GenerationFault.{GenerationFault}
+use Rattle.tree_inputs.specs.GenerationFaults.{generation_fault_text, generation_fault_status}
+use Rattle.tree_inputs.specs.Generation.{GeneratesFst, most_members}
+use Rattle.search_tools.specs.Permitted.{IsPermitted, search_print}
 
--- the answer for the points, the network and the packing
-abbrev pub solve_text : List Point → List Bool → List Cut → List ℕ
-solve_text ps set packing = answer_text (solution (terminals_of ps) set packing)
-
--- The bytes list these points, whose grid isn't too long, the edge set is a network of it, and the packing is a leaf
--- that bounds every network from below. The text that tells both is accepted as an answer for the points, and has fewer
--- than 2^32 bytes.
-pub record IsSolved (bytes : List ℕ) (ps : List Point) (set : List Bool) (packing : List Cut) : Type 0 where
+-- The bytes list these points, and the answer that tells the network, the packing and the note is one for them and for
+-- the kept trees of their trees of up to 6 members.
+pub record IsSolved (bytes : List ℕ) (ps : List Point) (network : List Bool) (packing : List Cut) (note : ConcatNote) : Type 0 where
+  pub generated : List Tree
+  pub trees : List Tree
   pub points : ListsPoints bytes ps
-  pub network : IsNetworkOf (grid_of_points ps) set
-  pub leaf : IsLeafFor (grid_of_points ps) set packing
-  pub accepted : IsAccepted (terminals_of ps) (solve_text ps set packing)
-  pub few_bytes : length (solve_text ps set packing) < 2 ^ 32
+  pub are_generated : AreTreesOf (terminals_of ps) most_members generated
+  pub are_kept : AreKeptTrees generated trees
+  pub permitted : IsPermitted (terminals_of ps) trees network packing note
 
--- the status of an answer: done where the bound is the length
-abbrev pub status_of_bound : ℕ → ℕ → AnswerStatus
-status_of_bound bound length = if bound == length then Done else Stopped
-
--- what is printed for the points, the network and the packing
-abbrev pub solve_print : List Point → List Bool → List Cut → Print
-solve_print ps set packing = record {
-  text = solve_text ps set packing;
-  status = status_of_bound (bound_of (grid_of_points ps) set packing) (length_of (grid_of_points ps) set);
-}
-
--- What `solve` finds in a text: the answer of a network and a packing for the points that it lists; or why it lists none.
-abbrev pub Solves : List ℕ → Result Print ListFault → Type 0
-Solves bytes (Ok print) = (ps : List Point) × (set : List Bool) × (packing : List Cut) × IsSolved bytes ps set packing × (print ≡ solve_print ps set packing)
-Solves bytes (Err fault) = IsListFault bytes fault
+-- What `solve` finds in a text: such an answer for the points that it lists; or why it lists none, or that there are more
+-- than 20,000 trees.
+abbrev pub Solves : List ℕ → Result Print GenerationFault → Type 0
+Solves bytes (Ok print) = (ps : List Point) × (network : List Bool) × (packing : List Cut) × (note : ConcatNote)
+    × IsSolved bytes ps network packing note × (print ≡ search_print (terminals_of ps) network packing note)
+Solves bytes (Err fault) = GeneratesFst most_members bytes (Err fault)
 
 -- A run of `solve`.
 abbrev pub EndsSolve : Outside → Outside → ℕ → Type 0
 EndsSolve before after status =
-    Ends (text_fault_status list_fault_status) (text_fault_text list_fault_text) (codes "solve") (FromText TEXT_LIMIT Solves) LeavesShelf before after status
+    Ends (text_fault_status generation_fault_status) (text_fault_text generation_fault_text) (codes "solve")
+    (FromText TEXT_LIMIT Solves) LeavesShelf before after status

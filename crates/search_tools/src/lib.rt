@@ -2,8 +2,13 @@
 #![tactic(auto)]
 
 mod bound;
+mod build;
+mod build_fault;
+mod network;
 mod solution;
 mod solve_points;
 
+pub use build::bb;
+pub use build_fault::BuildFault;
 pub use solution::Solution;
 pub use solve_points::solve;

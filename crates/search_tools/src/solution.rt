@@ -1,18 +1,19 @@
-//! The answer that `solve` gives for a grid.
+//! The answer that a search gives for a file of full trees.
 
-ghost use Rattle.std.specs.Prelude.{◌≡◌, ◌<◌, ◌^◌, length, IfOk};
-ghost use Rattle.points_in.specs.declared.point.Point.{Point};
+ghost use Rattle.std.specs.Prelude.{◌≡◌, length, IfOk};
+ghost use Rattle.hanan_grid.specs.Grid.{hanan_grid_of};
 ghost use Rattle.search_tools.specs.Solution.{head_with};
-ghost use Rattle.search_tools.specs.SolveSteps.{Bounds, IsPrintable, IsSpelled, solution_text, solution_status};
+ghost use Rattle.search_tools.specs.Steps.{IsPrintable, IsSpelled, SolvesFile, Tells, solution_text, solution_status};
 
 use crate::bound::{Leaf, leaf_for};
+use crate::network::{Found, network_on};
 use cut_cert::{Answer as CutAnswer, AnswerHead, CertTree, ConcatNote, answer_len, write_answer};
 use frame::{Answer, AnswerStatus};
+use fst_file::FstFile;
 use hanan_grid::Grid;
 use net_graph::length;
 use rst_outside::{PutFault, Sink};
 use std::alloc::{AllocError, Global};
-use trunk_network::trunk_network;
 
 /// An answer, and the grid that it is for.
 #[derive(Debug, Drop)]
@@ -43,25 +44,30 @@ impl Answer for Solution {
     }
 }
 
-/// The answer for a grid: the trunk network, and beside it the packing of an ascent as the one leaf that bounds every
-/// network from below. An `Err` is want of memory.
-pub fn solution_on(alloc: Global, grid: Grid) -> Result<Solution, AllocError>
-    ensures grid { IfOk result (λ solution. solution.grid ≡ grid) }
-    ensures bounds { IfOk result Bounds }
-    ensures few_bytes { IfOk result (λ solution. length (solution_text solution) < 2 ^ 32) }
+/// The answer for the points of a file: a network that is made of the file's trees, and beside it the packing of an ascent
+/// as the one leaf that bounds every network from below; or the place of the first point that all trees together leave
+/// apart. An outer `Err` is want of memory.
+pub fn solution_of(alloc: Global, file: FstFile) -> Result<Result<Solution, u8>, AllocError>
+    ensures { IfOk result (SolvesFile file) }
 {
-    let answer = answer_on(alloc, &grid)?;
+    let FstFile { grid, trees } = file;
+    let found = match network_on(alloc, &grid, &trees)? {
+        Ok(found) => found,
+        Err(place) => return Ok(Err(place)),
+    };
+    let answer = answer_with(alloc, &grid, found)?;
     prove!(answer_len(&grid, &answer) < 1 << 32);
-    Ok(Solution { grid, answer })
+    Ok(Ok(Solution { grid, answer }))
 }
 
-// That answer.
-fn answer_on(alloc: Global, grid: &Grid) -> Result<CutAnswer, AllocError>
-    ensures { IfOk result (λ answer. Bounds (record { grid = grid.now; answer = answer })) }
+// The answer that tells a network of a grid, and the packing of an ascent.
+fn answer_with(alloc: Global, grid: &Grid, found: Found) -> Result<CutAnswer, AllocError>
+    requires size { length found.network ≡ length (hanan_grid_of grid.now).edges }
+    ensures { IfOk result (Tells grid.now found) }
 {
-    let network = trunk_network(alloc, grid)?;
+    let Found { network, note } = found;
     let Leaf { packing, value } = leaf_for(alloc, grid.graph())?;
-    let head = head_for(length(grid.graph(), &network), value);
+    let head = head_for(length(grid.graph(), &network), value, note);
     let tree = CertTree::leaf(alloc, packing)?;
     Ok(CutAnswer {
         head,
@@ -70,9 +76,9 @@ fn answer_on(alloc: Global, grid: &Grid) -> Result<CutAnswer, AllocError>
     })
 }
 
-// What is told of a network of a length and of a packing of a value.
-fn head_for(length: u64, value: u128) -> AnswerHead
-    ensures { result ≡ head_with length value }
+// What is told of a network of a length, of a packing of a value and of a concatenation.
+fn head_for(length: u64, value: u128, note: ConcatNote) -> AnswerHead
+    ensures { result ≡ head_with length value note }
 {
     let bound = value.min(u128::from(length)) as u64;
     AnswerHead {
@@ -80,9 +86,6 @@ fn head_for(length: u64, value: u128) -> AnswerHead
         bound,
         optimal: bound == length,
         openings: 100,
-        concat: ConcatNote {
-            least: false,
-            total: u128::from(length),
-        },
+        concat: note,
     }
 }

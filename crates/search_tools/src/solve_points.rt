@@ -1,16 +1,21 @@
 //! The tool `solve`: points come in, the answer of a network that joins them goes out.
 
-ghost use Rattle.std.specs.Prelude.{◌≡◌, IfOk};
+ghost use Rattle.std.specs.Prelude.{length, IfOk};
 ghost use Rattle.rst_outside.specs.Shelf.{ShelfState};
-ghost use Rattle.frame.specs.Outside.{outside};
+ghost use Rattle.frame.specs.Outside.{outside, readable};
 ghost use Rattle.frame.specs.Taking.{TakesSome};
+ghost use Rattle.frame.specs.FromText.{FromText};
+ghost use Rattle.fst_gen.specs.Joins.{JoinsAll};
 ghost use Rattle.search_tools.specs.Solve.{EndsSolve};
-ghost use Rattle.search_tools.specs.SolveSteps.{FindsSolution};
+ghost use Rattle.search_tools.specs.Steps.{FindsSolution, SolvesPruned};
 
-use crate::solution::{Solution, solution_on};
-use frame::{ListFault, TEXT_LIMIT, TextFault, conclude, read_grid, take_input};
+use crate::solution::{Solution, solution_of};
+use concatenation::more_trees;
+use frame::{TEXT_LIMIT, TextFault, conclude};
+use fst_file::FstFile;
 use rst_outside::{Sink, Source};
 use std::alloc::{AllocError, Global};
+use tree_inputs::{GenerationFault, MOST_MEMBERS, pruned, take_generated};
 
 /// Runs `solve`: reads points from the input and prints the answer of a network of their grid. Gives the status that the
 /// program ends with.
@@ -33,16 +38,26 @@ pub fn solve<I: Source, O: Sink, R: Sink>(
 fn find<I: Source>(
     alloc: Global,
     input: &mut I,
-) -> Result<Result<Solution, TextFault<ListFault>>, AllocError>
-    ensures finds { IfOk result (FindsSolution (I.state input.old) (I.state input.new)) }
+) -> Result<Result<Solution, TextFault<GenerationFault>>, AllocError>
+    ensures finds { (shelf : ShelfState) → IfOk result (FromText TEXT_LIMIT FindsSolution
+        (readable (I.state input.old) shelf) (readable (I.state input.new) shelf)) }
     ensures takes { TakesSome (I.state input.old) (I.state input.new) }
 {
-    let bytes = match take_input(alloc, input, TEXT_LIMIT)? {
-        Ok(bytes) => bytes,
-        Err(fault) => return Ok(Err(TextFault::Input(fault))),
-    };
-    match read_grid(alloc, bytes.as_slice())? {
-        Ok(grid) => Ok(Ok(solution_on(alloc, grid)?)),
-        Err(fault) => Ok(Err(TextFault::Text(fault))),
+    match take_generated(alloc, input, MOST_MEMBERS)? {
+        Ok(file) => Ok(Ok(solved(alloc, file)?)),
+        Err(fault) => Ok(Err(fault)),
+    }
+}
+
+// The answer for the points of a file whose trees join them, and for the kept ones of these trees. An `Err` is want of memory.
+fn solved(alloc: Global, file: FstFile) -> Result<Solution, AllocError>
+    requires joins { JoinsAll (length file.points) file.trees }
+    ensures { IfOk result (SolvesPruned file) }
+{
+    more_trees();
+    let kept = pruned(alloc, file)?;
+    match solution_of(alloc, kept)? {
+        Ok(solution) => Ok(solution),
+        Err(_) => unreachable!(),
     }
 }

@@ -3,18 +3,19 @@ use Rattle.std.proofs.Common.{ℕ, ◌≡◌, List, Option, Some, sym, subst, ap
 use Rattle.std.specs.Prelude.{option_map}
 use Rattle.frame.specs.Outside.{Outside}
 use Rattle.judge_tools.specs.Check.{EndsCheck}
+use Rattle.search_tools.specs.Build.{EndsBb}
 use Rattle.search_tools.specs.Solve.{EndsSolve}
-use Rattle.tree_inputs.specs.Files.{SpelledHasNoFault}
+use Rattle.tree_inputs.specs.Files.{SpelledHasNoFault, OneReading}
 use Rattle.tree_tools.specs.Dump.{EndsDumpfst}
 use Rattle.tree_tools.specs.Generation.{EndsRfst}
 use Rattle.tree_tools.specs.Pruning.{EndsPrunefst}
 use Rattle.suite.specs.declared.request.Request.{Request as Asked}
 use Rattle.suite.specs.Requests.{Request, meaning}
-use Rattle.suite.specs.Requests.Request.{Rfst, Prunefst, Solve, Check, Dumpfst}
+use Rattle.suite.specs.Requests.Request.{Rfst, Prunefst, Bb, Solve, Check, Dumpfst}
 use Rattle.suite.specs.Headlines.{CheckHeadline}
 use Rattle.suite.specs.Complete.{Completes}
 use Rattle.suite.proofs.Heads.{check_headline}
-use Rattle.suite.proofs.Completeness.{solve_completes, check_completes, dump_completes, rfst_completes, prune_completes}
+use Rattle.suite.proofs.Completeness.{solve_completes, bb_completes, check_completes, dump_completes, rfst_completes, prune_completes}
 
 -- what the words ask for
 pub asked_is : (result : Option Asked) (request : Option Request) (found asked : Asked) → option_map meaning result ≡ request → result ≡ Some found → found ≡ asked →
@@ -24,6 +25,11 @@ asked_is result request found asked tells is same = sym tells ∙ ap (option_map
 -- `solve` ends with an answer where nothing troubles it
 pub solve_asked_completes : (request : Option Request) (before after : Outside) (status : ℕ) → request ≡ Some Solve → EndsSolve before after status → Completes request before after status
 solve_asked_completes request before after status is ends = subst (λ r. Completes r before after status) (sym is) (solve_completes before after status ends)
+
+-- so does `bb`
+pub bb_asked_completes : SpelledHasNoFault → OneReading → (request : Option Request) (before after : Outside) (status : ℕ) → request ≡ Some Bb → EndsBb before after status →
+    Completes request before after status
+bb_asked_completes law one request before after status is ends = subst (λ r. Completes r before after status) (sym is) (bb_completes law one before after status ends)
 
 -- so does `check`
 pub check_asked_completes : (request : Option Request) (name : List ℕ) (before after : Outside) (status : ℕ) → request ≡ Some (Check name) → EndsCheck name before after status →

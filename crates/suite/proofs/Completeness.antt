@@ -1,26 +1,33 @@
 -- A run that nothing troubles ends with an answer, or memory was wanting.
-use Rattle.std.proofs.Common.{ℕ, ◌≡◌, List, codes, Some, Err, ◌⊎◌, inl, inr, subst, ap, ◌∙◌, false}
+use Rattle.std.proofs.Common.{ℕ, ◌≡◌, List, length, codes, Some, Err, ◌⊎◌, inl, inr, subst, ap, ◌∙◌, false}
 use Rattle.std.proofs.lemmas.Bool.Decides.{eqb_tells}
 use Rattle.points_in.specs.declared.point.Point.{Point}
 use Rattle.net_graph.specs.Network.{length_of}
+use Rattle.hanan_grid.specs.Grid.{hanan_grid_of}
+use Rattle.full_tree.specs.declared.code.Tree.{Tree}
+use Rattle.concatenation.specs.Concatenation.{IsConcatenation, all_of}
+use Rattle.fst_concat.specs.Chosen.{IsFirstApart}
 use Rattle.cert_check.specs.declared.verdict.Verdict.{Verdict}
 use Rattle.cert_check.specs.declared.verdict.Verdict.TheVariants as said
 use Rattle.frame.specs.declared.take.TheConstants.{TEXT_LIMIT}
-use Rattle.frame.specs.declared.points.ListFault.{ListFault}
 use Rattle.frame.specs.declared.text_fault.TextFault.{TextFault}
 use Rattle.frame.specs.declared.text_fault.TextFault.TheVariants as text_fault
 use Rattle.frame.specs.Statuses.{answer_code}
 use Rattle.frame.specs.Outside.{Readable, Outside}
 use Rattle.frame.specs.Ends.{Print}
 use Rattle.frame.specs.EndLaws.{complete_ends}
-use Rattle.frame.specs.FaultTexts.{list_fault_text, list_fault_status, text_fault_text, text_fault_status}
+use Rattle.frame.specs.FaultTexts.{text_fault_text, text_fault_status}
 use Rattle.frame.specs.FromText.{FromText}
 use Rattle.frame.specs.Leaves.{LeavesShelf, LeavesFiles}
 use Rattle.frame.specs.Complete.{HasInput, HasFile}
-use Rattle.frame.specs.Points.{ListsPoints, IsListFault, grid_of_points}
+use Rattle.frame.specs.Points.{ListsPoints, IsListFault}
 use Rattle.frame.specs.TakingLaws.{input_is_taken, whole_input_is, lists_points_faultless, file_faultless}
+use Rattle.search_tools.specs.declared.build_fault.BuildFault.{BuildFault}
+use Rattle.search_tools.specs.declared.build_fault.BuildFault.TheVariants as build_fault
 use Rattle.search_tools.specs.Solution.{bound_of}
-use Rattle.search_tools.specs.Solve.{Solves, EndsSolve, status_of_bound}
+use Rattle.search_tools.specs.Permitted.{status_of_bound}
+use Rattle.search_tools.specs.Build.{Builds, EndsBb, build_fault_text, build_fault_status}
+use Rattle.search_tools.specs.Solve.{Solves, EndsSolve}
 use Rattle.judge_tools.specs.declared.judge.TheConstants.{ANSWER_LIMIT}
 use Rattle.judge_tools.specs.declared.judge.CheckFault.{CheckFault}
 use Rattle.judge_tools.specs.declared.judge.CheckFault.TheVariants as check_fault
@@ -30,7 +37,7 @@ use Rattle.fst_file.specs.Value.{FstValue}
 use Rattle.fst_file.specs.Text.{SpellsFstFile}
 use Rattle.tree_inputs.specs.declared.fst_fault.FstFault.{FstFault}
 use Rattle.tree_inputs.specs.FstFaults.{fst_fault_text, fst_fault_status}
-use Rattle.tree_inputs.specs.Files.{ReadsFst, SpelledHasNoFault}
+use Rattle.tree_inputs.specs.Files.{ReadsFst, SpelledHasNoFault, OneReading}
 use Rattle.tree_tools.specs.Dump.{Dumps, EndsDumpfst}
 use Rattle.tree_tools.specs.Pruning.{PrunesFile, EndsPrunefst}
 use Rattle.points_in.specs.FaultLaws.{one_list}
@@ -41,16 +48,8 @@ use Rattle.tree_inputs.specs.declared.generation_fault.GenerationFault.TheVarian
 use Rattle.tree_inputs.specs.GenerationFaults.{generation_fault_text, generation_fault_status}
 use Rattle.tree_inputs.specs.Generation.{most_members}
 use Rattle.tree_tools.specs.Generation.{GeneratesFile, EndsRfst}
-use Rattle.suite.specs.Requests.Request.{Rfst, Prunefst, Solve, Check, Dumpfst}
+use Rattle.suite.specs.Requests.Request.{Rfst, Prunefst, Bb, Solve, Check, Dumpfst}
 use Rattle.suite.specs.Complete.{Completes}
-
--- an input that lists points has no fault
-solve_faultless : (before after : Readable) (bytes : List ℕ) (ps : List Point) → HasInput TEXT_LIMIT before.input after.input bytes → ListsPoints bytes ps →
-    (fault : TextFault ListFault) → FromText TEXT_LIMIT Solves before after (Err fault) → ⊥
-solve_faultless before after bytes ps has lists (text_fault.Input fault) is = input_is_taken TEXT_LIMIT before.input after.input bytes fault has is
-solve_faultless before after bytes ps has lists (text_fault.Text fault) (taken, whole, is) =
-    lists_points_faultless bytes ps fault lists
-    (subst (λ b. IsListFault b fault) (whole_input_is TEXT_LIMIT before.input after.input bytes taken has whole) is)
 
 -- the status of an answer is 0 or 3
 zero_or_three : (bound length status : ℕ) → status ≡ answer_code (status_of_bound bound length) → (status ≡ 0) ⊎ (status ≡ 3)
@@ -58,15 +57,6 @@ zero_or_three bound length status is = elim (eqb_tells bound length) [
   | inl (holds, equal) ↦ let ends : status ≡ 0 = rw holds at is in inl ends
   | inr (fails, apart) ↦ let ends : status ≡ 3 = rw fails at is in inr ends
 ]
-
-pub solve_completes : (before after : Outside) (status : ℕ) → EndsSolve before after status → Completes (Some Solve) before after status
-solve_completes before after status ends = λ bytes ps has lists writes.
-    elim (complete_ends (text_fault_status list_fault_status) (text_fault_text list_fault_text) (codes "solve") (FromText TEXT_LIMIT Solves) LeavesShelf before after status
-    (solve_faultless before.read after.read bytes ps has lists) writes ends) [
-      | inl seven ↦ inr seven
-      | inr (print, (taken, whole, (qs, set, packing, solved, of_points)), answers) ↦
-          inl (zero_or_three (bound_of (grid_of_points qs) set packing) (length_of (grid_of_points qs) set) status (answers ∙ ap (λ (p : Print). answer_code p.status) of_points))
-    ]
 
 -- a file that lists points and an input within the limit have no fault
 check_faultless : (name : List ℕ) (before after : Readable) (points bytes : List ℕ) (ps : List Point) → HasFile TEXT_LIMIT before.shelf after.shelf name points → ListsPoints points ps →
@@ -142,4 +132,55 @@ rfst_completes before after status ends = λ bytes ps has lists few writes.
     (rfst_faultless before.read after.read bytes ps has lists few) writes ends) [
       | inl seven ↦ inr seven
       | inr (print, (taken, whole, (qs, trees, listed, are, of_file)), answers) ↦ inl (answers ∙ ap (λ (p : Print). answer_code p.status) of_file)
+    ]
+
+-- points with no more trees than a file holds give a file
+generation_faultless : (before after : Readable) (bytes : List ℕ) (ps : List Point) → HasInput TEXT_LIMIT before.input after.input bytes → ListsPoints bytes ps →
+    ¬ HasMoreSets (terminals_of ps) most_members 20000 →
+    (fault : TextFault GenerationFault) → FromText TEXT_LIMIT Solves before after (Err fault) → ⊥
+generation_faultless before after bytes ps has lists few (text_fault.Input fault) is = input_is_taken TEXT_LIMIT before.input after.input bytes fault has is
+generation_faultless before after bytes ps has lists few (text_fault.Text (generation_fault.List fault)) (taken, whole, is) =
+    lists_points_faultless bytes ps fault lists
+    (subst (λ b. IsListFault b fault) (whole_input_is TEXT_LIMIT before.input after.input bytes taken has whole) is)
+generation_faultless before after bytes ps has lists few (text_fault.Text generation_fault.TooManyTrees) (taken, whole, is) =
+    file_has_no_fault bytes ps lists few generation_fault.TooManyTrees
+    (subst (λ b. GeneratesFile most_members b (Err generation_fault.TooManyTrees)) (whole_input_is TEXT_LIMIT before.input after.input bytes taken has whole) is)
+
+pub solve_completes : (before after : Outside) (status : ℕ) → EndsSolve before after status → Completes (Some Solve) before after status
+solve_completes before after status ends = λ bytes ps has lists few writes.
+    elim (complete_ends (text_fault_status generation_fault_status) (text_fault_text generation_fault_text) (codes "solve") (FromText TEXT_LIMIT Solves) LeavesShelf before after status
+    (generation_faultless before.read after.read bytes ps has lists few) writes ends) [
+      | inl seven ↦ inr seven
+      | inr (print, (taken, whole, (qs, network, packing, note, solved, of_points)), answers) ↦
+          inl (zero_or_three (bound_of (hanan_grid_of (terminals_of qs)) network packing) (length_of (hanan_grid_of (terminals_of qs)) network) status (answers ∙ ap (λ (p : Print). answer_code p.status) of_points))
+    ]
+
+-- where all trees join the terminals none is apart
+none_apart : (n : ℕ) (trees : List Tree) (place : ℕ) → IsConcatenation n trees (all_of trees) → IsFirstApart n trees (all_of trees) place → ⊥
+none_apart n trees place joins is = is.apart (joins.joins place is.within)
+
+-- bytes that spell a file whose trees join its points have no fault
+build_faultless : SpelledHasNoFault → OneReading → (bytes : List ℕ) (file : FstValue) → SpellsFstFile bytes file → IsConcatenation (length file.points) file.trees (all_of file.trees) →
+    (fault : BuildFault) → Builds bytes (Err fault) → ⊥
+build_faultless law one bytes file spells joins (build_fault.InFile fault) is = law bytes file fault spells is
+build_faultless law one bytes file spells joins (build_fault.Apart place) (other, spelled, apart) =
+    let same = one bytes other file spelled spells in
+    none_apart (length file.points) file.trees place joins
+    (subst (λ (f : FstValue). IsFirstApart (length f.points) f.trees (all_of f.trees) place) same apart)
+
+bb_faultless : SpelledHasNoFault → OneReading → (before after : Readable) (bytes : List ℕ) (file : FstValue) → HasInput TEXT_LIMIT before.input after.input bytes → SpellsFstFile bytes file →
+    IsConcatenation (length file.points) file.trees (all_of file.trees) →
+    (fault : TextFault BuildFault) → FromText TEXT_LIMIT Builds before after (Err fault) → ⊥
+bb_faultless law one before after bytes file has spells joins (text_fault.Input fault) is = input_is_taken TEXT_LIMIT before.input after.input bytes fault has is
+bb_faultless law one before after bytes file has spells joins (text_fault.Text fault) (taken, whole, is) =
+    build_faultless law one bytes file spells joins fault
+    (subst (λ b. Builds b (Err fault)) (whole_input_is TEXT_LIMIT before.input after.input bytes taken has whole) is)
+
+pub bb_completes : SpelledHasNoFault → OneReading → (before after : Outside) (status : ℕ) → EndsBb before after status → Completes (Some Bb) before after status
+bb_completes law one before after status ends = λ bytes file has spells joins writes.
+    elim (complete_ends (text_fault_status build_fault_status) (text_fault_text build_fault_text) (codes "bb") (FromText TEXT_LIMIT Builds) LeavesShelf before after status
+    (bb_faultless law one before.read after.read bytes file has spells joins) writes ends) [
+      | inl seven ↦ inr seven
+      | inr (print, (taken, whole, (other, network, packing, note, spelled, permitted, of_file)), answers) ↦
+          inl (zero_or_three (bound_of (hanan_grid_of other.points) network packing) (length_of (hanan_grid_of other.points) network) status (answers ∙ ap (λ (p : Print). answer_code p.status) of_file))
     ]

@@ -1,8 +1,7 @@
 -- What was printed is true.
-use Rattle.std.proofs.Common.{ℕ, ◌≡◌, List, codes, Some, ◌⊎◌, ◌↔◌, inl, inr, subst, ap, ◌∙◌, arith}
-use Rattle.std.proofs.lemmas.Bool.Decides.{eqb_tells}
+use Rattle.std.proofs.Common.{ℕ, ◌≡◌, List, codes, Some, ◌⊎◌, inl, inr, subst, ap, ◌∙◌}
 use Rattle.rst_outside.specs.Sink.{Appended}
-use Rattle.net_graph.specs.Network.{length_of}
+use Rattle.points_in.specs.Terminals.{terminals_of}
 use Rattle.frame.specs.declared.status.AnswerStatus.{AnswerStatus}
 use Rattle.frame.specs.declared.status.AnswerStatus.TheVariants.{Done, Refused, Stopped}
 use Rattle.frame.specs.declared.take.TheConstants.{TEXT_LIMIT}
@@ -10,54 +9,64 @@ use Rattle.frame.specs.Statuses.{answer_code}
 use Rattle.frame.specs.Outside.{Outside}
 use Rattle.frame.specs.Ends.{Print}
 use Rattle.frame.specs.EndLaws.{printed_ends}
-use Rattle.frame.specs.FaultTexts.{list_fault_text, list_fault_status, text_fault_text, text_fault_status}
+use Rattle.frame.specs.FaultTexts.{text_fault_text, text_fault_status}
 use Rattle.frame.specs.FromText.{FromText}
 use Rattle.frame.specs.Leaves.{LeavesShelf, LeavesFiles}
-use Rattle.frame.specs.Points.{grid_of_points}
-use Rattle.search_tools.specs.Solution.{bound_of}
-use Rattle.search_tools.specs.Solve.{Solves, EndsSolve, status_of_bound}
+use Rattle.tree_inputs.specs.GenerationFaults.{generation_fault_text, generation_fault_status}
+use Rattle.search_tools.specs.Build.{Builds, EndsBb, build_fault_text, build_fault_status}
+use Rattle.search_tools.specs.Solve.{Solves, EndsSolve}
+use Rattle.search_tools.specs.TruthLaws.{searches_truly}
 use Rattle.judge_tools.specs.Check.{Checks, EndsCheck, check_fault_text, check_fault_status}
 use Rattle.judge_tools.specs.CheckLaws.{checks_truly}
 use Rattle.judge_tools.specs.Truth.{ChecksTruly}
-use Rattle.suite.specs.Requests.Request.{Solve}
-use Rattle.suite.specs.Headlines.{Headline}
-
--- the status is 0 exactly where the bound is the length
-pub zero_where_equal : (bound length status : ℕ) → status ≡ answer_code (status_of_bound bound length) → (status ≡ 0) ↔ (bound ≡ length)
-zero_where_equal bound length status is = elim (eqb_tells bound length) [
-  | inl (holds, equal) ↦ let ends : status ≡ 0 = rw holds at is in (λ zero. equal, λ same. ends)
-  | inr (fails, apart) ↦ let ends : status ≡ 3 = rw fails at is in (λ zero. absurd (omega arith), λ same. absurd (apart same))
-]
+use Rattle.suite.specs.Requests.Request.{Bb, Solve}
+use Rattle.suite.specs.Headlines.{Headline, BuildHeadline}
 
 -- what `solve` printed, with the status that it ended with
 solve_printed : (before after : Outside) (status : ℕ) (s : AnswerStatus) → status ≡ answer_code s → EndsSolve before after status →
     Headline (Some Solve) before after status
 solve_printed before after status s is ends = λ same ended.
-    let (print, (bytes, whole, (ps, set, packing, solved, of_points)), printed) =
-    printed_ends (text_fault_status list_fault_status) (text_fault_text list_fault_text) (codes "solve") (FromText TEXT_LIMIT Solves) LeavesShelf before after status s is ends in
-    let exact : (status ≡ 0) ↔ (bound_of (grid_of_points ps) set packing ≡ length_of (grid_of_points ps) set) =
-    zero_where_equal (bound_of (grid_of_points ps) set packing) (length_of (grid_of_points ps) set) status
-    (printed.ends ∙ ap (λ (p : Print). answer_code p.status) of_points) in (
+    let (print, (bytes, whole, (ps, network, packing, note, solved, of_points)), printed) =
+    printed_ends (text_fault_status generation_fault_status) (text_fault_text generation_fault_text) (codes "solve") (FromText TEXT_LIMIT Solves) LeavesShelf before after status s is ends in
+    (
       bytes,
       ps,
-      set,
-      packing,
+      solved.generated,
+      solved.trees,
       whole.came,
       solved.points.text,
-      solved.network,
-      solved.leaf,
-      subst (λ (p : Print). Appended before.written.out.taken p.text after.written.out.taken) of_points printed.wrote.appended,
-      solved.accepted,
-      solved.few_bytes,
-      λ other joins. let bounds = solved.leaf.bounds other joins in omega (arith, bounds),
-      exact,
-      λ zero. (solved.network.joins, λ other joins. let bounds = solved.leaf.bounds other joins in let equal = exact.0 zero in omega (arith, bounds, equal)),
+      solved.are_generated,
+      solved.are_kept,
+      searches_truly (terminals_of ps) solved.trees network packing note before after status solved.permitted
+      (subst (λ (p : Print). Appended before.written.out.taken p.text after.written.out.taken) of_points printed.wrote.appended)
+      (printed.ends ∙ ap (λ (p : Print). answer_code p.status) of_points),
     )
 
 -- What `solve` printed is true.
 pub solve_headline : (before after : Outside) (status : ℕ) → EndsSolve before after status → Headline (Some Solve) before after status
 solve_headline before after status ends same (inl zero) = solve_printed before after status Done zero ends same (inl zero)
 solve_headline before after status ends same (inr three) = solve_printed before after status Stopped three ends same (inr three)
+
+-- what `bb` printed, with the status that it ended with
+bb_printed : (before after : Outside) (status : ℕ) (s : AnswerStatus) → status ≡ answer_code s → EndsBb before after status →
+    BuildHeadline (Some Bb) before after status
+bb_printed before after status s is ends = λ same ended.
+    let (print, (bytes, whole, (file, network, packing, note, spelled, permitted, of_file)), printed) =
+    printed_ends (text_fault_status build_fault_status) (text_fault_text build_fault_text) (codes "bb") (FromText TEXT_LIMIT Builds) LeavesShelf before after status s is ends in
+    (
+      bytes,
+      file,
+      whole.came,
+      spelled,
+      searches_truly file.points file.trees network packing note before after status permitted
+      (subst (λ (p : Print). Appended before.written.out.taken p.text after.written.out.taken) of_file printed.wrote.appended)
+      (printed.ends ∙ ap (λ (p : Print). answer_code p.status) of_file),
+    )
+
+-- What `bb` printed is true.
+pub bb_headline : (before after : Outside) (status : ℕ) → EndsBb before after status → BuildHeadline (Some Bb) before after status
+bb_headline before after status ends same (inl zero) = bb_printed before after status Done zero ends same (inl zero)
+bb_headline before after status ends same (inr three) = bb_printed before after status Stopped three ends same (inr three)
 
 -- what `check` told, with the status that it ended with
 check_told : (name : List ℕ) (before after : Outside) (status : ℕ) (s : AnswerStatus) → status ≡ answer_code s → EndsCheck name before after status →

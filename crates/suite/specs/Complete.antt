@@ -1,5 +1,5 @@
 -- How a run ends that nothing troubles.
-use Rattle.std.specs.Prelude.{ℕ, ◌≡◌, List, Option, Some, None, ◌⊎◌}
+use Rattle.std.specs.Prelude.{ℕ, ◌≡◌, List, length, Option, Some, None, ◌⊎◌}
 use Rattle.rst_outside.specs.Counts.{Rose}
 use Rattle.points_in.specs.declared.point.Point.{Point}
 use Rattle.frame.specs.declared.status.TheConstants.{MISUSED, NO_MEMORY}
@@ -9,12 +9,13 @@ use Rattle.frame.specs.Complete.{HasInput, HasFile}
 use Rattle.frame.specs.Points.{ListsPoints}
 use Rattle.judge_tools.specs.declared.judge.TheConstants.{ANSWER_LIMIT}
 use Rattle.points_in.specs.Terminals.{terminals_of}
+use Rattle.concatenation.specs.Concatenation.{IsConcatenation, all_of}
 use Rattle.fst_gen.specs.Trees.{HasMoreSets}
 use Rattle.tree_inputs.specs.Generation.{most_members}
 use Rattle.fst_file.specs.Value.{FstValue}
 use Rattle.fst_file.specs.Text.{SpellsFstFile}
 use Rattle.suite.specs.Requests.{Request}
-use Rattle.suite.specs.Requests.Request.{Rfst, Prunefst, Solve, Check, Dumpfst}
+use Rattle.suite.specs.Requests.Request.{Rfst, Prunefst, Bb, Solve, Check, Dumpfst}
 
 -- no write to `out` fails
 abbrev pub IsWritable : Outside → Outside → Type 0
@@ -32,7 +33,10 @@ Completes (Some Prunefst) before after status =
     IsWritable before after → (status ≡ 0) ⊎ (status ≡ NO_MEMORY)
 Completes (Some Solve) before after status =
     (bytes : List ℕ) (ps : List Point) → HasInput TEXT_LIMIT before.read.input after.read.input bytes → ListsPoints bytes ps →
-    IsWritable before after → ((status ≡ 0) ⊎ (status ≡ 3)) ⊎ (status ≡ NO_MEMORY)
+    ¬ HasMoreSets (terminals_of ps) most_members 20000 → IsWritable before after → ((status ≡ 0) ⊎ (status ≡ 3)) ⊎ (status ≡ NO_MEMORY)
+Completes (Some Bb) before after status =
+    (bytes : List ℕ) (file : FstValue) → HasInput TEXT_LIMIT before.read.input after.read.input bytes → SpellsFstFile bytes file →
+    IsConcatenation (length file.points) file.trees (all_of file.trees) → IsWritable before after → ((status ≡ 0) ⊎ (status ≡ 3)) ⊎ (status ≡ NO_MEMORY)
 Completes (Some (Check name)) before after status =
     (points bytes : List ℕ) (ps : List Point) → HasFile TEXT_LIMIT before.read.shelf after.read.shelf name points → ListsPoints points ps →
     HasInput ANSWER_LIMIT before.read.input after.read.input bytes →

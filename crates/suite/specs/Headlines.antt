@@ -1,39 +1,41 @@
 -- What is true of what the program printed.
-use Rattle.std.specs.Prelude.{ℕ, ◌≡◌, ◌<◌, ◌^◌, List, Bool, Option, Some, length, ◌⊎◌, ◌↔◌}
+use Rattle.std.specs.Prelude.{ℕ, ◌≡◌, List, Option, Some, ◌⊎◌}
 use Rattle.rst_outside.specs.Source.{CameToTheEnd}
-use Rattle.rst_outside.specs.Sink.{Appended}
 use Rattle.points_in.specs.declared.point.Point.{Point}
 use Rattle.points_in.specs.Terminals.{terminals_of}
 use Rattle.points_in.specs.Text.{IsPointText}
-use Rattle.net_graph.specs.declared.packing.Cut.{Cut}
-use Rattle.net_graph.specs.Network.{IsLowerBound, IsShortest, length_of}
-use Rattle.cert_check.specs.Accepted.{IsAccepted}
+use Rattle.full_tree.specs.declared.code.Tree.{Tree}
+use Rattle.fst_file.specs.Value.{FstValue}
+use Rattle.fst_file.specs.Text.{SpellsFstFile}
+use Rattle.fst_gen.specs.Trees.{AreTreesOf}
+use Rattle.fst_prune.specs.Kept.{AreKeptTrees}
 use Rattle.frame.specs.Outside.{Outside}
-use Rattle.frame.specs.Points.{grid_of_points}
-use Rattle.search_tools.specs.Solution.{IsNetworkOf, IsLeafFor, bound_of}
-use Rattle.search_tools.specs.Solve.{solve_text}
+use Rattle.tree_inputs.specs.Generation.{most_members}
+use Rattle.search_tools.specs.Truth.{SearchesTruly}
 use Rattle.judge_tools.specs.Truth.{ChecksTruly}
 use Rattle.suite.specs.Requests.{Request}
-use Rattle.suite.specs.Requests.Request.{Solve, Check}
+use Rattle.suite.specs.Requests.Request.{Bb, Solve, Check}
 
--- What `solve` printed is true: the input was read to its end, it is a text of points, and the bytes that went out
--- are the answer of a network of their grid with its plain length and of a packing, its one leaf, which is feasible, has
--- at most 4 E + 1 cuts, is maximal where its value is below the length, and gives the bound. They are accepted as an answer
--- for the points, and have fewer than 2^32 bytes. No network of the grid is shorter than the bound. The status is 0 exactly
--- where the bound is the length, and then the network is a shortest one.
+-- What `solve` printed is true: the input was read to its end, it is a text of points, and the bytes that went out are an
+-- answer that may be printed for its terminals and for the kept ones of their trees (`SearchesTruly`): the answer of a network
+-- of their grid with its plain length and of a packing that bounds every network, accepted by whoever judges it.
 abbrev pub Headline : Option Request → Outside → Outside → ℕ → Type 0
 Headline request before after status = request ≡ Some Solve → (status ≡ 0) ⊎ (status ≡ 3) →
-    (bytes : List ℕ) × (ps : List Point) × (network : List Bool) × (packing : List Cut)
+    (bytes : List ℕ) × (ps : List Point) × (generated : List Tree) × (trees : List Tree)
     × CameToTheEnd before.read.input.rest bytes after.read.input.rest
     × IsPointText bytes ps
-    × IsNetworkOf (grid_of_points ps) network
-    × IsLeafFor (grid_of_points ps) network packing
-    × Appended before.written.out.taken (solve_text ps network packing) after.written.out.taken
-    × IsAccepted (terminals_of ps) (solve_text ps network packing)
-    × (length (solve_text ps network packing) < 2 ^ 32)
-    × IsLowerBound (grid_of_points ps) (bound_of (grid_of_points ps) network packing)
-    × ((status ≡ 0) ↔ (bound_of (grid_of_points ps) network packing ≡ length_of (grid_of_points ps) network))
-    × (status ≡ 0 → IsShortest (grid_of_points ps) network)
+    × AreTreesOf (terminals_of ps) most_members generated
+    × AreKeptTrees generated trees
+    × SearchesTruly (terminals_of ps) trees before after status
+
+-- What `bb` printed is true: the input was read to its end, it spells a file of full trees, and the bytes that went out are an
+-- answer that may be printed for the points and the trees of the file.
+abbrev pub BuildHeadline : Option Request → Outside → Outside → ℕ → Type 0
+BuildHeadline request before after status = request ≡ Some Bb → (status ≡ 0) ⊎ (status ≡ 3) →
+    (bytes : List ℕ) × (file : FstValue)
+    × CameToTheEnd before.read.input.rest bytes after.read.input.rest
+    × SpellsFstFile bytes file
+    × SearchesTruly file.points file.trees before after status
 
 -- What `check` told is true: the file lists points, the input was read to its end, and the status is 0 exactly where its bytes
 -- are accepted as an answer for the points. Then `out` gained the line with the answer's length and bound, no network of the

@@ -10,6 +10,8 @@ pub enum Request<'a> {
     Rfst,
     /// Reads a file of full trees and prints the file of those that pruning keeps.
     Prunefst,
+    /// Reads a file of full trees and prints a network that is made of them.
+    Bb,
     /// Reads points and prints a network that joins them.
     Solve,
     /// Judges an answer for the points of the file of this name.
@@ -18,8 +20,8 @@ pub enum Request<'a> {
     Dumpfst,
 }
 
-/// What the words ask for: `rfst`, `prunefst`, `solve` or `dumpfst` alone, or `check` and the name of a file. None where they
-/// are any others.
+/// What the words ask for: `rfst`, `prunefst`, `bb`, `solve` or `dumpfst` alone, or `check` and the name of a file. None where
+/// they are any others.
 pub fn request_in(words: &[String]) -> Option<Request<'_>>
     ensures { option_map meaning result ≡ request_of (map string_bytes words.now) }
 {
@@ -28,6 +30,7 @@ pub fn request_in(words: &[String]) -> Option<Request<'_>>
         [word] if word.as_str() == "dumpfst" => Some(Request::Dumpfst),
         [word] if word.as_str() == "rfst" => Some(Request::Rfst),
         [word] if word.as_str() == "prunefst" => Some(Request::Prunefst),
+        [word] if word.as_str() == "bb" => Some(Request::Bb),
         [word, points] if word.as_str() == "check" => Some(Request::Check {
             points: points.as_str(),
         }),

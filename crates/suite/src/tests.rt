@@ -82,7 +82,7 @@ fn runs_each_tool(rt: HostRuntime) -> Result<(), Fail> {
             b"",
             2,
             b"",
-            b"usage: rst rfst|prunefst|solve|check|dumpfst [WORDS]\n",
+            b"usage: rst rfst|prunefst|bb|solve|check|dumpfst [WORDS]\n",
         ),
     ];
     for (words, input, status, out, err) in rows {

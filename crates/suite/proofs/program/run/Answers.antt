@@ -3,8 +3,8 @@ use Rattle.std.proofs.Common.{refl, map, string_bytes}
 use Rattle.frame.specs.Outside.{outside}
 use Rattle.suite.specs.Requests.{request_of}
 use Rattle.suite.specs.declared.request.Request.TheVariants as asked
-use Rattle.suite.proofs.Heads.{solve_headline}
-use Rattle.suite.proofs.Asked.{asked_is, solve_asked_completes, check_asked_completes, dump_asked_completes, rfst_asked_completes, prune_asked_completes, check_asked_headline}
+use Rattle.suite.proofs.Heads.{solve_headline, bb_headline}
+use Rattle.suite.proofs.Asked.{asked_is, solve_asked_completes, bb_asked_completes, check_asked_completes, dump_asked_completes, rfst_asked_completes, prune_asked_completes, check_asked_headline}
 use Rattle.suite.proofs.program.run.Goals as goal
 
 pub returns-in-Some-Solve-clause-headline : goal.returns-in-Some-Solve-clause-headline
@@ -47,7 +47,7 @@ returns-in-Some-Check-clause-complete g c =
 pub returns-in-Some-Dumpfst-clause-complete : goal.returns-in-Some-Dumpfst-clause-complete
 returns-in-Some-Dumpfst-clause-complete g c =
     let request = request_of (map string_bytes c.args.words.now) in
-    dump_asked_completes c.spelled_has_no_fault-in-Some-Dumpfst.ensures request
+    dump_asked_completes c.spelled_has_no_fault-in-Some-Dumpfst.ensures.no_fault request
     (outside (g.I.Source.state c.args.input.now) (g.O.Sink.state c.args.out.now) (g.R.Sink.state c.args.err.now) (g.S.Shelf.state c.args.shelf.now))
     (outside (g.I.Source.state c.dumpfst.new.input) (g.O.Sink.state c.dumpfst.new.out) (g.R.Sink.state c.dumpfst.new.err) (g.S.Shelf.state c.args.shelf.now))
     c.dumpfst.result
@@ -57,7 +57,7 @@ returns-in-Some-Dumpfst-clause-complete g c =
 pub returns-in-Some-Prunefst-clause-complete : goal.returns-in-Some-Prunefst-clause-complete
 returns-in-Some-Prunefst-clause-complete g c =
     let request = request_of (map string_bytes c.args.words.now) in
-    prune_asked_completes c.spelled_has_no_fault.ensures request
+    prune_asked_completes c.spelled_has_no_fault.ensures.no_fault request
     (outside (g.I.Source.state c.args.input.now) (g.O.Sink.state c.args.out.now) (g.R.Sink.state c.args.err.now) (g.S.Shelf.state c.args.shelf.now))
     (outside (g.I.Source.state c.prunefst.new.input) (g.O.Sink.state c.prunefst.new.out) (g.R.Sink.state c.prunefst.new.err) (g.S.Shelf.state c.args.shelf.now))
     c.prunefst.result
@@ -73,3 +73,20 @@ returns-in-Some-Rfst-clause-complete g c =
     c.rfst.result
     (asked_is c.request_in.result request c.in-Some-Rfst.field-0 asked.Rfst c.request_in.ensures c.in-Some-Rfst.is c.in-Some-Rfst.field-0-is)
     (c.rfst.ensures (g.S.Shelf.state c.args.shelf.now))
+
+pub returns-in-Some-Bb-clause-built : goal.returns-in-Some-Bb-clause-built
+returns-in-Some-Bb-clause-built g c = λ same.
+    bb_headline
+    (outside (g.I.Source.state c.args.input.now) (g.O.Sink.state c.args.out.now) (g.R.Sink.state c.args.err.now) (g.S.Shelf.state c.args.shelf.now))
+    (outside (g.I.Source.state c.bb.new.input) (g.O.Sink.state c.bb.new.out) (g.R.Sink.state c.bb.new.err) (g.S.Shelf.state c.args.shelf.now))
+    c.bb.result (c.bb.ensures (g.S.Shelf.state c.args.shelf.now)) refl
+
+pub returns-in-Some-Bb-clause-complete : goal.returns-in-Some-Bb-clause-complete
+returns-in-Some-Bb-clause-complete g c =
+    let request = request_of (map string_bytes c.args.words.now) in
+    bb_asked_completes c.spelled_has_no_fault-in-Some-Bb.ensures.no_fault c.spelled_has_no_fault-in-Some-Bb.ensures.one request
+    (outside (g.I.Source.state c.args.input.now) (g.O.Sink.state c.args.out.now) (g.R.Sink.state c.args.err.now) (g.S.Shelf.state c.args.shelf.now))
+    (outside (g.I.Source.state c.bb.new.input) (g.O.Sink.state c.bb.new.out) (g.R.Sink.state c.bb.new.err) (g.S.Shelf.state c.args.shelf.now))
+    c.bb.result
+    (asked_is c.request_in.result request c.in-Some-Bb.field-0 asked.Bb c.request_in.ensures c.in-Some-Bb.is c.in-Some-Bb.field-0-is)
+    (c.bb.ensures (g.S.Shelf.state c.args.shelf.now))

@@ -1,0 +1,110 @@
+-- The network of the trees of a concatenation, and what is told of it.
+use Rattle.std.proofs.Common.{ℕ, ◌≡◌, ◌≤◌, ◌<◌, ◌^◌, Bool, List, [], ◌∷◌, ◌++◌, length, All, subst, ap, ◌∙◌, sym, arith, refl}
+use Rattle.std.specs.Prelude.{Contains, slice_index_or, option_to_list}
+use Rattle.std.proofs.lemmas.List.Elements.{All-from_recursion, All-weaker, All-contains_itself}
+use Rattle.points_in.specs.declared.point.Point.{Point}
+use Rattle.net_graph.specs.Members.{members_of as numbers_of}
+use Rattle.net_graph.specs.Network.{IsNetwork, length_of}
+use Rattle.hanan_grid.specs.Grid.{hanan_grid_of}
+use Rattle.full_tree.specs.declared.code.Tree.{Tree}
+use Rattle.full_tree.specs.declared.code.TreeCode.{TreeCode}
+use Rattle.full_tree.specs.declared.code.TreeCode.TheVariants.{Long, Cross}
+use Rattle.full_tree.specs.Code.{members_of, named_places, HasFewMembers}
+use Rattle.full_tree.specs.MembersLaws.{Contains-from_ascending_places, length-ascending_places}
+use Rattle.full_tree.specs.Pieces.{code_length}
+use Rattle.full_tree.specs.Form.{IsInForm}
+use Rattle.concatenation.specs.Concatenation.{IsConcatenation, total_of}
+use Rattle.cut_cert.specs.declared.answer.Answer.{Answer}
+use Rattle.cut_cert.specs.declared.head.ConcatNote.{ConcatNote}
+use Rattle.cut_cert.specs.Text.{answer_text}
+use Rattle.cut_cert.specs.Answers.{value_of}
+use Rattle.fst_file.specs.Value.{AreTreesOf, IsTreeOf}
+use Rattle.fst_concat.specs.declared.chosen.ChosenKind.{ChosenKind}
+use Rattle.fst_concat.specs.declared.chosen.ChosenKind.TheVariants.{Least, Spent}
+use Rattle.fst_concat.specs.Chosen.{HasMembersBelow, IsChosen, IsUpToPairs, KindHolds}
+use Rattle.tree_network.specs.NamedLaws.{places-below}
+use Rattle.search_tools.specs.declared.network.Found.{Found}
+use Rattle.search_tools.specs.Solution.{IsLeafFor, solution}
+use Rattle.search_tools.specs.Steps.{IsFor, IsMadeOf, Tells, is_least}
+use Rattle.search_tools.specs.Permitted.{IsConcatNote, most_splits}
+
+-- a list is no longer than with others before it
+longer_behind : (xs ys : List ℕ) → length ys ≤ length (xs ++ ys)
+longer_behind [] ys = omega arith
+longer_behind (x ∷ xs) ys = let rest = longer_behind xs ys in omega (arith, rest)
+
+-- a code names two places or more
+names_two : (code : TreeCode) → 2 ≤ length (named_places code)
+names_two (Long root toward drops side tip) =
+    let all : 1 ≤ length (drops ++ option_to_list side ++ tip ∷ []) = longer_behind (drops ++ option_to_list side) (tip ∷ []) in
+    omega (arith, all)
+names_two (Cross west south east north) = omega arith
+
+-- a tree of points has members enough, all of them among the points
+has_members : (ps : List Point) (tree : Tree) → IsTreeOf ps tree → HasMembersBelow (length ps) tree
+has_members ps tree is = record {
+  few = is.form.members;
+  some =
+      let all = names_two tree.code in
+      let same = length-ascending_places (named_places tree.code) is.form.members.distinct in omega (arith, all, same);
+  below =
+      All-weaker (Contains (members_of tree.code)) (λ i. i < length ps)
+      (λ i member. let (k, inside, at) = Contains-from_ascending_places (named_places tree.code) i member in
+      subst (λ j. j < length ps) at (is.form.terminals k i inside))
+      (members_of tree.code) (All-contains_itself (members_of tree.code));
+}
+
+-- So have all trees of a file.
+pub have_members : (ps : List Point) (trees : List Tree) → AreTreesOf ps trees → All (HasMembersBelow (length ps)) trees
+have_members ps trees are =
+    λ k d inside. has_members ps (slice_index_or trees k d) (All-from_recursion (IsTreeOf ps) trees are.trees k d inside)
+
+-- Its trees are in form, with their lengths.
+pub in_form : (ps : List Point) (trees : List Tree) → AreTreesOf ps trees → All (λ tree. IsInForm ps tree.code) trees
+in_form ps trees are = λ k d inside. (All-from_recursion (IsTreeOf ps) trees are.trees k d inside).form
+
+pub have_lengths : (ps : List Point) (trees : List Tree) → AreTreesOf ps trees → All (λ tree. tree.length ≡ code_length ps tree.code) trees
+have_lengths ps trees are = λ k d inside. (All-from_recursion (IsTreeOf ps) trees are.trees k d inside).length_is
+
+-- The chosen places are below the number of trees.
+pub chosen_below : (n : ℕ) (trees : List Tree) (places : List ℕ) (total : ℕ) → IsChosen n trees places total → All (λ k. k < length trees) places
+chosen_below n trees places total chosen = places-below trees places chosen.set chosen.is chosen.joins.size
+
+-- what the kind says, as what the note tells
+least_told : (n : ℕ) (trees : List Tree) (allowed total : ℕ) (kind : ChosenKind) (set : List Bool) → IsConcatenation n trees set → total ≡ total_of trees set →
+    IsUpToPairs n trees total → KindHolds n trees most_splits total kind → IsConcatNote n trees (record { least = is_least kind; total = total })
+least_told n trees allowed total Least set joins sum pairs holds =
+    record { set = set; joins = joins; total = sum; pairs = pairs; least = λ is. holds; spent = λ is. absurd cc }
+least_told n trees allowed total (Spent trail) set joins sum pairs holds =
+    record { set = set; joins = joins; total = sum; pairs = pairs; least = λ is. absurd cc; spent = λ is. (trail, holds.0, holds.1) }
+
+-- The network of what was chosen is made of the trees.
+pub made_of : (ps : List Point) (trees : List Tree) (kind : ChosenKind) (places : List ℕ) (total : ℕ) (network : List Bool) →
+    IsChosen (length ps) trees places total → IsUpToPairs (length ps) trees total → KindHolds (length ps) trees most_splits total kind →
+    length network ≡ length (hanan_grid_of ps).edges →
+    ((set : List Bool) → places ≡ numbers_of set → IsConcatenation (length ps) trees set → IsNetwork (hanan_grid_of ps) network) →
+    ((set : List Bool) → places ≡ numbers_of set → length_of (hanan_grid_of ps) network ≤ total_of trees set) →
+    IsMadeOf ps trees (record { network = network; note = record { least = is_least kind; total = total } })
+made_of ps trees kind places total network chosen pairs holds size joins short = record {
+  network = record { size = size; joins = joins chosen.set chosen.is chosen.joins };
+  concat = least_told (length ps) trees most_splits total kind chosen.set chosen.joins chosen.sum pairs holds;
+  short = let least = short chosen.set chosen.is in let sum = chosen.sum in omega (arith, least, sum);
+}
+
+-- An answer that tells the network is one for the points and the trees.
+pub is_for : (ps : List Point) (trees : List Tree) (found : Found) (answer : Answer) → IsMadeOf ps trees found → Tells ps found answer →
+    length (answer_text (value_of ps answer)) < 2 ^ 32 → IsFor ps trees (record { grid = ps; answer = answer })
+is_for ps trees found answer made tells few = record {
+  packing = tells.packing;
+  grid = refl;
+  made =
+      subst (λ (note : ConcatNote). IsMadeOf ps trees (record { network = answer.network; note = note })) (sym tells.note)
+      (subst (λ (set : List Bool). IsMadeOf ps trees (record { network = set; note = found.note })) (sym tells.network) made);
+  leaf = subst (λ (set : List Bool). IsLeafFor (hanan_grid_of ps) set tells.packing) (sym tells.network) tells.leaf;
+  told =
+      tells.told
+      ∙ ap (λ (set : List Bool). solution ps set tells.packing found.note) (sym tells.network)
+      ∙ ap (λ (note : ConcatNote). solution ps answer.network tells.packing note) (sym tells.note);
+  fits = tells.fits;
+  few_bytes = few;
+}

@@ -1,0 +1,46 @@
+-- What `bb` finds, by what it read.
+use Rattle.std.specs.Prelude.{ℕ, ◌≡◌, ◌++◌, Bool, List, length, codes, decimal, Result, Ok, Err}
+use Rattle.net_graph.specs.declared.packing.Cut.{Cut}
+use Rattle.fst_file.specs.Value.{FstValue}
+use Rattle.fst_file.specs.Text.{SpellsFstFile}
+use Rattle.concatenation.specs.Concatenation.{all_of}
+use Rattle.fst_concat.specs.Chosen.{IsFirstApart}
+use Rattle.cut_cert.specs.declared.head.ConcatNote.{ConcatNote}
+use Rattle.frame.specs.declared.status.FaultStatus.{FaultStatus}
+use Rattle.frame.specs.declared.status.FaultStatus.TheVariants.{Malformed}
+use Rattle.frame.specs.declared.take.TheConstants.{TEXT_LIMIT}
+use Rattle.frame.specs.Outside.{Outside}
+use Rattle.frame.specs.Ends.{Print, Ends}
+use Rattle.frame.specs.FaultTexts.{text_fault_text, text_fault_status}
+use Rattle.frame.specs.FromText.{FromText}
+use Rattle.frame.specs.Leaves.{LeavesShelf}
+use Rattle.tree_inputs.specs.FstFaults.{fst_fault_text, fst_fault_status}
+use Rattle.tree_inputs.specs.Files.{ReadsFst}
+use Rattle.search_tools.specs.declared.build_fault.BuildFault.{BuildFault}
+use Rattle.search_tools.specs.declared.build_fault.BuildFault.TheVariants.{InFile, Apart}
+use Rattle.search_tools.specs.Permitted.{IsPermitted, search_print}
+
+-- what is said of a fault
+abbrev pub build_fault_text : BuildFault → List ℕ
+build_fault_text (InFile fault) = fst_fault_text fault
+build_fault_text (Apart place) = codes "the trees leave point " ++ decimal place ++ codes " apart"
+
+-- the status of a fault
+abbrev pub build_fault_status : BuildFault → FaultStatus
+build_fault_status (InFile fault) = fst_fault_status fault
+build_fault_status (Apart place) = Malformed
+
+-- What `bb` finds in a text: an answer for the points and the trees of the file that it spells; or why it spells none; or
+-- the first point that all trees together don't join to the first one.
+abbrev pub Builds : List ℕ → Result Print BuildFault → Type 0
+Builds bytes (Ok print) = (file : FstValue) × (network : List Bool) × (packing : List Cut) × (note : ConcatNote)
+    × SpellsFstFile bytes file × IsPermitted file.points file.trees network packing note
+    × (print ≡ search_print file.points network packing note)
+Builds bytes (Err (InFile fault)) = ReadsFst bytes (Err fault)
+Builds bytes (Err (Apart place)) = (file : FstValue) × SpellsFstFile bytes file × IsFirstApart (length file.points) file.trees (all_of file.trees) place
+
+-- A run of `bb`.
+abbrev pub EndsBb : Outside → Outside → ℕ → Type 0
+EndsBb before after status =
+    Ends (text_fault_status build_fault_status) (text_fault_text build_fault_text) (codes "bb")
+    (FromText TEXT_LIMIT Builds) LeavesShelf before after status

@@ -1,0 +1,57 @@
+//! The tool `bb`: a file of full trees comes in, the answer of a network that is made of them goes out.
+
+ghost use Rattle.std.specs.Prelude.{◌≡◌, IfOk};
+ghost use Rattle.rst_outside.specs.Shelf.{ShelfState};
+ghost use Rattle.frame.specs.Outside.{outside, readable};
+ghost use Rattle.frame.specs.Taking.{TakesSome};
+ghost use Rattle.frame.specs.FromText.{FromText};
+ghost use Rattle.search_tools.specs.Build.{EndsBb};
+ghost use Rattle.search_tools.specs.Steps.{FindsBuilt, fault_of_file};
+
+use crate::build_fault::BuildFault;
+use crate::solution::{Solution, solution_of};
+use frame::{TEXT_LIMIT, TextFault, conclude};
+use rst_outside::{Sink, Source};
+use std::alloc::{AllocError, Global};
+use tree_inputs::{FstFault, take_fst};
+
+/// Runs `bb`: reads a file of full trees from the input and prints the answer of a network that is made of them. Gives the
+/// status that the program ends with.
+pub fn bb<I: Source, O: Sink, R: Sink>(alloc: Global, input: &mut I, out: &mut O, err: &mut R) -> u8
+    ensures { (shelf : ShelfState) → EndsBb
+        (outside (I.state input.old) (O.state out.old) (R.state err.old) shelf)
+        (outside (I.state input.new) (O.state out.new) (R.state err.new) shelf) result }
+{
+    let found = find(alloc, input);
+    conclude(out, err, b"bb", found)
+}
+
+// The answer of a network that is made of the trees of the file that the input spells. A fault has the cause that it
+// names. An `Err` is want of memory.
+fn find<I: Source>(
+    alloc: Global,
+    input: &mut I,
+) -> Result<Result<Solution, TextFault<BuildFault>>, AllocError>
+    ensures finds { (shelf : ShelfState) → IfOk result (FromText TEXT_LIMIT FindsBuilt
+        (readable (I.state input.old) shelf) (readable (I.state input.new) shelf)) }
+    ensures takes { TakesSome (I.state input.old) (I.state input.new) }
+{
+    let file = match take_fst(alloc, input)? {
+        Ok(file) => file,
+        Err(fault) => return Ok(Err(fault_of_file(fault))),
+    };
+    match solution_of(alloc, file)? {
+        Ok(solution) => Ok(Ok(solution)),
+        Err(place) => Ok(Err(TextFault::Text(BuildFault::Apart(place)))),
+    }
+}
+
+// Why the input is no file of full trees, as a fault of the tool.
+fn fault_of_file(fault: TextFault<FstFault>) -> TextFault<BuildFault>
+    ensures { result ≡ fault_of_file fault }
+{
+    match fault {
+        TextFault::Input(fault) => TextFault::Input(fault),
+        TextFault::Text(fault) => TextFault::Text(BuildFault::InFile(fault)),
+    }
+}

@@ -1,0 +1,54 @@
+//! A network that is made of full trees.
+
+ghost use Rattle.std.specs.Prelude.{◌≡◌, IfOk};
+ghost use Rattle.fst_file.specs.Value.{AreTreesOf};
+ghost use Rattle.search_tools.specs.Steps.{FindsNetwork, is_least};
+
+use cut_cert::ConcatNote;
+use fst_concat::{ChosenKind, ConcatFault, concat};
+use full_tree::TreeList;
+use hanan_grid::Grid;
+use net_graph::EdgeSet;
+use std::alloc::{AllocError, Global};
+use tree_network::network_of;
+
+/// How many splits the search for a least concatenation may make.
+const MOST_SPLITS: u32 = 4000;
+
+/// A network of a grid that is made of full trees, and what is told of their concatenation.
+#[derive(Debug, Drop)]
+pub struct Found {
+    pub network: EdgeSet,
+    pub note: ConcatNote,
+}
+
+/// The union of the trees of a concatenation, of a least one where the search comes to its end; or the place of the first
+/// terminal that all trees together leave apart. An outer `Err` is want of memory.
+pub fn network_on(
+    alloc: Global,
+    grid: &Grid,
+    trees: &TreeList,
+) -> Result<Result<Found, u8>, AllocError>
+    requires { AreTreesOf grid.now trees.now }
+    ensures { IfOk result (FindsNetwork grid.now trees.now) }
+{
+    let points = grid.points().len() as u8;
+    let chosen = match concat(alloc, points, trees, MOST_SPLITS) {
+        Ok(chosen) => chosen,
+        Err(ConcatFault::Unspanned { place }) => return Ok(Err(place)),
+        Err(ConcatFault::Memory(error)) => return Err(error),
+    };
+    let network = network_of(alloc, grid, trees, chosen.places.as_slice())?;
+    let note = ConcatNote {
+        least: is_least(&chosen.kind),
+        total: chosen.total,
+    };
+    Ok(Ok(Found { network, note }))
+}
+
+// Whether no concatenation has a smaller total.
+fn is_least(kind: &ChosenKind) -> bool
+    ensures { result ≡ is_least kind.now }
+{
+    matches!(kind, ChosenKind::Least)
+}
