@@ -61,7 +61,11 @@ fn are_in_form(grid: &Grid, trees: &[Tree]) -> bool
 }
 
 // What the search chooses of the trees, where they are in form.
-fn choose(rt: &HostRuntime, trees: &TreeList, allowed: u32) -> Result<Option<Result<Chosen, ConcatFault>>, Fail> {
+fn choose(
+    rt: &HostRuntime,
+    trees: &TreeList,
+    allowed: u32,
+) -> Result<Option<Result<Chosen, ConcatFault>>, Fail> {
     let grid = diamond(rt)?;
     let points = grid.points().len();
     if points == 0 || points > 50 || trees.len() > 20_000 || !are_in_form(&grid, trees.as_slice()) {

@@ -27,8 +27,7 @@ solve_printed : (before after : Outside) (status : ℕ) (s : AnswerStatus) → s
     Headline (Some Solve) before after status
 solve_printed before after status s is ends = λ same ended.
     let (print, (bytes, whole, (ps, network, packing, note, solved, of_points)), printed) =
-    printed_ends (text_fault_status generation_fault_status) (text_fault_text generation_fault_text) (codes "solve") (FromText TEXT_LIMIT Solves) LeavesShelf before after status s is ends in
-    (
+    printed_ends (text_fault_status generation_fault_status) (text_fault_text generation_fault_text) (codes "solve") (FromText TEXT_LIMIT Solves) LeavesShelf before after status s is ends in (
       bytes,
       ps,
       solved.generated,
@@ -38,8 +37,8 @@ solve_printed before after status s is ends = λ same ended.
       solved.are_generated,
       solved.are_kept,
       searches_truly (terminals_of ps) solved.trees network packing note before after status solved.permitted
-      (subst (λ (p : Print). Appended before.written.out.taken p.text after.written.out.taken) of_points printed.wrote.appended)
-      (printed.ends ∙ ap (λ (p : Print). answer_code p.status) of_points),
+          (subst (λ (p : Print). Appended before.written.out.taken p.text after.written.out.taken) of_points printed.wrote.appended)
+          (printed.ends ∙ ap (λ (p : Print). answer_code p.status) of_points),
     )
 
 -- What `solve` printed is true.
@@ -52,15 +51,14 @@ bb_printed : (before after : Outside) (status : ℕ) (s : AnswerStatus) → stat
     BuildHeadline (Some Bb) before after status
 bb_printed before after status s is ends = λ same ended.
     let (print, (bytes, whole, (file, network, packing, note, spelled, permitted, of_file)), printed) =
-    printed_ends (text_fault_status build_fault_status) (text_fault_text build_fault_text) (codes "bb") (FromText TEXT_LIMIT Builds) LeavesShelf before after status s is ends in
-    (
+    printed_ends (text_fault_status build_fault_status) (text_fault_text build_fault_text) (codes "bb") (FromText TEXT_LIMIT Builds) LeavesShelf before after status s is ends in (
       bytes,
       file,
       whole.came,
       spelled,
       searches_truly file.points file.trees network packing note before after status permitted
-      (subst (λ (p : Print). Appended before.written.out.taken p.text after.written.out.taken) of_file printed.wrote.appended)
-      (printed.ends ∙ ap (λ (p : Print). answer_code p.status) of_file),
+          (subst (λ (p : Print). Appended before.written.out.taken p.text after.written.out.taken) of_file printed.wrote.appended)
+          (printed.ends ∙ ap (λ (p : Print). answer_code p.status) of_file),
     )
 
 -- What `bb` printed is true.
