@@ -12,19 +12,15 @@ use std::alloc::{AllocError, Global};
 // How many units of the amounts make one of length.
 const SCALE: u64 = 12;
 
-// The parts that an open tree touches, one bit for a label, and what is left of its length.
+// The parts that an open tree touches, one bit for a label; what was left of its length when they last changed, at
+// some height of the growth; and the height at which nothing will be left.
 #[derive(Clone, Copy, Debug)]
 struct Item {
     parts: u64,
     rest: u64,
+    since: u64,
+    due: u64,
     place: u32,
-}
-
-// The tree that is used up first, after so much further growth.
-#[derive(Clone, Copy, Debug)]
-struct Pick {
-    item: Item,
-    growth: u64,
 }
 
 /// A tree that the growth used up.
@@ -39,11 +35,26 @@ struct Used {
 /// What a growth proposes.
 #[derive(Debug, Drop)]
 pub struct Growth {
-    pub levels: Vec<Level>,
+    levels: Vec<Level>,
+    bound: u128,
     used: Vec<Used>,
 }
 
 impl Growth {
+    /// Whether the levels may show that nothing beside what is taken is below the best total.
+    pub fn reaches(&self, taken: u128, best: u128) -> bool {
+        taken.saturating_add(self.bound.div_ceil(u128::from(SCALE))) >= best
+    }
+
+    /// The levels where they may show that, else none.
+    pub fn levels_for(&self, taken: u128, best: u128) -> &[Level] {
+        if self.reaches(taken, best) {
+            &self.levels
+        } else {
+            &[]
+        }
+    }
+
     /// Puts the trees that the growth used into a set.
     pub fn add_to(&self, set: &mut [bool]) {
         for used in &self.used {
@@ -81,26 +92,42 @@ pub fn grow(
     let mut levels = Vec::with_capacity(alloc, 49)?;
     let mut used = Vec::with_capacity(alloc, 49)?;
     let mut now = as_array(labels);
+    let mut left = parts_in(labels);
+    let mut bound = 0;
+    let mut height: u64 = 0;
     for _ in 0..49 {
         let Some(pick) = first_used_up(&items) else {
             break;
         };
-        if pick.growth > 0 {
+        let amount = pick.due.saturating_sub(height);
+        height = pick.due;
+        bound = u128::saturating_add(
+            bound,
+            u128::from(amount).saturating_mul(u128::from(joins(left))),
+        );
+        if amount > 0 {
             levels.push(Level {
                 labels: now,
-                amount: pick.growth,
+                amount,
             })?;
         }
-        used.push(used_tree(trees, listed, labels, pick.item.place))?;
-        let name = lowest(pick.item.parts);
+        used.push(used_tree(trees, listed, labels, pick.place))?;
+        let name = lowest(pick.parts);
         for item in items.iter_mut() {
-            grow_item(item, pick, bit(name));
+            if item.parts & pick.parts != 0 {
+                merge_item(item, pick.parts, bit(name), height);
+            }
         }
         items.retain(|item| item.parts.count_ones() > 1);
-        merge_labels(&mut now, pick.item.parts, name);
+        merge_labels(&mut now, pick.parts, name);
+        left = (left & !pick.parts) | bit(name);
     }
     drop_needless(&mut used)?;
-    Ok(Growth { levels, used })
+    Ok(Growth {
+        levels,
+        bound,
+        used,
+    })
 }
 
 // The open trees that touch several parts. An `Err` is want of memory.
@@ -132,9 +159,12 @@ fn item_of(trees: &[Tree], listed: &[Places], labels: &[u8], place: u32) -> Opti
     if parts.count_ones() < 2 {
         return None;
     }
+    let rest = tree.length.saturating_mul(SCALE);
     Some(Item {
         parts,
-        rest: tree.length.saturating_mul(SCALE),
+        rest,
+        since: 0,
+        due: due_at(0, rest, parts),
         place,
     })
 }
@@ -168,6 +198,15 @@ fn parts_of(labels: &[u8], members: &[u8]) -> u64 {
     parts
 }
 
+// The parts of all terminals.
+fn parts_in(labels: &[u8]) -> u64 {
+    let mut parts = 0;
+    for label in labels {
+        parts |= bit(*label);
+    }
+    parts
+}
+
 // The bit of a label.
 fn bit(label: u8) -> u64 {
     1u64.wrapping_shl(u32::from(label))
@@ -193,16 +232,11 @@ fn as_array(labels: &[u8]) -> [u8; 50] {
 }
 
 // The tree that is used up first when all parts grow evenly; of several that with the fewest parts, then the first.
-fn first_used_up(items: &[Item]) -> Option<Pick> {
-    let mut pick: Option<Pick> = None;
+fn first_used_up(items: &[Item]) -> Option<Item> {
+    let mut pick: Option<Item> = None;
     for item in items {
-        if let Some(growth) = item.rest.checked_div(joins(item.parts)) {
-            if is_before(growth, *item, pick) {
-                pick = Some(Pick {
-                    item: *item,
-                    growth,
-                });
-            }
+        if is_before(*item, pick) {
+            pick = Some(*item);
         }
     }
     pick
@@ -214,23 +248,31 @@ fn joins(parts: u64) -> u64 {
 }
 
 // Whether a tree is used up before another.
-fn is_before(growth: u64, item: Item, pick: Option<Pick>) -> bool {
+fn is_before(item: Item, pick: Option<Item>) -> bool {
     match pick {
-        Some(pick) => {
-            growth < pick.growth
-                || (growth == pick.growth && joins(item.parts) < joins(pick.item.parts))
-        }
+        Some(pick) => item.due < pick.due
+            || (item.due == pick.due && joins(item.parts) < joins(pick.parts)),
         None => true,
     }
 }
 
-// What the growth leaves of a tree, and which parts it touches after the merge.
-fn grow_item(item: &mut Item, pick: Pick, name: u64) {
-    let loss = pick.growth.saturating_mul(joins(item.parts));
-    item.rest = item.rest.saturating_sub(loss);
-    if item.parts & pick.item.parts != 0 {
-        item.parts = (item.parts & !pick.item.parts) | name;
+// The height at which a tree is used up that touches these parts, where so much is left of it at a height.
+fn due_at(height: u64, rest: u64, parts: u64) -> u64 {
+    match rest.checked_div(joins(parts)) {
+        Some(growth) => height.saturating_add(growth),
+        None => u64::MAX,
     }
+}
+
+// What is left of a tree at a height, and which parts it touches after a merge.
+fn merge_item(item: &mut Item, merged: u64, name: u64, height: u64) {
+    let growth = height.saturating_sub(item.since);
+    item.rest = item
+        .rest
+        .saturating_sub(growth.saturating_mul(joins(item.parts)));
+    item.since = height;
+    item.parts = (item.parts & !merged) | name;
+    item.due = due_at(height, item.rest, item.parts);
 }
 
 // Gives the merged parts one label.

@@ -90,11 +90,11 @@ fn weigh(
 {
     let growth = grow(alloc, trees, listed, choices, labels)?;
     let total = total_of(trees, taken);
-    let least = least_under(points, trees, listed, &growth.levels, choices, total);
-    if least >= best.total {
-        return Ok(Verdict::Done);
-    }
-    propose(alloc, points, trees, listed, taken, &growth, labels, best)?;
+    propose(
+        alloc, points, trees, listed, taken, total, &growth, labels, best,
+    )?;
+    let levels = growth.levels_for(total, best.total);
+    let least = least_under(points, trees, listed, levels, choices, total);
     if least >= best.total {
         return Ok(Verdict::Done);
     }
@@ -104,13 +104,15 @@ fn weigh(
     }
 }
 
-// Offers the taken trees with those of the growth, where they join all terminals. An `Err` is want of memory.
+// Offers the taken trees with those of the growth, where they join all terminals, unless the levels alone may settle it.
+// An `Err` is want of memory.
 fn propose(
     alloc: Global,
     points: u8,
     trees: &[Tree],
     listed: &[Places],
     taken: &[bool],
+    total: u128,
     growth: &Growth,
     labels: &mut [u8],
     best: &mut Best,
@@ -125,6 +127,9 @@ fn propose(
     ensures chosen { OnOk result (IsChosen points trees.now best.new.places best.new.total) }
     ensures below { OnOk result (best.new.total ≤ best.old.total) }
 {
+    if growth.reaches(total, best.total) {
+        return Ok(());
+    }
     let mut set = Vec::from_slice(alloc, taken)?;
     growth.add_to(&mut set);
     if first_apart(points, trees, listed, &set, labels).is_none() {
