@@ -1,5 +1,5 @@
 -- Trees of two members as pairs.
-use Rattle.std.specs.Prelude.{ℕ, ◌==◌, length, slice_index, if◌then◌else◌}
+use Rattle.std.specs.Prelude.{◌==◌, length, slice_index, if◌then◌else◌}
 use Rattle.full_tree.specs.declared.code.Tree.{Tree}
 use Rattle.full_tree.specs.Code.{members_of}
 use Rattle.spanning.specs.declared.pair.Pair.{Pair}

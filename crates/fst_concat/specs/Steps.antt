@@ -1,6 +1,6 @@
 -- The trail that a list of steps in preorder spells. Read from the back, an end is a whole trail, and a split takes the
 -- two trails that come next: first the one with its tree, then the one without.
-use Rattle.std.specs.Prelude.{ℕ, List, [], ◌∷◌}
+use Rattle.std.specs.Prelude.{List, [], ◌∷◌}
 use Rattle.fst_concat.specs.declared.trail.Step.{Step}
 use Rattle.fst_concat.specs.declared.trail.Step.TheVariants.{Close, Fork}
 use Rattle.concatenation.specs.Trails.{Trail, End}

@@ -1,6 +1,6 @@
 -- What choices say of the sets that respect them, and of searches that go on or end there.
-use Rattle.std.specs.Prelude.{slice_get, slice_set, if◌then◌else◌}
-use Rattle.std.proofs.Common.{ℕ, zero, suc, ◌≡◌, ◌+◌, ◌<◌, ◌≤◌, ◌⊎◌, Bool, true, false, Option, Some, None, List, [], ◌∷◌, length, map, replicate, refl, ap, sym, subst, ◌∙◌, inl, inr, ⊎_elim, arith}
+use Rattle.std.specs.Prelude.{slice_get}
+use Rattle.std.proofs.Common.{ℕ, zero, suc, ◌≡◌, ◌<◌, ◌≤◌, ◌⊎◌, Bool, true, false, Option, Some, None, List, [], ◌∷◌, length, refl, ap, sym, subst, ◌∙◌, inl, inr, ⊎_elim, arith}
 use Rattle.std.specs.Option.{option_map}
 use Rattle.std.proofs.lemmas.Option.{slice_get-map, slice_get_within}
 use Rattle.std.proofs.lemmas.List.{length-map}
@@ -9,7 +9,7 @@ use Rattle.concatenation.specs.declared.choice.Choice.{Choice}
 use Rattle.concatenation.specs.declared.choice.Choice.TheVariants.{Open, Taken, LeftOut}
 use Rattle.concatenation.specs.Concatenation.{IsConcatenation, total_of}
 use Rattle.concatenation.specs.SetLaws.{IsWithin, MoreTreesJoin, TotalsRise}
-use Rattle.concatenation.specs.Choices.{is_taken, is_left, taken_of, remaining_of, Respects, IsLeastUnder, AreTakenJoining, AreRemainingJoining}
+use Rattle.concatenation.specs.Choices.{is_taken, is_left, taken_of, remaining_of, Respects, IsLeastUnder, AreRemainingJoining}
 use Rattle.concatenation.specs.Trails.{CanGoOn, IsNoBetter, IsOpenPlace}
 
 -- the choice behind a flag

@@ -1,13 +1,12 @@
 -- Counts of labels, and sums over levels.
-use Rattle.std.specs.Prelude.{slice_get, slice_index, slice_index_or, Contains, nat_lt, ◌==◌, ◌||◌}
-use Rattle.std.proofs.Common.{ℕ, zero, suc, ◌≡◌, ◌+◌, ◌-◌, ◌*◌, ◌<◌, ◌≤◌, ◌⊎◌, Bool, true, false, List, [], ◌∷◌, All, length, map, drop, take, get_or, drop-cons, length-drop, take_all, refl, ap, sym, subst, ◌∙◌, inl, inr, ⊎_elim, arith}
+use Rattle.std.specs.Prelude.{slice_index_or, Contains, nat_lt, ◌==◌, ◌||◌}
+use Rattle.std.proofs.Common.{ℕ, zero, suc, ◌≡◌, ◌+◌, ◌-◌, ◌<◌, ◌≤◌, ◌⊎◌, Bool, true, false, List, [], ◌∷◌, All, length, map, drop, take, get_or, drop-cons, length-drop, take_all, refl, ap, sym, subst, ◌∙◌, inl, inr, ⊎_elim, arith}
 use Rattle.std.specs.List.{AllByRecursion}
 use Rattle.std.proofs.lemmas.Bool.{eqb-true, eq-eqb, cases_order}
 use Rattle.std.proofs.lemmas.Bool.Decides.{nat_tests}
-use Rattle.full_tree.specs.declared.code.Tree.{Tree}
 use Rattle.full_tree.specs.Code.{ascending_places, with_place}
 use Rattle.full_tree.specs.MembersLaws.{Climbs, Climbs-ascending_places, Contains-ascending_places, Contains-from_ascending_places}
-use Rattle.concatenation.specs.Partitions.{Layer, load_of, bound_of, touched_count, part_count}
+use Rattle.concatenation.specs.Partitions.{Layer}
 use Rattle.fst_concat.specs.declared.level.Level.{Level}
 use Rattle.fst_concat.specs.Levels.{layer_of, layers_of, any_label}
 

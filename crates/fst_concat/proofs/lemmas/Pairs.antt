@@ -1,5 +1,5 @@
 -- Trees of two members as pairs: sets of the ones join where sets of the others do, with the same total.
-use Rattle.std.specs.Prelude.{slice_get, slice_index, slice_index_or, Contains, ◌==◌, if◌then◌else◌}
+use Rattle.std.specs.Prelude.{slice_get, slice_index, Contains, ◌==◌, if◌then◌else◌}
 use Rattle.std.proofs.Common.{ℕ, zero, suc, ◌≡◌, ◌+◌, ◌<◌, ◌≤◌, ◌⊎◌, Bool, true, false, Option, Some, None, IfSome, IfNone, Result, Ok, Err, IfOk, List, [], ◌∷◌, All, length, map, refl, ap, sym, subst, ◌∙◌, inl, inr, ⊎_elim, arith}
 use Rattle.std.specs.Option.{option_map}
 use Rattle.std.proofs.lemmas.Bool.{eq-eqb}
@@ -9,7 +9,7 @@ use Rattle.std.proofs.lemmas.Option.{slice_get-map}
 use Rattle.net_graph.specs.Search.{Leads}
 use Rattle.net_graph.specs.SearchLaws.{Leads-start, Leads-more, Leads-keeps, Leads-weaker}
 use Rattle.spanning.specs.declared.pair.Pair.{Pair}
-use Rattle.spanning.specs.Joining.{edge_of, Hop, JoinsBelow, IsLeastJoining, all_of, total_of as pairs_total}
+use Rattle.spanning.specs.Joining.{Hop, JoinsBelow, IsLeastJoining, all_of, total_of as pairs_total}
 use Rattle.spanning.specs.JoiningLaws.{JoinsBelow-all}
 use Rattle.spanning.specs.declared.joining.Joined.{Joined}
 use Rattle.spanning.specs.Leaving.{HasNumbersBelow}

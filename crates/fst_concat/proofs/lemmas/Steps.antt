@@ -1,17 +1,16 @@
 -- What steps of a search do to what they and the pending choices spell.
 use Rattle.std.specs.Prelude.{slice_set}
-use Rattle.std.proofs.Common.{ℕ, suc, ◌≡◌, ◌+◌, ◌-◌, ◌*◌, ◌^◌, ◌<◌, ◌≤◌, ◌⊎◌, List, [], ◌∷◌, ◌++◌, All, length, min, refl, ap, sym, subst, ◌∙◌, inl, inr, ⊎_elim, arith}
+use Rattle.std.proofs.Common.{ℕ, suc, ◌≡◌, ◌+◌, ◌-◌, ◌^◌, ◌<◌, ◌≤◌, ◌⊎◌, List, [], ◌∷◌, ◌++◌, refl, ap, sym, subst, ◌∙◌, inl, inr, ⊎_elim, arith}
 use Rattle.full_tree.specs.declared.code.Tree.{Tree}
 use Rattle.concatenation.specs.declared.choice.Choice.{Choice}
-use Rattle.concatenation.specs.declared.choice.Choice.TheVariants.{Open, Taken, LeftOut}
-use Rattle.concatenation.specs.Concatenation.{IsConcatenation, total_of}
-use Rattle.concatenation.specs.Choices.{taken_of, IsLeastUnder, Respects}
-use Rattle.concatenation.specs.Trails.{Trail, End, Split, splits_of, no_choices, AllEnds, AllSplits, SomeEnd, IsOpenPlace, CanGoOn, IsNoBetter, IsOpenEnd, IsBoundedTrail, IsSpentTrail}
+use Rattle.concatenation.specs.declared.choice.Choice.TheVariants.{Taken, LeftOut}
+use Rattle.concatenation.specs.Choices.{IsLeastUnder}
+use Rattle.concatenation.specs.Trails.{Trail, End, Split, splits_of, no_choices, AllEnds, SomeEnd, IsOpenPlace, CanGoOn, IsNoBetter, IsOpenEnd, IsBoundedTrail, IsSpentTrail}
 use Rattle.fst_concat.specs.declared.trail.Step.{Step}
 use Rattle.fst_concat.specs.declared.trail.Step.TheVariants.{Close, Fork}
 use Rattle.fst_concat.specs.TrailCode.{split_over, first_of_trails}
 use Rattle.fst_concat.specs.Steps.{unwind, trail_of}
-use Rattle.fst_concat.specs.UnderWay.{EndsWell, IsGood, IsOpenUpTo, HasOpenEnd, AreGood, OneHasOpenEnd, splits_in, Completes, CompletesAll}
+use Rattle.fst_concat.specs.UnderWay.{EndsWell, IsGood, IsOpenUpTo, HasOpenEnd, Completes, CompletesAll}
 
 -- the steps of two lists
 pub unwind-append : (steps more : List Step) (trails : List Trail) → unwind (steps ++ more) trails ≡ unwind steps (unwind more trails)

@@ -1,11 +1,10 @@
 -- Totals of sets of trees, from a place on; and lists made from trees.
-use Rattle.std.specs.Prelude.{slice_get, slice_index_or}
-use Rattle.std.proofs.Common.{ℕ, zero, suc, ◌≡◌, ◌≢◌, ◌+◌, ◌*◌, ◌<◌, ◌≤◌, Bool, true, false, Option, Some, None, List, [], ◌∷◌, All, length, map, drop, refl, ap, sym, subst, ◌∙◌, add-one, arith}
+use Rattle.std.specs.Prelude.{slice_get}
+use Rattle.std.proofs.Common.{ℕ, zero, suc, ◌≡◌, ◌+◌, ◌*◌, ◌<◌, ◌≤◌, Bool, true, false, Some, List, [], ◌∷◌, All, length, map, drop, refl, ap, sym, subst, ◌∙◌, add-one, arith}
 use Rattle.std.specs.Int.{div_ceil}
-use Rattle.std.specs.Option.{option_map}
 use Rattle.std.proofs.lemmas.Option.{slice_get_within, slice_get-map, get_or_from_slice_get}
 use Rattle.full_tree.specs.declared.code.Tree.{Tree}
-use Rattle.full_tree.specs.Code.{members_of, named_places}
+use Rattle.full_tree.specs.Code.{named_places}
 use Rattle.full_tree.specs.MembersLaws.{length-ascending_places}
 use Rattle.concatenation.specs.Concatenation.{total_of}
 use Rattle.fst_concat.specs.Chosen.{HasMembersBelow}

@@ -1,6 +1,6 @@
 -- What a step does to a search that is under way.
-use Rattle.std.specs.Prelude.{slice_set, slice_index_or}
-use Rattle.std.proofs.Common.{ℕ, zero, suc, ◌≡◌, ◌+◌, ◌-◌, ◌^◌, ◌<◌, ◌≤◌, ◌⊎◌, List, [], ◌∷◌, ◌++◌, All, length, min, reverse, refl, ap, sym, subst, ◌∙◌, inl, inr, ⊎_elim, length-set, Result, Ok, Err, OnOk, arith}
+use Rattle.std.specs.Prelude.{slice_set}
+use Rattle.std.proofs.Common.{ℕ, suc, ◌≡◌, ◌+◌, ◌<◌, ◌≤◌, ◌⊎◌, List, [], ◌∷◌, ◌++◌, All, length, min, reverse, ap, sym, subst, ◌∙◌, inl, inr, ⊎_elim, length-set, Result, Ok, Err, OnOk, arith}
 use Rattle.std.proofs.lemmas.Bool.{cases_order}
 use Rattle.std.proofs.lemmas.List.{reverse-append, length-replicate}
 use Rattle.full_tree.specs.declared.code.Tree.{Tree}
@@ -9,7 +9,6 @@ use Rattle.concatenation.specs.declared.choice.Choice.TheVariants.{Open, Taken, 
 use Rattle.concatenation.specs.Concatenation.{total_of}
 use Rattle.concatenation.specs.Choices.{taken_of, IsLeastUnder}
 use Rattle.concatenation.specs.Trails.{no_choices, IsOpenPlace, CanGoOn, IsNoBetter}
-use Rattle.fst_concat.specs.declared.trail.Step.{Step}
 use Rattle.fst_concat.specs.declared.trail.Step.TheVariants.{Close, Fork}
 use Rattle.fst_concat.specs.declared.search.Way.{Way}
 use Rattle.fst_concat.specs.declared.judge.Verdict.{Verdict}

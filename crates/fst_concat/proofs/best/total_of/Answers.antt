@@ -1,4 +1,4 @@
-use Rattle.std.proofs.Common.{◌≡◌, ◌<◌, ◌∙◌, Some, ap, false, length, refl, arith}
+use Rattle.std.proofs.Common.{◌<◌, ◌∙◌, Some, ap, false, length, refl, arith}
 use Rattle.std.proofs.lemmas.Option.{slice_get_read, slice_get-get_or}
 use Rattle.full_tree.specs.declared.code.Tree.{Tree}
 use Rattle.net_graph.specs.Joins.{slice_get-has}

@@ -1,6 +1,5 @@
 -- Where the remaining trees don't join, nothing respects the choices; where the taken ones do, nothing that does is shorter.
-use Rattle.std.proofs.Common.{◌≡◌, ◌∙◌, false, sym, not, ap, arith}
-use Rattle.std.specs.Prelude.{is_some}
+use Rattle.std.proofs.Common.{◌∙◌, sym, not, ap, arith}
 use Rattle.concatenation.specs.Concatenation.{total_of}
 use Rattle.fst_concat.proofs.lemmas.Choices.{none_respects, taken_least}
 use Rattle.fst_concat.proofs.lemmas.Parts.{apart_some, apart_none}

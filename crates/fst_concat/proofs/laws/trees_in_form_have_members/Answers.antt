@@ -1,10 +1,9 @@
 -- A code in form names at least two places, each once.
-use Rattle.std.specs.Prelude.{Contains}
-use Rattle.std.proofs.Common.{ℕ, ◌≡◌, ◌+◌, ◌<◌, ◌≤◌, List, [], ◌∷◌, ◌++◌, All, length, length-append, arith}
+use Rattle.std.proofs.Common.{ℕ, ◌<◌, ◌≤◌, List, All, length, length-append, arith}
 use Rattle.std.proofs.lemmas.List.Elements.{All-contains, All-contains_itself}
 use Rattle.full_tree.specs.declared.code.TreeCode.{TreeCode}
 use Rattle.full_tree.specs.declared.code.TreeCode.TheVariants.{Long, Cross}
-use Rattle.full_tree.specs.Code.{members_of, named_places, ascending_places}
+use Rattle.full_tree.specs.Code.{named_places, ascending_places}
 use Rattle.full_tree.specs.MembersLaws.{length-ascending_places, Contains-from_ascending_places}
 use Rattle.fst_concat.proofs.laws.trees_in_form_have_members.Goals as goal
 

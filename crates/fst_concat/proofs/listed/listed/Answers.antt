@@ -1,4 +1,4 @@
-use Rattle.std.proofs.Common.{ℕ, length, map, ◌∙◌, ap, take_all, arith}
+use Rattle.std.proofs.Common.{map, ◌∙◌, ap, take_all, arith}
 use Rattle.fst_concat.specs.Listed.{tree_members}
 use Rattle.fst_concat.proofs.lemmas.Totals.{IsListed-map}
 use Rattle.fst_concat.proofs.listed.listed.Goals as goal

@@ -1,8 +1,6 @@
-use Rattle.std.specs.Prelude.{slice_get, Some}
-use Rattle.std.proofs.Common.{ℕ, ◌≡◌, ◌<◌, ◌+◌, Bool, true, false, sym, refl, ◌∙◌, length, arith}
+use Rattle.std.proofs.Common.{◌≡◌, ◌<◌, true, false, sym, refl, ◌∙◌, length, arith}
 use Rattle.std.proofs.lemmas.Option.{slice_get_read}
 use Rattle.net_graph.specs.Joins.{slice_get-has, has-slice_get}
-use Rattle.fst_concat.specs.Parts.{ArePartsUpTo, joined}
 use Rattle.fst_concat.proofs.lemmas.Parts.{ArePartsUpTo-skip, ArePartsUpTo-join_listed, listed_length}
 use Rattle.fst_concat.proofs.parts.join_parts.Goals as goal
 use Rattle.fst_concat.proofs.parts.join_parts.Goals.{then-set-place, else-set-place}

@@ -1,6 +1,5 @@
 -- What the trail of a search that is over shows.
-use Rattle.std.proofs.Common.{◌≡◌, ◌<◌, ◌≤◌, ◌^◌, sym, ◌∙◌, arith}
-use Rattle.fst_concat.specs.Chosen.{KindHolds}
+use Rattle.std.proofs.Common.{◌<◌, ◌^◌, sym, ◌∙◌, arith}
 use Rattle.fst_concat.proofs.lemmas.Steps.{over_trail, over-splits, over-bounded, over-spent}
 use Rattle.fst_concat.proofs.search.finish.Goals as goal
 use Rattle.fst_concat.proofs.search.finish.Goals.{then-way-best, else-way-best}

@@ -1,4 +1,4 @@
-use Rattle.std.proofs.Common.{◌≡◌, ◌≤◌, length}
+use Rattle.std.proofs.Common.{◌≤◌}
 use Rattle.std.specs.Prelude.{reverse}
 use Rattle.fst_concat.specs.Chosen.{IsChosen}
 use Rattle.fst_concat.specs.UnderWay.{IsUnderWay, steps_left}

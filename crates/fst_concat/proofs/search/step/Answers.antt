@@ -1,5 +1,5 @@
 -- What each verdict makes of the search.
-use Rattle.std.proofs.Common.{◌≡◌, ◌<◌, ◌≤◌, ◌^◌, ◌-◌, min, refl, sym, ap, ◌∙◌, arith}
+use Rattle.std.proofs.Common.{arith}
 use Rattle.fst_concat.proofs.lemmas.Ways.{IsUnderWay-fork, IsUnderWay-done, IsUnderWay-left, undecided, done_with, on_ok}
 use Rattle.fst_concat.proofs.search.step.Goals as goal
 

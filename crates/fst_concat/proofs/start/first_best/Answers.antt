@@ -1,5 +1,5 @@
 -- A least joining by pairs is one by trees of two members.
-use Rattle.std.proofs.Common.{ℕ, All, ◌≡◌, ◌∙◌, List, map, sym, subst}
+use Rattle.std.proofs.Common.{All, ◌∙◌, List, map, sym, subst}
 use Rattle.spanning.specs.declared.pair.Pair.{Pair}
 use Rattle.spanning.specs.Leaving.{HasNumbersBelow}
 use Rattle.fst_concat.specs.Pairs.{pair_of}

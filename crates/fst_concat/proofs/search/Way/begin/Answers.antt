@@ -1,11 +1,7 @@
 -- At first nothing is decided, and nothing was left open.
-use Rattle.std.specs.Prelude.{reverse}
-use Rattle.std.proofs.Common.{ℕ, ◌≡◌, ◌≤◌, ◌<◌, ◌^◌, ◌-◌, ◌++◌, List, [], ◌∷◌, All, length, replicate, refl, ap, sym, subst, ◌∙◌, arith}
-use Rattle.full_tree.specs.declared.code.Tree.{Tree}
+use Rattle.std.proofs.Common.{◌≡◌, List, [], ◌∷◌, refl, ap, ◌∙◌}
 use Rattle.concatenation.specs.declared.choice.Choice.{Choice}
 use Rattle.concatenation.specs.Trails.{no_choices}
-use Rattle.fst_concat.specs.declared.search.Way.{Way}
-use Rattle.fst_concat.specs.UnderWay.{IsUnderWay}
 use Rattle.fst_concat.proofs.lemmas.Ways.{IsUnderWay-start}
 use Rattle.fst_concat.proofs.search.Way.begin.Goals as goal
 
