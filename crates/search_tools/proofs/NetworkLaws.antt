@@ -1,16 +1,12 @@
 -- The network of the trees of a concatenation, and what is told of it.
-use Rattle.std.proofs.Common.{ℕ, ◌≡◌, ◌≤◌, ◌<◌, ◌^◌, Bool, List, [], ◌∷◌, ◌++◌, length, All, subst, ap, ◌∙◌, sym, arith, refl}
-use Rattle.std.specs.Prelude.{Contains, slice_index_or, option_to_list}
-use Rattle.std.proofs.lemmas.List.Elements.{All-from_recursion, All-weaker, All-contains_itself}
+use Rattle.std.proofs.Common.{ℕ, ◌≡◌, ◌≤◌, ◌<◌, ◌^◌, Bool, List, length, All, subst, ap, ◌∙◌, sym, arith, refl}
+use Rattle.std.specs.Prelude.{slice_index_or}
+use Rattle.std.proofs.lemmas.List.Elements.{All-from_recursion}
 use Rattle.points_in.specs.declared.point.Point.{Point}
 use Rattle.net_graph.specs.Members.{members_of as numbers_of}
 use Rattle.net_graph.specs.Network.{IsNetwork, length_of}
 use Rattle.hanan_grid.specs.Grid.{hanan_grid_of}
 use Rattle.full_tree.specs.declared.code.Tree.{Tree}
-use Rattle.full_tree.specs.declared.code.TreeCode.{TreeCode}
-use Rattle.full_tree.specs.declared.code.TreeCode.TheVariants.{Long, Cross}
-use Rattle.full_tree.specs.Code.{members_of, named_places, HasFewMembers}
-use Rattle.full_tree.specs.MembersLaws.{Contains-from_ascending_places, length-ascending_places}
 use Rattle.full_tree.specs.Pieces.{code_length}
 use Rattle.full_tree.specs.Form.{IsInForm}
 use Rattle.concatenation.specs.Concatenation.{IsConcatenation, total_of}
@@ -28,36 +24,11 @@ use Rattle.search_tools.specs.Solution.{IsLeafFor, solution}
 use Rattle.search_tools.specs.Steps.{IsFor, IsMadeOf, Tells, is_least}
 use Rattle.search_tools.specs.Permitted.{IsConcatNote, most_splits}
 
--- a list is no longer than with others before it
-longer_behind : (xs ys : List ℕ) → length ys ≤ length (xs ++ ys)
-longer_behind [] ys = omega arith
-longer_behind (x ∷ xs) ys = let rest = longer_behind xs ys in omega (arith, rest)
-
--- a code names two places or more
-names_two : (code : TreeCode) → 2 ≤ length (named_places code)
-names_two (Long root toward drops side tip) =
-    let all : 1 ≤ length (drops ++ option_to_list side ++ tip ∷ []) = longer_behind (drops ++ option_to_list side) (tip ∷ []) in
-    omega (arith, all)
-names_two (Cross west south east north) = omega arith
-
--- a tree of points has members enough, all of them among the points
-has_members : (ps : List Point) (tree : Tree) → IsTreeOf ps tree → HasMembersBelow (length ps) tree
-has_members ps tree is = record {
-  few = is.form.members;
-  some =
-      let all = names_two tree.code in
-      let same = length-ascending_places (named_places tree.code) is.form.members.distinct in omega (arith, all, same);
-  below =
-      All-weaker (Contains (members_of tree.code)) (λ i. i < length ps)
-      (λ i member. let (k, inside, at) = Contains-from_ascending_places (named_places tree.code) i member in
-      subst (λ j. j < length ps) at (is.form.terminals k i inside))
-      (members_of tree.code) (All-contains_itself (members_of tree.code));
-}
-
--- So have all trees of a file.
-pub have_members : (ps : List Point) (trees : List Tree) → AreTreesOf ps trees → All (HasMembersBelow (length ps)) trees
-have_members ps trees are =
-    λ k d inside. has_members ps (slice_index_or trees k d) (All-from_recursion (IsTreeOf ps) trees are.trees k d inside)
+-- All trees of a file have members enough, all of them among its points.
+pub have_members : ((ps : List Point) (tree : Tree) → IsInForm ps tree.code → HasMembersBelow (length ps) tree) →
+    (ps : List Point) (trees : List Tree) → AreTreesOf ps trees → All (HasMembersBelow (length ps)) trees
+have_members law ps trees are =
+    λ k d inside. law ps (slice_index_or trees k d) (All-from_recursion (IsTreeOf ps) trees are.trees k d inside).form
 
 -- Its trees are in form, with their lengths.
 pub in_form : (ps : List Point) (trees : List Tree) → AreTreesOf ps trees → All (λ tree. IsInForm ps tree.code) trees

@@ -5,7 +5,7 @@ ghost use Rattle.fst_file.specs.Value.{AreTreesOf};
 ghost use Rattle.search_tools.specs.Steps.{FindsNetwork, is_least};
 
 use cut_cert::ConcatNote;
-use fst_concat::{ChosenKind, ConcatFault, concat};
+use fst_concat::{ChosenKind, ConcatFault, concat, trees_in_form_have_members};
 use full_tree::TreeList;
 use hanan_grid::Grid;
 use net_graph::EdgeSet;
@@ -32,6 +32,7 @@ pub fn network_on(
     requires { AreTreesOf grid.now trees.now }
     ensures { IfOk result (FindsNetwork grid.now trees.now) }
 {
+    trees_in_form_have_members();
     let points = grid.points().len() as u8;
     let chosen = match concat(alloc, points, trees, MOST_SPLITS) {
         Ok(chosen) => chosen,

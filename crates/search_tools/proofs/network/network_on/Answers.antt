@@ -9,7 +9,7 @@ use Rattle.search_tools.proofs.network.network_on.Goals as goal
 pub concat-requires-clause-trees : goal.concat-requires-clause-trees
 concat-requires-clause-trees c =
     subst (λ n. All (HasMembersBelow n) c.args.trees.now) (ap length (sym c.points.ensures) ∙ sym c.len-points.ensures.value)
-    (have_members c.args.grid.now c.args.trees.now c.requires)
+    (have_members c.trees_in_form_have_members.ensures c.args.grid.now c.args.trees.now c.requires)
 
 pub network_of-requires-clause-places : goal.network_of-requires-clause-places
 network_of-requires-clause-places c =
