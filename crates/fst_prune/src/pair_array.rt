@@ -5,6 +5,7 @@ ghost use Rattle.std.specs.Prelude.{◌≡◌, ◌<◌, ◌≤◌, [], ◌∷◌
 use spanning::Pair;
 use std::marker::Model;
 
+/// At most 64 pairs, which lie in the value itself. Contracts see the list of them.
 #[derive(Drop)]
 pub struct PairArray {
     pairs: [Pair; 64],
