@@ -11,7 +11,7 @@ use crate::growth::{Growing, grow};
 use crate::improve::Improver;
 use crate::item::{Item, Numbered};
 use crate::joining::Joining;
-use crate::proposal::{Proposal, levels_of, numbers_of};
+use crate::proposal::{Proposal, chains_of, levels_of, numbers_of};
 use crate::repair::repair;
 use crate::rest::Rest;
 use crate::sets::is_several;
@@ -47,6 +47,7 @@ pub struct Fitter {
     fit: Fit,
     rest: Rest,
     tried: Vec<Fitted>,
+    aside: Vec<Chain>,
 }
 
 impl Fitter {
@@ -63,6 +64,7 @@ impl Fitter {
             fit: Fit::new(alloc),
             rest: Rest::new(alloc),
             tried: Vec::new(alloc),
+            aside: Vec::new(alloc),
         }
     }
 
@@ -76,6 +78,7 @@ impl Fitter {
         items: &[Item],
         guide: &[u32],
         best: u64,
+        max_chains: u8,
     ) -> Result<Option<Proposal>, AllocError>
         requires some { 0 < parts }
         ensures { IfOk result (λ found. IfSome found (IsInRange parts (length items.now))) }
@@ -91,8 +94,9 @@ impl Fitter {
             return Ok(None);
         }
         self.choose(parts, items, guide)?;
-        let (chain, split) = self.search(parts, best)?;
+        let (chain, split) = self.search(parts, best, max_chains)?;
         Ok(Some(Proposal {
+            aside: chains_of(self.alloc, parts, &self.aside)?,
             levels: levels_of(self.alloc, parts, &chain)?,
             chosen: numbers_of(self.alloc, &self.chosen, items.len())?,
             split: number_below(split, items.len()),
@@ -140,7 +144,13 @@ impl Fitter {
 
     // Improves the chosen items, and fits a chain along them where the one of the growth doesn't bound enough: the chain,
     // and the number of an item to split on. An `Err` is want of memory.
-    fn search(&mut self, parts: u8, best: u64) -> Result<(Chain, Option<u32>), AllocError> {
+    fn search(
+        &mut self,
+        parts: u8,
+        best: u64,
+        max_chains: u8,
+    ) -> Result<(Chain, Option<u32>), AllocError> {
+        self.aside.clear();
         if self.grown.bound() >= wanted(best) {
             return Ok((self.grown, None));
         }
@@ -149,7 +159,7 @@ impl Fitter {
         if self.grown.bound() >= wanted {
             return Ok((self.grown, None));
         }
-        let chain = self.fit(parts, wanted)?;
+        let chain = self.fit(parts, wanted, max_chains)?;
         let split = self
             .fit
             .most_overloaded(&self.chosen)
@@ -158,8 +168,9 @@ impl Fitter {
     }
 
     // The best chain of a fit along the chosen items, that overloads no item. An `Err` is want of memory.
-    fn fit(&mut self, parts: u8, wanted: u64) -> Result<Chain, AllocError> {
+    fn fit(&mut self, parts: u8, wanted: u64, max_chains: u8) -> Result<Chain, AllocError> {
         self.begin(parts, wanted)?;
+        self.put_aside(self.grown, wanted, max_chains)?;
         let mut best = Chain::empty();
         let mut idle = 0u8;
         for _ in 0..ROUNDS {
@@ -167,6 +178,7 @@ impl Fitter {
             if chain.bound() > best.bound() {
                 best = chain;
                 idle = 0;
+                self.put_aside(best, wanted, max_chains)?;
             } else {
                 idle = idle.wrapping_add(1);
             }
@@ -192,6 +204,21 @@ impl Fitter {
         let gap = wanted.saturating_sub(self.grown.bound());
         self.rest
             .begin(&self.items, &self.chosen, &self.grown, gap, &mut self.fit)
+    }
+
+    // Puts aside what a chain, which overloads no item in hand, shows to be in no concatenation of use. An `Err` is want
+    // of memory.
+    fn put_aside(&mut self, chain: Chain, wanted: u64, max_chains: u8) -> Result<(), AllocError> {
+        let gap = wanted.saturating_sub(chain.bound());
+        if self.aside.len() + 1 < max_chains as usize && gap > 0 {
+            if self
+                .rest
+                .put_aside(&chain, gap, &self.chosen, &mut self.fit)
+            {
+                self.aside.push(chain)?;
+            }
+        }
+        Ok(())
     }
 
     // A round of the fit: the chain that it gives, repaired; the empty one if that doesn't come to an end. An `Err` is

@@ -1,7 +1,7 @@
 //! What is proposed for parts and items.
 
-ghost use Rattle.std.specs.Prelude.{◌<◌, ◌≤◌, All, length, IfOk};
-ghost use Rattle.partition_fit.specs.Proposal.{HasLabelsBelow};
+ghost use Rattle.std.specs.Prelude.{◌<◌, All, IfOk};
+ghost use Rattle.partition_fit.specs.Proposal.{IsChainOf};
 
 use crate::chain::{Chain, Merge};
 use crate::item::Numbered;
@@ -18,7 +18,10 @@ pub struct Level {
 /// What is proposed for parts and items.
 #[derive(Debug, Drop)]
 pub struct Proposal {
-    /// A nested chain of partitions, the finest first.
+    /// Nested chains of partitions that put items aside, each its finest first: none overloads an item, but for those
+    /// that the ones before it put aside.
+    pub aside: Vec<Vec<Level>>,
+    /// A nested chain of partitions that bounds, the finest first.
     pub levels: Vec<Level>,
     /// The numbers of items that are meant to join all parts, at a small length.
     pub chosen: Vec<u32>,
@@ -26,11 +29,23 @@ pub struct Proposal {
     pub split: Option<u32>,
 }
 
+/// The levels of several chains. An `Err` is want of memory.
+pub fn chains_of(alloc: Global, parts: u8, chains: &[Chain]) -> Result<Vec<Vec<Level>>, AllocError>
+    requires some { 0 < parts }
+    ensures { IfOk result (λ found. All (λ levels. IsChainOf parts levels.items) found.items) }
+{
+    let mut found = Vec::new(alloc);
+    for chain in chains {
+        let levels = levels_of(alloc, parts, chain)?;
+        found.push(levels)?;
+    }
+    Ok(found)
+}
+
 /// The levels of a chain with at most 50 parts. An `Err` is want of memory.
 pub fn levels_of(alloc: Global, parts: u8, chain: &Chain) -> Result<Vec<Level>, AllocError>
     requires some { 0 < parts }
-    ensures labels { IfOk result (λ levels. All (HasLabelsBelow parts) levels.items) }
-    ensures few { IfOk result (λ levels. length levels.items ≤ 49) }
+    ensures { IfOk result (λ levels. IsChainOf parts levels.items) }
 {
     let mut levels = Vec::with_capacity(alloc, 49)?;
     let mut labels = [0; 50];

@@ -20,7 +20,7 @@ fn three_parts(rt: HostRuntime) -> Result<(), Fail> {
         },
     ];
     let mut fitter = Fitter::new(rt.alloc());
-    let proposal = fitter.propose(3, &items, &[], u64::MAX)?.ok_or("apart")?;
+    let proposal = fitter.propose(3, &items, &[], u64::MAX, 1)?.ok_or("apart")?;
     assert_eq!(rt; proposal.chosen.as_slice(), [2].as_slice());
     let mut bound = 0u64;
     for level in &proposal.levels {
