@@ -3,7 +3,7 @@
 use crate::sets::{is_several, place, single};
 
 /// An edge between two parts.
-#[derive(Clone, Copy, Debug)]
+#[derive(Clone, Copy)]
 pub struct Edge {
     pub from: u8,
     pub to: u8,
@@ -11,7 +11,7 @@ pub struct Edge {
 }
 
 /// A merge of two blocks along an edge: the block `a` has its end `from`, and `b` its end `to`.
-#[derive(Clone, Copy, Debug)]
+#[derive(Clone, Copy)]
 pub struct Merge {
     pub a: u64,
     pub b: u64,
@@ -23,7 +23,7 @@ pub struct Merge {
 /// weight (the rule of Kruskal 1956). Just before a merge the partition has one block fewer than before the one before;
 /// its amount is the weight of the merge less that of the one before. So what the chain bounds is the sum of all
 /// weights, and the load of a tree is the sum of the weights of those merges that have parts of it on both sides.
-#[derive(Clone, Copy, Debug)]
+#[derive(Clone, Copy)]
 pub struct Chain {
     pub edges: [Edge; 64],
     pub count: u8,
@@ -34,7 +34,7 @@ pub struct Chain {
 }
 
 /// A load, and the edges whose weights it sums.
-#[derive(Clone, Copy, Debug)]
+#[derive(Clone, Copy)]
 pub struct Load {
     pub sum: u64,
     pub used: u64,
@@ -168,7 +168,7 @@ impl Chain {
 }
 
 // Blocks of parts: following `up` from a part leads to the one that names its block.
-#[derive(Clone, Copy, Debug)]
+#[derive(Clone, Copy)]
 struct Blocks {
     up: [u8; 64],
     blocks: [u64; 64],

@@ -8,7 +8,7 @@ use crate::sets::{joins, single};
 const MAX_PARTS: u64 = 8;
 
 // A cluster that is being collected: the places of its items, the parts that they touch, and how many these are.
-#[derive(Clone, Copy, Debug)]
+#[derive(Clone, Copy)]
 struct Cluster {
     places: u64,
     reached: u64,
@@ -16,7 +16,7 @@ struct Cluster {
 }
 
 // An item that may be taken into a cluster next: its place, and its length for each part that it joins.
-#[derive(Clone, Copy, Debug)]
+#[derive(Clone, Copy)]
 struct Next {
     place: u8,
     item: Numbered,

@@ -19,7 +19,7 @@ const STEP: u64 = 1442695040888963407;
 const UNUSED_BITS: u32 = 40;
 
 /// A fit.
-#[derive(Debug, Drop)]
+#[derive(Drop)]
 pub struct Fit {
     pub chain: Chain,
     pub groups: Groups,

@@ -5,7 +5,7 @@ use crate::item::Numbered;
 use crate::sets::{lowest, place, single, without_lowest};
 
 /// An item with its load under a chain, the edges whose weights that sums, and the edges on the ways between its parts.
-#[derive(Clone, Copy, Debug)]
+#[derive(Clone, Copy)]
 pub struct Fitted {
     pub item: Numbered,
     pub load: u64,

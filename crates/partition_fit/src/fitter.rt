@@ -35,7 +35,7 @@ const IDLE_ROUNDS: u8 = 2;
 const WAKES: u8 = 10;
 
 /// What proposing works with; it keeps its memory from call to call.
-#[derive(Debug, Drop)]
+#[derive(Drop)]
 pub struct Fitter {
     alloc: Global,
     items: Vec<Numbered>,
@@ -68,17 +68,20 @@ impl Fitter {
         }
     }
 
-    /// Proposes a chain of partitions and a concatenation; `None` where the items don't join the parts. `guide` has
-    /// numbers of items that may make a good concatenation, and `best` is the length in units, a multiple of 12, that one
-    /// must stay below to be of use (`u64::MAX` if there is none): the chain is made to bound more than that less 12, so
-    /// that no whole length is left between. An `Err` is want of memory.
+    /// Proposes chains of partitions and a concatenation; `None` where the items don't join the parts. The same arguments
+    /// give the same proposal, whatever was proposed before. An `Err` is want of memory.
+    ///
+    /// `guide` has numbers of items that may make a good concatenation. `best` is the length in units that one must stay
+    /// below to be of use, a multiple of 12, or `u64::MAX` if there is none; the proposed one lowers it. The last chain is
+    /// made to bound more than that less 12, so that no whole length is left between. Up to `max_aside` chains come before it; with 0 it
+    /// overloads no item at all.
     pub fn propose(
         &mut self,
         parts: u8,
         items: &[Item],
         guide: &[u32],
         best: u64,
-        max_chains: u8,
+        max_aside: u8,
     ) -> Result<Option<Proposal>, AllocError>
         requires some { 0 < parts }
         ensures { IfOk result (λ found. IfSome found (IsInRange parts (length items.now))) }
@@ -94,7 +97,7 @@ impl Fitter {
             return Ok(None);
         }
         self.choose(parts, items, guide)?;
-        let (chain, split) = self.search(parts, best, max_chains)?;
+        let (chain, split) = self.search(parts, best, max_aside)?;
         Ok(Some(Proposal {
             aside: chains_of(self.alloc, parts, &self.aside)?,
             levels: levels_of(self.alloc, parts, &chain)?,
@@ -148,7 +151,7 @@ impl Fitter {
         &mut self,
         parts: u8,
         best: u64,
-        max_chains: u8,
+        max_aside: u8,
     ) -> Result<(Chain, Option<u32>), AllocError> {
         self.aside.clear();
         if self.grown.bound() >= wanted(best) {
@@ -159,7 +162,7 @@ impl Fitter {
         if self.grown.bound() >= wanted {
             return Ok((self.grown, None));
         }
-        let chain = self.fit(parts, wanted, max_chains)?;
+        let chain = self.fit(parts, wanted, max_aside)?;
         let split = self
             .fit
             .most_overloaded(&self.chosen)
@@ -168,9 +171,9 @@ impl Fitter {
     }
 
     // The best chain of a fit along the chosen items, that overloads no item. An `Err` is want of memory.
-    fn fit(&mut self, parts: u8, wanted: u64, max_chains: u8) -> Result<Chain, AllocError> {
+    fn fit(&mut self, parts: u8, wanted: u64, max_aside: u8) -> Result<Chain, AllocError> {
         self.begin(parts, wanted)?;
-        self.put_aside(self.grown, wanted, max_chains)?;
+        self.put_aside(self.grown, wanted, max_aside)?;
         let mut best = Chain::empty();
         let mut idle = 0u8;
         for _ in 0..ROUNDS {
@@ -178,7 +181,7 @@ impl Fitter {
             if chain.bound() > best.bound() {
                 best = chain;
                 idle = 0;
-                self.put_aside(best, wanted, max_chains)?;
+                self.put_aside(best, wanted, max_aside)?;
             } else {
                 idle = idle.wrapping_add(1);
             }
@@ -208,9 +211,9 @@ impl Fitter {
 
     // Puts aside what a chain, which overloads no item in hand, shows to be in no concatenation of use. An `Err` is want
     // of memory.
-    fn put_aside(&mut self, chain: Chain, wanted: u64, max_chains: u8) -> Result<(), AllocError> {
+    fn put_aside(&mut self, chain: Chain, wanted: u64, max_aside: u8) -> Result<(), AllocError> {
         let gap = wanted.saturating_sub(chain.bound());
-        if self.aside.len() + 1 < max_chains as usize && gap > 0 {
+        if self.aside.len() < max_aside as usize && gap > 0 {
             if self
                 .rest
                 .put_aside(&chain, gap, &self.chosen, &mut self.fit)

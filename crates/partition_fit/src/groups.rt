@@ -6,14 +6,14 @@ use crate::joining::Joining;
 use crate::sets::{lowest, place, single, without_lowest};
 
 /// The group of an item: the parts that it touches, and the edges.
-#[derive(Clone, Copy, Debug)]
+#[derive(Clone, Copy)]
 pub struct Group {
     pub touched: u64,
     pub edges: u64,
 }
 
 /// The groups of a concatenation, and the one of each edge.
-#[derive(Clone, Copy, Debug)]
+#[derive(Clone, Copy)]
 pub struct Groups {
     groups: [Group; 64],
     count: u8,

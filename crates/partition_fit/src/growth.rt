@@ -6,7 +6,7 @@ use crate::sets::{is_several, joins, lowest, single, without_lowest};
 use std::alloc::AllocError;
 
 /// An item under growth: the blocks that it touches, each named by its least part, and what is left of its length.
-#[derive(Clone, Copy, Debug)]
+#[derive(Clone, Copy)]
 pub struct Growing {
     blocks: u64,
     rest: u64,
@@ -14,7 +14,7 @@ pub struct Growing {
 }
 
 // The item that is used up first, after so much further growth.
-#[derive(Clone, Copy, Debug)]
+#[derive(Clone, Copy)]
 struct Pick {
     blocks: u64,
     growth: u64,

@@ -14,7 +14,7 @@ use std::mem;
 const ROUNDS: u8 = 10;
 
 /// What improving works with.
-#[derive(Debug, Drop)]
+#[derive(Drop)]
 pub struct Improver {
     table: Table,
     // The clusters that gained nothing since the last change, as places.

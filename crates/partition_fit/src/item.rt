@@ -10,7 +10,7 @@ pub struct Item {
 }
 
 /// An item in hand, by its number in the list that it comes from.
-#[derive(Clone, Copy, Debug)]
+#[derive(Clone, Copy)]
 pub struct Numbered {
     pub touched: u64,
     pub length: u64,

@@ -3,7 +3,7 @@
 use crate::sets::{all_below, lowest, place, single, without_lowest};
 
 /// Disjoint blocks of parts: for each part the block that has it.
-#[derive(Clone, Copy, Debug)]
+#[derive(Clone, Copy)]
 pub struct Joining {
     blocks: [u64; 64],
     count: u8,

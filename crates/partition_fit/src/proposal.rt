@@ -18,8 +18,9 @@ pub struct Level {
 /// What is proposed for parts and items.
 #[derive(Debug, Drop)]
 pub struct Proposal {
-    /// Nested chains of partitions that put items aside, each its finest first: none overloads an item, but for those
-    /// that the ones before it put aside.
+    /// Nested chains of partitions that put items aside, each its finest partition first. None overloads an item, but for
+    /// those that the ones before it put aside: those outside `chosen` whose length, less their load, makes up what the
+    /// bound of the chain falls short of the wanted one.
     pub aside: Vec<Vec<Level>>,
     /// A nested chain of partitions that bounds, the finest first.
     pub levels: Vec<Level>,

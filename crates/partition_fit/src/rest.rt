@@ -8,14 +8,14 @@ use crate::sides::sides;
 use std::alloc::{AllocError, Global};
 
 // An item, and whether the fit has it.
-#[derive(Clone, Copy, Debug)]
+#[derive(Clone, Copy)]
 struct Sleeper {
     item: Numbered,
     is_awake: bool,
 }
 
 /// All items of a fit.
-#[derive(Debug, Drop)]
+#[derive(Drop)]
 pub struct Rest {
     sleepers: Vec<Sleeper>,
 }

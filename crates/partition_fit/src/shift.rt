@@ -7,7 +7,7 @@ use crate::sets::single;
 use std::alloc::AllocError;
 
 /// A line of weights: from the edge that gives to the edge that takes, or to the spare, with their weights at first.
-#[derive(Clone, Copy, Debug)]
+#[derive(Clone, Copy)]
 pub struct Line {
     giver: u8,
     taker: Option<u8>,

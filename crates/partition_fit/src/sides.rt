@@ -4,7 +4,7 @@ use crate::chain::Chain;
 use crate::sets::{lowest, place, single, without_lowest};
 
 // A walk through the tree from the part 0: the parts in the order in which they are come to, and how each is.
-#[derive(Clone, Copy, Debug)]
+#[derive(Clone, Copy)]
 struct Walk {
     queue: [u8; 64],
     count: u8,

@@ -12,7 +12,7 @@ use std::alloc::AllocError;
 const MOVES: u8 = 2;
 
 // The edges of a group with the greatest pull and with the least one.
-#[derive(Clone, Copy, Debug)]
+#[derive(Clone, Copy)]
 struct Extremes {
     most: Option<u8>,
     least: u8,

@@ -8,7 +8,7 @@ use std::alloc::AllocError;
 const NONE: u64 = u64::MAX / 4;
 
 /// How a set of blocks is joined at least length.
-#[derive(Clone, Copy, Debug)]
+#[derive(Clone, Copy)]
 enum Way {
     /// By nothing: it is one block, or nothing joins it.
     Nothing,
@@ -19,7 +19,7 @@ enum Way {
 }
 
 /// For each set of at most 8 blocks, one bit for each, the length of a least concatenation of it, and how it is joined.
-#[derive(Clone, Copy, Debug)]
+#[derive(Clone, Copy)]
 pub struct Table {
     least: [u64; 256],
     ways: [Way; 256],

@@ -63,12 +63,12 @@ const SIX: [Item; 9] = [
 ];
 
 // What is proposed for parts and items: the length of what is chosen, and what the levels bound.
-fn proposed(alloc: Global, parts: u8, items: &[Item], max_chains: u8) -> Result<(u64, u64), Fail>
+fn proposed(alloc: Global, parts: u8, items: &[Item], max_aside: u8) -> Result<(u64, u64), Fail>
     requires { 0 < parts }
 {
     let mut fitter = Fitter::new(alloc);
     let proposal = fitter
-        .propose(parts, items, &[0], u64::MAX, max_chains)?
+        .propose(parts, items, &[0], u64::MAX, max_aside)?
         .ok_or("apart")?;
     let mut length = 0u64;
     for number in &proposal.chosen {
@@ -95,10 +95,10 @@ fn bound_of(levels: &[Level]) -> u64 {
 
 #[test]
 fn proposals(rt: HostRuntime) -> Result<(), Fail> {
-    assert_eq!(rt; proposed(rt.alloc(), 3, &TRIPLE, 1)?, (48, 48));
-    assert_eq!(rt; proposed(rt.alloc(), 6, &SIX, 1)?, (209076, 209071));
-    assert_eq!(rt; proposed(rt.alloc(), 6, &SIX, 3)?, (209076, 209071));
-    let apart = Fitter::new(rt.alloc()).propose(4, &TRIPLE, &[], u64::MAX, 1)?;
+    assert_eq!(rt; proposed(rt.alloc(), 3, &TRIPLE, 0)?, (48, 48));
+    assert_eq!(rt; proposed(rt.alloc(), 6, &SIX, 0)?, (209076, 209071));
+    assert_eq!(rt; proposed(rt.alloc(), 6, &SIX, 2)?, (209076, 209071));
+    let apart = Fitter::new(rt.alloc()).propose(4, &TRIPLE, &[], u64::MAX, 0)?;
     assert!(rt; apart.is_none());
     Ok(())
 }
