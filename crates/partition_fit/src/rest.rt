@@ -14,7 +14,7 @@ struct Sleeper {
     is_awake: bool,
 }
 
-/// All items of a fit.
+/// The items that a fit may have.
 #[derive(Drop)]
 pub struct Rest {
     sleepers: Vec<Sleeper>,

@@ -7,14 +7,14 @@ use std::alloc::AllocError;
 // A length above those of all concatenations.
 const NONE: u64 = u64::MAX / 4;
 
-/// How a set of blocks is joined at least length.
+// How a set of blocks is joined at least length.
 #[derive(Clone, Copy)]
 enum Way {
-    /// By nothing: it is one block, or nothing joins it.
+    // By nothing: it is one block, or nothing joins it.
     Nothing,
-    /// By one item.
+    // By one item.
     Item(Numbered),
-    /// By those of a set and those of the others with the shared block.
+    // By those of a set and those of the others with the shared block.
     Divided { one: u8, shared: u8 },
 }
 
