@@ -1,4 +1,4 @@
--- The growth's levels as layers of a bound.
+-- Proposed levels as layers of a bound.
 use Rattle.std.specs.Prelude.{ℕ, ◌==◌, ◌||◌, ◌≤◌, ◌*◌, Bool, false, List, [], ◌∷◌, All, map, take}
 use Rattle.full_tree.specs.declared.code.Tree.{Tree}
 use Rattle.concatenation.specs.declared.choice.Choice.{Choice}

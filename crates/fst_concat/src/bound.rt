@@ -12,8 +12,8 @@ use crate::level::{Level, MAX_LEVELS, are_sized, bound, lies_inside, load};
 use concatenation::{Choice, more_trees, partition_bound};
 use full_tree::{Places, Tree};
 
-// How many units of the amounts make one of length.
-const SCALE: u8 = 12;
+/// How many units of the amounts make one of length.
+pub const SCALE: u8 = 12;
 
 /// A total below which no concatenation that respects the choices lies, and which is no less than what is taken:
 /// that and what the levels bound, where they pack into the open trees.

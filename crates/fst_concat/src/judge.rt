@@ -10,8 +10,8 @@ ghost use Rattle.fst_concat.specs.Verdict.{VerdictHolds};
 
 use crate::best::{Best, total_of};
 use crate::bound::least_under;
-use crate::growth::{Growth, grow};
 use crate::parts::first_apart;
+use crate::proposal::{Proposal, propose};
 use concatenation::{Choice, more_trees};
 use full_tree::{Places, Tree};
 use std::alloc::{AllocError, Global};
@@ -88,32 +88,32 @@ fn weigh(
     ensures below { OnOk result (best.new.total ≤ best.old.total) }
     ensures holds { IfOk result (VerdictHolds points trees.now choices.now best.new.total) }
 {
-    let growth = grow(alloc, trees, listed, choices, labels)?;
     let total = total_of(trees, taken);
-    propose(
-        alloc, points, trees, listed, taken, total, &growth, labels, best,
+    let proposal = propose(alloc, trees, listed, choices, labels, total, best)?;
+    offer(
+        alloc, points, trees, listed, taken, total, &proposal, labels, best,
     )?;
-    let levels = growth.levels_for(total, best.total);
+    let levels = proposal.levels_for(total, best.total);
     let least = least_under(points, trees, listed, levels, choices, total);
     if least >= best.total {
         return Ok(Verdict::Done);
     }
-    match open_place(choices, growth.longest()) {
+    match open_place(choices, proposal.split()) {
         Some(place) => Ok(Verdict::Undecided { least, place }),
         None => unreachable!(),
     }
 }
 
-// Offers the taken trees with those of the growth, where they join all terminals, unless the levels alone may settle it.
+// Offers the taken trees with those that are proposed, where they join all terminals, unless the levels alone may settle it.
 // An `Err` is want of memory.
-fn propose(
+fn offer(
     alloc: Global,
     points: u8,
     trees: &[Tree],
     listed: &[Places],
     taken: &[bool],
     total: u128,
-    growth: &Growth,
+    proposal: &Proposal,
     labels: &mut [u8],
     best: &mut Best,
 ) -> Result<(), AllocError>
@@ -127,11 +127,11 @@ fn propose(
     ensures chosen { OnOk result (IsChosen points trees.now best.new.places best.new.total) }
     ensures below { OnOk result (best.new.total ≤ best.old.total) }
 {
-    if growth.reaches(total, best.total) {
+    if proposal.reaches(total, best.total) {
         return Ok(());
     }
     let mut set = Vec::from_slice(alloc, taken)?;
-    growth.add_to(&mut set);
+    proposal.add_to(&mut set);
     if first_apart(points, trees, listed, &set, labels).is_none() {
         best.offer(alloc, points, trees, &set)?;
     }

@@ -1,4 +1,4 @@
-//! Partitions with amounts, as the growth makes them and as the bound weighs them.
+//! Partitions with amounts, as they are proposed and as the bound weighs them.
 
 ghost use Rattle.std.specs.Prelude.{ℕ, ◌≡◌, ◌+◌, ◌*◌, ◌-◌, ◌<◌, ◌≤◌, All, length, map, slice_index, IsTrue};
 ghost use Rattle.full_tree.specs.Code.{ascending_places, members_of};

@@ -7,14 +7,15 @@ mod bound;
 mod choosing;
 mod chosen;
 mod fault;
-mod growth;
 mod judge;
 mod laws;
 mod level;
 mod listed;
 mod parts;
+mod proposal;
 mod search;
 mod start;
+mod touching;
 mod trail;
 
 pub use choosing::concat;
