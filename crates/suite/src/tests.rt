@@ -20,7 +20,7 @@ const POINTS: &[u8] = b"0 0\n2 0\n1 1\n";
 
 /// The answer that `solve` prints for them.
 const ANSWER: &[u8] =
-    b"rst answer 1\nlength 4\nbound 3\nstatus stopped\nopenings 100\nconcat spent 4\nedges 4\n0 0 1 0\n1 0 2 0\n0 1 1 1\n0 0 0 1\ntree\nleaf 3\ncut 1 20\ncut 1 08\ncut 1 64\nend\n";
+    b"rst answer 1\nlength 3\nbound 3\nstatus optimal\nopenings 100\nconcat least 3\nedges 3\n0 0 1 0\n1 0 2 0\n1 0 1 1\ntree\nleaf 3\ncut 1 20\ncut 1 08\ncut 1 64\nend\n";
 
 /// A file of one full tree.
 const FILE: &[u8] = b"rst fst 1\npoints 2\n0 0\n2 0\ntrees 1\n2 long 0 E 1 -\nend\n";
@@ -59,12 +59,12 @@ fn ran(rt: &HostRuntime, words: &[&str], input: &[u8]) -> Result<Outcome, Fail> 
 #[test]
 fn runs_each_tool(rt: HostRuntime) -> Result<(), Fail> {
     let rows: [(&[&str], &[u8], u8, &[u8], &[u8]); 7] = [
-        (&["solve"], POINTS, 3, ANSWER, b""),
+        (&["solve"], POINTS, 0, ANSWER, b""),
         (
             &["check", "P"],
             ANSWER,
             0,
-            b"accepted length 4 bound 3 stopped\n",
+            b"accepted length 3 bound 3 optimal\n",
             b"",
         ),
         (
