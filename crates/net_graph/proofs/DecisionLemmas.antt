@@ -1,8 +1,8 @@
 -- The ends of inside edges.
 use Rattle.std.proofs.Common.{ℕ, ◌≡◌, ◌<◌, ◌⊎◌, List, slice_get, Some}
 use Rattle.net_graph.specs.declared.edge.Edge.{Edge}
-use Rattle.net_graph.specs.declared.packing.EdgeState.{EdgeState}
-use Rattle.net_graph.specs.declared.packing.EdgeState.TheVariants.{Inside}
+use Rattle.net_graph.specs.declared.state.EdgeState.{EdgeState}
+use Rattle.net_graph.specs.declared.state.EdgeState.TheVariants.{Inside}
 
 -- no inside edge among the first ones has this end
 abbrev pub EndsNoneBelow : List Edge → List EdgeState → ℕ → ℕ → Type 0

@@ -1,8 +1,7 @@
 -- A set that is filled in the order of its numbers.
 use Rattle.std.proofs.Common.{ℕ, ◌≡◌, ◌≢◌, ◌+◌, ◌<◌, ◌↔◌, Bool, true, false, List, length, replicate, slice_get, slice_set, Some, sym, ap, ◌∙◌, inl, inr, arith, length-set}
-use Rattle.std.proofs.lemmas.Bool.{cases_eq, cases_lt}
-use Rattle.std.proofs.lemmas.Option.{slice_get-get_or, slice_get_within, slice_get_past}
-use Rattle.std.proofs.lemmas.List.{get_or-set_same, get_or-set_other, get_or-replicate, length-replicate}
+use Rattle.std.proofs.lemmas.Bool.{cases_eq}
+use Rattle.net_graph.specs.EntryLaws.{slice_get-set_same, slice_get-set_other, slice_get-replicate}
 
 -- of the first numbers the set holds those with P, and it holds no others
 pub record HoldsBelow (P : ℕ → Type 0) (bound : ℕ) (set : List Bool) : Type 0 where
@@ -10,25 +9,9 @@ pub record HoldsBelow (P : ℕ → Type 0) (bound : ℕ) (set : List Bool) : Typ
   pub below : (k : ℕ) → slice_get set k ≡ Some true → k < bound
   pub only : (k : ℕ) → slice_get set k ≡ Some true → P k
 
--- the flag that was written
-slice_get-set_same : (set : List Bool) (n : ℕ) → n < length set → slice_get (slice_set set n true) n ≡ Some true
-slice_get-set_same set n within =
-    slice_get-get_or (slice_set set n true) n false (omega (arith, length-set set n true)) ∙ ap Some (get_or-set_same set n true false within)
-
--- a flag that was not
-slice_get-set_other : (set : List Bool) (n k : ℕ) → k ≢ n → slice_get (slice_set set n true) k ≡ slice_get set k
-slice_get-set_other set n k apart = elim (cases_lt k (length set)) [
-  | inl within ↦ slice_get-get_or (slice_set set n true) k false (omega (arith, length-set set n true)) ∙ ap Some (get_or-set_other set n k true false apart) ∙ sym (slice_get-get_or set k false within)
-  | inr past ↦ slice_get_past (slice_set set n true) k (omega (arith, length-set set n true)) ∙ sym (slice_get_past set k past)
-]
-
 -- nothing is in the empty set
 none_inside : (size k : ℕ) → slice_get (replicate size false) k ≡ Some true → ⊥
-none_inside size k inside =
-    let within = slice_get_within (replicate size false) k true inside in
-    let outside : slice_get (replicate size false) k ≡ Some false =
-    slice_get-get_or (replicate size false) k false within ∙ ap Some (get_or-replicate size k false false (omega (arith, length-replicate size false))) in
-    cc
+none_inside size k inside = let same : false ≡ true = slice_get-replicate size k false true inside in cc
 
 -- no number was looked at
 pub HoldsBelow-none : (P : ℕ → Type 0) (size : ℕ) → HoldsBelow P 0 (replicate size false)
@@ -42,16 +25,16 @@ HoldsBelow-none P size = record {
 pub HoldsBelow-yes : (P : ℕ → Type 0) (n : ℕ) (set : List Bool) → n < length set → P n → HoldsBelow P n set → HoldsBelow P (n + 1) (slice_set set n true)
 HoldsBelow-yes P n set within is so_far = record {
   put = λ k low holds. elim (cases_eq k n) [
-    | inl here ↦ (ap (slice_get (slice_set set n true)) here ∙ slice_get-set_same set n within)
-    | inr apart ↦ (slice_get-set_other set n k apart ∙ so_far.put k (omega arith) holds)
+    | inl here ↦ (ap (slice_get (slice_set set n true)) here ∙ slice_get-set_same set n true within)
+    | inr apart ↦ (slice_get-set_other set n k true apart ∙ so_far.put k (omega arith) holds)
   ];
   below = λ k inside. elim (cases_eq k n) [
     | inl here ↦ omega arith
-    | inr apart ↦ omega (arith, so_far.below k (sym (slice_get-set_other set n k apart) ∙ inside))
+    | inr apart ↦ omega (arith, so_far.below k (sym (slice_get-set_other set n k true apart) ∙ inside))
   ];
   only = λ k inside. elim (cases_eq k n) [
     | inl here ↦ rw here is
-    | inr apart ↦ so_far.only k (sym (slice_get-set_other set n k apart) ∙ inside)
+    | inr apart ↦ so_far.only k (sym (slice_get-set_other set n k true apart) ∙ inside)
   ];
 }
 

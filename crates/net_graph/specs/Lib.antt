@@ -14,6 +14,8 @@ pub mod Network
 pub mod Joins
 pub mod JoinsLaws
 pub mod Decision
+pub mod EntryLaws
+pub mod DecisionLaws
 pub mod Packing
 pub mod Feasible
 pub mod Saturation

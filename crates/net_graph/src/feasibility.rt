@@ -2,7 +2,7 @@
 
 ghost use Rattle.std.specs.Prelude.{◌≡◌, ◌<◌, ◌≤◌, ◌^◌, ◌↔◌, ℕ, true, length, All, Contains, IfOk, IsTrue};
 ghost use Rattle.net_graph.specs.Flags.{has};
-ghost use Rattle.net_graph.specs.Decision.{IsRequired, EndsInside};
+ghost use Rattle.net_graph.specs.Decision.{IsDecisionFor, IsRequired, IsMet, EndsInside};
 ghost use Rattle.net_graph.specs.Packing.{IsCut, IsWithinRoom, IsFeasible};
 ghost use Rattle.net_graph.specs.Packing as packing;
 ghost use Rattle.net_graph.specs.Feasible.{KeepsRoom};
@@ -10,14 +10,15 @@ ghost use Rattle.net_graph.specs.Feasible.{KeepsRoom};
 use crate::decision::Decision;
 use crate::edge::Edge;
 use crate::graph::NetGraph;
-use crate::packing::{Cut, EdgeState, Packing};
+use crate::packing::{Cut, Packing};
 use crate::sets::VertexSet;
+use crate::state::EdgeState;
 use std::alloc::{AllocError, Global};
 
 /// Whether a packing is feasible: each member is a cut with a weight of at least 1, and no arc is loaded above its
 /// room. The time grows with the number of edges times that of cuts. An `Err` is want of memory.
 pub fn feasible(_alloc: Global, g: &NetGraph, d: &Decision, p: &Packing) -> Result<bool, AllocError>
-    requires decision { length d.now ≡ length g.now.edges }
+    requires decision { IsDecisionFor g.now d.now }
     requires members { All (λ c. length c.members ≡ g.now.vertices) p.now }
     requires few_cuts { length p.now ≤ 2 ^ 32 }
     ensures { IfOk result (λ yes. IsTrue yes ↔ IsFeasible g.now d.now p.now) }
@@ -27,7 +28,7 @@ pub fn feasible(_alloc: Global, g: &NetGraph, d: &Decision, p: &Packing) -> Resu
 
 // The same. It takes no memory.
 fn is_feasible(g: &NetGraph, d: &Decision, cuts: &[Cut]) -> bool
-    requires decision { length d.now ≡ length g.now.edges }
+    requires decision { IsDecisionFor g.now d.now }
     requires members { All (λ c. length c.members ≡ g.now.vertices) cuts.now }
     requires few_cuts { length cuts.now ≤ 2 ^ 32 }
     ensures { IsTrue result ↔ IsFeasible g.now d.now cuts.now }
@@ -61,7 +62,7 @@ fn holds_required(g: &NetGraph, d: &Decision, members: &VertexSet) -> bool
     requires { length members.now ≡ g.now.vertices }
     ensures { IsTrue result ↔ ((v : ℕ) × IsRequired g.now d.now v × (has members.now v ≡ true)) }
 {
-    holds_terminal(g, members) || holds_inside_end(g, d, members)
+    holds_terminal(g, members) || holds_inside_end(g, d, members) || holds_met(d, members)
 }
 
 // Whether the set holds a terminal.
@@ -90,9 +91,21 @@ fn holds_inside_end(g: &NetGraph, d: &Decision, members: &VertexSet) -> bool
     false
 }
 
+// Whether the set holds a met vertex.
+fn holds_met(d: &Decision, members: &VertexSet) -> bool
+    ensures { IsTrue result ↔ ((v : ℕ) × IsMet d.now v × (has members.now v ≡ true)) }
+{
+    for v in 0..members.len() {
+        if d.is_met(v) && members.has(v) {
+            return true;
+        }
+    }
+    false
+}
+
 // Whether no arc is loaded above its room.
 fn edges_within_room(g: &NetGraph, d: &Decision, cuts: &[Cut]) -> bool
-    requires decision { length d.now ≡ length g.now.edges }
+    requires decision { IsDecisionFor g.now d.now }
     requires members { All (λ c. length c.members ≡ g.now.vertices) cuts.now }
     requires few_cuts { length cuts.now ≤ 2 ^ 32 }
     ensures { IsTrue result ↔ ((n : ℕ) → KeepsRoom g.now d.now cuts.now n) }
@@ -108,13 +121,13 @@ fn edges_within_room(g: &NetGraph, d: &Decision, cuts: &[Cut]) -> bool
 // Whether neither arc of the edge is loaded above its room.
 fn edge_within_room(g: &NetGraph, d: &Decision, cuts: &[Cut], n: u32) -> bool
     requires edge { n < length g.now.edges }
-    requires decision { length d.now ≡ length g.now.edges }
+    requires decision { IsDecisionFor g.now d.now }
     requires members { All (λ c. length c.members ≡ g.now.vertices) cuts.now }
     requires few_cuts { length cuts.now ≤ 2 ^ 32 }
     ensures { IsTrue result ↔ KeepsRoom g.now d.now cuts.now n }
 {
     let e = g.edge(n);
-    let state = d.state(n);
+    let state = d.state(g, n);
     within_room(state, e, load(cuts, e.a, e.b)) && within_room(state, e, load(cuts, e.b, e.a))
 }
 

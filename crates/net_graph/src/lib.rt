@@ -15,18 +15,20 @@ mod packing;
 mod rooted;
 mod search;
 mod sets;
+mod state;
 #[cfg(test)]
 mod tests;
 
 pub use arcs::{Arc, partner};
 pub use counted::{CountedSet, counted_leading_to};
-pub use decision::{Decision, required};
+pub use decision::{Decision, required, vertex_undecided};
 pub use edge::{Edge, EdgeList, VertexList};
 pub use feasibility::feasible;
 pub use graph::{GraphFault, NetGraph};
 pub use lengths::length;
 pub use network::{first_apart, joins, reached};
-pub use packing::{Cut, EdgeState, Packing, value};
+pub use packing::{Cut, Packing, value};
 pub use rooted::root_part;
 pub use search::{Passage, leading_to, reached_from};
 pub use sets::{EdgeSet, VertexSet};
+pub use state::{EdgeState, VertexState};

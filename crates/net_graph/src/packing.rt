@@ -1,4 +1,4 @@
-//! Weighted directed cuts, and what is decided of edges.
+//! Weighted directed cuts, and packings of them.
 
 ghost use Rattle.std.specs.Prelude.{◌≡◌, ◌+◌, ◌<◌, ◌≤◌, ◌^◌, [], ◌∷◌, ◌++◌, length, slice_get, sum_by, Some, IfOk, OnOk, OnErr};
 ghost use Rattle.net_graph.specs.Packing.{inside_length, packing_value};
@@ -9,14 +9,6 @@ use crate::graph::NetGraph;
 use crate::sets::VertexSet;
 use std::alloc::{AllocError, Global};
 use std::marker::Model;
-
-/// What a decision says of an edge.
-#[derive(Clone, Copy, Debug, PartialEq, Eq)]
-pub enum EdgeState {
-    Undecided,
-    Inside,
-    Outside,
-}
 
 /// A set of vertices apart from the root, with a weight of at least 1.
 #[derive(Debug, Drop)]
@@ -118,7 +110,7 @@ pub fn value(g: &NetGraph, d: &Decision, p: &Packing) -> u128
 // The sum of the lengths of the inside edges.
 fn length_inside(edges: &[Edge], d: &Decision) -> u64
     requires { sum_by (λ e. e.length) edges.now < 2 ^ 63 }
-    ensures { result ≡ inside_length edges.now d.now }
+    ensures { result ≡ inside_length edges.now d.now.edges }
 {
     let mut sum = 0;
     for (n, e) in edges.iter().enumerate() {

@@ -3,16 +3,17 @@
 ghost use Rattle.std.specs.Prelude.{◌≡◌, ◌*◌, ◌<◌, ◌≤◌, ◌%◌, ◌==◌, length, All, IfOk};
 
 use crate::counted::counted_leading_to;
-use crate::decision::{Decision, required};
+use crate::decision::{Decision, required, vertex_undecided};
 use crate::edge::Edge;
 use crate::feasibility::feasible;
 use crate::graph::{GraphFault, NetGraph};
 use crate::lengths::length;
 use crate::network::{first_apart, joins};
-use crate::packing::{Cut, EdgeState, Packing, value};
+use crate::packing::{Cut, Packing, value};
 use crate::rooted::root_part;
 use crate::search::{Passage, leading_to, reached_from};
 use crate::sets::{EdgeSet, VertexSet};
+use crate::state::EdgeState;
 use item_list::ItemList;
 use std::alloc::{AllocError, Global};
 use std::test::Fail;
@@ -194,7 +195,9 @@ fn required_at_three(alloc: Global) -> Result<[bool; 2], AllocError> {
     let g = triangle(alloc)?;
     let mut d = Decision::none(alloc, &g)?;
     let before = required(&g, &d, 3);
-    d.decide(3, EdgeState::Inside);
+    if d.state(&g, 3) == EdgeState::Undecided {
+        d = d.with_inside(&g, 3)?;
+    }
     let d = d.copy()?;
     Ok([before, required(&g, &d, 3)])
 }
@@ -202,6 +205,47 @@ fn required_at_three(alloc: Global) -> Result<[bool; 2], AllocError> {
 #[test]
 fn an_inside_edge_requires_its_ends(rt: HostRuntime) -> Result<(), AllocError> {
     assert!(rt; required_at_three(rt.alloc())? == [false, true]);
+    Ok(())
+}
+
+// The states of the edges once an edge is outside and a vertex is missed, and whether the vertex 4 is then undecided.
+fn freed(alloc: Global, e: u32, v: u32) -> Result<(Vec<EdgeState>, bool), AllocError>
+    requires edge { e < 4 }
+    requires vertex { v < 5 }
+{
+    let g = triangle(alloc)?;
+    let mut d = Decision::none(alloc, &g)?;
+    if d.state(&g, e) == EdgeState::Undecided {
+        d = d.with_outside(&g, e)?;
+    }
+    if vertex_undecided(&g, &d, v) {
+        d = d.with_missed(&g, v)?;
+    }
+    Ok((d.states(alloc, &g)?, vertex_undecided(&g, &d, 4)))
+}
+
+#[test]
+fn a_missed_vertex_frees_its_edges(rt: HostRuntime) -> Result<(), AllocError> {
+    let (states, open) = freed(rt.alloc(), 1, 3)?;
+    let free = EdgeState::Outside;
+    let wanted = [EdgeState::Undecided, free, EdgeState::Undecided, free];
+    assert!(rt; states.as_slice() == wanted.as_slice() && open);
+    Ok(())
+}
+
+// Whether 3 is required once it is met, and the states of its edge.
+fn met_three(alloc: Global) -> Result<(bool, EdgeState), AllocError> {
+    let g = triangle(alloc)?;
+    let mut d = Decision::none(alloc, &g)?;
+    if vertex_undecided(&g, &d, 3) {
+        d = d.with_met(&g, 3)?;
+    }
+    Ok((required(&g, &d, 3), d.state(&g, 3)))
+}
+
+#[test]
+fn a_met_vertex_is_required(rt: HostRuntime) -> Result<(), AllocError> {
+    assert!(rt; met_three(rt.alloc())? == (true, EdgeState::Undecided));
     Ok(())
 }
 

@@ -4,4 +4,4 @@ use Rattle.net_graph.proofs.packing.length_inside.Given as goal
 
 -- the sum of the inside edges' lengths so far
 abbrev pub invariant-loop-n : goal.invariant-loop-n
-invariant-loop-n l = l.sum ≡ inside_length (take l.n l.edges) l.d
+invariant-loop-n l = l.sum ≡ inside_length (take l.n l.edges) l.d.edges

@@ -1,0 +1,13 @@
+use Rattle.std.proofs.Common.{subst, sym}
+use Rattle.std.proofs.lemmas.Result.{IfOk-weaker}
+use Rattle.net_graph.specs.declared.state.VertexState.TheVariants.{Met}
+use Rattle.net_graph.specs.Decision.{IsDecisionFor, with_vertex}
+use Rattle.net_graph.specs.DecisionLaws.{IsDecisionFor-with_met}
+use Rattle.net_graph.proofs.decision.Decision.with_met.Goals as goal
+
+pub returns-clause-decision : goal.returns-clause-decision
+returns-clause-decision c =
+    IfOk-weaker c.with_vertex.result _ (IsDecisionFor c.args._g.now)
+    (λ d is. subst (IsDecisionFor c.args._g.now) (sym is)
+    (IsDecisionFor-with_met c.args._g.now c.args.self.now c.args.v c.requires.decision c.requires.undecided))
+    c.with_vertex.ensures

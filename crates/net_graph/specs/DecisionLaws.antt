@@ -1,0 +1,365 @@
+-- Laws of decisions: which edges are free, what is undecided, and that one more state keeps a decision one.
+use Rattle.std.specs.Prelude.{ℕ, zero, suc, ◌≡◌, ◌≢◌, ◌<◌, ◌↔◌, ◌⊎◌, Bool, true, false, List, [], ◌∷◌, length, replicate, slice_get, slice_set, Option, Some, Contains, if◌then◌else◌}
+use Rattle.std.proofs.Common.{refl, sym, ap, ◌∙◌, inl, inr, ⊎_elim, arith, length-set, subst}
+use Rattle.std.proofs.lemmas.Bool.{cases_eq, cases_Bool, or_cases, or_left, or_right}
+use Rattle.std.proofs.lemmas.List.{length-replicate}
+use Rattle.std.proofs.lemmas.Option.{same_Some, slice_get-get_or, slice_get_within}
+use Rattle.net_graph.specs.declared.edge.Edge.{Edge}
+use Rattle.net_graph.specs.declared.state.EdgeState.{EdgeState}
+use Rattle.net_graph.specs.declared.state.EdgeState.TheVariants.{Undecided, Inside, Outside}
+use Rattle.net_graph.specs.declared.state.VertexState.{VertexState}
+use Rattle.net_graph.specs.declared.state.VertexState.TheVariants.{Met, Missed}
+use Rattle.net_graph.specs.declared.state.VertexState.TheVariants as vertex
+use Rattle.net_graph.specs.Graph.{Graph}
+use Rattle.net_graph.specs.Decision.{Decided, IsMet, IsMissed, IsFree, IsRequired, EndsInside, IsDecisionFor, IsUndecided, IsVertexUndecided, Agrees, nothing_decided, with_edge, with_vertex, is_missed, has_missed_end, state_at_ends, states_at_ends, states_of}
+use Rattle.net_graph.specs.EntryLaws.{slice_get-set_same, slice_get-set_other, slice_get-replicate}
+
+-- the test of a missed vertex
+is_missed-true : (found : Option VertexState) → is_missed found ≡ true → found ≡ Some Missed
+is_missed-true (Some Missed) is = refl
+is_missed-true _ is = cc
+
+-- an edge has a missed end where the test says so
+pub has_missed_end-iff : (d : Decided) (e : Edge) → (has_missed_end d.vertices e ≡ true) ↔ (IsMissed d e.a ⊎ IsMissed d e.b)
+has_missed_end-iff d e = (
+  λ holds. ⊎_elim
+      (λ (a : is_missed (slice_get d.vertices e.a) ≡ true). inl (is_missed-true _ a))
+      (λ (b : is_missed (slice_get d.vertices e.b) ≡ true). inr (is_missed-true _ b))
+      (or_cases _ _ holds),
+  λ missed. ⊎_elim
+      (λ (a : IsMissed d e.a). or_left _ _ (ap is_missed a))
+      (λ (b : IsMissed d e.b). or_right _ _ (ap is_missed b))
+      missed,
+)
+
+-- no other edge becomes inside at its ends
+state_at_ends-inside : (vertices : List VertexState) (e : Edge) (state : EdgeState) → state_at_ends vertices e state ≡ Inside → state ≡ Inside
+state_at_ends-inside vertices e Inside is = refl
+state_at_ends-inside vertices e Outside is = is
+state_at_ends-inside vertices e Undecided is = absurd (neither (has_missed_end vertices e) is)
+  where
+    neither : (missed : Bool) → (if missed then Outside else Undecided) ≡ Inside → ⊥
+    neither true is = cc
+    neither false is = cc
+
+-- an edge is free at its ends where it is outside or one of them is missed
+state_at_ends-outside : (vertices : List VertexState) (e : Edge) (state : EdgeState) → state_at_ends vertices e state ≡ Outside →
+    (state ≡ Outside) ⊎ (has_missed_end vertices e ≡ true)
+state_at_ends-outside vertices e Outside is = inl refl
+state_at_ends-outside vertices e Inside is = inl is
+state_at_ends-outside vertices e Undecided is = inr (cases (has_missed_end vertices e) is)
+  where
+    cases : (missed : Bool) → (if missed then Outside else Undecided) ≡ Outside → missed ≡ true
+    cases true is = refl
+    cases false is = cc
+
+-- an edge is undecided at its ends where it is so without them and none is missed
+state_at_ends-undecided : (vertices : List VertexState) (e : Edge) (state : EdgeState) → state_at_ends vertices e state ≡ Undecided →
+    (state ≡ Undecided) × (has_missed_end vertices e ≡ false)
+state_at_ends-undecided vertices e Inside is = cc
+state_at_ends-undecided vertices e Outside is = cc
+state_at_ends-undecided vertices e Undecided is = (refl, cases (has_missed_end vertices e) is)
+  where
+    cases : (missed : Bool) → (if missed then Outside else Undecided) ≡ Undecided → missed ≡ false
+    cases true is = cc
+    cases false is = refl
+
+states_at_ends-at : (es : List Edge) (states : List EdgeState) (vertices : List VertexState) (n : ℕ) (e : Edge) (state : EdgeState) →
+    slice_get es n ≡ Some e → slice_get states n ≡ Some state →
+    slice_get (states_at_ends es states vertices) n ≡ Some (state_at_ends vertices e state)
+states_at_ends-at [] states vertices n e state at decided = cc
+states_at_ends-at (d ∷ es) [] vertices n e state at decided = cc
+states_at_ends-at (d ∷ es) (s ∷ states) vertices zero e state at decided =
+    rw (same_Some d e at, same_Some s state decided) refl
+states_at_ends-at (d ∷ es) (s ∷ states) vertices (suc n) e state at decided = states_at_ends-at es states vertices n e state at decided
+
+-- the state of an edge, by what is decided of it and of its ends
+pub states_of-at : (g : Graph) (d : Decided) (n : ℕ) (e : Edge) (state : EdgeState) → slice_get g.edges n ≡ Some e →
+    slice_get d.edges n ≡ Some state → slice_get (states_of g d) n ≡ Some (state_at_ends d.vertices e state)
+states_of-at g d n e state at decided = states_at_ends-at g.edges d.edges d.vertices n e state at decided
+
+states_at_ends-parts : (es : List Edge) (states : List EdgeState) (vertices : List VertexState) (n : ℕ) (state : EdgeState) →
+    slice_get (states_at_ends es states vertices) n ≡ Some state →
+    (e : Edge) × (bare : EdgeState) × (slice_get es n ≡ Some e) × (slice_get states n ≡ Some bare) × (state_at_ends vertices e bare ≡ state)
+states_at_ends-parts [] states vertices n state is = cc
+states_at_ends-parts (e ∷ es) [] vertices n state is = cc
+states_at_ends-parts (e ∷ es) (bare ∷ states) vertices zero state is = (e, bare, refl, refl, same_Some _ state is)
+states_at_ends-parts (e ∷ es) (bare ∷ states) vertices (suc n) state is = states_at_ends-parts es states vertices n state is
+
+-- .. and back: what is decided of an edge whose state is known
+pub states_of-parts : (g : Graph) (d : Decided) (n : ℕ) (state : EdgeState) → slice_get (states_of g d) n ≡ Some state →
+    (e : Edge) × (bare : EdgeState) × (slice_get g.edges n ≡ Some e) × (slice_get d.edges n ≡ Some bare) × (state_at_ends d.vertices e bare ≡ state)
+states_of-parts g d n state is = states_at_ends-parts g.edges d.edges d.vertices n state is
+
+length-states_at_ends : (es : List Edge) (states : List EdgeState) (vertices : List VertexState) → length states ≡ length es →
+    length (states_at_ends es states vertices) ≡ length es
+length-states_at_ends [] states vertices size = refl
+length-states_at_ends (e ∷ es) [] vertices size = size
+length-states_at_ends (e ∷ es) (state ∷ states) vertices size =
+    let rest : length states ≡ length es = omega arith in
+    omega (arith, length-states_at_ends es states vertices rest)
+
+-- one state for each edge
+pub length-states_of : (g : Graph) (d : Decided) → length d.edges ≡ length g.edges → length (states_of g d) ≡ length g.edges
+length-states_of g d size = length-states_at_ends g.edges d.edges d.vertices size
+
+-- each edge has a state of its own
+pub decided_at : (g : Graph) (d : Decided) (n : ℕ) → IsDecisionFor g d → n < length g.edges →
+    (e : Edge) × (state : EdgeState) × (slice_get g.edges n ≡ Some e) × (slice_get d.edges n ≡ Some state)
+decided_at g d n decision within =
+    let none : Edge = record { a = 0; b = 0; length = 0 } in
+    (_, _, slice_get-get_or g.edges n none within, slice_get-get_or d.edges n Undecided (omega (arith, decision.edges)))
+
+-- an end of an inside edge is not missed
+pub inside-not_missed : (g : Graph) (d : Decided) (n : ℕ) (e : Edge) → IsDecisionFor g d → slice_get d.edges n ≡ Some Inside →
+    slice_get g.edges n ≡ Some e → IsMissed d e.a ⊎ IsMissed d e.b → ⊥
+inside-not_missed g d n e decision inside at missed =
+    ⊎_elim
+    (λ (a : IsMissed d e.a). decision.missed e.a a (inr (inl (n, e, inside, at, inl refl))))
+    (λ (b : IsMissed d e.b). decision.missed e.b b (inr (inl (n, e, inside, at, inr refl))))
+    missed
+
+-- no inside edge is free
+pub inside-not_free : (g : Graph) (d : Decided) (n : ℕ) → IsDecisionFor g d → slice_get d.edges n ≡ Some Inside → IsFree g d n → ⊥
+inside-not_free g d n decision inside free =
+    ⊎_elim
+    (λ (outside : slice_get d.edges n ≡ Some Outside). let same : Inside ≡ Outside = same_Some _ _ (sym inside ∙ outside) in cc)
+    (λ (missed : (e : Edge) × (slice_get g.edges n ≡ Some e) × (IsMissed d e.a ⊎ IsMissed d e.b)).
+    inside-not_missed g d n missed.0 decision inside missed.1 missed.2)
+    free
+
+-- an edge's state is Inside where it is inside
+pub states_of-inside : (g : Graph) (d : Decided) (n : ℕ) → slice_get (states_of g d) n ≡ Some Inside → slice_get d.edges n ≡ Some Inside
+states_of-inside g d n is =
+    let (e, bare, at, decided, so) = states_of-parts g d n Inside is in
+    decided ∙ ap Some (state_at_ends-inside d.vertices e bare so)
+
+-- .. and only there
+pub states_of-from_inside : (g : Graph) (d : Decided) (n : ℕ) → IsDecisionFor g d → slice_get d.edges n ≡ Some Inside →
+    slice_get (states_of g d) n ≡ Some Inside
+states_of-from_inside g d n decision inside =
+    let within : n < length g.edges = omega (arith, slice_get_within d.edges n Inside inside, decision.edges) in
+    let (e, state, at, decided) = decided_at g d n decision within in
+    states_of-at g d n e Inside at inside
+
+-- an edge's state is Outside where it is free
+pub states_of-free : (g : Graph) (d : Decided) (n : ℕ) → slice_get (states_of g d) n ≡ Some Outside → IsFree g d n
+states_of-free g d n is =
+    let (e, bare, at, decided, so) = states_of-parts g d n Outside is in
+    ⊎_elim
+    (λ (outside : bare ≡ Outside). inl (decided ∙ ap Some outside))
+    (λ (missed : has_missed_end d.vertices e ≡ true). inr (e, at, (has_missed_end-iff d e).0 missed))
+    (state_at_ends-outside d.vertices e bare so)
+
+-- a missed end makes every edge but an inside one free
+state_at_missed : (vertices : List VertexState) (e : Edge) (state : EdgeState) → has_missed_end vertices e ≡ true → (state ≡ Inside → ⊥) →
+    state_at_ends vertices e state ≡ Outside
+state_at_missed vertices e Undecided missed other = rw missed refl
+state_at_missed vertices e Inside missed other = absurd (other refl)
+state_at_missed vertices e Outside missed other = refl
+
+-- .. and only there
+pub states_of-from_free : (g : Graph) (d : Decided) (n : ℕ) → IsDecisionFor g d → n < length g.edges → IsFree g d n →
+    slice_get (states_of g d) n ≡ Some Outside
+states_of-from_free g d n decision within free =
+    let (e, state, at, decided) = decided_at g d n decision within in
+    ⊎_elim
+    (λ (outside : slice_get d.edges n ≡ Some Outside). states_of-at g d n e Outside at outside)
+    (λ (missed : (x : Edge) × (slice_get g.edges n ≡ Some x) × (IsMissed d x.a ⊎ IsMissed d x.b)).
+    states_of-at g d n missed.0 state missed.1 decided
+    ∙ ap Some (state_at_missed d.vertices missed.0 state ((has_missed_end-iff d missed.0).1 missed.2)
+    (λ inside. inside-not_missed g d n missed.0 decision (decided ∙ ap Some inside) missed.1 missed.2)))
+    free
+
+-- an edge that is undecided by itself is free where one of its ends is missed
+pub states_of-from_missed : (g : Graph) (d : Decided) (n : ℕ) (e : Edge) → slice_get g.edges n ≡ Some e → slice_get d.edges n ≡ Some Undecided →
+    IsMissed d e.a ⊎ IsMissed d e.b → slice_get (states_of g d) n ≡ Some Outside
+states_of-from_missed g d n e at decided missed =
+    states_of-at g d n e Undecided at decided
+    ∙ ap (λ test. Some (if test then Outside else Undecided)) ((has_missed_end-iff d e).1 missed)
+
+-- .. and undecided where none is
+pub states_of-from_kept : (g : Graph) (d : Decided) (n : ℕ) (e : Edge) → slice_get g.edges n ≡ Some e → slice_get d.edges n ≡ Some Undecided →
+    (IsMissed d e.a ⊎ IsMissed d e.b → ⊥) → slice_get (states_of g d) n ≡ Some Undecided
+states_of-from_kept g d n e at decided kept =
+    states_of-at g d n e Undecided at decided
+    ∙ ap (λ test. Some (if test then Outside else Undecided)) (⊎_elim
+    (λ (missed : has_missed_end d.vertices e ≡ true). absurd (kept ((has_missed_end-iff d e).0 missed)))
+    (λ (is : has_missed_end d.vertices e ≡ false). is)
+    (cases_Bool (has_missed_end d.vertices e)))
+
+-- an undecided edge is neither inside nor free
+pub IsUndecided-parts : (g : Graph) (d : Decided) (n : ℕ) → IsDecisionFor g d → IsUndecided g d n →
+    (n < length g.edges) × (slice_get d.edges n ≡ Some Undecided) × (IsFree g d n → ⊥)
+IsUndecided-parts g d n decision undecided =
+    let (e, bare, at, decided, so) = states_of-parts g d n Undecided undecided in
+    let within : n < length g.edges = slice_get_within g.edges n e at in (
+      within,
+      decided ∙ ap Some (state_at_ends-undecided d.vertices e bare so).0,
+      λ free. let outside : slice_get (states_of g d) n ≡ Some Outside = states_of-from_free g d n decision within free in
+          let same : Undecided ≡ Outside = same_Some _ _ (sym undecided ∙ outside) in cc,
+    )
+
+-- .. and every other edge is one or the other
+pub IsUndecided-from : (g : Graph) (d : Decided) (n : ℕ) → IsDecisionFor g d → n < length g.edges →
+    (slice_get d.edges n ≡ Some Inside → ⊥) → (IsFree g d n → ⊥) → IsUndecided g d n
+IsUndecided-from g d n decision within not_inside not_free =
+    let (e, state, at, decided) = decided_at g d n decision within in
+    let here : slice_get (states_of g d) n ≡ Some (state_at_ends d.vertices e state) = states_of-at g d n e state at decided in
+    cases (state_at_ends d.vertices e state) here
+  where
+    cases : (state : EdgeState) → slice_get (states_of g d) n ≡ Some state → IsUndecided g d n
+    cases Undecided is = is
+    cases Inside is = absurd (not_inside (states_of-inside g d n is))
+    cases Outside is = absurd (not_free (states_of-free g d n is))
+
+-- no end of an undecided edge is missed
+pub undecided-not_missed : (g : Graph) (d : Decided) (n : ℕ) (e : Edge) → IsDecisionFor g d → IsUndecided g d n →
+    slice_get g.edges n ≡ Some e → IsMissed d e.a ⊎ IsMissed d e.b → ⊥
+undecided-not_missed g d n e decision undecided at missed = (IsUndecided-parts g d n decision undecided).2 (inr (e, at, missed))
+
+-- where nothing is decided no edge is inside and no vertex is met or missed
+no_edge_decided : (g : Graph) (n : ℕ) (state : EdgeState) → slice_get (nothing_decided g).edges n ≡ Some state → Undecided ≡ state
+no_edge_decided g n state is = slice_get-replicate (length g.edges) n Undecided state is
+
+no_vertex_decided : (g : Graph) (v : ℕ) (state : VertexState) → slice_get (nothing_decided g).vertices v ≡ Some state → vertex.Undecided ≡ state
+no_vertex_decided g v state is = slice_get-replicate g.vertices v vertex.Undecided state is
+
+-- nothing decided is a decision on each graph
+pub IsDecisionFor-nothing : (g : Graph) → IsDecisionFor g (nothing_decided g)
+IsDecisionFor-nothing g = record {
+  edges = length-replicate (length g.edges) Undecided;
+  vertices = length-replicate g.vertices vertex.Undecided;
+  missed = λ v missed required. let same : vertex.Undecided ≡ Missed = no_vertex_decided g v Missed missed in cc;
+}
+
+-- .. with which every edge set agrees
+pub Agrees-nothing : (g : Graph) (set : List Bool) → Agrees g (nothing_decided g) set
+Agrees-nothing g set = record {
+  inside = λ n inside. let same : Undecided ≡ Inside = no_edge_decided g n Inside inside in cc;
+  outside = λ n outside part. let same : Undecided ≡ Outside = no_edge_decided g n Outside outside in cc;
+  met = λ v met. let same : vertex.Undecided ≡ Met = no_vertex_decided g v Met met in cc;
+  missed = λ v missed reached. let same : vertex.Undecided ≡ Missed = no_vertex_decided g v Missed missed in cc;
+}
+
+-- .. under which the terminals alone are required
+pub IsRequired-nothing : (g : Graph) (v : ℕ) → IsRequired g (nothing_decided g) v → Contains g.terminals v
+IsRequired-nothing g v required =
+    ⊎_elim
+    (λ (terminal : Contains g.terminals v). terminal)
+    (λ (rest : EndsInside g (nothing_decided g) v ⊎ IsMet (nothing_decided g) v). ⊎_elim
+    (λ (ends : EndsInside g (nothing_decided g) v). let same : Undecided ≡ Inside = no_edge_decided g ends.0 Inside ends.2 in cc)
+    (λ (met : IsMet (nothing_decided g) v). let same : vertex.Undecided ≡ Met = no_vertex_decided g v Met met in cc)
+    rest)
+    required
+
+-- .. and every edge is undecided
+pub states_of-nothing : (g : Graph) → states_of g (nothing_decided g) ≡ replicate (length g.edges) Undecided
+states_of-nothing g = each g.edges
+  where
+    none_missed : (size v : ℕ) → is_missed (slice_get (replicate size vertex.Undecided) v) ≡ false
+    none_missed zero v = refl
+    none_missed (suc size) zero = refl
+    none_missed (suc size) (suc v) = none_missed size v
+
+    each : (es : List Edge) → states_at_ends es (replicate (length es) Undecided) (replicate g.vertices vertex.Undecided) ≡ replicate (length es) Undecided
+    each [] = refl
+    each (e ∷ es) = rw (none_missed g.vertices e.a, none_missed g.vertices e.b) (ap (λ xs. Undecided ∷ xs) (each es))
+
+-- what is required under a decision with fewer inside edges and fewer met vertices is required
+required-fewer : (g : Graph) (fewer more : Decided) (v : ℕ) →
+    ((n : ℕ) → slice_get fewer.edges n ≡ Some Inside → slice_get more.edges n ≡ Some Inside) →
+    (IsMet fewer v → IsMet more v) → IsRequired g fewer v → IsRequired g more v
+required-fewer g fewer more v inside met required =
+    ⊎_elim
+    (λ (terminal : Contains g.terminals v). inl terminal)
+    (λ (rest : EndsInside g fewer v ⊎ IsMet fewer v). ⊎_elim
+    (λ (ends : EndsInside g fewer v). inr (inl (ends.0, ends.1, inside ends.0 ends.2, ends.3, ends.4)))
+    (λ (is : IsMet fewer v). inr (inr (met is)))
+    rest)
+    required
+
+-- a vertex met or missed in a decision that changes another vertex is so before
+vertex_before : (d : Decided) (v w : ℕ) (state is : VertexState) → v < length d.vertices → (state ≡ is → ⊥) →
+    slice_get (with_vertex d v state).vertices w ≡ Some is → slice_get d.vertices w ≡ Some is
+vertex_before d v w state is within other found = elim (cases_eq w v) [
+  | inl here ↦
+      let written : slice_get (slice_set d.vertices v state) w ≡ Some state = rw here (slice_get-set_same d.vertices v state within) in
+      absurd (other (same_Some state is (sym written ∙ found)))
+  | inr apart ↦ sym (slice_get-set_other d.vertices v w state apart) ∙ found
+]
+
+-- an edge inside in a decision that changes another edge is so before
+edge_before : (d : Decided) (n k : ℕ) (state : EdgeState) → k ≢ n → slice_get (with_edge d n state).edges k ≡ Some Inside →
+    slice_get d.edges k ≡ Some Inside
+edge_before d n k state apart found = sym (slice_get-set_other d.edges n k state apart) ∙ found
+
+-- an undecided edge may be inside: its ends become required, and none is missed
+pub IsDecisionFor-with_inside : (g : Graph) (d : Decided) (n : ℕ) → IsDecisionFor g d → IsUndecided g d n → IsDecisionFor g (with_edge d n Inside)
+IsDecisionFor-with_inside g d n decision undecided = record {
+  edges = length-set d.edges n Inside ∙ decision.edges;
+  vertices = decision.vertices;
+  missed = λ v missed required. ⊎_elim
+      (λ (terminal : Contains g.terminals v). decision.missed v missed (inl terminal))
+      (λ (rest : EndsInside g (with_edge d n Inside) v ⊎ IsMet d v). ⊎_elim
+      (λ (ends : EndsInside g (with_edge d n Inside) v). elim (cases_eq ends.0 n) [
+        | inl here ↦
+            let at : slice_get g.edges n ≡ Some ends.1 = ap (slice_get g.edges) (sym here) ∙ ends.3 in
+            undecided-not_missed g d n ends.1 decision undecided at (⊎_elim
+            (λ (a : ends.1.a ≡ v). inl (ap (slice_get d.vertices) a ∙ missed))
+            (λ (b : ends.1.b ≡ v). inr (ap (slice_get d.vertices) b ∙ missed))
+            ends.4)
+        | inr apart ↦ decision.missed v missed (inr (inl (ends.0, ends.1, edge_before d n ends.0 Inside apart ends.2, ends.3, ends.4)))
+      ])
+      (λ (met : IsMet d v). decision.missed v missed (inr (inr met)))
+      rest)
+      required;
+}
+
+-- an edge may be outside: no more is required
+pub IsDecisionFor-with_outside : (g : Graph) (d : Decided) (n : ℕ) → IsDecisionFor g d → n < length d.edges → IsDecisionFor g (with_edge d n Outside)
+IsDecisionFor-with_outside g d n decision within = record {
+  edges = length-set d.edges n Outside ∙ decision.edges;
+  vertices = decision.vertices;
+  missed = λ v missed required. decision.missed v missed (required-fewer g (with_edge d n Outside) d v inside_before (λ met. met) required);
+}
+  where
+    inside_before : (k : ℕ) → slice_get (with_edge d n Outside).edges k ≡ Some Inside → slice_get d.edges k ≡ Some Inside
+    inside_before k inside = elim (cases_eq k n) [
+      | inl here ↦
+          let written : slice_get (slice_set d.edges n Outside) k ≡ Some Outside = rw here (slice_get-set_same d.edges n Outside within) in
+          let same : Outside ≡ Inside = same_Some _ _ (sym written ∙ inside) in cc
+      | inr apart ↦ edge_before d n k Outside apart inside
+    ]
+
+-- an undecided vertex may be met: it becomes required, and it isn't missed
+pub IsDecisionFor-with_met : (g : Graph) (d : Decided) (v : ℕ) → IsDecisionFor g d → IsVertexUndecided g d v → IsDecisionFor g (with_vertex d v Met)
+IsDecisionFor-with_met g d v decision undecided = record {
+  edges = decision.edges;
+  vertices = length-set d.vertices v Met ∙ decision.vertices;
+  missed = λ w missed required.
+      let within : v < length d.vertices = omega (arith, decision.vertices, undecided.vertex) in
+      let before : IsMissed d w = vertex_before d v w Met Missed within (λ same. cc) missed in
+      ⊎_elim
+      (λ (terminal : Contains g.terminals w). decision.missed w before (inl terminal))
+      (λ (rest : EndsInside g d w ⊎ IsMet (with_vertex d v Met) w). ⊎_elim
+      (λ (ends : EndsInside g d w). decision.missed w before (inr (inl ends)))
+      (λ (met : IsMet (with_vertex d v Met) w). let same : Met ≡ Missed = same_Some _ _ (sym met ∙ missed) in cc)
+      rest)
+      required;
+}
+
+-- an undecided vertex may be missed: it isn't required, and no more is
+pub IsDecisionFor-with_missed : (g : Graph) (d : Decided) (v : ℕ) → IsDecisionFor g d → IsVertexUndecided g d v → IsDecisionFor g (with_vertex d v Missed)
+IsDecisionFor-with_missed g d v decision undecided = record {
+  edges = decision.edges;
+  vertices = length-set d.vertices v Missed ∙ decision.vertices;
+  missed = λ w missed required.
+      let within : v < length d.vertices = omega (arith, decision.vertices, undecided.vertex) in
+      let before : IsRequired g d w = required-fewer g (with_vertex d v Missed) d w (λ n inside. inside)
+      (vertex_before d v w Missed Met within (λ same. cc)) required in
+      elim (cases_eq w v) [
+        | inl here ↦ undecided.not_required (subst (IsRequired g d) here before)
+        | inr apart ↦ decision.missed w (sym (slice_get-set_other d.vertices v w Missed apart) ∙ missed) before
+      ];
+}
