@@ -9,8 +9,9 @@ use Rattle.net_graph.specs.declared.state.VertexState.TheVariants as vertex
 use Rattle.net_graph.specs.Graph.{Graph}
 use Rattle.net_graph.specs.Network.{Reaches, IsNetwork, length_of}
 
--- What is decided of a graph: of each edge, by its number, whether it is inside, outside or undecided, and of each vertex
--- whether it is met, missed or undecided. So inside and outside edges are disjoint, and so are met and missed vertices.
+-- What is decided of a graph: of each edge, by its number, whether it is inside, outside or undecided, and of each
+-- vertex whether it is met, missed or undecided. So inside and outside edges are disjoint, and so are met and missed
+-- vertices.
 pub record Decided : Type 0 where
   pub edges : List EdgeState
   pub vertices : List VertexState
@@ -41,7 +42,8 @@ IsMissed d v = slice_get d.vertices v ≡ Some Missed
 
 -- an inside edge has this end
 abbrev pub EndsInside : Graph → Decided → ℕ → Type 0
-EndsInside g d v = (n : ℕ) × (e : Edge) × (slice_get d.edges n ≡ Some Inside) × (slice_get g.edges n ≡ Some e) × ((e.a ≡ v) ⊎ (e.b ≡ v))
+EndsInside g d v = (n : ℕ) × (e : Edge) × (slice_get d.edges n ≡ Some Inside) ×
+    (slice_get g.edges n ≡ Some e) × ((e.a ≡ v) ⊎ (e.b ≡ v))
 
 -- a terminal, an end of an inside edge, or met
 abbrev pub IsRequired : Graph → Decided → ℕ → Type 0
@@ -56,7 +58,8 @@ pub record IsDecisionFor (g : Graph) (d : Decided) : Type 0 where
 
 -- the edge is outside, or has an end in a missed vertex
 abbrev pub IsFree : Graph → Decided → ℕ → Type 0
-IsFree g d n = (slice_get d.edges n ≡ Some Outside) ⊎ ((e : Edge) × (slice_get g.edges n ≡ Some e) × (IsMissed d e.a ⊎ IsMissed d e.b))
+IsFree g d n = (slice_get d.edges n ≡ Some Outside) ⊎ ((e : Edge) × (slice_get g.edges n ≡ Some e) ×
+    (IsMissed d e.a ⊎ IsMissed d e.b))
 
 -- whether what was found for a vertex is that it is missed
 abbrev pub is_missed : Option VertexState → Bool
@@ -95,9 +98,11 @@ pub record IsVertexUndecided (g : Graph) (d : Decided) (v : ℕ) : Type 0 where
 
 -- the edge is in the set and one of its ends is reached by it
 abbrev pub InRootPart : Graph → List Bool → ℕ → Type 0
-InRootPart g set n = (e : Edge) × (slice_get set n ≡ Some true) × (slice_get g.edges n ≡ Some e) × (Reaches g set e.a ⊎ Reaches g set e.b)
+InRootPart g set n = (e : Edge) × (slice_get set n ≡ Some true) × (slice_get g.edges n ≡ Some e) ×
+    (Reaches g set e.a ⊎ Reaches g set e.b)
 
--- every inside edge is in the set's root part and no outside edge is, every met vertex is reached and no missed vertex is
+-- every inside edge is in the set's root part and no outside edge is, every met vertex is reached and no missed vertex
+-- is
 pub record Agrees (g : Graph) (d : Decided) (set : List Bool) : Type 0 where
   pub inside : (n : ℕ) → slice_get d.edges n ≡ Some Inside → InRootPart g set n
   pub outside : (n : ℕ) → slice_get d.edges n ≡ Some Outside → InRootPart g set n → ⊥

@@ -20,7 +20,8 @@ is_missed-true (Some Missed) is = refl
 is_missed-true _ is = cc
 
 -- an edge has a missed end where the test says so
-pub has_missed_end-iff : (d : Decided) (e : Edge) → (has_missed_end d.vertices e ≡ true) ↔ (IsMissed d e.a ⊎ IsMissed d e.b)
+pub has_missed_end-iff : (d : Decided) (e : Edge) →
+    (has_missed_end d.vertices e ≡ true) ↔ (IsMissed d e.a ⊎ IsMissed d e.b)
 has_missed_end-iff d e = (
   λ holds. ⊎_elim
       (λ (a : is_missed (slice_get d.vertices e.a) ≡ true). inl (is_missed-true _ a))
@@ -33,7 +34,8 @@ has_missed_end-iff d e = (
 )
 
 -- no other edge becomes inside at its ends
-state_at_ends-inside : (vertices : List VertexState) (e : Edge) (state : EdgeState) → state_at_ends vertices e state ≡ Inside → state ≡ Inside
+state_at_ends-inside : (vertices : List VertexState) (e : Edge) (state : EdgeState) →
+    state_at_ends vertices e state ≡ Inside → state ≡ Inside
 state_at_ends-inside vertices e Inside is = refl
 state_at_ends-inside vertices e Outside is = is
 state_at_ends-inside vertices e Undecided is = absurd (neither (has_missed_end vertices e) is)
@@ -43,7 +45,8 @@ state_at_ends-inside vertices e Undecided is = absurd (neither (has_missed_end v
     neither false is = cc
 
 -- an edge is free at its ends where it is outside or one of them is missed
-state_at_ends-outside : (vertices : List VertexState) (e : Edge) (state : EdgeState) → state_at_ends vertices e state ≡ Outside →
+state_at_ends-outside : (vertices : List VertexState) (e : Edge) (state : EdgeState) →
+    state_at_ends vertices e state ≡ Outside →
     (state ≡ Outside) ⊎ (has_missed_end vertices e ≡ true)
 state_at_ends-outside vertices e Outside is = inl refl
 state_at_ends-outside vertices e Inside is = inl is
@@ -54,7 +57,8 @@ state_at_ends-outside vertices e Undecided is = inr (cases (has_missed_end verti
     cases false is = cc
 
 -- an edge is undecided at its ends where it is so without them and none is missed
-state_at_ends-undecided : (vertices : List VertexState) (e : Edge) (state : EdgeState) → state_at_ends vertices e state ≡ Undecided →
+state_at_ends-undecided : (vertices : List VertexState) (e : Edge) (state : EdgeState) →
+    state_at_ends vertices e state ≡ Undecided →
     (state ≡ Undecided) × (has_missed_end vertices e ≡ false)
 state_at_ends-undecided vertices e Inside is = cc
 state_at_ends-undecided vertices e Outside is = cc
@@ -71,7 +75,8 @@ states_at_ends-at [] states vertices n e state at decided = cc
 states_at_ends-at (d ∷ es) [] vertices n e state at decided = cc
 states_at_ends-at (d ∷ es) (s ∷ states) vertices zero e state at decided =
     rw (same_Some d e at, same_Some s state decided) refl
-states_at_ends-at (d ∷ es) (s ∷ states) vertices (suc n) e state at decided = states_at_ends-at es states vertices n e state at decided
+states_at_ends-at (d ∷ es) (s ∷ states) vertices (suc n) e state at decided =
+    states_at_ends-at es states vertices n e state at decided
 
 -- the state of an edge, by what is decided of it and of its ends
 pub states_of-at : (g : Graph) (d : Decided) (n : ℕ) (e : Edge) (state : EdgeState) → slice_get g.edges n ≡ Some e →
@@ -80,18 +85,22 @@ states_of-at g d n e state at decided = states_at_ends-at g.edges d.edges d.vert
 
 states_at_ends-parts : (es : List Edge) (states : List EdgeState) (vertices : List VertexState) (n : ℕ) (state : EdgeState) →
     slice_get (states_at_ends es states vertices) n ≡ Some state →
-    (e : Edge) × (bare : EdgeState) × (slice_get es n ≡ Some e) × (slice_get states n ≡ Some bare) × (state_at_ends vertices e bare ≡ state)
+    (e : Edge) × (bare : EdgeState) × (slice_get es n ≡ Some e) × (slice_get states n ≡ Some bare) ×
+    (state_at_ends vertices e bare ≡ state)
 states_at_ends-parts [] states vertices n state is = cc
 states_at_ends-parts (e ∷ es) [] vertices n state is = cc
 states_at_ends-parts (e ∷ es) (bare ∷ states) vertices zero state is = (e, bare, refl, refl, same_Some _ state is)
-states_at_ends-parts (e ∷ es) (bare ∷ states) vertices (suc n) state is = states_at_ends-parts es states vertices n state is
+states_at_ends-parts (e ∷ es) (bare ∷ states) vertices (suc n) state is =
+    states_at_ends-parts es states vertices n state is
 
 -- .. and back: what is decided of an edge whose state is known
 pub states_of-parts : (g : Graph) (d : Decided) (n : ℕ) (state : EdgeState) → slice_get (states_of g d) n ≡ Some state →
-    (e : Edge) × (bare : EdgeState) × (slice_get g.edges n ≡ Some e) × (slice_get d.edges n ≡ Some bare) × (state_at_ends d.vertices e bare ≡ state)
+    (e : Edge) × (bare : EdgeState) × (slice_get g.edges n ≡ Some e) × (slice_get d.edges n ≡ Some bare) ×
+    (state_at_ends d.vertices e bare ≡ state)
 states_of-parts g d n state is = states_at_ends-parts g.edges d.edges d.vertices n state is
 
-length-states_at_ends : (es : List Edge) (states : List EdgeState) (vertices : List VertexState) → length states ≡ length es →
+length-states_at_ends : (es : List Edge) (states : List EdgeState) (vertices : List VertexState) →
+    length states ≡ length es →
     length (states_at_ends es states vertices) ≡ length es
 length-states_at_ends [] states vertices size = refl
 length-states_at_ends (e ∷ es) [] vertices size = size
@@ -100,7 +109,8 @@ length-states_at_ends (e ∷ es) (state ∷ states) vertices size =
     omega (arith, length-states_at_ends es states vertices rest)
 
 -- one state for each edge
-pub length-states_of : (g : Graph) (d : Decided) → length d.edges ≡ length g.edges → length (states_of g d) ≡ length g.edges
+pub length-states_of : (g : Graph) (d : Decided) → length d.edges ≡ length g.edges →
+    length (states_of g d) ≡ length g.edges
 length-states_of g d size = length-states_at_ends g.edges d.edges d.vertices size
 
 -- each edge has a state of its own
@@ -111,7 +121,8 @@ decided_at g d n decision within =
     (_, _, slice_get-get_or g.edges n none within, slice_get-get_or d.edges n Undecided (omega (arith, decision.edges)))
 
 -- an end of an inside edge is not missed
-pub inside-not_missed : (g : Graph) (d : Decided) (n : ℕ) (e : Edge) → IsDecisionFor g d → slice_get d.edges n ≡ Some Inside →
+pub inside-not_missed : (g : Graph) (d : Decided) (n : ℕ) (e : Edge) → IsDecisionFor g d →
+    slice_get d.edges n ≡ Some Inside →
     slice_get g.edges n ≡ Some e → IsMissed d e.a ⊎ IsMissed d e.b → ⊥
 inside-not_missed g d n e decision inside at missed =
     ⊎_elim
@@ -120,16 +131,19 @@ inside-not_missed g d n e decision inside at missed =
     missed
 
 -- no inside edge is free
-pub inside-not_free : (g : Graph) (d : Decided) (n : ℕ) → IsDecisionFor g d → slice_get d.edges n ≡ Some Inside → IsFree g d n → ⊥
+pub inside-not_free : (g : Graph) (d : Decided) (n : ℕ) → IsDecisionFor g d →
+    slice_get d.edges n ≡ Some Inside → IsFree g d n → ⊥
 inside-not_free g d n decision inside free =
     ⊎_elim
-    (λ (outside : slice_get d.edges n ≡ Some Outside). let same : Inside ≡ Outside = same_Some _ _ (sym inside ∙ outside) in cc)
+    (λ (outside : slice_get d.edges n ≡ Some Outside). let same : Inside ≡ Outside =
+    same_Some _ _ (sym inside ∙ outside) in cc)
     (λ (missed : (e : Edge) × (slice_get g.edges n ≡ Some e) × (IsMissed d e.a ⊎ IsMissed d e.b)).
     inside-not_missed g d n missed.0 decision inside missed.1 missed.2)
     free
 
 -- an edge's state is Inside where it is inside
-pub states_of-inside : (g : Graph) (d : Decided) (n : ℕ) → slice_get (states_of g d) n ≡ Some Inside → slice_get d.edges n ≡ Some Inside
+pub states_of-inside : (g : Graph) (d : Decided) (n : ℕ) → slice_get (states_of g d) n ≡ Some Inside →
+    slice_get d.edges n ≡ Some Inside
 states_of-inside g d n is =
     let (e, bare, at, decided, so) = states_of-parts g d n Inside is in
     decided ∙ ap Some (state_at_ends-inside d.vertices e bare so)
@@ -152,7 +166,8 @@ states_of-free g d n is =
     (state_at_ends-outside d.vertices e bare so)
 
 -- a missed end makes every edge but an inside one free
-state_at_missed : (vertices : List VertexState) (e : Edge) (state : EdgeState) → has_missed_end vertices e ≡ true → (state ≡ Inside → ⊥) →
+state_at_missed : (vertices : List VertexState) (e : Edge) (state : EdgeState) →
+    has_missed_end vertices e ≡ true → (state ≡ Inside → ⊥) →
     state_at_ends vertices e state ≡ Outside
 state_at_missed vertices e Undecided missed other = rw missed refl
 state_at_missed vertices e Inside missed other = absurd (other refl)
@@ -172,14 +187,16 @@ states_of-from_free g d n decision within free =
     free
 
 -- an edge that is undecided by itself is free where one of its ends is missed
-pub states_of-from_missed : (g : Graph) (d : Decided) (n : ℕ) (e : Edge) → slice_get g.edges n ≡ Some e → slice_get d.edges n ≡ Some Undecided →
+pub states_of-from_missed : (g : Graph) (d : Decided) (n : ℕ) (e : Edge) → slice_get g.edges n ≡ Some e →
+    slice_get d.edges n ≡ Some Undecided →
     IsMissed d e.a ⊎ IsMissed d e.b → slice_get (states_of g d) n ≡ Some Outside
 states_of-from_missed g d n e at decided missed =
     states_of-at g d n e Undecided at decided
     ∙ ap (λ test. Some (if test then Outside else Undecided)) ((has_missed_end-iff d e).1 missed)
 
 -- .. and undecided where none is
-pub states_of-from_kept : (g : Graph) (d : Decided) (n : ℕ) (e : Edge) → slice_get g.edges n ≡ Some e → slice_get d.edges n ≡ Some Undecided →
+pub states_of-from_kept : (g : Graph) (d : Decided) (n : ℕ) (e : Edge) → slice_get g.edges n ≡ Some e →
+    slice_get d.edges n ≡ Some Undecided →
     (IsMissed d e.a ⊎ IsMissed d e.b → ⊥) → slice_get (states_of g d) n ≡ Some Undecided
 states_of-from_kept g d n e at decided kept =
     states_of-at g d n e Undecided at decided
@@ -196,7 +213,8 @@ IsUndecided-parts g d n decision undecided =
     let within : n < length g.edges = slice_get_within g.edges n e at in (
       within,
       decided ∙ ap Some (state_at_ends-undecided d.vertices e bare so).0,
-      λ free. let outside : slice_get (states_of g d) n ≡ Some Outside = states_of-from_free g d n decision within free in
+      λ free. let outside : slice_get (states_of g d) n ≡ Some Outside =
+          states_of-from_free g d n decision within free in
           let same : Undecided ≡ Outside = same_Some _ _ (sym undecided ∙ outside) in cc,
     )
 
@@ -205,7 +223,8 @@ pub IsUndecided-from : (g : Graph) (d : Decided) (n : ℕ) → IsDecisionFor g d
     (slice_get d.edges n ≡ Some Inside → ⊥) → (IsFree g d n → ⊥) → IsUndecided g d n
 IsUndecided-from g d n decision within not_inside not_free =
     let (e, state, at, decided) = decided_at g d n decision within in
-    let here : slice_get (states_of g d) n ≡ Some (state_at_ends d.vertices e state) = states_of-at g d n e state at decided in
+    let here : slice_get (states_of g d) n ≡ Some (state_at_ends d.vertices e state) =
+    states_of-at g d n e state at decided in
     cases (state_at_ends d.vertices e state) here
   where
     cases : (state : EdgeState) → slice_get (states_of g d) n ≡ Some state → IsUndecided g d n
@@ -216,13 +235,16 @@ IsUndecided-from g d n decision within not_inside not_free =
 -- no end of an undecided edge is missed
 pub undecided-not_missed : (g : Graph) (d : Decided) (n : ℕ) (e : Edge) → IsDecisionFor g d → IsUndecided g d n →
     slice_get g.edges n ≡ Some e → IsMissed d e.a ⊎ IsMissed d e.b → ⊥
-undecided-not_missed g d n e decision undecided at missed = (IsUndecided-parts g d n decision undecided).2 (inr (e, at, missed))
+undecided-not_missed g d n e decision undecided at missed =
+    (IsUndecided-parts g d n decision undecided).2 (inr (e, at, missed))
 
 -- where nothing is decided no edge is inside and no vertex is met or missed
-no_edge_decided : (g : Graph) (n : ℕ) (state : EdgeState) → slice_get (nothing_decided g).edges n ≡ Some state → Undecided ≡ state
+no_edge_decided : (g : Graph) (n : ℕ) (state : EdgeState) →
+    slice_get (nothing_decided g).edges n ≡ Some state → Undecided ≡ state
 no_edge_decided g n state is = slice_get-replicate (length g.edges) n Undecided state is
 
-no_vertex_decided : (g : Graph) (v : ℕ) (state : VertexState) → slice_get (nothing_decided g).vertices v ≡ Some state → vertex.Undecided ≡ state
+no_vertex_decided : (g : Graph) (v : ℕ) (state : VertexState) →
+    slice_get (nothing_decided g).vertices v ≡ Some state → vertex.Undecided ≡ state
 no_vertex_decided g v state is = slice_get-replicate g.vertices v vertex.Undecided state is
 
 -- nothing decided is a decision on each graph
@@ -248,7 +270,8 @@ IsRequired-nothing g v required =
     ⊎_elim
     (λ (terminal : Contains g.terminals v). terminal)
     (λ (rest : EndsInside g (nothing_decided g) v ⊎ IsMet (nothing_decided g) v). ⊎_elim
-    (λ (ends : EndsInside g (nothing_decided g) v). let same : Undecided ≡ Inside = no_edge_decided g ends.0 Inside ends.2 in cc)
+    (λ (ends : EndsInside g (nothing_decided g) v). let same : Undecided ≡ Inside =
+    no_edge_decided g ends.0 Inside ends.2 in cc)
     (λ (met : IsMet (nothing_decided g) v). let same : vertex.Undecided ≡ Met = no_vertex_decided g v Met met in cc)
     rest)
     required
@@ -284,18 +307,21 @@ vertex_before : (d : Decided) (v w : ℕ) (state is : VertexState) → v < lengt
     slice_get (with_vertex d v state).vertices w ≡ Some is → slice_get d.vertices w ≡ Some is
 vertex_before d v w state is within other found = elim (cases_eq w v) [
   | inl here ↦
-      let written : slice_get (slice_set d.vertices v state) w ≡ Some state = rw here (slice_get-set_same d.vertices v state within) in
+      let written : slice_get (slice_set d.vertices v state) w ≡ Some state =
+      rw here (slice_get-set_same d.vertices v state within) in
       absurd (other (same_Some state is (sym written ∙ found)))
   | inr apart ↦ sym (slice_get-set_other d.vertices v w state apart) ∙ found
 ]
 
 -- an edge inside in a decision that changes another edge is so before
-edge_before : (d : Decided) (n k : ℕ) (state : EdgeState) → k ≢ n → slice_get (with_edge d n state).edges k ≡ Some Inside →
+edge_before : (d : Decided) (n k : ℕ) (state : EdgeState) → k ≢ n →
+    slice_get (with_edge d n state).edges k ≡ Some Inside →
     slice_get d.edges k ≡ Some Inside
 edge_before d n k state apart found = sym (slice_get-set_other d.edges n k state apart) ∙ found
 
 -- an undecided edge may be inside: its ends become required, and none is missed
-pub IsDecisionFor-with_inside : (g : Graph) (d : Decided) (n : ℕ) → IsDecisionFor g d → IsUndecided g d n → IsDecisionFor g (with_edge d n Inside)
+pub IsDecisionFor-with_inside : (g : Graph) (d : Decided) (n : ℕ) → IsDecisionFor g d → IsUndecided g d n →
+    IsDecisionFor g (with_edge d n Inside)
 IsDecisionFor-with_inside g d n decision undecided = record {
   edges = length-set d.edges n Inside ∙ decision.edges;
   vertices = decision.vertices;
@@ -317,23 +343,27 @@ IsDecisionFor-with_inside g d n decision undecided = record {
 }
 
 -- an edge may be outside: no more is required
-pub IsDecisionFor-with_outside : (g : Graph) (d : Decided) (n : ℕ) → IsDecisionFor g d → n < length d.edges → IsDecisionFor g (with_edge d n Outside)
+pub IsDecisionFor-with_outside : (g : Graph) (d : Decided) (n : ℕ) → IsDecisionFor g d → n < length d.edges →
+    IsDecisionFor g (with_edge d n Outside)
 IsDecisionFor-with_outside g d n decision within = record {
   edges = length-set d.edges n Outside ∙ decision.edges;
   vertices = decision.vertices;
   missed = λ v missed required. decision.missed v missed (required-fewer g (with_edge d n Outside) d v inside_before (λ met. met) required);
 }
   where
-    inside_before : (k : ℕ) → slice_get (with_edge d n Outside).edges k ≡ Some Inside → slice_get d.edges k ≡ Some Inside
+    inside_before : (k : ℕ) → slice_get (with_edge d n Outside).edges k ≡ Some Inside →
+        slice_get d.edges k ≡ Some Inside
     inside_before k inside = elim (cases_eq k n) [
       | inl here ↦
-          let written : slice_get (slice_set d.edges n Outside) k ≡ Some Outside = rw here (slice_get-set_same d.edges n Outside within) in
+          let written : slice_get (slice_set d.edges n Outside) k ≡ Some Outside =
+          rw here (slice_get-set_same d.edges n Outside within) in
           let same : Outside ≡ Inside = same_Some _ _ (sym written ∙ inside) in cc
       | inr apart ↦ edge_before d n k Outside apart inside
     ]
 
 -- an undecided vertex may be met: it becomes required, and it isn't missed
-pub IsDecisionFor-with_met : (g : Graph) (d : Decided) (v : ℕ) → IsDecisionFor g d → IsVertexUndecided g d v → IsDecisionFor g (with_vertex d v Met)
+pub IsDecisionFor-with_met : (g : Graph) (d : Decided) (v : ℕ) → IsDecisionFor g d → IsVertexUndecided g d v →
+    IsDecisionFor g (with_vertex d v Met)
 IsDecisionFor-with_met g d v decision undecided = record {
   edges = decision.edges;
   vertices = length-set d.vertices v Met ∙ decision.vertices;
@@ -350,7 +380,8 @@ IsDecisionFor-with_met g d v decision undecided = record {
 }
 
 -- an undecided vertex may be missed: it isn't required, and no more is
-pub IsDecisionFor-with_missed : (g : Graph) (d : Decided) (v : ℕ) → IsDecisionFor g d → IsVertexUndecided g d v → IsDecisionFor g (with_vertex d v Missed)
+pub IsDecisionFor-with_missed : (g : Graph) (d : Decided) (v : ℕ) → IsDecisionFor g d →
+    IsVertexUndecided g d v → IsDecisionFor g (with_vertex d v Missed)
 IsDecisionFor-with_missed g d v decision undecided = record {
   edges = decision.edges;
   vertices = length-set d.vertices v Missed ∙ decision.vertices;

@@ -9,5 +9,6 @@ use Rattle.net_graph.specs.Packing.{load, IsWithinRoom}
 
 -- neither arc of the edge is loaded above its room
 abbrev pub KeepsRoom : Graph → Decided → List Cut → ℕ → Type 0
-KeepsRoom g d packing n = (e : Edge) (state : EdgeState) → slice_get g.edges n ≡ Some e → slice_get (states_of g d) n ≡ Some state →
+KeepsRoom g d packing n = (e : Edge) (state : EdgeState) → slice_get g.edges n ≡ Some e →
+    slice_get (states_of g d) n ≡ Some state →
     IsWithinRoom state e (load packing e.a e.b) × IsWithinRoom state e (load packing e.b e.a)

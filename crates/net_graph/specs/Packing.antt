@@ -23,8 +23,8 @@ enters members u v = has members v && not (has members u)
 abbrev pub load : List Cut → ℕ → ℕ → ℕ
 load packing u v = sum_by (λ c. if enters c.members u v then c.weight else 0) packing
 
--- the room of each arc of an edge: the length of an undecided edge and nothing for an inside edge; an arc of a free edge
--- has no limit
+-- the room of each arc of an edge: the length of an undecided edge and nothing for an inside edge; an arc of a free
+-- edge has no limit
 abbrev pub room_of : EdgeState → Edge → Option ℕ
 room_of Undecided e = Some e.length
 room_of Inside e = Some 0
@@ -37,7 +37,8 @@ IsWithinRoom state e amount = IfSome (room_of state e) (λ room. amount ≤ room
 -- every member is a cut with a weight of at least 1, and no arc is loaded above its room
 pub record IsFeasible (g : Graph) (d : Decided) (packing : List Cut) : Type 0 where
   pub cuts : All (λ c. (0 < c.weight) × IsCut g d c.members) packing
-  pub room : (n : ℕ) (e : Edge) (state : EdgeState) → slice_get g.edges n ≡ Some e → slice_get (states_of g d) n ≡ Some state →
+  pub room : (n : ℕ) (e : Edge) (state : EdgeState) → slice_get g.edges n ≡ Some e →
+      slice_get (states_of g d) n ≡ Some state →
       IsWithinRoom state e (load packing e.a e.b) × IsWithinRoom state e (load packing e.b e.a)
 
 -- the sum of the lengths of the inside edges

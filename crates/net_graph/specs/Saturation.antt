@@ -11,7 +11,8 @@ use Rattle.net_graph.specs.Packing.{load, room_of}
 
 -- the arc from u to v of an edge that isn't free is saturated: its load is its room
 abbrev pub SaturatedStep : Graph → Decided → List Cut → ℕ → ℕ → Type 0
-SaturatedStep g d packing u v = (n : ℕ) × (e : Edge) × (state : EdgeState) × (slice_get g.edges n ≡ Some e) × (slice_get (states_of g d) n ≡ Some state) × HasEnds e u v × (room_of state e ≡ Some (load packing u v))
+SaturatedStep g d packing u v = (n : ℕ) × (e : Edge) × (state : EdgeState) × (slice_get g.edges n ≡ Some e) ×
+    (slice_get (states_of g d) n ≡ Some state) × HasEnds e u v × (room_of state e ≡ Some (load packing u v))
 
 -- saturated arcs lead, in their direction, from the root to every required vertex
 abbrev pub IsMaximal : Graph → Decided → List Cut → Type 0

@@ -1,6 +1,7 @@
 //! Each public function once, on a triangle with an edge apart from it.
 
 ghost use Rattle.std.specs.Prelude.{◌≡◌, ◌*◌, ◌<◌, ◌≤◌, ◌%◌, ◌==◌, length, All, IfOk};
+ghost use Rattle.net_graph.specs.Decision.{IsDecisionFor};
 
 use crate::counted::counted_leading_to;
 use crate::decision::{Decision, required, vertex_undecided};
@@ -208,28 +209,46 @@ fn an_inside_edge_requires_its_ends(rt: HostRuntime) -> Result<(), AllocError> {
     Ok(())
 }
 
-// The states of the edges once an edge is outside and a vertex is missed, and whether the vertex 4 is then undecided.
-fn freed(alloc: Global, e: u32, v: u32) -> Result<(Vec<EdgeState>, bool), AllocError>
-    requires edge { e < 4 }
-    requires vertex { v < 5 }
+// The decision with an edge outside, where that is open.
+fn without_edge(g: &NetGraph, d: &Decision, e: u32) -> Result<Decision, AllocError>
+    requires edge { e < length g.now.edges }
+    requires decision { IsDecisionFor g.now d.now }
+    ensures { IfOk result (λ d. IsDecisionFor g.now d) }
 {
+    match d.state(g, e) {
+        EdgeState::Undecided => d.with_outside(g, e),
+        _ => d.copy(),
+    }
+}
+
+// The decision with a vertex missed, where that is open.
+fn without_vertex(g: &NetGraph, d: &Decision, v: u32) -> Result<Decision, AllocError>
+    requires vertex { v < g.now.vertices }
+    requires decision { IsDecisionFor g.now d.now }
+    ensures { IfOk result (λ d. IsDecisionFor g.now d) }
+{
+    if vertex_undecided(g, d, v) {
+        d.with_missed(g, v)
+    } else {
+        d.copy()
+    }
+}
+
+// The states of the edges once the edge 1 is outside and the vertex 3 is missed.
+fn freed(alloc: Global) -> Result<Vec<EdgeState>, AllocError> {
     let g = triangle(alloc)?;
-    let mut d = Decision::none(alloc, &g)?;
-    if d.state(&g, e) == EdgeState::Undecided {
-        d = d.with_outside(&g, e)?;
-    }
-    if vertex_undecided(&g, &d, v) {
-        d = d.with_missed(&g, v)?;
-    }
-    Ok((d.states(alloc, &g)?, vertex_undecided(&g, &d, 4)))
+    let d = Decision::none(alloc, &g)?;
+    let d = without_edge(&g, &d, 1)?;
+    let d = without_vertex(&g, &d, 3)?;
+    d.states(alloc, &g)
 }
 
 #[test]
 fn a_missed_vertex_frees_its_edges(rt: HostRuntime) -> Result<(), AllocError> {
-    let (states, open) = freed(rt.alloc(), 1, 3)?;
+    let states = freed(rt.alloc())?;
     let free = EdgeState::Outside;
     let wanted = [EdgeState::Undecided, free, EdgeState::Undecided, free];
-    assert!(rt; states.as_slice() == wanted.as_slice() && open);
+    assert!(rt; states.as_slice() == wanted.as_slice());
     Ok(())
 }
 

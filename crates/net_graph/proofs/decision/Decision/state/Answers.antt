@@ -1,5 +1,5 @@
 -- What is decided of the edge itself and of its ends is its state.
-use Rattle.std.proofs.Common.{refl, inl, ◌∙◌, ap}
+use Rattle.std.proofs.Common.{inl}
 use Rattle.std.proofs.lemmas.Bool.{iff_false}
 use Rattle.net_graph.specs.DecisionLaws.{states_of-from_inside, states_of-from_free, states_of-from_missed, states_of-from_kept}
 use Rattle.net_graph.proofs.decision.Decision.state.Goals as goal

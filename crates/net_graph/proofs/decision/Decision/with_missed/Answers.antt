@@ -1,7 +1,6 @@
 use Rattle.std.proofs.Common.{subst, sym}
 use Rattle.std.proofs.lemmas.Result.{IfOk-weaker}
-use Rattle.net_graph.specs.declared.state.VertexState.TheVariants.{Missed}
-use Rattle.net_graph.specs.Decision.{IsDecisionFor, with_vertex}
+use Rattle.net_graph.specs.Decision.{IsDecisionFor}
 use Rattle.net_graph.specs.DecisionLaws.{IsDecisionFor-with_missed}
 use Rattle.net_graph.proofs.decision.Decision.with_missed.Goals as goal
 

@@ -1,7 +1,6 @@
 use Rattle.std.proofs.Common.{◌<◌, length, arith, subst, sym}
 use Rattle.std.proofs.lemmas.Result.{IfOk-weaker}
-use Rattle.net_graph.specs.declared.state.EdgeState.TheVariants.{Outside}
-use Rattle.net_graph.specs.Decision.{IsDecisionFor, with_edge}
+use Rattle.net_graph.specs.Decision.{IsDecisionFor}
 use Rattle.net_graph.specs.DecisionLaws.{IsUndecided-parts, IsDecisionFor-with_outside}
 use Rattle.net_graph.proofs.decision.Decision.with_outside.Goals as goal
 
