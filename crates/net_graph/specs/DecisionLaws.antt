@@ -10,7 +10,8 @@ use Rattle.net_graph.specs.declared.state.EdgeState.TheVariants.{Undecided, Insi
 use Rattle.net_graph.specs.declared.state.VertexState.{VertexState}
 use Rattle.net_graph.specs.declared.state.VertexState.TheVariants.{Met, Missed}
 use Rattle.net_graph.specs.declared.state.VertexState.TheVariants as vertex
-use Rattle.net_graph.specs.Graph.{Graph}
+use Rattle.std.proofs.lemmas.List.Elements.{Contains-get_or}
+use Rattle.net_graph.specs.Graph.{Graph, IsGraph, root_of}
 use Rattle.net_graph.specs.Decision.{Decided, IsMet, IsMissed, IsFree, IsRequired, EndsInside, IsDecisionFor, IsUndecided, IsVertexUndecided, Agrees, nothing_decided, with_edge, with_vertex, is_missed, has_missed_end, state_at_ends, states_at_ends, states_of}
 use Rattle.net_graph.specs.EntryLaws.{slice_get-set_same, slice_get-set_other, slice_get-replicate}
 
@@ -57,7 +58,7 @@ state_at_ends-outside vertices e Undecided is = inr (cases (has_missed_end verti
     cases false is = cc
 
 -- an edge is undecided at its ends where it is so without them and none is missed
-state_at_ends-undecided : (vertices : List VertexState) (e : Edge) (state : EdgeState) →
+pub state_at_ends-undecided : (vertices : List VertexState) (e : Edge) (state : EdgeState) →
     state_at_ends vertices e state ≡ Undecided →
     (state ≡ Undecided) × (has_missed_end vertices e ≡ false)
 state_at_ends-undecided vertices e Inside is = cc
@@ -290,10 +291,10 @@ states_of-nothing g = each g.edges
     each (e ∷ es) = rw (none_missed g.vertices e.a, none_missed g.vertices e.b) (ap (λ xs. Undecided ∷ xs) (each es))
 
 -- what is required under a decision with fewer inside edges and fewer met vertices is required
-required-fewer : (g : Graph) (fewer more : Decided) (v : ℕ) →
+pub IsRequired-fewer : (g : Graph) (fewer more : Decided) (v : ℕ) →
     ((n : ℕ) → slice_get fewer.edges n ≡ Some Inside → slice_get more.edges n ≡ Some Inside) →
     (IsMet fewer v → IsMet more v) → IsRequired g fewer v → IsRequired g more v
-required-fewer g fewer more v inside met required =
+IsRequired-fewer g fewer more v inside met required =
     ⊎_elim
     (λ (terminal : Contains g.terminals v). inl terminal)
     (λ (rest : EndsInside g fewer v ⊎ IsMet fewer v). ⊎_elim
@@ -348,7 +349,7 @@ pub IsDecisionFor-with_outside : (g : Graph) (d : Decided) (n : ℕ) → IsDecis
 IsDecisionFor-with_outside g d n decision within = record {
   edges = length-set d.edges n Outside ∙ decision.edges;
   vertices = decision.vertices;
-  missed = λ v missed required. decision.missed v missed (required-fewer g (with_edge d n Outside) d v inside_before (λ met. met) required);
+  missed = λ v missed required. decision.missed v missed (IsRequired-fewer g (with_edge d n Outside) d v inside_before (λ met. met) required);
 }
   where
     inside_before : (k : ℕ) → slice_get (with_edge d n Outside).edges k ≡ Some Inside →
@@ -387,10 +388,14 @@ IsDecisionFor-with_missed g d v decision undecided = record {
   vertices = length-set d.vertices v Missed ∙ decision.vertices;
   missed = λ w missed required.
       let within : v < length d.vertices = omega (arith, decision.vertices, undecided.vertex) in
-      let before : IsRequired g d w = required-fewer g (with_vertex d v Missed) d w (λ n inside. inside)
+      let before : IsRequired g d w = IsRequired-fewer g (with_vertex d v Missed) d w (λ n inside. inside)
       (vertex_before d v w Missed Met within (λ same. cc)) required in
       elim (cases_eq w v) [
         | inl here ↦ undecided.not_required (subst (IsRequired g d) here before)
         | inr apart ↦ decision.missed w (sym (slice_get-set_other d.vertices v w Missed apart) ∙ missed) before
       ];
 }
+
+-- the root is required, being a terminal
+pub IsRequired-root : (g : Graph) (d : Decided) → IsGraph g → IsRequired g d (root_of g)
+IsRequired-root g d graph = inl (Contains-get_or g.terminals 0 0 graph.terminal)

@@ -16,6 +16,7 @@ pub mod JoinsLaws
 pub mod Decision
 pub mod EntryLaws
 pub mod DecisionLaws
+pub mod DecidingLaws
 pub mod Packing
 pub mod Feasible
 pub mod Saturation
