@@ -1,6 +1,7 @@
 pub mod ArcLemmas
 pub mod FoundLemmas
 pub mod SearchLemmas
+pub mod GrowthLemmas
 pub mod NetworkLemmas
 pub mod ApartLemmas
 pub mod FlagWords

@@ -1,12 +1,13 @@
 -- The invariants of a search.
-use Rattle.std.proofs.Common.{◌≡◌, ℕ, ◌+◌, ◌<◌, ◌≤◌, Bool, true, false, List, [], ◌∷◌, ◌++◌, length, get_or, slice_get, Some, All, Contains, ◌⊎◌, ◌↔◌, ⊎_elim, sym, refl, ap, ◌∙◌, subst, arith, length-append, append-nil, append_assoc}
+use Rattle.std.proofs.Common.{◌≡◌, ℕ, ◌+◌, ◌<◌, ◌≤◌, Bool, true, false, List, [], ◌∷◌, ◌++◌, length, get_or, slice_get, Some, All, Contains, ◌⊎◌, ◌↔◌, ⊎_elim, sym, ap, ◌∙◌, subst, arith, length-append, append-nil, append_assoc}
 use Rattle.std.proofs.lemmas.Bool.{cases_lt}
 use Rattle.std.proofs.lemmas.List.{get_or_append_left}
-use Rattle.std.proofs.lemmas.List.Elements.{All-append, All-nil, All-push, All-contains, Contains-append_left, Contains-push}
+use Rattle.std.proofs.lemmas.List.Elements.{All-append, All-nil, All-push, All-contains, Contains-append_left, Contains-get_or, Contains-push, Contains-push_cases}
 use Rattle.std.proofs.lemmas.Option.{same_Some, slice_get_within, slice_get-get_or, get_or_from_slice_get}
 use Rattle.net_graph.specs.declared.arcs.Arc.{Arc}
 use Rattle.net_graph.specs.declared.edge.Edge.{Edge}
 use Rattle.net_graph.specs.Arcs.{IsArcOf, AreArcsFrom}
+use Rattle.net_graph.specs.Growth.{LeadsFromOne, IsGoneOver}
 use Rattle.net_graph.specs.Search.{OpenStep, Leads, Extends}
 use Rattle.net_graph.specs.SearchLaws.{Leads-start, Leads-more, Leads-keeps}
 
@@ -65,34 +66,65 @@ AddsHeads-all P edges opens v arcs n old now are all adds w (arc, is, is_open, l
     let (k, lt, at) = are.every arc is leaves in
     subst (Contains now) comes (adds.every k arc (omega arith) (slice_get-get_or arcs k arc lt ∙ ap (λ x. Some x) at) is_open)
 
--- what a search has come to when it has gone over the vertices before the place
-pub record SearchSoFar (Step : ℕ → ℕ → Type 0) (start vertices place : ℕ) (order : List ℕ) : Type 0 where
-  pub has_start : Contains order start
-  pub led : All (Leads Step start) order
+-- What a search has come to when it has gone over the vertices before the place: P holds of the found ones.
+pub record SearchSoFar (Step : ℕ → ℕ → Type 0) (P : ℕ → Type 0) (vertices place : ℕ) (order : List ℕ) : Type 0 where
+  pub led : All P order
   pub below : All (λ v. v < vertices) order
   pub within : place ≤ length order
   pub closed : (k v w : ℕ) → k < place → slice_get order k ≡ Some v → Step v w → Contains order w
 
--- at the start
-pub SearchSoFar-none : (Step : ℕ → ℕ → Type 0) (start vertices : ℕ) → start < vertices → SearchSoFar Step start vertices 0 (start ∷ [])
-SearchSoFar-none Step start vertices below = record {
-  has_start = (0, omega arith, refl);
-  led = All-push (Leads Step start) [] start (All-nil (Leads Step start)) (Leads-start Step start);
+-- each of the vertices is led to from itself
+pub LeadsFromOne-start : (Step : ℕ → ℕ → Type 0) (starts : List ℕ) (v : ℕ) → Contains starts v → LeadsFromOne Step starts v
+LeadsFromOne-start Step starts v listed = (v, listed, Leads-start Step v)
+
+-- one step more
+pub LeadsFromOne-more : (Step : ℕ → ℕ → Type 0) (starts : List ℕ) (u w : ℕ) → LeadsFromOne Step starts u → Step u w → LeadsFromOne Step starts w
+LeadsFromOne-more Step starts u w (start, listed, led) step = (start, listed, Leads-more Step start u w led step)
+
+-- from one vertex
+pub LeadsFromOne-iff : (Step : ℕ → ℕ → Type 0) (start v : ℕ) → LeadsFromOne Step (start ∷ []) v ↔ Leads Step start v
+LeadsFromOne-iff Step start v = (
+  λ (from, listed, led). ⊎_elim
+      (λ (none : Contains [] from). absurd (let below : none.0 < 0 = none.1 in omega arith))
+      (λ (is : start ≡ from). subst (λ s. Leads Step s v) (sym is) led)
+      (Contains-push_cases [] start from listed),
+  λ led. (start, Contains-push [] start, led),
+)
+
+-- the order with its first vertex
+pub found_first : (order next : List ℕ) (v : ℕ) → order ≡ [] → (next ≡ order ++ v ∷ []) ⊎ (Contains order v × (next ≡ order)) → next ≡ v ∷ []
+found_first order next v none added = ⊎_elim
+    (λ new. new ∙ ap (λ xs. xs ++ v ∷ []) none)
+    (λ (listed, same). let inside : Contains [] v = rw none at listed in absurd (let below : inside.0 < 0 = inside.1 in omega arith)) added
+
+-- no vertex was gone over
+pub IsGoneOver-start : (Step : ℕ → ℕ → Type 0) (start vertices : ℕ) → start < vertices → IsGoneOver vertices Step 0 (start ∷ [])
+IsGoneOver-start Step start vertices below = record {
   below = All-push (λ v. v < vertices) [] start (All-nil (λ v. v < vertices)) below;
   within = omega arith;
   closed = λ k v w lt at step. absurd (omega arith);
 }
 
+-- as the search goes on
+pub SearchSoFar-from_gone_over : (Step : ℕ → ℕ → Type 0) (vertices place : ℕ) (order : List ℕ) → IsGoneOver vertices Step place order → SearchSoFar Step (LeadsFromOne Step order) vertices place order
+SearchSoFar-from_gone_over Step vertices place order over = record {
+  led = λ k d lt. LeadsFromOne-start Step order (get_or order k d) (Contains-get_or order k d lt);
+  below = over.below;
+  within = over.within;
+  closed = over.closed;
+}
+
 -- one more vertex was gone over
-pub SearchSoFar-more : (Step : ℕ → ℕ → Type 0) (start vertices place v : ℕ) (order next : List ℕ) → SearchSoFar Step start vertices place order → slice_get order place ≡ Some v → Extends (λ w. (w < vertices) × Step v w) order next → ((w : ℕ) → Step v w → Contains next w) → SearchSoFar Step start vertices (place + 1) next
-SearchSoFar-more Step start vertices place v order next so_far at more every =
+pub SearchSoFar-more : (Step : ℕ → ℕ → Type 0) (P : ℕ → Type 0) (vertices place v : ℕ) (order next : List ℕ) → ((u w : ℕ) → P u → Step u w → P w) →
+    SearchSoFar Step P vertices place order → slice_get order place ≡ Some v → Extends (λ w. (w < vertices) × Step v w) order next → ((w : ℕ) → Step v w → Contains next w) →
+    SearchSoFar Step P vertices (place + 1) next
+SearchSoFar-more Step P vertices place v order next kept so_far at more every =
     let within : place < length order = slice_get_within order place v at in
     let is : next ≡ order ++ more.rest = more.is in
     let Both : ℕ → Type 0 = λ w. (w < vertices) × Step v w in
-    let here : Leads Step start v = subst (Leads Step start) (get_or_from_slice_get order place v v at) (so_far.led place v within) in
+    let here : P v = subst P (get_or_from_slice_get order place v v at) (so_far.led place v within) in
     record {
-      has_start = Extends-keeps Both order next start more so_far.has_start;
-      led = rw is (All-append (Leads Step start) order more.rest so_far.led (λ k d lt. Leads-more Step start v (get_or more.rest k d) here (more.each k d lt).1));
+      led = rw is (All-append P order more.rest so_far.led (λ k d lt. kept v (get_or more.rest k d) here (more.each k d lt).1));
       below = rw is (All-append (λ w. w < vertices) order more.rest so_far.below (λ k d lt. (more.each k d lt).0));
       within = let total : length (order ++ more.rest) ≡ length order + length more.rest = length-append order more.rest in rw is (omega arith);
       closed = λ k u w lt at_k step. ⊎_elim
@@ -105,10 +137,16 @@ SearchSoFar-more Step start vertices place v order next so_far at more every =
           every w (subst (λ x. Step x w) (sym same_vertex) step)) (cases_lt k place);
     }
 
--- when every found vertex was gone over, the found ones are those that the start leads to
-pub SearchSoFar-all : (Step : ℕ → ℕ → Type 0) (start vertices place : ℕ) (order : List ℕ) → SearchSoFar Step start vertices place order → length order ≤ place → (v : ℕ) → Contains order v ↔ Leads Step start v
-SearchSoFar-all Step start vertices place order so_far all v = (
-  λ has. All-contains (Leads Step start) order v so_far.led has,
-  λ led. Leads-keeps Step (Contains order) start v so_far.has_start
-      (λ u w (k, lt, at) step. so_far.closed k u w (omega arith) (slice_get-get_or order k u lt ∙ ap (λ x. Some x) at) step) led,
+-- when every found vertex was gone over, each step from a found one leads to a found one
+pub SearchSoFar-closed : (Step : ℕ → ℕ → Type 0) (P : ℕ → Type 0) (vertices place : ℕ) (order : List ℕ) → SearchSoFar Step P vertices place order → length order ≤ place →
+    (u w : ℕ) → Contains order u → Step u w → Contains order w
+SearchSoFar-closed Step P vertices place order so_far all u w (k, lt, at) step =
+    so_far.closed k u w (omega arith) (slice_get-get_or order k u lt ∙ ap (λ x. Some x) at) step
+
+-- .. and so the found ones are those that the old ones lead to
+pub SearchSoFar-all : (Step : ℕ → ℕ → Type 0) (old : List ℕ) (vertices place : ℕ) (order : List ℕ) → SearchSoFar Step (LeadsFromOne Step old) vertices place order →
+    ((v : ℕ) → Contains old v → Contains order v) → length order ≤ place → (v : ℕ) → Contains order v ↔ LeadsFromOne Step old v
+SearchSoFar-all Step old vertices place order so_far kept all v = (
+  λ has. All-contains (LeadsFromOne Step old) order v so_far.led has,
+  λ (start, listed, led). Leads-keeps Step (Contains order) start v (kept start listed) (SearchSoFar-closed Step (LeadsFromOne Step old) vertices place order so_far all) led,
 )

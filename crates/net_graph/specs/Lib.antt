@@ -10,6 +10,7 @@ pub mod Search
 pub mod SearchLaws
 pub mod Turned
 pub mod Found
+pub mod Growth
 pub mod Network
 pub mod Joins
 pub mod JoinsLaws

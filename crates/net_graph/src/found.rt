@@ -1,7 +1,8 @@
 //! The vertices that a search has found.
 
-ghost use Rattle.std.specs.Prelude.{◌≡◌, ◌<◌, ◌≤◌, ◌↔◌, ℕ, true, [], ◌∷◌, ◌++◌, ◌⊎◌, length, count_by, slice_get, Some, Contains, IfOk};
+ghost use Rattle.std.specs.Prelude.{◌≡◌, ◌<◌, ◌≤◌, ◌↔◌, ℕ, Bool, List, true, IsTrue, [], ◌∷◌, ◌++◌, ◌⊎◌, length, count_by, slice_get, Some, Contains, IfOk};
 ghost use Rattle.net_graph.specs.Flags.{has};
+ghost use Rattle.net_graph.specs.Found.{HasMembers};
 
 use crate::sets::VertexSet;
 use std::alloc::{AllocError, Global};
@@ -42,8 +43,23 @@ impl Found {
     pub fn len(&self) -> usize
         ensures len { result ≡ length self.now.order }
         ensures within { result ≤ self.now.size }
+        ensures members { (members : List Bool) × HasMembers self.now members }
     {
         self.order.len()
+    }
+
+    /// Whether the vertex was found; one past the size wasn't.
+    pub fn has(&self, vertex: u32) -> bool
+        ensures { IsTrue result ↔ Contains self.now.order vertex }
+    {
+        vertex < self.marks.len() && self.marks.has(vertex)
+    }
+
+    /// The set of the vertices that were found so far.
+    pub fn set(&self) -> &VertexSet
+        ensures { HasMembers self.now result.now }
+    {
+        &self.marks
     }
 
     /// The vertex that was found at a place of the order, counted from 0.

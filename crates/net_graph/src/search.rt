@@ -3,6 +3,7 @@
 ghost use Rattle.std.specs.Prelude.{◌≡◌, ◌*◌, ◌<◌, ◌↔◌, ℕ, Bool, true, length, Contains, IfOk};
 ghost use Rattle.net_graph.specs.Flags.{has};
 ghost use Rattle.net_graph.specs.Arcs.{partner_of};
+ghost use Rattle.net_graph.specs.Growth.{LeadsFromOne, IsGoneOver};
 ghost use Rattle.net_graph.specs.Search.{OpenStep, Leads, Extends};
 
 use crate::arcs::partner;
@@ -55,12 +56,29 @@ pub(crate) fn found_from<P: Passage>(
 {
     let mut found = Found::nothing(alloc, graph.vertex_count())?;
     found.add(start);
-    let mut place = 0;
+    search_on(graph, 0, passage, &mut found);
+    Ok(found)
+}
+
+// Goes on with a search over open arcs, in which the vertices before the place were gone over.
+pub(crate) fn search_on<P: Passage>(
+    graph: &NetGraph,
+    mut place: usize,
+    passage: &P,
+    found: &mut Found,
+)
+    requires size { found.old.size ≡ graph.now.vertices }
+    requires edges { P.edges passage.now ≡ length graph.now.edges }
+    requires gone_over { IsGoneOver graph.now.vertices
+        (OpenStep graph.now.edges (P.opens passage.now)) place found.old.order }
+    ensures size { found.new.size ≡ found.old.size }
+    ensures found { (v : ℕ) → Contains found.new.order v ↔
+        LeadsFromOne (OpenStep graph.now.edges (P.opens passage.now)) found.old.order v }
+{
     while place < found.len() {
-        add_next(graph, found.get(place), passage, &mut found);
+        add_next(graph, found.get(place), passage, found);
         place += 1;
     }
-    Ok(found)
 }
 
 /// The vertices that walks over open arcs lead to `end` from, which is one of them. An `Err` is want of memory.

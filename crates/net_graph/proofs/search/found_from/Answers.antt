@@ -1,15 +1,16 @@
-use Rattle.std.proofs.Common.{◌∙◌, ◌≤◌, length, arith}
+use Rattle.std.proofs.Common.{◌≡◌, [], ◌∷◌}
 use Rattle.net_graph.specs.Search.{OpenStep}
-use Rattle.net_graph.proofs.SearchLemmas.{SearchSoFar-more, SearchSoFar-all}
+use Rattle.net_graph.proofs.SearchLemmas.{IsGoneOver-start, LeadsFromOne-iff, found_first}
 use Rattle.net_graph.proofs.search.found_from.Goals as goal
 
-pub loop-place-preserved : goal.loop-place-preserved
-loop-place-preserved g c = (
-  SearchSoFar-more (OpenStep c.args.graph.now.edges (g.P.Passage.opens c.args.passage.now)) c.args.start c.args.graph.now.vertices c.loop-place.place c.get.result c.loop-place.found.order c.add_next.new.found.order c.loop-place.invariant.0 c.get.ensures c.add_next.ensures.more c.add_next.ensures.every,
-  c.add_next.ensures.size ∙ c.loop-place.invariant.1,
-)
+pub search_on-requires-clause-gone_over : goal.search_on-requires-clause-gone_over
+search_on-requires-clause-gone_over g c =
+    let first : c.add.new.self.order ≡ c.args.start ∷ [] = found_first c.in_ok-found.found.order c.add.new.self.order c.args.start c.in_ok-found.ensures.order c.add.ensures.order in
+    rw first (IsGoneOver-start (OpenStep c.args.graph.now.edges (g.P.Passage.opens c.args.passage.now)) c.args.start c.args.graph.now.vertices c.requires.start)
 
 pub returns-clause-found : goal.returns-clause-found
-returns-clause-found g c =
-    let all : length c.loop-place.found.order ≤ c.loop-place.place = omega arith in
-    SearchSoFar-all (OpenStep c.args.graph.now.edges (g.P.Passage.opens c.args.passage.now)) c.args.start c.args.graph.now.vertices c.loop-place.place c.loop-place.found.order c.loop-place.invariant.0 all
+returns-clause-found g c v =
+    let first : c.add.new.self.order ≡ c.args.start ∷ [] = found_first c.in_ok-found.found.order c.add.new.self.order c.args.start c.in_ok-found.ensures.order c.add.ensures.order in
+    let one = LeadsFromOne-iff (OpenStep c.args.graph.now.edges (g.P.Passage.opens c.args.passage.now)) c.args.start v in
+    let all = rw first at (c.search_on.ensures.found v) in
+    (λ listed. one.0 (all.0 listed), λ led. all.1 (one.1 led))
