@@ -12,29 +12,29 @@ use Rattle.net_graph.specs.Search.{OpenStep, Leads}
 use Rattle.net_graph.specs.SearchLaws.{Leads-weaker}
 use Rattle.net_graph.specs.Packing.{IsCut, IsFeasible, packing_value}
 use Rattle.net_graph.specs.Saturation.{SaturatedStep, IsMaximal}
-use Rattle.dual_ascent.specs.declared.rooms.EdgeRoom.{EdgeRoom}
+use Rattle.dual_ascent.specs.declared.costs.EdgeCosts.{EdgeCosts}
 use Rattle.dual_ascent.specs.Ascending.{BeginsWith, closed_with}
-use Rattle.dual_ascent.specs.Rooms.{rooms_of, lowered_by, is_full, unfilled, Entering, IsLeastOf}
-use Rattle.dual_ascent.specs.Steps.{AreRequired, FullyLeads, Parts, IsNextCut}
-use Rattle.dual_ascent.proofs.LoadLemmas.{map-lowered_by, length-rooms_of}
-use Rattle.dual_ascent.proofs.FullLemmas.{SaturatedStep-iff_open}
-use Rattle.dual_ascent.proofs.PackLemmas.{IsFeasible-push, unfilled-lowered_by, unfilled-le}
+use Rattle.dual_ascent.specs.Costs.{costs_of, lowered_by, is_saturated, unsaturated, Entering, IsLeastOf}
+use Rattle.dual_ascent.specs.Steps.{AreRequired, SaturatedLeads, Parts, IsNextCut}
+use Rattle.dual_ascent.proofs.LoadLemmas.{map-lowered_by, length-costs_of}
+use Rattle.dual_ascent.proofs.SaturatedLemmas.{SaturatedStep-iff_open}
+use Rattle.dual_ascent.proofs.PackLemmas.{IsFeasible-push, unsaturated-lowered_by, unsaturated-le}
 
--- the packing is feasible, the rooms are what it leaves, and each cut so far took the room of an arc
-pub record IsUnderWay (g : Graph) (decision : List EdgeState) (start packing : List Cut) (rooms : List EdgeRoom) : Type 0 where
+-- the packing is feasible, the costs are what it leaves, and each cut so far took the room of an arc
+pub record IsUnderWay (g : Graph) (decision : List EdgeState) (start packing : List Cut) (costs : List EdgeCosts) : Type 0 where
   pub feasible : IsFeasible g decision packing
-  pub left : rooms ≡ rooms_of g.edges decision packing
+  pub left : costs ≡ costs_of g.edges decision packing
   pub begins : BeginsWith packing start
-  pub few : length packing + unfilled rooms ≤ 4 * length g.edges
+  pub few : length packing + unsaturated costs ≤ 4 * length g.edges
 
 -- at the start
-pub IsUnderWay-none : (g : Graph) (decision : List EdgeState) (start : List Cut) (rooms : List EdgeRoom) → length decision ≡ length g.edges → IsFeasible g decision start →
-    length start ≤ 2 * length g.edges → rooms ≡ rooms_of g.edges decision start → IsUnderWay g decision start start rooms
-IsUnderWay-none g decision start rooms size feasible few are = record {
+pub IsUnderWay-none : (g : Graph) (decision : List EdgeState) (start : List Cut) (costs : List EdgeCosts) → length decision ≡ length g.edges → IsFeasible g decision start →
+    length start ≤ 2 * length g.edges → costs ≡ costs_of g.edges decision start → IsUnderWay g decision start start costs
+IsUnderWay-none g decision start costs size feasible few are = record {
   feasible = feasible;
   left = are;
   begins = ([], sym (append-nil start));
-  few = omega (arith, unfilled-le rooms, ap length are, length-rooms_of g.edges decision start size);
+  few = omega (arith, unsaturated-le costs, ap length are, length-costs_of g.edges decision start size);
 }
 
 -- a packing with one more cut begins with the same cuts
@@ -52,43 +52,43 @@ IsCut-from_parts g decision vertices members are parts =
     }
 
 -- one more cut
-pub IsUnderWay-pack : (g : Graph) (decision : List EdgeState) (start packing : List Cut) (rooms : List EdgeRoom) (vertices : List ℕ) (cut : Cut) → AreRequired g decision vertices →
-    IsUnderWay g decision start packing rooms → IsNextCut g vertices rooms cut → IsUnderWay g decision start (packing ++ cut ∷ []) (map (lowered_by cut) rooms)
-IsUnderWay-pack g decision start packing rooms vertices cut are so_far next = record {
+pub IsUnderWay-pack : (g : Graph) (decision : List EdgeState) (start packing : List Cut) (costs : List EdgeCosts) (vertices : List ℕ) (cut : Cut) → AreRequired g decision vertices →
+    IsUnderWay g decision start packing costs → IsNextCut g vertices costs cut → IsUnderWay g decision start (packing ++ cut ∷ []) (map (lowered_by cut) costs)
+IsUnderWay-pack g decision start packing costs vertices cut are so_far next = record {
   feasible = IsFeasible-push g decision packing cut so_far.feasible next.weight (IsCut-from_parts g decision vertices cut.members are next.parts)
       (subst (λ rs. (left : ℕ) → Entering rs cut.members left → cut.weight ≤ left) so_far.left next.least.1);
   left = ap (map (lowered_by cut)) so_far.left ∙ map-lowered_by g.edges decision packing cut;
   begins = BeginsWith-push start packing cut so_far.begins;
-  few = omega (arith, so_far.few, length-append packing (cut ∷ []), unfilled-lowered_by cut rooms next.weight next.least.0);
+  few = omega (arith, so_far.few, length-append packing (cut ∷ []), unsaturated-lowered_by cut costs next.weight next.least.0);
 }
 
--- the rooms show where saturated arcs lead
-pub FullyLeads-iff_saturated : (g : Graph) (decision : List EdgeState) (packing : List Cut) (rooms : List EdgeRoom) → length decision ≡ length g.edges → rooms ≡ rooms_of g.edges decision packing →
-    (u v : ℕ) → FullyLeads g rooms u v ↔ Leads (SaturatedStep g decision packing) u v
-FullyLeads-iff_saturated g decision packing rooms size are u v =
+-- the costs show where saturated arcs lead
+pub SaturatedLeads-iff_saturated : (g : Graph) (decision : List EdgeState) (packing : List Cut) (costs : List EdgeCosts) → length decision ≡ length g.edges → costs ≡ costs_of g.edges decision packing →
+    (u v : ℕ) → SaturatedLeads g costs u v ↔ Leads (SaturatedStep g decision packing) u v
+SaturatedLeads-iff_saturated g decision packing costs size are u v =
     let same = SaturatedStep-iff_open g decision packing size in
-    let Full : ℕ → ℕ → Type 0 = OpenStep g.edges (is_full (rooms_of g.edges decision packing)) in
-    subst (λ rs. FullyLeads g rs u v ↔ Leads (SaturatedStep g decision packing) u v) (sym are) (
+    let Full : ℕ → ℕ → Type 0 = OpenStep g.edges (is_saturated (costs_of g.edges decision packing)) in
+    subst (λ rs. SaturatedLeads g rs u v ↔ Leads (SaturatedStep g decision packing) u v) (sym are) (
       Leads-weaker Full (SaturatedStep g decision packing) (λ x y. (same x y).0) u v,
       Leads-weaker (SaturatedStep g decision packing) Full (λ x y. (same x y).1) u v,
     )
 
 -- a packing is maximal where full arcs lead from the root to each of the required vertices
-pub IsMaximal-iff : (g : Graph) (decision : List EdgeState) (packing : List Cut) (rooms : List EdgeRoom) (vertices : List ℕ) → length decision ≡ length g.edges →
-    rooms ≡ rooms_of g.edges decision packing → AreRequired g decision vertices → All (FullyLeads g rooms (root_of g)) vertices ↔ IsMaximal g decision packing
-IsMaximal-iff g decision packing rooms vertices size rooms_are are =
-    let same = FullyLeads-iff_saturated g decision packing rooms size rooms_are (root_of g) in (
-      λ all v required. (same v).0 (All-contains (FullyLeads g rooms (root_of g)) vertices v all (are.every v required)),
+pub IsMaximal-iff : (g : Graph) (decision : List EdgeState) (packing : List Cut) (costs : List EdgeCosts) (vertices : List ℕ) → length decision ≡ length g.edges →
+    costs ≡ costs_of g.edges decision packing → AreRequired g decision vertices → All (SaturatedLeads g costs (root_of g)) vertices ↔ IsMaximal g decision packing
+IsMaximal-iff g decision packing costs vertices size costs_are are =
+    let same = SaturatedLeads-iff_saturated g decision packing costs size costs_are (root_of g) in (
+      λ all v required. (same v).0 (All-contains (SaturatedLeads g costs (root_of g)) vertices v all (are.every v required)),
       λ maximal k d within. (same (get_or vertices k d)).1 (maximal (get_or vertices k d) (are.each k d within)),
     )
 
 -- .. as marks of what they lead to show
-pub IsMaximal-iff_marked : (g : Graph) (decision : List EdgeState) (packing : List Cut) (rooms : List EdgeRoom) (vertices : List ℕ) (marks : List Bool) (root : ℕ) (answer : Bool) → length decision ≡ length g.edges →
-    rooms ≡ rooms_of g.edges decision packing → AreRequired g decision vertices → root ≡ root_of g → ((v : ℕ) → (has marks v ≡ true) ↔ FullyLeads g rooms root v) →
+pub IsMaximal-iff_marked : (g : Graph) (decision : List EdgeState) (packing : List Cut) (costs : List EdgeCosts) (vertices : List ℕ) (marks : List Bool) (root : ℕ) (answer : Bool) → length decision ≡ length g.edges →
+    costs ≡ costs_of g.edges decision packing → AreRequired g decision vertices → root ≡ root_of g → ((v : ℕ) → (has marks v ≡ true) ↔ SaturatedLeads g costs root v) →
     (IsTrue answer ↔ All (λ v. has marks v ≡ true) vertices) → IsTrue answer ↔ IsMaximal g decision packing
-IsMaximal-iff_marked g decision packing rooms vertices marks root answer size rooms_are are is flags all =
-    let same = IsMaximal-iff g decision packing rooms vertices size rooms_are are in
-    let led : (v : ℕ) → (has marks v ≡ true) ↔ FullyLeads g rooms (root_of g) v = subst (λ r. (v : ℕ) → (has marks v ≡ true) ↔ FullyLeads g rooms r v) is flags in (
+IsMaximal-iff_marked g decision packing costs vertices marks root answer size costs_are are is flags all =
+    let same = IsMaximal-iff g decision packing costs vertices size costs_are are in
+    let led : (v : ℕ) → (has marks v ≡ true) ↔ SaturatedLeads g costs (root_of g) v = subst (λ r. (v : ℕ) → (has marks v ≡ true) ↔ SaturatedLeads g costs r v) is flags in (
       λ yes. same.0 (λ k d within. (led (get_or vertices k d)).0 (all.0 yes k d within)),
       λ maximal. all.1 (λ k d within. (led (get_or vertices k d)).1 (same.1 maximal k d within)),
     )
@@ -101,21 +101,21 @@ pub record IsClosed (g : Graph) (decision : List EdgeState) (start packing : Lis
   pub value : total_of g ≤ packing_value g decision packing
 
 -- a set that only arcs of outside edges enter closes an ascent
-pub IsClosed-from_under_way : (g : Graph) (decision : List EdgeState) (start packing : List Cut) (rooms : List EdgeRoom) (vertices : List ℕ) (members : List Bool) → AreRequired g decision vertices →
-    IsUnderWay g decision start packing rooms → Parts g vertices members → IsLeastOf (Entering rooms members) None → IsClosed g decision start (closed_with g members packing)
-IsClosed-from_under_way g decision start packing rooms vertices members are so_far parts none =
+pub IsClosed-from_under_way : (g : Graph) (decision : List EdgeState) (start packing : List Cut) (costs : List EdgeCosts) (vertices : List ℕ) (members : List Bool) → AreRequired g decision vertices →
+    IsUnderWay g decision start packing costs → Parts g vertices members → IsLeastOf (Entering costs members) None → IsClosed g decision start (closed_with g members packing)
+IsClosed-from_under_way g decision start packing costs vertices members are so_far parts none =
     let cut : Cut = record { weight = total_of g; members = members } in
     cond_both (eqb (total_of g) 0) packing (packing ++ cut ∷ []) (IsClosed g decision start)
     (λ empty. let nothing : total_of g ≡ 0 = eqb-true (total_of g) 0 empty in record {
       feasible = so_far.feasible;
       begins = so_far.begins;
-      few = let few : length packing + unfilled rooms ≤ 4 * length g.edges = so_far.few in omega arith;
+      few = let few : length packing + unsaturated costs ≤ 4 * length g.edges = so_far.few in omega arith;
       value = omega arith;
     })
     (λ full. let some : 0 < total_of g = omega (arith, eqb-false (total_of g) 0 full) in record {
       feasible = IsFeasible-push g decision packing cut so_far.feasible some (IsCut-from_parts g decision vertices members are parts)
           (subst (λ rs. (left : ℕ) → Entering rs members left → total_of g ≤ left) so_far.left (λ left entering. absurd (none left entering)));
       begins = BeginsWith-push start packing cut so_far.begins;
-      few = let few : length packing + unfilled rooms ≤ 4 * length g.edges = so_far.few in omega (arith, length-append packing (cut ∷ []));
+      few = let few : length packing + unsaturated costs ≤ 4 * length g.edges = so_far.few in omega (arith, length-append packing (cut ∷ []));
       value = omega (arith, sum_by_push (λ (c : Cut). c.weight) packing cut);
     })

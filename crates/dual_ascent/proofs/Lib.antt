@@ -1,7 +1,10 @@
-pub mod RoomLemmas
+pub mod CostLemmas
+pub mod ArcLemmas
 pub mod LoadLemmas
-pub mod FullLemmas
+pub mod EnteringLemmas
+pub mod SaturatedLemmas
 pub mod PackLemmas
 pub mod RequiredLemmas
 pub mod StepLemmas
+pub mod ActiveLemmas
 pub mod AscentLemmas

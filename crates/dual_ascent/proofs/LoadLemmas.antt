@@ -1,4 +1,4 @@
--- What one more cut loads, and what it leaves of the rooms.
+-- What one more cut loads, and what it leaves of the costs.
 use Rattle.std.proofs.Common.{ℕ, zero, suc, ◌≡◌, ◌+◌, ◌-◌, ◌≤◌, ◌<◌, List, [], ◌∷◌, ◌++◌, map, length, slice_get, Option, Some, None, refl, sym, ap, ◌∙◌, ⊎_elim, arith}
 use Rattle.std.proofs.lemmas.Bool.{cases_lt, le-leb, lt-leb}
 use Rattle.std.proofs.lemmas.List.Sums.{sum_by_push}
@@ -8,8 +8,8 @@ use Rattle.net_graph.specs.declared.packing.EdgeState.{EdgeState}
 use Rattle.net_graph.specs.declared.packing.Cut.{Cut}
 use Rattle.net_graph.specs.Packing.{load}
 use Rattle.net_graph.specs.Saturation.{room_of}
-use Rattle.dual_ascent.specs.declared.rooms.EdgeRoom.{EdgeRoom}
-use Rattle.dual_ascent.specs.Rooms.{left_after, weight_on, left_of, rooms_of, lowered_by}
+use Rattle.dual_ascent.specs.declared.costs.EdgeCosts.{EdgeCosts}
+use Rattle.dual_ascent.specs.Costs.{left_after, weight_on, left_of, costs_of, lowered_by}
 
 -- a load within a room leaves the rest
 pub left_after-le : (room amount : ℕ) → amount ≤ room → left_after (Some room) amount ≡ Some (room - amount)
@@ -69,7 +69,7 @@ lowered_by-left_of e state packing cut =
 
 -- .. of all edges
 pub map-lowered_by : (edges : List Edge) (decision : List EdgeState) (packing : List Cut) (cut : Cut) →
-    map (lowered_by cut) (rooms_of edges decision packing) ≡ rooms_of edges decision (packing ++ cut ∷ [])
+    map (lowered_by cut) (costs_of edges decision packing) ≡ costs_of edges decision (packing ++ cut ∷ [])
 map-lowered_by [] decision packing cut = refl
 map-lowered_by (e ∷ edges) [] packing cut = refl
 map-lowered_by (e ∷ edges) (state ∷ decision) packing cut =
@@ -78,24 +78,24 @@ map-lowered_by (e ∷ edges) (state ∷ decision) packing cut =
     cc
 
 -- the room of an edge
-pub slice_get-rooms_of : (edges : List Edge) (decision : List EdgeState) (packing : List Cut) (n : ℕ) (e : Edge) (state : EdgeState) →
-    slice_get edges n ≡ Some e → slice_get decision n ≡ Some state → slice_get (rooms_of edges decision packing) n ≡ Some (left_of e state packing)
-slice_get-rooms_of [] decision packing n e state at decided = absurd cc
-slice_get-rooms_of (x ∷ edges) [] packing n e state at decided = absurd cc
-slice_get-rooms_of (x ∷ edges) (s ∷ decision) packing zero e state at decided =
+pub slice_get-costs_of : (edges : List Edge) (decision : List EdgeState) (packing : List Cut) (n : ℕ) (e : Edge) (state : EdgeState) →
+    slice_get edges n ≡ Some e → slice_get decision n ≡ Some state → slice_get (costs_of edges decision packing) n ≡ Some (left_of e state packing)
+slice_get-costs_of [] decision packing n e state at decided = absurd cc
+slice_get-costs_of (x ∷ edges) [] packing n e state at decided = absurd cc
+slice_get-costs_of (x ∷ edges) (s ∷ decision) packing zero e state at decided =
     let same_edge : x ≡ e = same_Some x e at in
     let same_state : s ≡ state = same_Some s state decided in
     cc
-slice_get-rooms_of (x ∷ edges) (s ∷ decision) packing (suc n) e state at decided = slice_get-rooms_of edges decision packing n e state at decided
+slice_get-costs_of (x ∷ edges) (s ∷ decision) packing (suc n) e state at decided = slice_get-costs_of edges decision packing n e state at decided
 
--- there are as many rooms as edges
-pub length-rooms_of : (edges : List Edge) (decision : List EdgeState) (packing : List Cut) → length decision ≡ length edges → length (rooms_of edges decision packing) ≡ length edges
-length-rooms_of [] decision packing size = refl
-length-rooms_of (e ∷ edges) [] packing size = absurd (omega arith)
-length-rooms_of (e ∷ edges) (state ∷ decision) packing size = ap suc (length-rooms_of edges decision packing (omega arith))
+-- there are as many costs as edges
+pub length-costs_of : (edges : List Edge) (decision : List EdgeState) (packing : List Cut) → length decision ≡ length edges → length (costs_of edges decision packing) ≡ length edges
+length-costs_of [] decision packing size = refl
+length-costs_of (e ∷ edges) [] packing size = absurd (omega arith)
+length-costs_of (e ∷ edges) (state ∷ decision) packing size = ap suc (length-costs_of edges decision packing (omega arith))
 
--- the rooms are those of the graph's edges
-pub edges-rooms_of : (edges : List Edge) (decision : List EdgeState) (packing : List Cut) → length decision ≡ length edges → map (λ (room : EdgeRoom). room.edge) (rooms_of edges decision packing) ≡ edges
-edges-rooms_of [] decision packing size = refl
-edges-rooms_of (e ∷ edges) [] packing size = absurd (omega arith)
-edges-rooms_of (e ∷ edges) (state ∷ decision) packing size = ap (λ rest. e ∷ rest) (edges-rooms_of edges decision packing (omega arith))
+-- the costs are those of the graph's edges
+pub edges-costs_of : (edges : List Edge) (decision : List EdgeState) (packing : List Cut) → length decision ≡ length edges → map (λ (room : EdgeCosts). room.edge) (costs_of edges decision packing) ≡ edges
+edges-costs_of [] decision packing size = refl
+edges-costs_of (e ∷ edges) [] packing size = absurd (omega arith)
+edges-costs_of (e ∷ edges) (state ∷ decision) packing size = ap (λ rest. e ∷ rest) (edges-costs_of edges decision packing (omega arith))

@@ -1,5 +1,8 @@
 pub mod Choosing
-pub mod Rooms
+pub mod Costs
+pub mod Entering
 pub mod Steps
+pub mod Active
+pub mod Growing
 pub mod Ascending
 pub mod AscendingLaws

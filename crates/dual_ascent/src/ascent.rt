@@ -9,8 +9,8 @@ ghost use Rattle.dual_ascent.specs.Ascending.{BeginsWith, closed_with};
 
 use crate::chooser::{Chooser, Rule};
 use crate::required::required_vertices;
-use crate::rooms::Rooms;
-use crate::step::{Step, next_step};
+use crate::state::AscentState;
+use crate::step::Step;
 use duality::weak_duality;
 use net_graph::{Cut, Decision, NetGraph, Packing, VertexSet};
 use std::alloc::{AllocError, Global};
@@ -51,18 +51,15 @@ pub fn ascend<F: Rule>(
 {
     weak_duality();
     let required = required_vertices(alloc, g, d)?;
-    let mut rooms = Rooms::of(alloc, g, d, &start)?;
+    let mut state = AscentState::of(alloc, g, d, &required, &start)?;
     let mut packing = start;
     loop {
-        match next_step(alloc, g, &required, &rooms, chooser)? {
+        match state.next_step(g, chooser)? {
             Step::Done => return Ok(Ascent {
                 packing,
                 closed: false,
             }),
-            Step::Pack(cut) => {
-                rooms.load(&cut);
-                packing.push(cut)?;
-            }
+            Step::Pack(cut) => packing.push(cut)?,
             Step::Close(members) => return close(g, packing, members),
         }
     }

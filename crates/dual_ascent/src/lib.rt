@@ -1,12 +1,15 @@
 //! Lower bounds from packings of weighted directed cuts.
 #![tactic(auto)]
 
+mod active;
 mod ascent;
 mod candidate;
 mod chooser;
+mod costs;
+mod entering;
 mod maximality;
 mod required;
-mod rooms;
+mod state;
 mod step;
 #[cfg(test)]
 mod tests;

@@ -4,8 +4,8 @@ ghost use Rattle.std.specs.Prelude.{◌≡◌, ◌<◌, ◌↔◌, true, length,
 ghost use Rattle.net_graph.specs.Flags.{has};
 ghost use Rattle.net_graph.specs.Saturation.{IsMaximal};
 
+use crate::costs::ReducedCosts;
 use crate::required::required_vertices;
-use crate::rooms::Rooms;
 use net_graph::{Decision, NetGraph, Packing, VertexSet, reached_from};
 use std::alloc::{AllocError, Global};
 
@@ -20,8 +20,8 @@ pub fn maximal(
     ensures { IfOk result (λ yes. IsTrue yes ↔ IsMaximal g.now d.now packing.now) }
 {
     let required = required_vertices(alloc, g, d)?;
-    let rooms = Rooms::of(alloc, g, d, packing)?;
-    let reached = reached_from(alloc, g, g.root(), &rooms)?;
+    let costs = ReducedCosts::of(alloc, g, d, packing)?;
+    let reached = reached_from(alloc, g, g.root(), &costs)?;
     Ok(has_all(&reached, &required))
 }
 

@@ -1,14 +1,14 @@
 use Rattle.std.proofs.Common.{◌≡◌, ◌∙◌, ap, length, ◌↔◌, IsTrue, All, true}
 use Rattle.net_graph.specs.Flags.{has}
-use Rattle.dual_ascent.proofs.LoadLemmas.{length-rooms_of}
+use Rattle.dual_ascent.proofs.LoadLemmas.{length-costs_of}
 use Rattle.dual_ascent.proofs.AscentLemmas.{IsMaximal-iff_marked}
 use Rattle.dual_ascent.proofs.maximality.maximal.Goals as goal
 
 pub reached_from-requires-clause-edges : goal.reached_from-requires-clause-edges
-reached_from-requires-clause-edges c = ap length c.in_ok-rooms.ensures ∙ length-rooms_of c.args.g.now.edges c.args.d.now c.args.packing.now c.requires
+reached_from-requires-clause-edges c = ap length c.in_ok-costs.ensures ∙ length-costs_of c.args.g.now.edges c.args.d.now c.args.packing.now c.requires
 
 pub returns : goal.returns
 returns c =
     let all : IsTrue c.has_all.result ↔ All (λ v. has c.in_ok-reached.reached v ≡ true) c.in_ok-required.required.items = rw c.deref.ensures.value at c.has_all.ensures in
-    IsMaximal-iff_marked c.args.g.now c.args.d.now c.args.packing.now c.in_ok-rooms.rooms c.in_ok-required.required.items c.in_ok-reached.reached c.root.result c.has_all.result
-    c.requires c.in_ok-rooms.ensures c.in_ok-required.ensures.required c.root.ensures.root c.in_ok-reached.ensures.reached all
+    IsMaximal-iff_marked c.args.g.now c.args.d.now c.args.packing.now c.in_ok-costs.costs c.in_ok-required.required.items c.in_ok-reached.reached c.root.result c.has_all.result
+    c.requires c.in_ok-costs.ensures c.in_ok-required.ensures.required c.root.ensures.root c.in_ok-reached.ensures.reached all

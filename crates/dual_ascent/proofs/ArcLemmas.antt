@@ -1,0 +1,171 @@
+-- The arcs of edges, and what is left of them.
+use Rattle.std.proofs.Common.{ℕ, ◌≡◌, ◌≢◌, ◌+◌, ◌*◌, ◌/◌, ◌%◌, ◌<◌, ◌≤◌, eqb, true, false, List, length, get_or, set, slice_get, Option, Some, None, inl, inr, ⊎_elim, refl, sym, ap, subst, ◌∙◌, arith}
+use Rattle.std.specs.Option.{option_map}
+use Rattle.std.proofs.Math.Seq.{map-set_same}
+use Rattle.std.proofs.lemmas.Bool.{cases_Bool, cases_eq, cases_lt}
+use Rattle.std.proofs.lemmas.List.{length-set, length-map, get_or-set_same, get_or-set_other}
+use Rattle.std.proofs.lemmas.Option.{same_Some, slice_get_within, slice_get_past, slice_get-get_or, get_or_from_slice_get, slice_get-map}
+use Rattle.net_graph.specs.declared.arcs.Arc.{Arc}
+use Rattle.net_graph.specs.declared.edge.Edge.{Edge}
+use Rattle.net_graph.specs.Arcs.{forward_arc, backward_arc, partner_of, IsArcOf}
+use Rattle.net_graph.specs.Graph.{Graph, IsGraph, HasEndsBelow}
+use Rattle.net_graph.specs.Turned.{partner_of-even, partner_of-odd}
+use Rattle.dual_ascent.specs.declared.costs.EdgeCosts.{EdgeCosts}
+use Rattle.dual_ascent.specs.Costs.{cost_in, cost_of, with_cost, edges_of}
+
+-- the other arc of an arc's edge
+pub IsArcOf-partner : (edges : List Edge) (x : Arc) (v : ℕ) → IsArcOf edges x → x.from ≡ v → IsArcOf edges (record { number = partner_of x.number; from = x.to; to = v })
+IsArcOf-partner edges x v (n, e, at, way) leaves =
+    let arc : Arc = record { number = partner_of x.number; from = x.to; to = v } in
+    ⊎_elim
+    (λ (is : x ≡ forward_arc n e).
+    let number : partner_of x.number ≡ 2 * n + 1 = ap (λ (y : Arc). partner_of y.number) is ∙ partner_of-even n in
+    let from : x.to ≡ e.b = ap (λ (y : Arc). y.to) is in
+    let to : v ≡ e.a = sym leaves ∙ ap (λ (y : Arc). y.from) is in
+    let same : arc ≡ backward_arc n e = cc in
+    (n, e, at, inr same))
+    (λ (is : x ≡ backward_arc n e).
+    let number : partner_of x.number ≡ 2 * n = ap (λ (y : Arc). partner_of y.number) is ∙ partner_of-odd n in
+    let from : x.to ≡ e.a = ap (λ (y : Arc). y.to) is in
+    let to : v ≡ e.b = sym leaves ∙ ap (λ (y : Arc). y.from) is in
+    let same : arc ≡ forward_arc n e = cc in
+    (n, e, at, inl same))
+    way
+
+-- the partner of an arc's partner is the arc
+pub partner_twice : (edges : List Edge) (x : Arc) → IsArcOf edges x → partner_of (partner_of x.number) ≡ x.number
+partner_twice edges x (n, e, at, way) =
+    ⊎_elim
+    (λ (is : x ≡ forward_arc n e).
+    let number : x.number ≡ 2 * n = ap (λ (y : Arc). y.number) is in
+    ap (λ k. partner_of (partner_of k)) number ∙ ap partner_of (partner_of-even n) ∙ partner_of-odd n ∙ sym number)
+    (λ (is : x ≡ backward_arc n e).
+    let number : x.number ≡ 2 * n + 1 = ap (λ (y : Arc). y.number) is in
+    ap (λ k. partner_of (partner_of k)) number ∙ ap partner_of (partner_of-odd n) ∙ partner_of-even n ∙ sym number)
+    way
+
+-- an arc's number is below twice the number of edges
+pub IsArcOf-number : (edges : List Edge) (x : Arc) → IsArcOf edges x → x.number < 2 * length edges
+IsArcOf-number edges x (n, e, at, way) =
+    let within : n < length edges = slice_get_within edges n e at in
+    ⊎_elim
+    (λ (is : x ≡ forward_arc n e). let number : x.number ≡ 2 * n = ap (λ (y : Arc). y.number) is in omega arith)
+    (λ (is : x ≡ backward_arc n e). let number : x.number ≡ 2 * n + 1 = ap (λ (y : Arc). y.number) is in omega arith)
+    way
+
+-- an arc leads from a vertex to a vertex
+pub IsArcOf-below : (g : Graph) (x : Arc) → IsGraph g → IsArcOf g.edges x → (x.from < g.vertices) × (x.to < g.vertices)
+IsArcOf-below g x graph (n, e, at, way) =
+    let ends : HasEndsBelow g.vertices e = subst (HasEndsBelow g.vertices) (get_or_from_slice_get g.edges n e e at) (graph.ends n e (slice_get_within g.edges n e at)) in
+    ⊎_elim
+    (λ (is : x ≡ forward_arc n e). (subst (λ v. v < g.vertices) (ap (λ (y : Arc). y.from) (sym is)) ends.a, subst (λ v. v < g.vertices) (ap (λ (y : Arc). y.to) (sym is)) ends.b))
+    (λ (is : x ≡ backward_arc n e). (subst (λ v. v < g.vertices) (ap (λ (y : Arc). y.from) (sym is)) ends.b, subst (λ v. v < g.vertices) (ap (λ (y : Arc). y.to) (sym is)) ends.a))
+    way
+
+-- arcs with one number are one arc
+pub same_arc : (edges : List Edge) (x y : Arc) → IsArcOf edges x → IsArcOf edges y → x.number ≡ y.number → x ≡ y
+same_arc edges x y (n, e, at, way) (m, f, at_m, way_m) same =
+    ⊎_elim
+    (λ (is : x ≡ forward_arc n e). let first : x.number ≡ 2 * n = ap (λ (z : Arc). z.number) is in
+    ⊎_elim
+    (λ (is_m : y ≡ forward_arc m f). let second : y.number ≡ 2 * m = ap (λ (z : Arc). z.number) is_m in
+    let place : n ≡ m = omega arith in
+    let edge : e ≡ f = same_Some e f (sym at ∙ ap (slice_get edges) place ∙ at_m) in
+    is ∙ ap (λ k. forward_arc k e) place ∙ ap (forward_arc m) edge ∙ sym is_m)
+    (λ (is_m : y ≡ backward_arc m f). let second : y.number ≡ 2 * m + 1 = ap (λ (z : Arc). z.number) is_m in absurd (omega arith))
+    way_m)
+    (λ (is : x ≡ backward_arc n e). let first : x.number ≡ 2 * n + 1 = ap (λ (z : Arc). z.number) is in
+    ⊎_elim
+    (λ (is_m : y ≡ forward_arc m f). let second : y.number ≡ 2 * m = ap (λ (z : Arc). z.number) is_m in absurd (omega arith))
+    (λ (is_m : y ≡ backward_arc m f). let second : y.number ≡ 2 * m + 1 = ap (λ (z : Arc). z.number) is_m in
+    let place : n ≡ m = omega arith in
+    let edge : e ≡ f = same_Some e f (sym at ∙ ap (slice_get edges) place ∙ at_m) in
+    is ∙ ap (λ k. backward_arc k e) place ∙ ap (backward_arc m) edge ∙ sym is_m)
+    way_m)
+    way
+
+-- what is left of an edge's first arc
+pub cost_of-even : (costs : List EdgeCosts) (n : ℕ) (c : EdgeCosts) → slice_get costs n ≡ Some c → cost_of costs (2 * n) ≡ c.there
+cost_of-even costs n c at =
+    let half : 2 * n / 2 ≡ n = omega arith in
+    let even : 2 * n % 2 ≡ 0 = omega arith in
+    rw (half, at, even) refl
+
+-- .. and of its second
+pub cost_of-odd : (costs : List EdgeCosts) (n : ℕ) (c : EdgeCosts) → slice_get costs n ≡ Some c → cost_of costs (2 * n + 1) ≡ c.back
+cost_of-odd costs n c at =
+    let half : (2 * n + 1) / 2 ≡ n = omega arith in
+    let odd : (2 * n + 1) % 2 ≡ 1 = omega arith in
+    rw (half, at, odd) refl
+
+-- the edge of the costs at a place
+pub slice_get-edges_of : (costs : List EdgeCosts) (n : ℕ) (c : EdgeCosts) → slice_get costs n ≡ Some c → slice_get (edges_of costs) n ≡ Some c.edge
+slice_get-edges_of costs n c at = slice_get-map (λ (x : EdgeCosts). x.edge) costs n ∙ ap (option_map (λ (x : EdgeCosts). x.edge)) at
+
+-- the costs of an edge
+pub costs_at : (costs : List EdgeCosts) (n : ℕ) (e : Edge) → slice_get (edges_of costs) n ≡ Some e → (c : EdgeCosts) × (slice_get costs n ≡ Some c) × (c.edge ≡ e)
+costs_at costs n e at =
+    let none : EdgeCosts = record { edge = e; there = None; back = None } in
+    let within : n < length costs = omega (arith, slice_get_within (edges_of costs) n e at, length-map costs (λ (x : EdgeCosts). x.edge)) in
+    let c : EdgeCosts = get_or costs n none in
+    let here : slice_get costs n ≡ Some c = slice_get-get_or costs n none within in
+    (c, here, same_Some c.edge e (sym (slice_get-edges_of costs n c here) ∙ at))
+
+-- an edge's own arc is as it is
+cost_in-with_same : (c : EdgeCosts) (arc : ℕ) (cost : Option ℕ) → cost_in (Some (with_cost c arc cost)) arc ≡ cost
+cost_in-with_same c arc cost =
+    ⊎_elim
+    (λ (even : eqb (arc % 2) 0 ≡ true). rw even refl)
+    (λ (odd : eqb (arc % 2) 0 ≡ false). rw odd refl)
+    (cases_Bool (eqb (arc % 2) 0))
+
+-- .. and the other one as it was
+cost_in-with_other : (c : EdgeCosts) (arc other : ℕ) (cost : Option ℕ) → other / 2 ≡ arc / 2 → other ≢ arc → cost_in (Some (with_cost c arc cost)) other ≡ cost_in (Some c) other
+cost_in-with_other c arc other cost edge apart =
+    ⊎_elim
+    (λ (even : arc % 2 ≡ 0). let odd : other % 2 ≡ 1 = omega arith in rw (even, odd) refl)
+    (λ (odd : arc % 2 ≢ 0). let one : arc % 2 ≡ 1 = omega arith in let even : other % 2 ≡ 0 = omega arith in rw (one, even) refl)
+    (cases_eq (arc % 2) 0)
+
+-- the edges stay
+pub edges_of-set : (costs : List EdgeCosts) (place arc : ℕ) (cost : Option ℕ) (d : EdgeCosts) → edges_of (set costs place (with_cost (get_or costs place d) arc cost)) ≡ edges_of costs
+edges_of-set costs place arc cost d =
+    let c : EdgeCosts = get_or costs place d in
+    let kept : (with_cost c arc cost).edge ≡ c.edge = ⊎_elim
+    (λ (even : eqb (arc % 2) 0 ≡ true). rw even refl)
+    (λ (odd : eqb (arc % 2) 0 ≡ false). rw odd refl)
+    (cases_Bool (eqb (arc % 2) 0)) in
+    map-set_same (λ (x : EdgeCosts). x.edge) costs place (with_cost c arc cost) d kept
+
+-- a place that was not written
+slice_get-set_apart : (costs : List EdgeCosts) (n k : ℕ) (c d : EdgeCosts) → k ≢ n → slice_get (set costs n c) k ≡ slice_get costs k
+slice_get-set_apart costs n k c d apart =
+    ⊎_elim
+    (λ (within : k < length costs). slice_get-get_or (set costs n c) k d (omega (arith, length-set costs n c)) ∙ ap Some (get_or-set_other costs n k c d apart) ∙ sym (slice_get-get_or costs k d within))
+    (λ (past : length costs ≤ k). slice_get_past (set costs n c) k (omega (arith, length-set costs n c)) ∙ sym (slice_get_past costs k past))
+    (cases_lt k (length costs))
+
+-- what is left of the arc that was changed
+pub cost_of-set_same : (costs : List EdgeCosts) (arc : ℕ) (cost : Option ℕ) (d : EdgeCosts) → arc / 2 < length costs →
+    cost_of (set costs (arc / 2) (with_cost (get_or costs (arc / 2) d) arc cost)) arc ≡ cost
+cost_of-set_same costs arc cost d within =
+    let c : EdgeCosts = get_or costs (arc / 2) d in
+    let new : List EdgeCosts = set costs (arc / 2) (with_cost c arc cost) in
+    let at : slice_get new (arc / 2) ≡ Some (with_cost c arc cost) =
+    slice_get-get_or new (arc / 2) d (omega (arith, length-set costs (arc / 2) (with_cost c arc cost))) ∙ ap Some (get_or-set_same costs (arc / 2) (with_cost c arc cost) d within) in
+    ap (λ o. cost_in o arc) at ∙ cost_in-with_same c arc cost
+
+-- .. and of another one
+pub cost_of-set_other : (costs : List EdgeCosts) (arc other : ℕ) (cost : Option ℕ) (d : EdgeCosts) → arc / 2 < length costs → other ≢ arc →
+    cost_of (set costs (arc / 2) (with_cost (get_or costs (arc / 2) d) arc cost)) other ≡ cost_of costs other
+cost_of-set_other costs arc other cost d within apart =
+    let c : EdgeCosts = get_or costs (arc / 2) d in
+    let new : List EdgeCosts = set costs (arc / 2) (with_cost c arc cost) in
+    ⊎_elim
+    (λ (edge : other / 2 ≡ arc / 2).
+    let at : slice_get new (other / 2) ≡ Some (with_cost c arc cost) =
+    ap (slice_get new) edge ∙ slice_get-get_or new (arc / 2) d (omega (arith, length-set costs (arc / 2) (with_cost c arc cost))) ∙ ap Some (get_or-set_same costs (arc / 2) (with_cost c arc cost) d within) in
+    let before : slice_get costs (other / 2) ≡ Some c = ap (slice_get costs) edge ∙ slice_get-get_or costs (arc / 2) d within in
+    ap (λ o. cost_in o other) at ∙ cost_in-with_other c arc other cost edge apart ∙ ap (λ o. cost_in o other) (sym before))
+    (λ (edge : other / 2 ≢ arc / 2). ap (λ o. cost_in o other) (slice_get-set_apart costs (arc / 2) (other / 2) (with_cost c arc cost) d edge))
+    (cases_eq (other / 2) (arc / 2))

@@ -1,0 +1,324 @@
+-- The arcs that enter a set, gathered one after another, and what a cut leaves of them.
+use Rattle.std.proofs.Common.{ℕ, ◌≡◌, ◌≢◌, ◌+◌, ◌-◌, ◌*◌, ◌<◌, ◌≤◌, Bool, true, false, not, List, [], ◌∷◌, ◌++◌, map, length, get_or, slice_get, Option, Some, None, All, Contains, ◌⊎◌, inl, inr, ⊎_elim, refl, sym, ap, subst, ◌∙◌, arith, if◌then◌else◌}
+use Rattle.std.specs.Option.{SomeIff, option_map}
+use Rattle.std.proofs.lemmas.Bool.{cases_Bool, cases_eq, cases_lt, and_parts, both_ways, not-true}
+use Rattle.std.proofs.lemmas.List.{length-map, same_lists, get_or-map}
+use Rattle.std.proofs.lemmas.List.Elements.{All-nil, All-push, All-contains, Contains-append_left, Contains-push}
+use Rattle.std.proofs.lemmas.Option.{same_Some, slice_get_within, slice_get-get_or, slice_get-map, get_or_from_slice_get}
+use Rattle.net_graph.specs.declared.arcs.Arc.{Arc}
+use Rattle.net_graph.specs.declared.edge.Edge.{Edge}
+use Rattle.net_graph.specs.declared.packing.Cut.{Cut}
+use Rattle.net_graph.specs.Arcs.{forward_arc, backward_arc, partner_of, IsArcOf, AreArcsFrom}
+use Rattle.net_graph.specs.Flags.{has}
+use Rattle.net_graph.specs.Graph.{Graph, IsGraph}
+use Rattle.net_graph.specs.Packing.{enters}
+use Rattle.dual_ascent.specs.declared.costs.EdgeCosts.{EdgeCosts}
+use Rattle.dual_ascent.specs.declared.entering.EnteringArc.{EnteringArc}
+use Rattle.dual_ascent.specs.Costs.{left_after, weight_on, lowered_by, cost_of, edges_of, Entering, IsLeastOf}
+use Rattle.dual_ascent.specs.Entering.{EntersLeft, HasEnteringAt, AreEntering, IsLeftOfOne}
+use Rattle.dual_ascent.proofs.ArcLemmas.{IsArcOf-partner, partner_twice, IsArcOf-below, same_arc, cost_of-even, cost_of-odd, slice_get-edges_of, costs_at}
+use Rattle.dual_ascent.proofs.LoadLemmas.{left_after-le, left_after-lt}
+
+-- the arc that enters where this one leaves
+abbrev pub partner_at : Arc → ℕ → Arc
+partner_at x vertex = record { number = partner_of x.number; from = x.to; to = vertex }
+
+-- the first i arcs were gone over
+pub record GathersAt (costs : List EdgeCosts) (members : List Bool) (vertex : ℕ) (arcs : List Arc) (i : ℕ) (old now : List EnteringArc) : Type 0 where
+  pub each : All (EntersLeft costs members) now
+  pub kept : (e : EnteringArc) → Contains old e → Contains now e
+  pub every : (k : ℕ) (x : Arc) (left : ℕ) → k < i → slice_get arcs k ≡ Some x → has members x.to ≡ false → cost_of costs (partner_of x.number) ≡ Some left →
+      Contains now (record { arc = partner_at x vertex; left = left })
+
+-- at the start
+pub GathersAt-none : (costs : List EdgeCosts) (members : List Bool) (vertex : ℕ) (arcs : List Arc) (old : List EnteringArc) → All (EntersLeft costs members) old → GathersAt costs members vertex arcs 0 old old
+GathersAt-none costs members vertex arcs old each = record { each = each; kept = λ e has. has; every = λ k x left lt at out is. absurd (omega arith) }
+
+-- one more arc, whose partner doesn't enter or can't be saturated
+pub GathersAt-skip : (costs : List EdgeCosts) (members : List Bool) (vertex : ℕ) (arcs : List Arc) (i : ℕ) (old now : List EnteringArc) (x : Arc) → GathersAt costs members vertex arcs i old now →
+    slice_get arcs i ≡ Some x → (if has members x.to then None else cost_of costs (partner_of x.number)) ≡ None → GathersAt costs members vertex arcs (i + 1) old now
+GathersAt-skip costs members vertex arcs i old now x so_far at none = record {
+  each = so_far.each;
+  kept = so_far.kept;
+  every = λ k y left lt at_k out is. ⊎_elim (λ earlier. so_far.every k y left earlier at_k out is)
+      (λ later. let same : k ≡ i = omega arith in
+      let same_arc : y ≡ x = same_Some y x (sym at_k ∙ ap (slice_get arcs) same ∙ at) in
+      let outside : has members x.to ≡ false = subst (λ (z : Arc). has members z.to ≡ false) same_arc out in
+      let here : cost_of costs (partner_of x.number) ≡ Some left = subst (λ (z : Arc). cost_of costs (partner_of z.number) ≡ Some left) same_arc is in
+      let missing : cost_of costs (partner_of x.number) ≡ None = rw outside at none in
+      absurd cc) (cases_lt k i);
+}
+
+-- one more arc, whose partner enters
+pub GathersAt-push : (costs : List EdgeCosts) (members : List Bool) (vertex : ℕ) (arcs : List Arc) (i : ℕ) (old now : List EnteringArc) (x : Arc) (left : ℕ) → GathersAt costs members vertex arcs i old now →
+    slice_get arcs i ≡ Some x → IsArcOf (edges_of costs) x → x.from ≡ vertex → has members vertex ≡ true →
+    Some left ≡ (if has members x.to then None else cost_of costs (partner_of x.number)) →
+    GathersAt costs members vertex arcs (i + 1) old (now ++ (record { arc = partner_at x vertex; left = left }) ∷ [])
+GathersAt-push costs members vertex arcs i old now x left so_far at is_arc leaves member is =
+    let e : EnteringArc = record { arc = partner_at x vertex; left = left } in
+    let outside : has members x.to ≡ false = ⊎_elim
+    (λ (inside : has members x.to ≡ true). let missing : Some left ≡ None = rw inside at is in absurd cc)
+    (λ (out : has members x.to ≡ false). out) (cases_Bool (has members x.to)) in
+    let here : cost_of costs (partner_of x.number) ≡ Some left = sym (rw outside at is) in
+    let entered : EntersLeft costs members e = record {
+      arc = IsArcOf-partner (edges_of costs) x vertex is_arc leaves;
+      enters = rw (member, outside) refl;
+      left = here;
+    } in
+    record {
+      each = All-push (EntersLeft costs members) now e so_far.each entered;
+      kept = λ f found. Contains-append_left now (e ∷ []) f (so_far.kept f found);
+      every = λ k y amount lt at_k out cost. ⊎_elim
+          (λ earlier. Contains-append_left now (e ∷ []) (record { arc = partner_at y vertex; left = amount }) (so_far.every k y amount earlier at_k out cost))
+          (λ later. let same : i ≡ k = omega arith in
+          let same_arc : x ≡ y = same_Some x y (sym at ∙ ap (slice_get arcs) same ∙ at_k) in
+          let same_left : left ≡ amount = same_Some left amount (sym here ∙ ap (λ (z : Arc). cost_of costs (partner_of z.number)) same_arc ∙ cost) in
+          let same_item : e ≡ record { arc = partner_at y vertex; left = amount } = ap (λ (z : Arc). record { arc = partner_at z vertex; left = left }) same_arc ∙ ap (λ n. record { arc = partner_at y vertex; left = n }) same_left in
+          subst (Contains (now ++ e ∷ [])) same_item (Contains-push now e)) (cases_lt k i);
+    }
+
+-- an arc by its parts
+arc_with : (arc : Arc) (n v : ℕ) → n ≡ arc.number → v ≡ arc.to → record { number = n; from = arc.from; to = v } ≡ arc
+arc_with arc n v number to =
+    let numbered : ℕ → Arc = λ k. record { number = k; from = arc.from; to = v } in
+    let heading : ℕ → Arc = λ k. record { number = arc.number; from = arc.from; to = k } in
+    ap numbered number ∙ ap heading to
+
+-- when all arcs from the vertex were gone over
+pub GathersAt-all : (costs : List EdgeCosts) (members : List Bool) (vertex : ℕ) (arcs : List Arc) (i : ℕ) (old now : List EnteringArc) (edges : List Edge) → edges_of costs ≡ edges →
+    AreArcsFrom (IsArcOf edges) vertex arcs → length arcs ≤ i → GathersAt costs members vertex arcs i old now → HasEnteringAt costs members vertex now
+GathersAt-all costs members vertex arcs i old now edges of are all so_far arc left is_arc comes out is =
+    let x : Arc = partner_at arc arc.from in
+    let other : IsArcOf edges x = subst (λ es. IsArcOf es x) of (IsArcOf-partner (edges_of costs) arc arc.from is_arc refl) in
+    let (k, lt, here) = are.every x other comes in
+    let at : slice_get arcs k ≡ Some x = slice_get-get_or arcs k x lt ∙ ap Some here in
+    let twice : partner_of x.number ≡ arc.number = partner_twice (edges_of costs) arc is_arc in
+    let found : Contains now (record { arc = partner_at x vertex; left = left }) = so_far.every k x left (omega arith) at out (ap (cost_of costs) twice ∙ is) in
+    let same : partner_at x vertex ≡ arc = arc_with arc (partner_of x.number) vertex twice (sym comes) in
+    subst (λ (z : Arc). Contains now (record { arc = z; left = left })) same found
+
+-- the arcs that enter the set at vertices below a bound
+pub record EnteringBelow (costs : List EdgeCosts) (members : List Bool) (bound : ℕ) (list : List EnteringArc) : Type 0 where
+  pub each : All (EntersLeft costs members) list
+  pub every : (arc : Arc) (left : ℕ) → arc.to < bound → IsArcOf (edges_of costs) arc → enters members arc.from arc.to ≡ true →
+      cost_of costs arc.number ≡ Some left → Contains list (record { arc = arc; left = left })
+
+-- at the start
+pub EnteringBelow-none : (costs : List EdgeCosts) (members : List Bool) → EnteringBelow costs members 0 []
+EnteringBelow-none costs members = record { each = All-nil (EntersLeft costs members); every = λ arc left below is_arc entered is. absurd (omega arith) }
+
+-- one more vertex, which isn't in the set
+pub EnteringBelow-skip : (costs : List EdgeCosts) (members : List Bool) (v : ℕ) (list : List EnteringArc) → EnteringBelow costs members v list → has members v ≡ false → EnteringBelow costs members (v + 1) list
+EnteringBelow-skip costs members v list so_far out = record {
+  each = so_far.each;
+  every = λ arc left below is_arc entered is. ⊎_elim (λ earlier. so_far.every arc left earlier is_arc entered is)
+      (λ later. let same : arc.to ≡ v = omega arith in
+      let inside : has members arc.to ≡ true = (and_parts (has members arc.to) (not (has members arc.from)) entered).0 in
+      let outside : has members arc.to ≡ false = ap (has members) same ∙ out in absurd (both_ways (has members arc.to) outside inside)) (cases_lt arc.to v);
+}
+
+-- one more vertex of the set
+pub EnteringBelow-take : (costs : List EdgeCosts) (members : List Bool) (v : ℕ) (list now : List EnteringArc) → EnteringBelow costs members v list → All (EntersLeft costs members) now →
+    ((e : EnteringArc) → Contains list e → Contains now e) → HasEnteringAt costs members v now → EnteringBelow costs members (v + 1) now
+EnteringBelow-take costs members v list now so_far each kept here = record {
+  each = each;
+  every = λ arc left below is_arc entered is. ⊎_elim (λ earlier. kept (record { arc = arc; left = left }) (so_far.every arc left earlier is_arc entered is))
+      (λ later. let same : arc.to ≡ v = omega arith in
+      here arc left is_arc same (not-true (has members arc.from) ((and_parts (has members arc.to) (not (has members arc.from)) entered).1)) is) (cases_lt arc.to v);
+}
+
+-- when all vertices were gone over
+pub AreEntering-all : (g : Graph) (costs : List EdgeCosts) (members : List Bool) (bound : ℕ) (list : List EnteringArc) → IsGraph g → edges_of costs ≡ g.edges → g.vertices ≤ bound →
+    EnteringBelow costs members bound list → AreEntering costs members list
+AreEntering-all g costs members bound list graph of all so_far = record {
+  each = so_far.each;
+  every = λ arc left is_arc entered is.
+      let low = IsArcOf-below g arc graph (subst (λ es. IsArcOf es arc) of is_arc) in
+      let below : arc.to < g.vertices = low.1 in
+      so_far.every arc left (omega arith) is_arc entered is;
+}
+
+-- no more is taken from what is left of an arc than there is
+pub left_after-checked : (rest : Option ℕ) (left weight : ℕ) → SomeIff rest (weight ≤ left) (left - weight) → rest ≡ left_after (Some left) weight
+left_after-checked None left weight refused =
+    ⊎_elim (λ over. sym (left_after-lt left weight over)) (λ fits. absurd (refused fits)) (cases_lt left weight)
+left_after-checked (Some rest) left weight (fits, is) = ap Some is ∙ sym (left_after-le left weight fits)
+
+-- the weight was taken from what is left of these arcs
+pub record LoweredSoFar (before : List EdgeCosts) (weight : ℕ) (list : List EnteringArc) (now : List EdgeCosts) : Type 0 where
+  pub edges : edges_of now ≡ edges_of before
+  pub lowered : All (λ e. cost_of now e.arc.number ≡ left_after (cost_of before e.arc.number) weight) list
+  pub others : (n : ℕ) → (cost_of now n ≡ cost_of before n) ⊎ ((e : EnteringArc) × Contains list e × (e.arc.number ≡ n))
+
+-- from none
+pub LoweredSoFar-none : (before : List EdgeCosts) (weight : ℕ) → LoweredSoFar before weight [] before
+LoweredSoFar-none before weight = record {
+  edges = refl;
+  lowered = All-nil (λ (e : EnteringArc). cost_of before e.arc.number ≡ left_after (cost_of before e.arc.number) weight);
+  others = λ n. inl refl;
+}
+
+-- from one more
+pub LoweredSoFar-more : (before now next : List EdgeCosts) (weight : ℕ) (list : List EnteringArc) (e : EnteringArc) (rest : Option ℕ) → LoweredSoFar before weight list now →
+    cost_of before e.arc.number ≡ Some e.left → SomeIff rest (weight ≤ e.left) (e.left - weight) →
+    edges_of next ≡ edges_of now → cost_of next e.arc.number ≡ rest → ((n : ℕ) → n ≢ e.arc.number → cost_of next n ≡ cost_of now n) →
+    LoweredSoFar before weight (list ++ e ∷ []) next
+LoweredSoFar-more before now next weight list e rest so_far was checked edges changed others =
+    let P : EnteringArc → Type 0 = λ f. cost_of next f.arc.number ≡ left_after (cost_of before f.arc.number) weight in
+    let here : P e = changed ∙ left_after-checked rest e.left weight checked ∙ ap (λ c. left_after c weight) (sym was) in
+    record {
+      edges = edges ∙ so_far.edges;
+      lowered = All-push P list e
+          (λ k d lt. let f : EnteringArc = get_or list k d in ⊎_elim
+          (λ (same : f.arc.number ≡ e.arc.number). subst (λ n. cost_of next n ≡ left_after (cost_of before n) weight) (sym same) here)
+          (λ (apart : f.arc.number ≢ e.arc.number). others f.arc.number apart ∙ so_far.lowered k d lt)
+          (cases_eq f.arc.number e.arc.number)) here;
+      others = λ n. ⊎_elim
+          (λ (same : n ≡ e.arc.number). inr (e, Contains-push list e, sym same))
+          (λ (apart : n ≢ e.arc.number). ⊎_elim
+          (λ kept. inl (others n apart ∙ kept))
+          (λ (f, listed, is). inr (f, Contains-append_left list (e ∷ []) f listed, is)) (so_far.others n))
+          (cases_eq n e.arc.number);
+    }
+
+-- no load takes nothing
+pub left_after-zero : (cost : Option ℕ) → left_after cost 0 ≡ cost
+left_after-zero None = refl
+left_after-zero (Some left) = let same : left - 0 ≡ left = omega arith in left_after-le left 0 (omega arith) ∙ ap Some same
+
+-- there is such an amount or none
+some_or_none : (cost : Option ℕ) → (cost ≡ None) ⊎ ((left : ℕ) × (cost ≡ Some left))
+some_or_none None = inl refl
+some_or_none (Some left) = inr (left, refl)
+
+-- the arcs that enter the cut lost its weight, and no others
+cost_of-lowered_so_far : (before now : List EdgeCosts) (cut : Cut) (list : List EnteringArc) → AreEntering before cut.members list → LoweredSoFar before cut.weight list now →
+    (arc : Arc) → IsArcOf (edges_of before) arc → cost_of now arc.number ≡ left_after (cost_of before arc.number) (weight_on cut arc.from arc.to)
+cost_of-lowered_so_far before now cut list are so_far arc is_arc =
+    let P : EnteringArc → Type 0 = λ f. cost_of now f.arc.number ≡ left_after (cost_of before f.arc.number) cut.weight in
+    ⊎_elim
+    (λ (entered : enters cut.members arc.from arc.to ≡ true).
+    let loaded : weight_on cut arc.from arc.to ≡ cut.weight = rw entered refl in
+    ⊎_elim
+    (λ (kept : cost_of now arc.number ≡ cost_of before arc.number).
+    elim (some_or_none (cost_of before arc.number)) [
+      | inl none ↦ kept ∙ none ∙ ap (λ c. left_after c (weight_on cut arc.from arc.to)) (sym none)
+      | inr (left, is) ↦ All-contains P list (record { arc = arc; left = left }) so_far.lowered (are.every arc left is_arc entered is) ∙ ap (left_after (cost_of before arc.number)) (sym loaded)
+    ])
+    (λ (f, listed, number).
+    let here : P f = All-contains P list f so_far.lowered listed in
+    subst (λ n. cost_of now n ≡ left_after (cost_of before n) cut.weight) number here ∙ ap (left_after (cost_of before arc.number)) (sym loaded))
+    (so_far.others arc.number))
+    (λ (apart : enters cut.members arc.from arc.to ≡ false).
+    let loaded : weight_on cut arc.from arc.to ≡ 0 = rw apart refl in
+    ⊎_elim
+    (λ (kept : cost_of now arc.number ≡ cost_of before arc.number). kept ∙ sym (left_after-zero (cost_of before arc.number)) ∙ ap (left_after (cost_of before arc.number)) (sym loaded))
+    (λ (f, listed, number).
+    let own : EntersLeft before cut.members f = All-contains (EntersLeft before cut.members) list f are.each listed in
+    let same : f.arc ≡ arc = same_arc (edges_of before) f.arc arc own.arc is_arc number in
+    let entered : enters cut.members arc.from arc.to ≡ true = subst (λ (x : Arc). enters cut.members x.from x.to ≡ true) same own.enters in
+    absurd (both_ways (enters cut.members arc.from arc.to) apart entered))
+    (so_far.others arc.number))
+    (cases_Bool (enters cut.members arc.from arc.to))
+
+-- an edge's costs by their parts
+costs_with : (c : EdgeCosts) (e : Edge) (there back : Option ℕ) → c.edge ≡ e → c.there ≡ there → c.back ≡ back → c ≡ record { edge = e; there = there; back = back }
+costs_with c e there back edge first second =
+    let of : Edge → EdgeCosts = λ x. record { edge = x; there = c.there; back = c.back } in
+    let along : Option ℕ → EdgeCosts = λ x. record { edge = e; there = x; back = c.back } in
+    let against : Option ℕ → EdgeCosts = λ x. record { edge = e; there = there; back = x } in
+    ap of edge ∙ ap along first ∙ ap against second
+
+-- what all arcs lost is what the cut takes
+pub lowered_is : (before now : List EdgeCosts) (cut : Cut) (list : List EnteringArc) → AreEntering before cut.members list → LoweredSoFar before cut.weight list now → now ≡ map (lowered_by cut) before
+lowered_is before now cut list are so_far =
+    let size : length now ≡ length before = omega (arith, ap length so_far.edges, length-map now (λ (x : EdgeCosts). x.edge), length-map before (λ (x : EdgeCosts). x.edge)) in
+    same_lists now (map (lowered_by cut) before) (omega (arith, size, length-map before (lowered_by cut))) (λ k d lt.
+    let low : k < length before = omega (arith, size) in
+    let n : EdgeCosts = get_or now k d in
+    let b : EdgeCosts = get_or before k d in
+    let at_now : slice_get now k ≡ Some n = slice_get-get_or now k d lt in
+    let at : slice_get before k ≡ Some b = slice_get-get_or before k d low in
+    let at_edge : slice_get (edges_of before) k ≡ Some b.edge = slice_get-edges_of before k b at in
+    let edge : n.edge ≡ b.edge = same_Some n.edge b.edge (sym (slice_get-edges_of now k n at_now) ∙ ap (λ es. slice_get es k) so_far.edges ∙ at_edge) in
+    let there : n.there ≡ left_after b.there (weight_on cut b.edge.a b.edge.b) =
+    sym (cost_of-even now k n at_now) ∙ cost_of-lowered_so_far before now cut list are so_far (forward_arc k b.edge) (k, b.edge, at_edge, inl refl) ∙ ap (λ c. left_after c (weight_on cut b.edge.a b.edge.b)) (cost_of-even before k b at) in
+    let back : n.back ≡ left_after b.back (weight_on cut b.edge.b b.edge.a) =
+    sym (cost_of-odd now k n at_now) ∙ cost_of-lowered_so_far before now cut list are so_far (backward_arc k b.edge) (k, b.edge, at_edge, inr refl) ∙ ap (λ c. left_after c (weight_on cut b.edge.b b.edge.a)) (cost_of-odd before k b at) in
+    let same : n ≡ lowered_by cut b = costs_with n b.edge (left_after b.there (weight_on cut b.edge.a b.edge.b)) (left_after b.back (weight_on cut b.edge.b b.edge.a)) edge there back in
+    same ∙ sym (get_or-map (lowered_by cut) before k d d low))
+
+-- what the cut leaves of an arc
+pub cost_of-lowered : (costs : List EdgeCosts) (cut : Cut) (arc : Arc) → IsArcOf (edges_of costs) arc →
+    cost_of (map (lowered_by cut) costs) arc.number ≡ left_after (cost_of costs arc.number) (weight_on cut arc.from arc.to)
+cost_of-lowered costs cut arc (n, e, at, way) =
+    let (c, here, edge) = costs_at costs n e at in
+    let after : slice_get (map (lowered_by cut) costs) n ≡ Some (lowered_by cut c) = slice_get-map (lowered_by cut) costs n ∙ ap (option_map (lowered_by cut)) here in
+    ⊎_elim
+    (λ (is : arc ≡ forward_arc n e).
+    let number : arc.number ≡ 2 * n = ap (λ (x : Arc). x.number) is in
+    let from : c.edge.a ≡ arc.from = ap (λ (x : Edge). x.a) edge ∙ sym (ap (λ (x : Arc). x.from) is) in
+    let to : c.edge.b ≡ arc.to = ap (λ (x : Edge). x.b) edge ∙ sym (ap (λ (x : Arc). x.to) is) in
+    ap (cost_of (map (lowered_by cut) costs)) number ∙ cost_of-even (map (lowered_by cut) costs) n (lowered_by cut c) after
+    ∙ ap (λ x. left_after x (weight_on cut c.edge.a c.edge.b)) (sym (cost_of-even costs n c here) ∙ ap (cost_of costs) (sym number))
+    ∙ ap (λ u. left_after (cost_of costs arc.number) (weight_on cut u c.edge.b)) from ∙ ap (λ v. left_after (cost_of costs arc.number) (weight_on cut arc.from v)) to)
+    (λ (is : arc ≡ backward_arc n e).
+    let number : arc.number ≡ 2 * n + 1 = ap (λ (x : Arc). x.number) is in
+    let from : c.edge.b ≡ arc.from = ap (λ (x : Edge). x.b) edge ∙ sym (ap (λ (x : Arc). x.from) is) in
+    let to : c.edge.a ≡ arc.to = ap (λ (x : Edge). x.a) edge ∙ sym (ap (λ (x : Arc). x.to) is) in
+    ap (cost_of (map (lowered_by cut) costs)) number ∙ cost_of-odd (map (lowered_by cut) costs) n (lowered_by cut c) after
+    ∙ ap (λ x. left_after x (weight_on cut c.edge.b c.edge.a)) (sym (cost_of-odd costs n c here) ∙ ap (cost_of costs) (sym number))
+    ∙ ap (λ u. left_after (cost_of costs arc.number) (weight_on cut u c.edge.a)) from ∙ ap (λ v. left_after (cost_of costs arc.number) (weight_on cut arc.from v)) to)
+    way
+
+-- an arc that enters is one of those of an edge
+pub Entering-from_arc : (costs : List EdgeCosts) (members : List Bool) (arc : Arc) (left : ℕ) → IsArcOf (edges_of costs) arc → enters members arc.from arc.to ≡ true → cost_of costs arc.number ≡ Some left → Entering costs members left
+Entering-from_arc costs members arc left (n, e, at, way) entered is =
+    let (c, here, edge) = costs_at costs n e at in
+    let found : Contains costs c = (n, slice_get_within costs n c here, get_or_from_slice_get costs n c c here) in
+    ⊎_elim
+    (λ (along : arc ≡ forward_arc n e).
+    let from : arc.from ≡ c.edge.a = ap (λ (x : Arc). x.from) along ∙ sym (ap (λ (x : Edge). x.a) edge) in
+    let to : arc.to ≡ c.edge.b = ap (λ (x : Arc). x.to) along ∙ sym (ap (λ (x : Edge). x.b) edge) in
+    let cost : c.there ≡ Some left = sym (cost_of-even costs n c here) ∙ ap (cost_of costs) (sym (ap (λ (x : Arc). x.number) along)) ∙ is in
+    (c, found, inl (subst (λ v. enters members c.edge.a v ≡ true) to (subst (λ u. enters members u arc.to ≡ true) from entered), cost)))
+    (λ (against : arc ≡ backward_arc n e).
+    let from : arc.from ≡ c.edge.b = ap (λ (x : Arc). x.from) against ∙ sym (ap (λ (x : Edge). x.b) edge) in
+    let to : arc.to ≡ c.edge.a = ap (λ (x : Arc). x.to) against ∙ sym (ap (λ (x : Edge). x.a) edge) in
+    let cost : c.back ≡ Some left = sym (cost_of-odd costs n c here) ∙ ap (cost_of costs) (sym (ap (λ (x : Arc). x.number) against)) ∙ is in
+    (c, found, inr (subst (λ v. enters members c.edge.b v ≡ true) to (subst (λ u. enters members u arc.to ≡ true) from entered), cost)))
+    way
+
+-- .. and the other way round
+pub arc_from_Entering : (costs : List EdgeCosts) (members : List Bool) (left : ℕ) → Entering costs members left →
+    (arc : Arc) × IsArcOf (edges_of costs) arc × (enters members arc.from arc.to ≡ true) × (cost_of costs arc.number ≡ Some left)
+arc_from_Entering costs members left (c, (k, below, is), ways) =
+    let here : slice_get costs k ≡ Some c = slice_get-get_or costs k c below ∙ ap Some is in
+    let at : slice_get (edges_of costs) k ≡ Some c.edge = slice_get-edges_of costs k c here in
+    ⊎_elim
+    (λ (there : (enters members c.edge.a c.edge.b ≡ true) × (c.there ≡ Some left)). (forward_arc k c.edge, (k, c.edge, at, inl refl), there.0, cost_of-even costs k c here ∙ there.1))
+    (λ (back : (enters members c.edge.b c.edge.a ≡ true) × (c.back ≡ Some left)). (backward_arc k c.edge, (k, c.edge, at, inr refl), back.0, cost_of-odd costs k c here ∙ back.1))
+    ways
+
+-- what is left of one of the listed arcs is left of one that enters
+left_enters : (costs : List EdgeCosts) (members : List Bool) (list : List EnteringArc) (left : ℕ) → AreEntering costs members list → IsLeftOfOne list left → Entering costs members left
+left_enters costs members list left are (e, listed, is) =
+    let own : EntersLeft costs members e = All-contains (EntersLeft costs members) list e are.each listed in
+    Entering-from_arc costs members e.arc left own.arc own.enters (own.left ∙ ap Some is)
+
+-- .. and the other way round
+entering_listed : (costs : List EdgeCosts) (members : List Bool) (list : List EnteringArc) (left : ℕ) → AreEntering costs members list → Entering costs members left → IsLeftOfOne list left
+entering_listed costs members list left are entering =
+    let (arc, is_arc, entered, is) = arc_from_Entering costs members left entering in
+    (record { arc = arc; left = left }, are.every arc left is_arc entered is, refl)
+
+-- the least that is left of a listed arc is the least of those that enter
+pub IsLeastOf-entering : (costs : List EdgeCosts) (members : List Bool) (list : List EnteringArc) (least : Option ℕ) → AreEntering costs members list → IsLeastOf (IsLeftOfOne list) least → IsLeastOf (Entering costs members) least
+IsLeastOf-entering costs members list None are none = λ n entering. none n (entering_listed costs members list n are entering)
+IsLeastOf-entering costs members list (Some least) are (one, low) =
+    (left_enters costs members list least are one, λ n entering. low n (entering_listed costs members list n are entering))
+
+-- the edges stay
+pub edges_of-lowered : (costs : List EdgeCosts) (cut : Cut) → edges_of (map (lowered_by cut) costs) ≡ edges_of costs
+edges_of-lowered [] cut = refl
+edges_of-lowered (c ∷ costs) cut = ap (λ es. c.edge ∷ es) (edges_of-lowered costs cut)

@@ -1,0 +1,6 @@
+use Rattle.std.proofs.Common.{◌∙◌, []}
+use Rattle.dual_ascent.proofs.CostLemmas.{map-zip-left_of}
+use Rattle.dual_ascent.proofs.costs.ReducedCosts.whole.Goals as goal
+
+pub returns : goal.returns
+returns c = rw (c.edges.ensures.edges, c.states.ensures) at c.in_ok-edges.ensures ∙ map-zip-left_of c.args.g.now.edges c.args.d.now []

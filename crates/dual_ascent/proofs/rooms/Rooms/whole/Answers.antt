@@ -1,6 +1,0 @@
-use Rattle.std.proofs.Common.{◌∙◌, []}
-use Rattle.dual_ascent.proofs.RoomLemmas.{map-zip-left_of}
-use Rattle.dual_ascent.proofs.rooms.Rooms.whole.Goals as goal
-
-pub returns : goal.returns
-returns c = rw (c.edges.ensures.edges, c.states.ensures) at c.in_ok-edges.ensures ∙ map-zip-left_of c.args.g.now.edges c.args.d.now []

@@ -1,0 +1,7 @@
+use Rattle.std.proofs.Common.{◌∙◌, ap}
+use Rattle.dual_ascent.specs.Costs.{edges_of}
+use Rattle.dual_ascent.proofs.LoadLemmas.{edges-costs_of}
+use Rattle.dual_ascent.proofs.state.AscentState.of.Goals as goal
+
+pub active_vertices-requires-clause-edges : goal.active_vertices-requires-clause-edges
+active_vertices-requires-clause-edges c = ap edges_of c.in_ok-costs.ensures ∙ edges-costs_of c.args.g.now.edges c.args.d.now c.args.packing.now c.requires.decision

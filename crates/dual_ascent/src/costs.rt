@@ -1,0 +1,168 @@
+//! What packed cuts leave of the room of a graph's arcs.
+
+ghost use Rattle.std.specs.Prelude.{ℕ, ◌≡◌, ◌≢◌, ◌*◌, ◌<◌, [], length, map, IfOk};
+ghost use Rattle.std.specs.List.{zip};
+ghost use Rattle.dual_ascent.specs.Costs.{left_of, costs_of, cost_of, with_cost, edges_of, lowered_by, is_saturated, lesser_of};
+ghost use Rattle.dual_ascent.specs.Entering.{AreEntering};
+
+use crate::entering::{EnteringArc, list_entering};
+use net_graph::{Cut, Decision, Edge, EdgeState, NetGraph, Packing, Passage};
+use std::alloc::{AllocError, Global};
+use std::marker::Model;
+
+/// What is left of the room of an edge's two arcs, which are their reduced costs. `None` is left of an arc that can't be
+/// saturated: its edge is outside, or it is loaded above its room.
+#[derive(Clone, Copy, Debug, PartialEq, Eq)]
+pub(crate) struct EdgeCosts {
+    pub edge: Edge,
+    /// What is left of the arc from the edge's end a to its end b.
+    pub there: Option<u64>,
+    /// What is left of the arc from b to a.
+    pub back: Option<u64>,
+}
+
+impl EdgeCosts {
+    /// The room of an edge in this state, with no cut packed.
+    fn whole(edge: Edge, state: EdgeState) -> EdgeCosts
+        ensures { result ≡ left_of edge state [] }
+    {
+        let room = match state {
+            EdgeState::Undecided => Some(edge.length),
+            EdgeState::Inside => Some(0),
+            EdgeState::Outside => None,
+        };
+        EdgeCosts {
+            edge,
+            there: room,
+            back: room,
+        }
+    }
+
+    // With this left of the arc of a number.
+    fn with_cost(self, arc: u32, cost: Option<u64>) -> EdgeCosts
+        ensures { result ≡ with_cost self arc cost }
+    {
+        let mut costs = self;
+        if arc % 2 == 0 {
+            costs.there = cost;
+        } else {
+            costs.back = cost;
+        }
+        costs
+    }
+}
+
+/// The lesser of two amounts, of which either may be missing.
+pub(crate) fn lesser(one: Option<u64>, other: Option<u64>) -> Option<u64>
+    ensures { result ≡ lesser_of one other }
+{
+    match (one, other) {
+        (Some(m), Some(n)) => Some(m.min(n)),
+        (None, rest) => rest,
+        (rest, None) => rest,
+    }
+}
+
+// The room of each edge, with no cut packed.
+fn whole_costs(
+    alloc: Global,
+    edges: &[Edge],
+    states: &[EdgeState],
+) -> Result<Vec<EdgeCosts>, AllocError>
+    ensures { IfOk result (λ costs. costs.items ≡ map (λ pair. left_of pair.0 pair.1 []) (zip edges.now states.now)) }
+{
+    edges
+        .iter()
+        .zip(states)
+        .map(|(edge, state)| EdgeCosts::whole(*edge, *state))
+        .collect(alloc)
+}
+
+/// What packed cuts leave of the room of all arcs. Contracts see it by edges.
+#[derive(Debug, Drop)]
+pub(crate) struct ReducedCosts {
+    edges: Vec<EdgeCosts>,
+}
+
+impl Model for ReducedCosts {
+    ghost use Rattle.std.specs.Prelude.{List};
+    ghost use Rattle.dual_ascent.specs.declared.costs.EdgeCosts.{EdgeCosts};
+
+    ghost Value = { List EdgeCosts };
+
+    ghost view = { λ costs. costs.edges.items };
+}
+
+impl ReducedCosts {
+    // The rooms of the graph's arcs, with no cut packed. An `Err` is want of memory.
+    fn whole(alloc: Global, g: &NetGraph, d: &Decision) -> Result<ReducedCosts, AllocError>
+        ensures { IfOk result (λ costs. costs ≡ costs_of g.now.edges d.now []) }
+    {
+        let edges = whole_costs(alloc, g.edges(), d.states())?;
+        Ok(ReducedCosts { edges })
+    }
+
+    /// What the cuts of a packing leave of the rooms of the graph's arcs. An `Err` is want of memory.
+    pub fn of(
+        alloc: Global,
+        g: &NetGraph,
+        d: &Decision,
+        packing: &Packing,
+    ) -> Result<ReducedCosts, AllocError>
+        requires { length d.now ≡ length g.now.edges }
+        ensures { IfOk result (λ costs. costs ≡ costs_of g.now.edges d.now packing.now) }
+    {
+        let mut costs = ReducedCosts::whole(alloc, g, d)?;
+        let mut entering = Vec::new(alloc);
+        for cut in packing.cuts() {
+            list_entering(g, &costs, &cut.members, &mut entering)?;
+            costs.lower(cut, &entering);
+        }
+        Ok(costs)
+    }
+
+    /// What is left of the arc of a number.
+    pub fn cost(&self, arc: u32) -> Option<u64>
+        requires { arc < 2 * length self.now }
+        ensures { result ≡ cost_of self.now arc }
+    {
+        let costs = self.edges[(arc / 2) as usize];
+        if arc % 2 == 0 {
+            costs.there
+        } else {
+            costs.back
+        }
+    }
+
+    // Leaves this of the arc of a number.
+    fn set_cost(&mut self, arc: u32, cost: Option<u64>)
+        requires { arc < 2 * length self.old }
+        ensures edges { edges_of self.new ≡ edges_of self.old }
+        ensures changed { cost_of self.new arc ≡ cost }
+        ensures others { (other : ℕ) → other ≢ arc → cost_of self.new other ≡ cost_of self.old other }
+    {
+        let place = (arc / 2) as usize;
+        self.edges[place] = self.edges[place].with_cost(arc, cost);
+    }
+
+    /// Packs one more cut, which these arcs enter.
+    pub fn lower(&mut self, cut: &Cut, entering: &[EnteringArc])
+        requires { AreEntering self.old cut.now.members entering.now }
+        ensures { self.new ≡ map (lowered_by cut.now) self.old }
+    {
+        for e in entering {
+            self.set_cost(e.arc.number, e.left.checked_sub(cut.weight));
+        }
+    }
+}
+
+/// The saturated arcs may be walked.
+impl Passage for ReducedCosts {
+    ghost opens = { is_saturated };
+
+    ghost edges = { λ costs. length costs };
+
+    fn is_open(&self, arc: u32) -> bool {
+        self.cost(arc) == Some(0)
+    }
+}
