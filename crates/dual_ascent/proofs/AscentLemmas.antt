@@ -3,11 +3,11 @@ use Rattle.std.proofs.Common.{ℕ, ◌≡◌, ◌+◌, ◌*◌, ◌≤◌, ◌<�
 use Rattle.std.proofs.lemmas.Bool.{cond_both, eqb-false}
 use Rattle.std.proofs.lemmas.List.Elements.{All-contains}
 use Rattle.std.proofs.lemmas.List.Sums.{sum_by_push}
-use Rattle.net_graph.specs.declared.packing.EdgeState.{EdgeState}
 use Rattle.net_graph.specs.declared.packing.Cut.{Cut}
 use Rattle.net_graph.specs.Flags.{has}
 use Rattle.net_graph.specs.Graph.{Graph, root_of, total_of}
-use Rattle.net_graph.specs.Decision.{IsRequired}
+use Rattle.net_graph.specs.Decision.{Decided, IsDecisionFor, IsRequired, states_of}
+use Rattle.net_graph.specs.DecisionLaws.{length-states_of}
 use Rattle.net_graph.specs.Search.{OpenStep, Leads}
 use Rattle.net_graph.specs.SearchLaws.{Leads-weaker}
 use Rattle.net_graph.specs.Packing.{IsCut, IsFeasible, packing_value}
@@ -21,20 +21,20 @@ use Rattle.dual_ascent.proofs.SaturatedLemmas.{SaturatedStep-iff_open}
 use Rattle.dual_ascent.proofs.PackLemmas.{IsFeasible-push, unsaturated-lowered_by, unsaturated-le}
 
 -- the packing is feasible, the costs are what it leaves, and each cut so far took the room of an arc
-pub record IsUnderWay (g : Graph) (decision : List EdgeState) (start packing : List Cut) (costs : List EdgeCosts) : Type 0 where
+pub record IsUnderWay (g : Graph) (decision : Decided) (start packing : List Cut) (costs : List EdgeCosts) : Type 0 where
   pub feasible : IsFeasible g decision packing
-  pub left : costs ≡ costs_of g.edges decision packing
+  pub left : costs ≡ costs_of g.edges (states_of g decision) packing
   pub begins : BeginsWith packing start
   pub few : length packing + unsaturated costs ≤ 4 * length g.edges
 
 -- at the start
-pub IsUnderWay-none : (g : Graph) (decision : List EdgeState) (start : List Cut) (costs : List EdgeCosts) → length decision ≡ length g.edges → IsFeasible g decision start →
-    length start ≤ 2 * length g.edges → costs ≡ costs_of g.edges decision start → IsUnderWay g decision start start costs
+pub IsUnderWay-none : (g : Graph) (decision : Decided) (start : List Cut) (costs : List EdgeCosts) → IsDecisionFor g decision → IsFeasible g decision start →
+    length start ≤ 2 * length g.edges → costs ≡ costs_of g.edges (states_of g decision) start → IsUnderWay g decision start start costs
 IsUnderWay-none g decision start costs size feasible few are = record {
   feasible = feasible;
   left = are;
   begins = ([], sym (append-nil start));
-  few = omega (arith, unsaturated-le costs, ap length are, length-costs_of g.edges decision start size);
+  few = omega (arith, unsaturated-le costs, ap length are, length-costs_of g.edges (states_of g decision) start (length-states_of g decision size.edges));
 }
 
 -- a packing with one more cut begins with the same cuts
@@ -42,7 +42,7 @@ BeginsWith-push : (start packing : List Cut) (cut : Cut) → BeginsWith packing 
 BeginsWith-push start packing cut (rest, is) = (rest ++ cut ∷ [], ap (λ cuts. cuts ++ cut ∷ []) is ∙ append_assoc start rest (cut ∷ []))
 
 -- a set that parts a required vertex from the root is a cut
-IsCut-from_parts : (g : Graph) (decision : List EdgeState) (vertices : List ℕ) (members : List Bool) → AreRequired g decision vertices → Parts g vertices members → IsCut g decision members
+IsCut-from_parts : (g : Graph) (decision : Decided) (vertices : List ℕ) (members : List Bool) → AreRequired g decision vertices → Parts g vertices members → IsCut g decision members
 IsCut-from_parts g decision vertices members are parts =
     let (v, listed, inside) = parts.some in
     record {
@@ -52,30 +52,30 @@ IsCut-from_parts g decision vertices members are parts =
     }
 
 -- one more cut
-pub IsUnderWay-pack : (g : Graph) (decision : List EdgeState) (start packing : List Cut) (costs : List EdgeCosts) (vertices : List ℕ) (cut : Cut) → AreRequired g decision vertices →
+pub IsUnderWay-pack : (g : Graph) (decision : Decided) (start packing : List Cut) (costs : List EdgeCosts) (vertices : List ℕ) (cut : Cut) → AreRequired g decision vertices →
     IsUnderWay g decision start packing costs → IsNextCut g vertices costs cut → IsUnderWay g decision start (packing ++ cut ∷ []) (map (lowered_by cut) costs)
 IsUnderWay-pack g decision start packing costs vertices cut are so_far next = record {
   feasible = IsFeasible-push g decision packing cut so_far.feasible next.weight (IsCut-from_parts g decision vertices cut.members are next.parts)
       (subst (λ rs. (left : ℕ) → Entering rs cut.members left → cut.weight ≤ left) so_far.left next.least.1);
-  left = ap (map (lowered_by cut)) so_far.left ∙ map-lowered_by g.edges decision packing cut;
+  left = ap (map (lowered_by cut)) so_far.left ∙ map-lowered_by g.edges (states_of g decision) packing cut;
   begins = BeginsWith-push start packing cut so_far.begins;
   few = omega (arith, so_far.few, length-append packing (cut ∷ []), unsaturated-lowered_by cut costs next.weight next.least.0);
 }
 
 -- the costs show where saturated arcs lead
-pub SaturatedLeads-iff_saturated : (g : Graph) (decision : List EdgeState) (packing : List Cut) (costs : List EdgeCosts) → length decision ≡ length g.edges → costs ≡ costs_of g.edges decision packing →
+pub SaturatedLeads-iff_saturated : (g : Graph) (decision : Decided) (packing : List Cut) (costs : List EdgeCosts) → IsDecisionFor g decision → costs ≡ costs_of g.edges (states_of g decision) packing →
     (u v : ℕ) → SaturatedLeads g costs u v ↔ Leads (SaturatedStep g decision packing) u v
 SaturatedLeads-iff_saturated g decision packing costs size are u v =
     let same = SaturatedStep-iff_open g decision packing size in
-    let Full : ℕ → ℕ → Type 0 = OpenStep g.edges (is_saturated (costs_of g.edges decision packing)) in
+    let Full : ℕ → ℕ → Type 0 = OpenStep g.edges (is_saturated (costs_of g.edges (states_of g decision) packing)) in
     subst (λ rs. SaturatedLeads g rs u v ↔ Leads (SaturatedStep g decision packing) u v) (sym are) (
       Leads-weaker Full (SaturatedStep g decision packing) (λ x y. (same x y).0) u v,
       Leads-weaker (SaturatedStep g decision packing) Full (λ x y. (same x y).1) u v,
     )
 
 -- a packing is maximal where full arcs lead from the root to each of the required vertices
-pub IsMaximal-iff : (g : Graph) (decision : List EdgeState) (packing : List Cut) (costs : List EdgeCosts) (vertices : List ℕ) → length decision ≡ length g.edges →
-    costs ≡ costs_of g.edges decision packing → AreRequired g decision vertices → All (SaturatedLeads g costs (root_of g)) vertices ↔ IsMaximal g decision packing
+pub IsMaximal-iff : (g : Graph) (decision : Decided) (packing : List Cut) (costs : List EdgeCosts) (vertices : List ℕ) → IsDecisionFor g decision →
+    costs ≡ costs_of g.edges (states_of g decision) packing → AreRequired g decision vertices → All (SaturatedLeads g costs (root_of g)) vertices ↔ IsMaximal g decision packing
 IsMaximal-iff g decision packing costs vertices size costs_are are =
     let same = SaturatedLeads-iff_saturated g decision packing costs size costs_are (root_of g) in (
       λ all v required. (same v).0 (All-contains (SaturatedLeads g costs (root_of g)) vertices v all (are.every v required)),
@@ -83,8 +83,8 @@ IsMaximal-iff g decision packing costs vertices size costs_are are =
     )
 
 -- .. as marks of what they lead to show
-pub IsMaximal-iff_marked : (g : Graph) (decision : List EdgeState) (packing : List Cut) (costs : List EdgeCosts) (vertices : List ℕ) (marks : List Bool) (root : ℕ) (answer : Bool) → length decision ≡ length g.edges →
-    costs ≡ costs_of g.edges decision packing → AreRequired g decision vertices → root ≡ root_of g → ((v : ℕ) → (has marks v ≡ true) ↔ SaturatedLeads g costs root v) →
+pub IsMaximal-iff_marked : (g : Graph) (decision : Decided) (packing : List Cut) (costs : List EdgeCosts) (vertices : List ℕ) (marks : List Bool) (root : ℕ) (answer : Bool) → IsDecisionFor g decision →
+    costs ≡ costs_of g.edges (states_of g decision) packing → AreRequired g decision vertices → root ≡ root_of g → ((v : ℕ) → (has marks v ≡ true) ↔ SaturatedLeads g costs root v) →
     (IsTrue answer ↔ All (λ v. has marks v ≡ true) vertices) → IsTrue answer ↔ IsMaximal g decision packing
 IsMaximal-iff_marked g decision packing costs vertices marks root answer size costs_are are is flags all =
     let same = IsMaximal-iff g decision packing costs vertices size costs_are are in
@@ -94,14 +94,14 @@ IsMaximal-iff_marked g decision packing costs vertices marks root answer size co
     )
 
 -- what a closing cut keeps and adds
-pub record IsClosed (g : Graph) (decision : List EdgeState) (start packing : List Cut) : Type 0 where
+pub record IsClosed (g : Graph) (decision : Decided) (start packing : List Cut) : Type 0 where
   pub feasible : IsFeasible g decision packing
   pub begins : BeginsWith packing start
   pub few : length packing ≤ 4 * length g.edges + 1
   pub value : total_of g ≤ packing_value g decision packing
 
 -- a set that only arcs of outside edges enter closes an ascent
-pub IsClosed-from_under_way : (g : Graph) (decision : List EdgeState) (start packing : List Cut) (costs : List EdgeCosts) (vertices : List ℕ) (members : List Bool) → AreRequired g decision vertices →
+pub IsClosed-from_under_way : (g : Graph) (decision : Decided) (start packing : List Cut) (costs : List EdgeCosts) (vertices : List ℕ) (members : List Bool) → AreRequired g decision vertices →
     IsUnderWay g decision start packing costs → Parts g vertices members → IsLeastOf (Entering costs members) None → IsClosed g decision start (closed_with g members packing)
 IsClosed-from_under_way g decision start packing costs vertices members are so_far parts none =
     let cut : Cut = record { weight = total_of g; members = members } in

@@ -5,12 +5,13 @@ use Rattle.std.proofs.lemmas.List.Elements.{All-push}
 use Rattle.std.proofs.lemmas.List.Sums.{sum_by-cons}
 use Rattle.std.proofs.lemmas.Option.{same_Some, slice_get_within, slice_get-get_or, get_or_from_slice_get}
 use Rattle.net_graph.specs.declared.edge.Edge.{Edge}
-use Rattle.net_graph.specs.declared.packing.EdgeState.{EdgeState}
-use Rattle.net_graph.specs.declared.packing.EdgeState.TheVariants.{Undecided, Inside, Outside}
+use Rattle.net_graph.specs.declared.state.EdgeState.{EdgeState}
+use Rattle.net_graph.specs.declared.state.EdgeState.TheVariants.{Undecided, Inside, Outside}
 use Rattle.net_graph.specs.declared.packing.Cut.{Cut}
 use Rattle.net_graph.specs.Graph.{Graph}
+use Rattle.net_graph.specs.Decision.{Decided, states_of}
 use Rattle.net_graph.specs.Packing.{enters, load, IsCut, IsWithinRoom, IsFeasible}
-use Rattle.net_graph.specs.Saturation.{room_of}
+use Rattle.net_graph.specs.Packing.{room_of}
 use Rattle.dual_ascent.specs.declared.costs.EdgeCosts.{EdgeCosts}
 use Rattle.dual_ascent.specs.Costs.{left_after, weight_on, left_of, costs_of, lowered_by, unsaturated_arc, unsaturated_of, unsaturated, EntersWith, Entering}
 use Rattle.dual_ascent.proofs.LoadLemmas.{left_after-le, left_after-lt, load-push, slice_get-costs_of}
@@ -44,15 +45,15 @@ Contains-from_slice_get : (costs : List EdgeCosts) (n : ℕ) (room : EdgeCosts) 
 Contains-from_slice_get costs n room at = (n, slice_get_within costs n room at, get_or_from_slice_get costs n room room at)
 
 -- one more cut that is no heavier than what is left of the arcs that enter it
-pub IsFeasible-push : (g : Graph) (decision : List EdgeState) (packing : List Cut) (cut : Cut) → IsFeasible g decision packing →
+pub IsFeasible-push : (g : Graph) (decision : Decided) (packing : List Cut) (cut : Cut) → IsFeasible g decision packing →
     0 < cut.weight → IsCut g decision cut.members →
-    ((left : ℕ) → Entering (costs_of g.edges decision packing) cut.members left → cut.weight ≤ left) → IsFeasible g decision (packing ++ cut ∷ [])
+    ((left : ℕ) → Entering (costs_of g.edges (states_of g decision) packing) cut.members left → cut.weight ≤ left) → IsFeasible g decision (packing ++ cut ∷ [])
 IsFeasible-push g decision packing cut feasible some is_cut fits = record {
   cuts = All-push (λ (c : Cut). (0 < c.weight) × IsCut g decision c.members) packing cut feasible.cuts (some, is_cut);
   room = λ n e state at decided.
       let within = feasible.room n e state at decided in
       let room : EdgeCosts = left_of e state packing in
-      let found : Contains (costs_of g.edges decision packing) room = Contains-from_slice_get (costs_of g.edges decision packing) n room (slice_get-costs_of g.edges decision packing n e state at decided) in (
+      let found : Contains (costs_of g.edges (states_of g decision) packing) room = Contains-from_slice_get (costs_of g.edges (states_of g decision) packing) n room (slice_get-costs_of g.edges (states_of g decision) packing n e state at decided) in (
         IsWithinRoom-push state e packing cut e.a e.b some within.0 (λ left entered is. fits left (room, found, inl (entered, is))),
         IsWithinRoom-push state e packing cut e.b e.a some within.1 (λ left entered is. fits left (room, found, inr (entered, is))),
       );

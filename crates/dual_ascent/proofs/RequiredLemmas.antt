@@ -5,20 +5,20 @@ use Rattle.std.proofs.lemmas.Bool.{cases_lt}
 use Rattle.std.proofs.lemmas.List.{get_or_append_left, get_or_push}
 use Rattle.std.proofs.lemmas.List.Elements.{All-nil, All-push, All-weaker, All-contains, Contains-append_left, Contains-push}
 use Rattle.std.proofs.lemmas.Option.{slice_get_within, get_or_from_slice_get}
-use Rattle.net_graph.specs.declared.packing.EdgeState.{EdgeState}
+use Rattle.net_graph.specs.declared.state.VertexState.TheVariants.{Met}
 use Rattle.net_graph.specs.Graph.{Graph, IsGraph, HasEndsBelow}
-use Rattle.net_graph.specs.Decision.{IsRequired, EndsInside}
+use Rattle.net_graph.specs.Decision.{Decided, IsDecisionFor, IsRequired, EndsInside}
 use Rattle.dual_ascent.specs.Steps.{AreRequired}
 
 -- the required ones of the vertices below a bound
-pub record RequiredBelow (g : Graph) (decision : List EdgeState) (bound : ℕ) (list : List ℕ) : Type 0 where
+pub record RequiredBelow (g : Graph) (decision : Decided) (bound : ℕ) (list : List ℕ) : Type 0 where
   pub each : All (IsRequired g decision) list
   pub below : All (λ v. v < bound) list
   pub every : (v : ℕ) → v < bound → IsRequired g decision v → Contains list v
   pub ascending : IsStrictlyIncreasing list
 
 -- no vertices
-pub RequiredBelow-none : (g : Graph) (decision : List EdgeState) → RequiredBelow g decision 0 []
+pub RequiredBelow-none : (g : Graph) (decision : Decided) → RequiredBelow g decision 0 []
 RequiredBelow-none g decision = record {
   each = All-nil (IsRequired g decision);
   below = All-nil (λ v. v < 0);
@@ -39,7 +39,7 @@ IsStrictlyIncreasing-push list v rises below k within =
     (cases_lt (k + 1) (length list))
 
 -- one more vertex, which isn't required
-pub RequiredBelow-skip : (g : Graph) (decision : List EdgeState) (v : ℕ) (list : List ℕ) → RequiredBelow g decision v list → (IsRequired g decision v → ⊥) → RequiredBelow g decision (v + 1) list
+pub RequiredBelow-skip : (g : Graph) (decision : Decided) (v : ℕ) (list : List ℕ) → RequiredBelow g decision v list → (IsRequired g decision v → ⊥) → RequiredBelow g decision (v + 1) list
 RequiredBelow-skip g decision v list so_far out = record {
   each = so_far.each;
   below = All-weaker (λ w. w < v) (λ w. w < v + 1) (λ w low. omega arith) list so_far.below;
@@ -48,7 +48,7 @@ RequiredBelow-skip g decision v list so_far out = record {
 }
 
 -- one more vertex, which is required
-pub RequiredBelow-take : (g : Graph) (decision : List EdgeState) (v : ℕ) (list : List ℕ) → RequiredBelow g decision v list → IsRequired g decision v → RequiredBelow g decision (v + 1) (list ++ v ∷ [])
+pub RequiredBelow-take : (g : Graph) (decision : Decided) (v : ℕ) (list : List ℕ) → RequiredBelow g decision v list → IsRequired g decision v → RequiredBelow g decision (v + 1) (list ++ v ∷ [])
 RequiredBelow-take g decision v list so_far here = record {
   each = All-push (IsRequired g decision) list v so_far.each here;
   below = All-push (λ w. w < v + 1) list v (All-weaker (λ w. w < v) (λ w. w < v + 1) (λ w low. omega arith) list so_far.below) (omega arith);
@@ -58,23 +58,24 @@ RequiredBelow-take g decision v list so_far here = record {
 }
 
 -- an end of an inside edge is a vertex
-EndsInside-below : (g : Graph) (decision : List EdgeState) (v : ℕ) → IsGraph g → EndsInside g decision v → v < g.vertices
+EndsInside-below : (g : Graph) (decision : Decided) (v : ℕ) → IsGraph g → EndsInside g decision v → v < g.vertices
 EndsInside-below g decision v graph (n, e, inside, at, ends) =
     let here : get_or g.edges n e ≡ e = get_or_from_slice_get g.edges n e e at in
     let low : HasEndsBelow g.vertices e = subst (HasEndsBelow g.vertices) here (graph.ends n e (slice_get_within g.edges n e at)) in
     ⊎_elim (λ a. subst (λ w. w < g.vertices) a low.a) (λ b. subst (λ w. w < g.vertices) b low.b) ends
 
 -- a required vertex is a vertex
-IsRequired-below : (g : Graph) (decision : List EdgeState) (v : ℕ) → IsGraph g → IsRequired g decision v → v < g.vertices
-IsRequired-below g decision v graph required =
+IsRequired-below : (g : Graph) (decision : Decided) (v : ℕ) → IsGraph g → IsDecisionFor g decision → IsRequired g decision v → v < g.vertices
+IsRequired-below g decision v graph decided required =
     ⊎_elim
     (λ terminal. All-contains (λ w. w < g.vertices) g.terminals v graph.terminals terminal)
-    (EndsInside-below g decision v graph)
+    (λ other. ⊎_elim (EndsInside-below g decision v graph)
+    (λ met. omega (arith, slice_get_within decision.vertices v Met met, decided.vertices)) other)
     required
 
 -- when all vertices were gone over
-pub AreRequired-all : (g : Graph) (decision : List EdgeState) (bound : ℕ) (list : List ℕ) → IsGraph g → g.vertices ≤ bound → RequiredBelow g decision bound list → AreRequired g decision list
-AreRequired-all g decision bound list graph all so_far = record {
+pub AreRequired-all : (g : Graph) (decision : Decided) (bound : ℕ) (list : List ℕ) → IsGraph g → IsDecisionFor g decision → g.vertices ≤ bound → RequiredBelow g decision bound list → AreRequired g decision list
+AreRequired-all g decision bound list graph decided all so_far = record {
   each = so_far.each;
-  every = λ v required. let low : v < g.vertices = IsRequired-below g decision v graph required in so_far.every v (omega arith) required;
+  every = λ v required. let low : v < g.vertices = IsRequired-below g decision v graph decided required in so_far.every v (omega arith) required;
 }

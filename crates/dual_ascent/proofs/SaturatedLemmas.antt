@@ -3,14 +3,17 @@ use Rattle.std.proofs.Common.{ℕ, ◌≡◌, ◌+◌, ◌*◌, ◌/◌, ◌%◌
 use Rattle.std.specs.Option.{option_map}
 use Rattle.std.proofs.lemmas.Option.{slice_get_within, slice_get-get_or, slice_get-map}
 use Rattle.net_graph.specs.declared.edge.Edge.{Edge}
-use Rattle.net_graph.specs.declared.packing.EdgeState.{EdgeState}
-use Rattle.net_graph.specs.declared.packing.EdgeState.TheVariants.{Undecided}
+use Rattle.net_graph.specs.declared.state.EdgeState.{EdgeState}
+use Rattle.net_graph.specs.declared.state.EdgeState.TheVariants.{Undecided}
 use Rattle.net_graph.specs.declared.packing.Cut.{Cut}
 use Rattle.net_graph.specs.Arcs.{forward_arc, backward_arc}
 use Rattle.net_graph.specs.Graph.{Graph}
+use Rattle.net_graph.specs.Decision.{Decided, IsDecisionFor, states_of}
+use Rattle.net_graph.specs.DecisionLaws.{length-states_of}
 use Rattle.net_graph.specs.Search.{OpenStep}
 use Rattle.net_graph.specs.Packing.{enters, load}
-use Rattle.net_graph.specs.Saturation.{room_of, SaturatedStep}
+use Rattle.net_graph.specs.Packing.{room_of}
+use Rattle.net_graph.specs.Saturation.{SaturatedStep}
 use Rattle.dual_ascent.specs.declared.costs.EdgeCosts.{EdgeCosts}
 use Rattle.dual_ascent.specs.Costs.{left_of, costs_of, is_used_up, is_saturated, Entering}
 use Rattle.dual_ascent.proofs.LoadLemmas.{left_after-same, left_after-none, slice_get-costs_of}
@@ -55,12 +58,12 @@ OpenStep-ends : (edges : List Edge) (opens : ℕ → Bool) (a b u v : ℕ) → a
 OpenStep-ends edges opens a b u v from to (arc, is, is_open, leaves, comes) = (arc, is, is_open, leaves ∙ from, comes ∙ to)
 
 -- a saturated arc may be walked
-OpenStep-from_saturated : (g : Graph) (decision : List EdgeState) (packing : List Cut) (u v : ℕ) → SaturatedStep g decision packing u v →
-    OpenStep g.edges (is_saturated (costs_of g.edges decision packing)) u v
+OpenStep-from_saturated : (g : Graph) (decision : Decided) (packing : List Cut) (u v : ℕ) → SaturatedStep g decision packing u v →
+    OpenStep g.edges (is_saturated (costs_of g.edges (states_of g decision) packing)) u v
 OpenStep-from_saturated g decision packing u v (n, e, state, at, decided, ends, fills) =
-    let costs : List EdgeCosts = costs_of g.edges decision packing in
+    let costs : List EdgeCosts = costs_of g.edges (states_of g decision) packing in
     let room : EdgeCosts = left_of e state packing in
-    let at_room = slice_get-costs_of g.edges decision packing n e state at decided in
+    let at_room = slice_get-costs_of g.edges (states_of g decision) packing n e state at decided in
     ⊎_elim
     (λ (along : (e.a ≡ u) × (e.b ≡ v)).
     let here : room_of state e ≡ Some (load packing e.a e.b) = fills ∙ sym (load-ends packing e.a e.b u v along.0 along.1) in
@@ -73,14 +76,15 @@ OpenStep-from_saturated g decision packing u v (n, e, state, at, decided, ends, 
     ends
 
 -- an arc that may be walked is saturated
-Saturated-from_open : (g : Graph) (decision : List EdgeState) (packing : List Cut) → length decision ≡ length g.edges → (u v : ℕ) →
-    OpenStep g.edges (is_saturated (costs_of g.edges decision packing)) u v → SaturatedStep g decision packing u v
+Saturated-from_open : (g : Graph) (decision : Decided) (packing : List Cut) → IsDecisionFor g decision → (u v : ℕ) →
+    OpenStep g.edges (is_saturated (costs_of g.edges (states_of g decision) packing)) u v → SaturatedStep g decision packing u v
 Saturated-from_open g decision packing size u v (arc, (n, e, at, way), full, leaves, comes) =
-    let costs : List EdgeCosts = costs_of g.edges decision packing in
-    let state : EdgeState = get_or decision n Undecided in
-    let within : n < length decision = omega (arith, slice_get_within g.edges n e at) in
-    let decided : slice_get decision n ≡ Some state = slice_get-get_or decision n Undecided within in
-    let at_room = slice_get-costs_of g.edges decision packing n e state at decided in
+    let costs : List EdgeCosts = costs_of g.edges (states_of g decision) packing in
+    let states : List EdgeState = states_of g decision in
+    let state : EdgeState = get_or states n Undecided in
+    let within : n < length states = omega (arith, slice_get_within g.edges n e at, length-states_of g decision size.edges) in
+    let decided : slice_get states n ≡ Some state = slice_get-get_or states n Undecided within in
+    let at_room = slice_get-costs_of g.edges (states_of g decision) packing n e state at decided in
     ⊎_elim
     (λ (is : arc ≡ forward_arc n e).
     let used : is_used_up (left_of e state packing).there ≡ true = sym (is_saturated-even costs n (left_of e state packing) at_room) ∙ ap (λ x. is_saturated costs x.number) (sym is) ∙ full in
@@ -97,8 +101,8 @@ Saturated-from_open g decision packing size u v (arc, (n, e, at, way), full, lea
     way
 
 -- arcs may be walked where the costs show nothing left exactly where they are saturated
-pub SaturatedStep-iff_open : (g : Graph) (decision : List EdgeState) (packing : List Cut) → length decision ≡ length g.edges → (u v : ℕ) →
-    OpenStep g.edges (is_saturated (costs_of g.edges decision packing)) u v ↔ SaturatedStep g decision packing u v
+pub SaturatedStep-iff_open : (g : Graph) (decision : Decided) (packing : List Cut) → IsDecisionFor g decision → (u v : ℕ) →
+    OpenStep g.edges (is_saturated (costs_of g.edges (states_of g decision) packing)) u v ↔ SaturatedStep g decision packing u v
 SaturatedStep-iff_open g decision packing size u v =
     (Saturated-from_open g decision packing size u v, OpenStep-from_saturated g decision packing u v)
 

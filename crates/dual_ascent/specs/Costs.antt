@@ -1,10 +1,10 @@
 -- What packed cuts leave of the room of a graph's arcs.
 use Rattle.std.specs.Prelude.{ℕ, zero, suc, ◌≡◌, ◌+◌, ◌-◌, ◌/◌, ◌%◌, ◌==◌, ◌≤◌, Bool, true, false, List, [], ◌∷◌, map, sum_by, slice_get, Contains, Option, Some, None, ◌⊎◌, nat_le, min, if◌then◌else◌}
 use Rattle.net_graph.specs.declared.edge.Edge.{Edge}
-use Rattle.net_graph.specs.declared.packing.EdgeState.{EdgeState}
+use Rattle.net_graph.specs.declared.state.EdgeState.{EdgeState}
 use Rattle.net_graph.specs.declared.packing.Cut.{Cut}
 use Rattle.net_graph.specs.Packing.{enters, load}
-use Rattle.net_graph.specs.Saturation.{room_of}
+use Rattle.net_graph.specs.Packing.{room_of}
 use Rattle.dual_ascent.specs.declared.costs.EdgeCosts.{EdgeCosts}
 
 -- what is left of a room after a load: there is no such amount where the room has no limit or the load is above it

@@ -1,10 +1,9 @@
 -- The steps of a dual ascent (after Wong 1984), by what is left of the arcs' costs.
 use Rattle.std.specs.Prelude.{ℕ, ◌≡◌, ◌<◌, Bool, true, false, List, map, length, All, Contains, Some, None, ◌↔◌}
-use Rattle.net_graph.specs.declared.packing.EdgeState.{EdgeState}
 use Rattle.net_graph.specs.declared.packing.Cut.{Cut}
 use Rattle.net_graph.specs.Flags.{has}
 use Rattle.net_graph.specs.Graph.{Graph, root_of}
-use Rattle.net_graph.specs.Decision.{IsRequired}
+use Rattle.net_graph.specs.Decision.{Decided, IsRequired}
 use Rattle.net_graph.specs.Search.{OpenStep, Leads}
 use Rattle.dual_ascent.specs.declared.costs.EdgeCosts.{EdgeCosts}
 use Rattle.dual_ascent.specs.declared.step.Step.{Step}
@@ -12,7 +11,7 @@ use Rattle.dual_ascent.specs.declared.step.Step.TheVariants.{Done, Pack, Close}
 use Rattle.dual_ascent.specs.Costs.{is_saturated, lowered_by, Entering, IsLeastOf}
 
 -- these are the required vertices
-pub record AreRequired (g : Graph) (decision : List EdgeState) (vertices : List ℕ) : Type 0 where
+pub record AreRequired (g : Graph) (decision : Decided) (vertices : List ℕ) : Type 0 where
   pub each : All (IsRequired g decision) vertices
   pub every : (v : ℕ) → IsRequired g decision v → Contains vertices v
 

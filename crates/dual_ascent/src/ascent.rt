@@ -2,7 +2,7 @@
 
 ghost use Rattle.std.specs.Prelude.{◌≡◌, ◌+◌, ◌*◌, ◌≤◌, true, false, length, IfOk};
 ghost use Rattle.net_graph.specs.Graph.{total_of};
-ghost use Rattle.net_graph.specs.Decision.{IsLowerBoundUnder};
+ghost use Rattle.net_graph.specs.Decision.{IsDecisionFor, IsLowerBoundUnder};
 ghost use Rattle.net_graph.specs.Packing.{IsFeasible, packing_value};
 ghost use Rattle.net_graph.specs.Saturation.{IsMaximal};
 ghost use Rattle.dual_ascent.specs.Ascending.{BeginsWith, closed_with};
@@ -37,7 +37,7 @@ pub fn ascend<F: Rule>(
     start: Packing,
     chooser: &Chooser<F>,
 ) -> Result<Ascent, AllocError>
-    requires decision { length d.now ≡ length g.now.edges }
+    requires decision { IsDecisionFor g.now d.now }
     requires feasible { IsFeasible g.now d.now start }
     requires few { length start ≤ 2 * length g.now.edges }
     ensures feasible { IfOk result (λ a. IsFeasible g.now d.now a.packing) }

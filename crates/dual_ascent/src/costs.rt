@@ -2,6 +2,7 @@
 
 ghost use Rattle.std.specs.Prelude.{ℕ, ◌≡◌, ◌≢◌, ◌*◌, ◌<◌, [], length, map, IfOk};
 ghost use Rattle.std.specs.List.{zip};
+ghost use Rattle.net_graph.specs.Decision.{IsDecisionFor, states_of};
 ghost use Rattle.dual_ascent.specs.Costs.{left_of, costs_of, cost_of, with_cost, edges_of, lowered_by, is_saturated, lesser_of};
 ghost use Rattle.dual_ascent.specs.Entering.{AreEntering};
 
@@ -96,9 +97,11 @@ impl Model for ReducedCosts {
 impl ReducedCosts {
     // The rooms of the graph's arcs, with no cut packed. An `Err` is want of memory.
     fn whole(alloc: Global, g: &NetGraph, d: &Decision) -> Result<ReducedCosts, AllocError>
-        ensures { IfOk result (λ costs. costs ≡ costs_of g.now.edges d.now []) }
+        requires { IsDecisionFor g.now d.now }
+        ensures { IfOk result (λ costs. costs ≡ costs_of g.now.edges (states_of g.now d.now) []) }
     {
-        let edges = whole_costs(alloc, g.edges(), d.states())?;
+        let states = d.states(alloc, g)?;
+        let edges = whole_costs(alloc, g.edges(), &states)?;
         Ok(ReducedCosts { edges })
     }
 
@@ -109,8 +112,8 @@ impl ReducedCosts {
         d: &Decision,
         packing: &Packing,
     ) -> Result<ReducedCosts, AllocError>
-        requires { length d.now ≡ length g.now.edges }
-        ensures { IfOk result (λ costs. costs ≡ costs_of g.now.edges d.now packing.now) }
+        requires { IsDecisionFor g.now d.now }
+        ensures { IfOk result (λ costs. costs ≡ costs_of g.now.edges (states_of g.now d.now) packing.now) }
     {
         let mut costs = ReducedCosts::whole(alloc, g, d)?;
         let mut entering = Vec::new(alloc);

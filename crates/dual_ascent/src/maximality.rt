@@ -1,6 +1,7 @@
 //! Whether more cuts could be packed.
 
 ghost use Rattle.std.specs.Prelude.{◌≡◌, ◌<◌, ◌↔◌, true, length, All, IsTrue, IfOk};
+ghost use Rattle.net_graph.specs.Decision.{IsDecisionFor};
 ghost use Rattle.net_graph.specs.Flags.{has};
 ghost use Rattle.net_graph.specs.Saturation.{IsMaximal};
 
@@ -16,7 +17,7 @@ pub fn maximal(
     d: &Decision,
     packing: &Packing,
 ) -> Result<bool, AllocError>
-    requires { length d.now ≡ length g.now.edges }
+    requires { IsDecisionFor g.now d.now }
     ensures { IfOk result (λ yes. IsTrue yes ↔ IsMaximal g.now d.now packing.now) }
 {
     let required = required_vertices(alloc, g, d)?;

@@ -2,6 +2,7 @@
 
 ghost use Rattle.std.specs.Prelude.{◌<◌, All, IfOk};
 ghost use Rattle.std.specs.List.Sorted.{IsStrictlyIncreasing};
+ghost use Rattle.net_graph.specs.Decision.{IsDecisionFor};
 ghost use Rattle.dual_ascent.specs.Steps.{AreRequired};
 
 use net_graph::{Decision, NetGraph, required};
@@ -13,6 +14,7 @@ pub(crate) fn required_vertices(
     g: &NetGraph,
     d: &Decision,
 ) -> Result<Vec<u32>, AllocError>
+    requires { IsDecisionFor g.now d.now }
     ensures required { IfOk result (λ list. AreRequired g.now d.now list.items) }
     ensures below { IfOk result (λ list. All (λ v. v < g.now.vertices) list.items) }
     ensures ascending { IfOk result (λ list. IsStrictlyIncreasing list.items) }

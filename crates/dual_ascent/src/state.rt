@@ -2,6 +2,7 @@
 
 ghost use Rattle.std.specs.Prelude.{ℕ, List, ◌≡◌, ◌<◌, length, map, All, Contains, IfOk, OnOk};
 ghost use Rattle.std.specs.List.Sorted.{IsStrictlyIncreasing};
+ghost use Rattle.net_graph.specs.Decision.{IsDecisionFor, states_of};
 ghost use Rattle.dual_ascent.specs.Active.{AreActive};
 ghost use Rattle.dual_ascent.specs.Costs.{edges_of, costs_of, lowered_by};
 ghost use Rattle.dual_ascent.specs.Entering.{AreEntering};
@@ -36,10 +37,10 @@ impl AscentState {
         required: &[u32],
         packing: &Packing,
     ) -> Result<AscentState, AllocError>
-        requires decision { length d.now ≡ length g.now.edges }
+        requires decision { IsDecisionFor g.now d.now }
         requires below { All (λ v. v < g.now.vertices) required.now }
         requires ascending { IsStrictlyIncreasing required.now }
-        ensures costs { IfOk result (λ s. s.costs ≡ costs_of g.now.edges d.now packing.now) }
+        ensures costs { IfOk result (λ s. s.costs ≡ costs_of g.now.edges (states_of g.now d.now) packing.now) }
         ensures active { IfOk result (λ s. AreActive g.now required.now s.costs s.active.items) }
     {
         let costs = ReducedCosts::of(alloc, g, d, packing)?;

@@ -1,6 +1,7 @@
 //! Ascents on small graphs.
 
 ghost use Rattle.std.specs.Prelude.{◌≡◌, ◌<◌, ◌≤◌, length};
+ghost use Rattle.net_graph.specs.Decision.{IsDecisionFor};
 ghost use Rattle.dual_ascent.specs.Choosing.{IsCallableOnSome, AnswersAPlace};
 
 use crate::ascent::{Ascent, ascend};
@@ -63,7 +64,7 @@ fn ascent_by<F: Rule>(
     d: &Decision,
     rule: F,
 ) -> Result<Ascent, AllocError>
-    requires decision { length d.now ≡ length g.now.edges }
+    requires decision { IsDecisionFor g.now d.now }
     requires callable { IsCallableOnSome (F.may_choose rule) }
     requires place { AnswersAPlace (F.chooses rule) }
 {
@@ -111,10 +112,12 @@ fn one_edge_is_cut_at_its_length(rt: HostRuntime) -> Result<(), Fail> {
 #[test]
 fn an_outside_edge_closes(rt: HostRuntime) -> Result<(), Fail> {
     let g = graph_of(rt.alloc(), 3, &[(0, 1), (1, 2)], 3, &[0, 2])?;
-    let mut d = Decision::none(rt.alloc(), &g)?;
-    if 0 < g.edge_count() {
-        d.decide(0, EdgeState::Outside);
-    }
+    let none = Decision::none(rt.alloc(), &g)?;
+    assert!(rt; 0 < g.edge_count());
+    let d = match none.state(&g, 0) {
+        EdgeState::Undecided => none.with_outside(&g, 0)?,
+        _ => none,
+    };
     let ascent = ascent_by(rt.alloc(), &g, &d, |_list: &[Candidate]| 0)?;
     assert!(rt; are_cuts(&ascent.packing, &[(3, &[2]), (6, &[1, 2])]));
     assert!(rt; ascent.closed);

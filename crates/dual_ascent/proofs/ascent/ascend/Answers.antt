@@ -2,6 +2,8 @@ use Rattle.std.proofs.Common.{◌≡◌, ◌∙◌, ap, sym, subst, map}
 use Rattle.std.proofs.lemmas.Result.{IfOk-weaker}
 use Rattle.dual_ascent.specs.declared.ascent.Ascent.{Ascent}
 use Rattle.dual_ascent.specs.declared.step.Step.TheVariants.{Done, Close}
+use Rattle.net_graph.specs.Decision.{states_of}
+use Rattle.net_graph.specs.DecisionLaws.{length-states_of}
 use Rattle.dual_ascent.specs.Active.{AreActive}
 use Rattle.dual_ascent.specs.Costs.{edges_of, lowered_by}
 use Rattle.dual_ascent.specs.Steps.{IsNextStep, IsNextCut}
@@ -19,7 +21,7 @@ loop-packing-init g c =
 
 pub next_step-requires : goal.next_step-requires
 next_step-requires g c = record {
-  edges = ap edges_of c.loop-packing.invariant.0.left ∙ edges-costs_of c.args.g.now.edges c.args.d.now c.loop-packing.packing c.requires.decision;
+  edges = ap edges_of c.loop-packing.invariant.0.left ∙ edges-costs_of c.args.g.now.edges (states_of c.args.g.now c.args.d.now) c.loop-packing.packing (length-states_of c.args.g.now c.args.d.now c.requires.decision.edges);
   active = (c.in_ok-required.required.items, c.loop-packing.invariant.1);
 }
 

@@ -1,11 +1,13 @@
 use Rattle.std.proofs.Common.{◌≡◌, ◌∙◌, ap, length, ◌↔◌, IsTrue, All, true}
+use Rattle.net_graph.specs.Decision.{states_of}
+use Rattle.net_graph.specs.DecisionLaws.{length-states_of}
 use Rattle.net_graph.specs.Flags.{has}
 use Rattle.dual_ascent.proofs.LoadLemmas.{length-costs_of}
 use Rattle.dual_ascent.proofs.AscentLemmas.{IsMaximal-iff_marked}
 use Rattle.dual_ascent.proofs.maximality.maximal.Goals as goal
 
 pub reached_from-requires-clause-edges : goal.reached_from-requires-clause-edges
-reached_from-requires-clause-edges c = ap length c.in_ok-costs.ensures ∙ length-costs_of c.args.g.now.edges c.args.d.now c.args.packing.now c.requires
+reached_from-requires-clause-edges c = ap length c.in_ok-costs.ensures ∙ length-costs_of c.args.g.now.edges (states_of c.args.g.now c.args.d.now) c.args.packing.now (length-states_of c.args.g.now c.args.d.now c.requires.edges)
 
 pub returns : goal.returns
 returns c =

@@ -20,4 +20,4 @@ loop-v-preserved c =
     ]
 
 pub returns-clause-required : goal.returns-clause-required
-returns-clause-required c = AreRequired-all c.args.g.now c.args.d.now c.loop-v.v c.loop-v.list.items c.vertex_count-count.ensures.graph (omega arith) c.loop-v.invariant.0
+returns-clause-required c = AreRequired-all c.args.g.now c.args.d.now c.loop-v.v c.loop-v.list.items c.vertex_count-count.ensures.graph c.requires (omega arith) c.loop-v.invariant.0
