@@ -8,3 +8,4 @@ pub mod RequiredLemmas
 pub mod StepLemmas
 pub mod ActiveLemmas
 pub mod AscentLemmas
+pub mod CarriedLemmas

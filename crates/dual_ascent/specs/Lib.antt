@@ -6,3 +6,4 @@ pub mod Active
 pub mod Growing
 pub mod Ascending
 pub mod AscendingLaws
+pub mod Carried

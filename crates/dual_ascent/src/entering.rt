@@ -79,8 +79,8 @@ fn left_entering(costs: &ReducedCosts, members: &VertexSet, arc: Arc) -> Option<
     }
 }
 
-// Whether the vertex is in the set; one past its size isn't.
-fn holds(members: &VertexSet, vertex: u32) -> bool
+/// Whether the vertex is in the set; one past its size isn't.
+pub(crate) fn holds(members: &VertexSet, vertex: u32) -> bool
     ensures { result ≡ has members.now vertex }
 {
     vertex < members.len() && members.has(vertex)

@@ -4,6 +4,7 @@
 mod active;
 mod ascent;
 mod candidate;
+mod carried;
 mod chooser;
 mod costs;
 mod entering;
@@ -16,5 +17,6 @@ mod tests;
 
 pub use ascent::{Ascent, ascend};
 pub use candidate::Candidate;
+pub use carried::carry;
 pub use chooser::{Chooser, Rule};
 pub use maximality::maximal;

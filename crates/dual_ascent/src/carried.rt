@@ -1,0 +1,83 @@
+//! Packings that are carried from one decision to the next.
+
+ghost use Rattle.std.specs.Prelude.{◌≡◌, ◌||◌, IfOk};
+ghost use Rattle.std.specs.List.{list_any};
+ghost use Rattle.net_graph.specs.Decision.{IsDecisionFor};
+ghost use Rattle.net_graph.specs.Packing.{IsFeasible, enters};
+ghost use Rattle.dual_ascent.specs.Carried.{DecidesOneMore, carried, inside_edges, is_entered_along, unentered};
+
+use crate::entering::holds;
+use net_graph::{Cut, Decision, Edge, EdgeState, NetGraph, Packing, VertexSet};
+use std::alloc::{AllocError, Global};
+
+/// The packing that a packing carries to a decision, which decides one more edge or vertex than the one under which it
+/// is feasible: its cuts, in order, that no arc of an inside edge enters. Where more than two for each edge remain, it is
+/// the empty packing. An `Err` is want of memory.
+pub fn carry(
+    alloc: Global,
+    g: &NetGraph,
+    before: &Decision,
+    now: &Decision,
+    parent: &Packing,
+) -> Result<Packing, AllocError>
+    requires decision { IsDecisionFor g.now now.now }
+    requires one_more { DecidesOneMore g.now before.now now.now }
+    requires feasible { IsFeasible g.now before.now parent.now }
+    ensures carried { IfOk result (λ p. p ≡ carried g.now now.now parent.now) }
+    ensures feasible { IfOk result (λ p. IsFeasible g.now now.now p) }
+{
+    let _ = before;
+    let inside = list_inside(alloc, g, now)?;
+    let kept = list_unentered(alloc, &inside, parent.cuts())?;
+    if kept.len() <= 2 * g.edge_count() as usize {
+        Ok(kept)
+    } else {
+        Ok(Packing::empty(alloc))
+    }
+}
+
+// The inside edges. An `Err` is want of memory.
+fn list_inside(alloc: Global, g: &NetGraph, d: &Decision) -> Result<Vec<Edge>, AllocError>
+    requires { IsDecisionFor g.now d.now }
+    ensures { IfOk result (λ list. list.items ≡ inside_edges g.now.edges d.now.edges) }
+{
+    let mut list = Vec::new(alloc);
+    for n in 0..g.edge_count() {
+        if let EdgeState::Inside = d.state(g, n) {
+            list.push(g.edge(n))?;
+        }
+    }
+    Ok(list)
+}
+
+// The cuts that no arc of one of these edges enters. An `Err` is want of memory.
+fn list_unentered(alloc: Global, edges: &[Edge], cuts: &[Cut]) -> Result<Packing, AllocError>
+    ensures { IfOk result (λ p. p ≡ unentered edges.now cuts.now) }
+{
+    let mut kept = Packing::empty(alloc);
+    for cut in cuts {
+        if !is_entered(&cut.members, edges) {
+            kept.push(cut.copy()?)?;
+        }
+    }
+    Ok(kept)
+}
+
+// Whether an arc of one of these edges enters the set.
+fn is_entered(members: &VertexSet, edges: &[Edge]) -> bool
+    ensures { result ≡ list_any (is_entered_along members.now) edges.now }
+{
+    for e in edges {
+        if enters(members, e.a, e.b) || enters(members, e.b, e.a) {
+            return true;
+        }
+    }
+    false
+}
+
+// Whether the arc between these vertices enters the set.
+fn enters(members: &VertexSet, from: u32, to: u32) -> bool
+    ensures { result ≡ enters members.now from to }
+{
+    holds(members, to) && !holds(members, from)
+}
