@@ -1,11 +1,13 @@
 //! Ascents on small graphs.
 
-ghost use Rattle.std.specs.Prelude.{◌≡◌, ◌<◌, ◌≤◌, length};
+ghost use Rattle.std.specs.Prelude.{◌<◌, ◌≤◌, length, IfOk};
 ghost use Rattle.net_graph.specs.Decision.{IsDecisionFor};
+ghost use Rattle.net_graph.specs.Packing.{IsFeasible};
 ghost use Rattle.dual_ascent.specs.Choosing.{IsCallableOnSome, AnswersAPlace};
 
 use crate::ascent::{Ascent, ascend};
 use crate::candidate::Candidate;
+use crate::carried::carry;
 use crate::chooser::{Chooser, Rule};
 use crate::maximality::maximal;
 use item_list::ItemList;
@@ -67,6 +69,7 @@ fn ascent_by<F: Rule>(
     requires decision { IsDecisionFor g.now d.now }
     requires callable { IsCallableOnSome (F.may_choose rule) }
     requires place { AnswersAPlace (F.chooses rule) }
+    ensures { IfOk result (λ a. IsFeasible g.now d.now a.packing) }
 {
     ascend(alloc, g, d, Packing::empty(alloc), &Chooser::new(rule))
 }
@@ -121,5 +124,50 @@ fn an_outside_edge_closes(rt: HostRuntime) -> Result<(), Fail> {
     let ascent = ascent_by(rt.alloc(), &g, &d, |_list: &[Candidate]| 0)?;
     assert!(rt; are_cuts(&ascent.packing, &[(3, &[2]), (6, &[1, 2])]));
     assert!(rt; ascent.closed);
+    Ok(())
+}
+
+// The hexagon: the root 0 and the terminals 1, 2 and 3, with three vertices between them.
+const HEXAGON: [(u32, u32); 9] = [
+    (0, 4),
+    (0, 5),
+    (0, 6),
+    (4, 1),
+    (4, 2),
+    (5, 2),
+    (5, 3),
+    (6, 1),
+    (6, 3),
+];
+
+#[test]
+fn a_packing_is_carried_to_both_children(rt: HostRuntime) -> Result<(), Fail> {
+    let g = graph_of(rt.alloc(), 7, &HEXAGON, 1, &[0, 1, 2, 3])?;
+    let rule = |list: &[Candidate]| -> usize
+        requires { 0 < length list.now }
+        ensures { result < length list.now }
+    {
+        list.iter()
+            .enumerate()
+            .min_by_key(|(_, candidate)| (candidate.size, candidate.number))
+            .map_or(0, |(place, _)| place)
+    };
+    let none = Decision::none(rt.alloc(), &g)?;
+    let Ascent { packing, closed: _ } = ascent_by(rt.alloc(), &g, &none, rule)?;
+    assert!(rt;
+        are_cuts(
+            &packing,
+            &[(1, &[1]), (1, &[2]), (1, &[3]), (1, &[1, 4, 6])]
+        )
+    );
+    assert!(rt; 0 < g.edge_count());
+    if let EdgeState::Undecided = none.state(&g, 0) {
+        let outside = none.with_outside(&g, 0)?;
+        let all = carry(rt.alloc(), &g, &none, &outside, &packing)?;
+        assert!(rt; are_cuts(&all, &[(1, &[1]), (1, &[2]), (1, &[3]), (1, &[1, 4, 6])]));
+        let inside = none.with_inside(&g, 0)?;
+        let three = carry(rt.alloc(), &g, &none, &inside, &packing)?;
+        assert!(rt; are_cuts(&three, &[(1, &[1]), (1, &[2]), (1, &[3])]));
+    }
     Ok(())
 }
