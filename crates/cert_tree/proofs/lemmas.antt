@@ -1,0 +1,5 @@
+pub mod Lifting
+pub mod Places
+pub mod Reached
+pub mod WayLengths
+pub mod Ways

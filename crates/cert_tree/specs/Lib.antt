@@ -1,0 +1,9 @@
+pub mod Tree
+pub mod Preorder
+pub mod PreorderLaws
+pub mod Replaced
+pub mod ReplacedLaws
+pub mod Decisions
+pub mod TreeValue
+pub mod LeafLaws
+pub mod Way
