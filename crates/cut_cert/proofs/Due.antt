@@ -11,8 +11,9 @@ use Rattle.cut_cert.specs.declared.line.Line.{Line}
 use Rattle.cut_cert.specs.declared.line.Line.TheVariants as line
 use Rattle.cut_cert.specs.declared.line.Stage.{Stage}
 use Rattle.cut_cert.specs.declared.line.Stage.TheVariants as stage
-use Rattle.cut_cert.specs.Value.{Tree, WrittenAnswer}
-use Rattle.cut_cert.specs.Value.Tree.{Leaf, Split}
+use Rattle.cut_cert.specs.Value.{WrittenAnswer}
+use Rattle.cert_tree.specs.Tree.{Tree}
+use Rattle.cert_tree.specs.Tree.Tree.{Leaf, Split}
 use Rattle.cut_cert.specs.Spelling.{FitsHead, FitsTree, FitsAnswer}
 use Rattle.cut_cert.specs.Lines.{FitsLine, tree_lines, head_lines, body_lines, answer_lines, run}
 

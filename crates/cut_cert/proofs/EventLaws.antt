@@ -9,8 +9,9 @@ use Rattle.cut_cert.specs.declared.line.Line.TheVariants as line
 use Rattle.cut_cert.specs.declared.line.Stage.{Stage}
 use Rattle.cut_cert.specs.declared.line.Stage.TheVariants as stage
 use Rattle.cut_cert.specs.declared.event.Event.TheVariants as event
-use Rattle.cut_cert.specs.Value.{Tree, WrittenAnswer}
-use Rattle.cut_cert.specs.Value.Tree.{Leaf, Split}
+use Rattle.cut_cert.specs.Value.{WrittenAnswer}
+use Rattle.cert_tree.specs.Tree.{Tree}
+use Rattle.cert_tree.specs.Tree.Tree.{Leaf, Split}
 use Rattle.cut_cert.specs.Lines.{tree_lines, body_lines, answer_lines, run}
 use Rattle.cut_cert.specs.Events.{Told, cut_told, tree_told, numbered, events_of, head_with, line_told, event_at, events_from, no_head, head_from}
 

@@ -1,15 +1,16 @@
 -- The parts of an answer on a grid fit its text.
-use Rattle.std.proofs.Common.{ℕ, ◌≤◌, List, [], ◌++◌, length, Some, arith}
+use Rattle.std.proofs.Common.{◌≤◌, List, [], ◌++◌, length, Some, arith}
 use Rattle.std.specs.Prelude.{All}
 use Rattle.std.proofs.Math.Seq.{take-append_seam, drop-append_seam}
 use Rattle.std.proofs.lemmas.List.Elements.{All-head, All-tail, All-take, All-drop}
 use Rattle.points_in.specs.declared.point.Point.{Point}
 use Rattle.net_graph.specs.declared.packing.Cut.{Cut}
 use Rattle.net_graph.specs.Graph.{Graph}
-use Rattle.cut_cert.specs.Value.{Tree}
-use Rattle.cut_cert.specs.Value.Tree.{Leaf, Split}
+use Rattle.cert_tree.specs.declared.split.SplitOn.{SplitOn}
+use Rattle.cert_tree.specs.Tree.{Tree}
+use Rattle.cert_tree.specs.Tree.Tree.{Leaf, Split}
 use Rattle.cut_cert.specs.Spelling.{FitsWeight, FitsLeaf, FitsTree}
-use Rattle.cut_cert.specs.Kept.{nodes_of, packings_of}
+use Rattle.cert_tree.specs.Preorder.{nodes_of, packings_of}
 use Rattle.cut_cert.specs.Answers.{FitsNode, IsPackingOn, named}
 
 -- what holds of each element of two lists holds of each element of the first and of the second
@@ -27,7 +28,7 @@ leaf-fits g cuts few packing weights = record {
 }
 
 -- a tree of fit packings, whose splits have fit names
-pub tree-fits : (ps : List Point) (g : Graph) (t : Tree ℕ) → length g.edges ≤ 4900 → All (IsPackingOn g) (packings_of t) → All (FitsNode ps) (nodes_of t)
+pub tree-fits : (ps : List Point) (g : Graph) (t : Tree SplitOn) → length g.edges ≤ 4900 → All (IsPackingOn g) (packings_of t) → All (FitsNode ps) (nodes_of t)
     → All (All FitsWeight) (packings_of t) → FitsTree g.vertices (named ps t)
 tree-fits ps g (Leaf cuts) few packings names weights =
     leaf-fits g cuts few (All-head (IsPackingOn g) cuts [] packings) (All-head (All FitsWeight) cuts [] weights)

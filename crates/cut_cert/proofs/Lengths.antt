@@ -5,7 +5,8 @@ use Rattle.std.specs.Fmt.{decimal, signed_decimal}
 use Rattle.net_graph.specs.declared.packing.Cut.{Cut}
 use Rattle.hanan_grid.specs.declared.name.EdgeName.{EdgeName}
 use Rattle.cut_cert.specs.declared.head.AnswerHead.{AnswerHead}
-use Rattle.cut_cert.specs.Value.{Tree, WrittenAnswer}
+use Rattle.cut_cert.specs.Value.{WrittenAnswer}
+use Rattle.cert_tree.specs.Tree.{Tree}
 use Rattle.cut_cert.specs.Text.{set_text, cut_line, cut_lines, leaf_text, edge_line, split_line, status_word, concat_word, result_text, search_text, head_text, network_text, tree_text, proof_text, answer_text}
 
 -- the first four lines

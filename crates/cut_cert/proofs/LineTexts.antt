@@ -16,8 +16,9 @@ use Rattle.cut_cert.specs.declared.line.Line.{Line}
 use Rattle.cut_cert.specs.declared.line.Line.TheVariants as line
 use Rattle.cut_cert.specs.declared.line.Stage.{Stage}
 use Rattle.cut_cert.specs.declared.line.Stage.TheVariants as stage
-use Rattle.cut_cert.specs.Value.{Tree, WrittenAnswer}
-use Rattle.cut_cert.specs.Value.Tree.{Leaf, Split}
+use Rattle.cut_cert.specs.Value.{WrittenAnswer}
+use Rattle.cert_tree.specs.Tree.{Tree}
+use Rattle.cert_tree.specs.Tree.Tree.{Leaf, Split}
 use Rattle.cut_cert.specs.Text.{four_value, four_digit, set_text, status_word, concat_word, cut_line, cut_lines, edge_line, edge_lines, tree_text, result_text, search_text, head_text, network_text, proof_text, answer_text}
 use Rattle.cut_cert.specs.Spelling.{FitsName, FitsCut}
 use Rattle.cut_cert.specs.Lines.{name_words, line_bytes, line_text, lines_text, FitsLine, tree_lines, head_lines, answer_lines, step}

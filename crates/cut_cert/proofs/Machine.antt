@@ -9,8 +9,9 @@ use Rattle.cut_cert.specs.declared.line.Line.{Line}
 use Rattle.cut_cert.specs.declared.line.Line.TheVariants as line
 use Rattle.cut_cert.specs.declared.line.Stage.{Stage}
 use Rattle.cut_cert.specs.declared.line.Stage.TheVariants as stage
-use Rattle.cut_cert.specs.Value.{Tree, WrittenAnswer}
-use Rattle.cut_cert.specs.Value.Tree.{Leaf, Split}
+use Rattle.cut_cert.specs.Value.{WrittenAnswer}
+use Rattle.cert_tree.specs.Tree.{Tree}
+use Rattle.cert_tree.specs.Tree.Tree.{Leaf, Split}
 use Rattle.cut_cert.specs.Spelling.{FitsName, FitsCut, FitsTree, FitsAnswer}
 use Rattle.cut_cert.specs.Lines.{FitsLine, tree_lines, answer_lines, step, run}
 

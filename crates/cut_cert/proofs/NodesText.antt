@@ -1,44 +1,27 @@
 -- The text of a tree, one node after another in preorder.
-use Rattle.std.proofs.Common.{ℕ, suc, ◌≡◌, ◌+◌, ◌*◌, ◌<◌, ◌≤◌, List, [], ◌∷◌, ◌++◌, length, take, drop, get_or, refl, ap, sym, ◌∙◌, arith, append_assoc, length-append, Option, Some, None}
+use Rattle.std.proofs.Common.{ℕ, ◌≡◌, ◌+◌, ◌*◌, ◌<◌, ◌≤◌, List, [], ◌∷◌, ◌++◌, length, take, drop, get_or, refl, ap, sym, ◌∙◌, arith, append_assoc, Option, Some, None}
 use Rattle.std.proofs.lemmas.List.{append-nil, take_more, take_all, take-append-drop}
 use Rattle.std.proofs.lemmas.Option.{slice_get-get_or}
 use Rattle.std.specs.Prelude.{slice_get}
 use Rattle.points_in.specs.declared.point.Point.{Point}
 use Rattle.net_graph.specs.declared.packing.Cut.{Cut}
-use Rattle.hanan_grid.specs.Names.{name_of_edge}
-use Rattle.cut_cert.specs.Value.{Tree}
-use Rattle.cut_cert.specs.Value.Tree.{Leaf, Split}
+use Rattle.cert_tree.specs.Tree.{Tree}
+use Rattle.cert_tree.specs.Tree.Tree.{Leaf, Split}
 use Rattle.cut_cert.specs.Text.{leaf_text, split_line, tree_text}
-use Rattle.cut_cert.specs.Kept.{nodes_of, packings_of}
-use Rattle.cut_cert.specs.Answers.{named}
+use Rattle.cert_tree.specs.Preorder.{nodes_of, packings_of, leaves_in}
+use Rattle.cert_tree.specs.PreorderLaws.{leaves_in-append, leaves_in-nodes_of, length-nodes_of}
+use Rattle.cert_tree.specs.declared.split.SplitOn.{SplitOn}
+use Rattle.cut_cert.specs.Answers.{named, split_name}
 
 -- the text of nodes, of which each leaf has the next packing
-abbrev pub nodes_text : List Point → List (Option ℕ) → List (List Cut) → List ℕ
+abbrev pub nodes_text : List Point → List (Option SplitOn) → List (List Cut) → List ℕ
 nodes_text ps [] packings = []
 nodes_text ps (None ∷ nodes) [] = nodes_text ps nodes []
 nodes_text ps (None ∷ nodes) (cuts ∷ packings) = leaf_text cuts ++ nodes_text ps nodes packings
-nodes_text ps (Some e ∷ nodes) packings = split_line (name_of_edge ps e) ++ nodes_text ps nodes packings
-
--- how many of the nodes are leaves
-abbrev pub leaves_in : List (Option ℕ) → ℕ
-leaves_in [] = 0
-leaves_in (None ∷ nodes) = suc (leaves_in nodes)
-leaves_in (Some e ∷ nodes) = leaves_in nodes
-
--- the leaves of two lists
-leaves_in-append : (xs ys : List (Option ℕ)) → leaves_in (xs ++ ys) ≡ leaves_in xs + leaves_in ys
-leaves_in-append [] ys = omega arith
-leaves_in-append (None ∷ xs) ys = omega (arith, leaves_in-append xs ys)
-leaves_in-append (Some e ∷ xs) ys = leaves_in-append xs ys
-
--- a tree has as many packings as leaves
-pub leaves_in-nodes_of : (t : Tree ℕ) → leaves_in (nodes_of t) ≡ length (packings_of t)
-leaves_in-nodes_of (Leaf cuts) = omega arith
-leaves_in-nodes_of (Split e o i) =
-    leaves_in-append (nodes_of o) (nodes_of i) ∙ omega (arith, leaves_in-nodes_of o, leaves_in-nodes_of i, length-append (packings_of o) (packings_of i))
+nodes_text ps (Some e ∷ nodes) packings = split_line (split_name ps e) ++ nodes_text ps nodes packings
 
 -- a tree's nodes and those behind them
-tree_then : (ps : List Point) (t : Tree ℕ) (nodes : List (Option ℕ)) (packings : List (List Cut))
+tree_then : (ps : List Point) (t : Tree SplitOn) (nodes : List (Option SplitOn)) (packings : List (List Cut))
     → nodes_text ps (nodes_of t ++ nodes) (packings_of t ++ packings) ≡ tree_text (named ps t) ++ nodes_text ps nodes packings
 tree_then ps (Leaf cuts) nodes packings = refl
 tree_then ps (Split e o i) nodes packings =
@@ -48,26 +31,26 @@ tree_then ps (Split e o i) nodes packings =
       tree_then ps o (nodes_of i ++ nodes) (packings_of i ++ packings),
       tree_then ps i nodes packings,
     )
-    (sym (append_assoc (split_line (name_of_edge ps e)) (tree_text (named ps o)) (tree_text (named ps i) ++ nodes_text ps nodes packings)) ∙ sym (append_assoc (split_line (name_of_edge ps e) ++ tree_text (named ps o)) (tree_text (named ps i)) (nodes_text ps nodes packings)))
+    (sym (append_assoc (split_line (split_name ps e)) (tree_text (named ps o)) (tree_text (named ps i) ++ nodes_text ps nodes packings)) ∙ sym (append_assoc (split_line (split_name ps e) ++ tree_text (named ps o)) (tree_text (named ps i)) (nodes_text ps nodes packings)))
 
 -- the nodes of a tree have its text
-pub nodes_text-tree : (ps : List Point) (t : Tree ℕ) → nodes_text ps (nodes_of t) (packings_of t) ≡ tree_text (named ps t)
+pub nodes_text-tree : (ps : List Point) (t : Tree SplitOn) → nodes_text ps (nodes_of t) (packings_of t) ≡ tree_text (named ps t)
 nodes_text-tree ps t =
     ap (λ nodes. nodes_text ps nodes (packings_of t)) (sym (append-nil (nodes_of t))) ∙ ap (λ packings. nodes_text ps (nodes_of t ++ []) packings) (sym (append-nil (packings_of t)))
     ∙ tree_then ps t [] [] ∙ append-nil (tree_text (named ps t))
 
 -- one more split
-split_more : (ps : List Point) (nodes : List (Option ℕ)) (e : ℕ) (packings : List (List Cut))
-    → nodes_text ps (nodes ++ Some e ∷ []) packings ≡ nodes_text ps nodes packings ++ split_line (name_of_edge ps e)
-split_more ps [] e packings = append-nil (split_line (name_of_edge ps e))
+split_more : (ps : List Point) (nodes : List (Option SplitOn)) (e : SplitOn) (packings : List (List Cut))
+    → nodes_text ps (nodes ++ Some e ∷ []) packings ≡ nodes_text ps nodes packings ++ split_line (split_name ps e)
+split_more ps [] e packings = append-nil (split_line (split_name ps e))
 split_more ps (None ∷ nodes) e [] = split_more ps nodes e []
 split_more ps (None ∷ nodes) e (cuts ∷ packings) =
-    ap (λ x. leaf_text cuts ++ x) (split_more ps nodes e packings) ∙ sym (append_assoc (leaf_text cuts) (nodes_text ps nodes packings) (split_line (name_of_edge ps e)))
+    ap (λ x. leaf_text cuts ++ x) (split_more ps nodes e packings) ∙ sym (append_assoc (leaf_text cuts) (nodes_text ps nodes packings) (split_line (split_name ps e)))
 split_more ps (Some d ∷ nodes) e packings =
-    ap (λ x. split_line (name_of_edge ps d) ++ x) (split_more ps nodes e packings) ∙ sym (append_assoc (split_line (name_of_edge ps d)) (nodes_text ps nodes packings) (split_line (name_of_edge ps e)))
+    ap (λ x. split_line (split_name ps d) ++ x) (split_more ps nodes e packings) ∙ sym (append_assoc (split_line (split_name ps d)) (nodes_text ps nodes packings) (split_line (split_name ps e)))
 
 -- one more leaf
-leaf_more : (ps : List Point) (nodes : List (Option ℕ)) (packings : List (List Cut)) (d : List Cut) → leaves_in nodes < length packings
+leaf_more : (ps : List Point) (nodes : List (Option SplitOn)) (packings : List (List Cut)) (d : List Cut) → leaves_in nodes < length packings
     → nodes_text ps (nodes ++ None ∷ []) packings ≡ nodes_text ps nodes packings ++ leaf_text (get_or packings (leaves_in nodes) d)
 leaf_more ps [] [] d inside = absurd (omega arith)
 leaf_more ps [] (cuts ∷ packings) d inside = append-nil (leaf_text cuts)
@@ -75,25 +58,25 @@ leaf_more ps (None ∷ nodes) [] d inside = absurd (omega arith)
 leaf_more ps (None ∷ nodes) (cuts ∷ packings) d inside =
     ap (λ x. leaf_text cuts ++ x) (leaf_more ps nodes packings d (omega arith)) ∙ sym (append_assoc (leaf_text cuts) (nodes_text ps nodes packings) (leaf_text (get_or packings (leaves_in nodes) d)))
 leaf_more ps (Some e ∷ nodes) packings d inside =
-    ap (λ x. split_line (name_of_edge ps e) ++ x) (leaf_more ps nodes packings d inside) ∙ sym (append_assoc (split_line (name_of_edge ps e)) (nodes_text ps nodes packings) (leaf_text (get_or packings (leaves_in nodes) d)))
+    ap (λ x. split_line (split_name ps e) ++ x) (leaf_more ps nodes packings d inside) ∙ sym (append_assoc (split_line (split_name ps e)) (nodes_text ps nodes packings) (leaf_text (get_or packings (leaves_in nodes) d)))
 
 -- the nodes up to a place and the one there
-take_push : (nodes : List (Option ℕ)) (i : ℕ) (here : Option ℕ) → i < length nodes → get_or nodes i None ≡ here → take (i + 1) nodes ≡ take i nodes ++ here ∷ []
+take_push : (nodes : List (Option SplitOn)) (i : ℕ) (here : Option SplitOn) → i < length nodes → get_or nodes i None ≡ here → take (i + 1) nodes ≡ take i nodes ++ here ∷ []
 take_push nodes i here inside is = take_more nodes i None inside ∙ ap (λ x. take i nodes ++ x ∷ []) is
 
 -- a split at the next place
-pub split_step : (ps : List Point) (nodes : List (Option ℕ)) (packings : List (List Cut)) (i e : ℕ) → i < length nodes → get_or nodes i None ≡ Some e
-    → nodes_text ps (take i nodes) packings ++ split_line (name_of_edge ps e) ≡ nodes_text ps (take (i + 1) nodes) packings
+pub split_step : (ps : List Point) (nodes : List (Option SplitOn)) (packings : List (List Cut)) (i : ℕ) (e : SplitOn) → i < length nodes → get_or nodes i None ≡ Some e
+    → nodes_text ps (take i nodes) packings ++ split_line (split_name ps e) ≡ nodes_text ps (take (i + 1) nodes) packings
 split_step ps nodes packings i e inside is =
     sym (split_more ps (take i nodes) e packings) ∙ ap (λ front. nodes_text ps front packings) (sym (take_push nodes i (Some e) inside is))
 
 -- it is no leaf
-pub split_leaves : (nodes : List (Option ℕ)) (i e : ℕ) → i < length nodes → get_or nodes i None ≡ Some e → leaves_in (take i nodes) ≡ leaves_in (take (i + 1) nodes)
+pub split_leaves : (nodes : List (Option SplitOn)) (i : ℕ) (e : SplitOn) → i < length nodes → get_or nodes i None ≡ Some e → leaves_in (take i nodes) ≡ leaves_in (take (i + 1) nodes)
 split_leaves nodes i e inside is =
     omega (arith, ap leaves_in (take_push nodes i (Some e) inside is) ∙ leaves_in-append (take i nodes) (Some e ∷ []))
 
 -- a leaf at the next place
-pub leaf_step : (ps : List Point) (nodes : List (Option ℕ)) (packings : List (List Cut)) (i leaf : ℕ) (cuts : List Cut) → i < length nodes → get_or nodes i None ≡ None
+pub leaf_step : (ps : List Point) (nodes : List (Option SplitOn)) (packings : List (List Cut)) (i leaf : ℕ) (cuts : List Cut) → i < length nodes → get_or nodes i None ≡ None
     → leaf ≡ leaves_in (take i nodes) → leaf < length packings → slice_get packings leaf ≡ Some cuts
     → nodes_text ps (take i nodes) packings ++ leaf_text cuts ≡ nodes_text ps (take (i + 1) nodes) packings
 leaf_step ps nodes packings i leaf cuts inside is count below found =
@@ -103,38 +86,33 @@ leaf_step ps nodes packings i leaf cuts inside is count below found =
     ∙ ap (λ front. nodes_text ps front packings) (sym (take_push nodes i None inside is))
 
 -- it is one leaf more
-pub leaf_leaves : (nodes : List (Option ℕ)) (i : ℕ) → i < length nodes → get_or nodes i None ≡ None → leaves_in (take i nodes) + 1 ≡ leaves_in (take (i + 1) nodes)
+pub leaf_leaves : (nodes : List (Option SplitOn)) (i : ℕ) → i < length nodes → get_or nodes i None ≡ None → leaves_in (take i nodes) + 1 ≡ leaves_in (take (i + 1) nodes)
 leaf_leaves nodes i inside is =
     omega (arith, ap leaves_in (take_push nodes i None inside is) ∙ leaves_in-append (take i nodes) (None ∷ []))
 
 -- there are no more leaves before a place than all of them
-leaves_in-take : (nodes : List (Option ℕ)) (i : ℕ) → leaves_in (take i nodes) ≤ leaves_in nodes
+leaves_in-take : (nodes : List (Option SplitOn)) (i : ℕ) → leaves_in (take i nodes) ≤ leaves_in nodes
 leaves_in-take nodes i = omega (arith, leaves_in-append (take i nodes) (drop i nodes), ap leaves_in (take-append-drop i nodes))
 
 -- fewer leaves stand before a leaf than there are packings
-pub leaf_below : (t : Tree ℕ) (nodes : List (Option ℕ)) (i leaf : ℕ) → nodes ≡ nodes_of t → i < length nodes → get_or nodes i None ≡ None
+pub leaf_below : (t : Tree SplitOn) (nodes : List (Option SplitOn)) (i leaf : ℕ) → nodes ≡ nodes_of t → i < length nodes → get_or nodes i None ≡ None
     → leaf ≡ leaves_in (take i nodes) → leaf < length (packings_of t)
 leaf_below t nodes i leaf same inside is count =
     let all : leaves_in nodes ≡ length (packings_of t) = ap leaves_in same ∙ leaves_in-nodes_of t in
     omega (arith, leaf_leaves nodes i inside is, leaves_in-take nodes (i + 1))
 
 -- no more leaves were passed than there are
-pub leaf_within : (t : Tree ℕ) (nodes : List (Option ℕ)) (i leaf : ℕ) → nodes ≡ nodes_of t → leaf ≡ leaves_in (take i nodes) → leaf ≤ length (packings_of t)
+pub leaf_within : (t : Tree SplitOn) (nodes : List (Option SplitOn)) (i leaf : ℕ) → nodes ≡ nodes_of t → leaf ≡ leaves_in (take i nodes) → leaf ≤ length (packings_of t)
 leaf_within t nodes i leaf same count =
     let all : leaves_in nodes ≡ length (packings_of t) = ap leaves_in same ∙ leaves_in-nodes_of t in
     omega (arith, leaves_in-take nodes i)
 
 -- behind the last node all packings were passed
-pub leaf_last : (t : Tree ℕ) (nodes : List (Option ℕ)) (i leaf : ℕ) → nodes ≡ nodes_of t → length nodes ≤ i → leaf ≡ leaves_in (take i nodes) → length (packings_of t) ≤ leaf
+pub leaf_last : (t : Tree SplitOn) (nodes : List (Option SplitOn)) (i leaf : ℕ) → nodes ≡ nodes_of t → length nodes ≤ i → leaf ≡ leaves_in (take i nodes) → length (packings_of t) ≤ leaf
 leaf_last t nodes i leaf same past count =
     let all : leaves_in (take i nodes) ≡ length (packings_of t) = ap leaves_in (take_all i nodes past) ∙ ap leaves_in same ∙ leaves_in-nodes_of t in
     omega arith
 
 -- the nodes are the leaves and, one fewer, the splits
-pub length-nodes_of : (t : Tree ℕ) → length (nodes_of t) + 1 ≡ 2 * length (packings_of t)
-length-nodes_of (Leaf cuts) = omega arith
-length-nodes_of (Split e o i) =
-    omega (arith, length-append (nodes_of o) (nodes_of i), length-append (packings_of o) (packings_of i), length-nodes_of o, length-nodes_of i)
-
-pub nodes_count : (t : Tree ℕ) (nodes : List (Option ℕ)) → nodes ≡ nodes_of t → length nodes + 1 ≡ 2 * length (packings_of t)
+pub nodes_count : (t : Tree SplitOn) (nodes : List (Option SplitOn)) → nodes ≡ nodes_of t → length nodes + 1 ≡ 2 * length (packings_of t)
 nodes_count t nodes same = ap (λ x. length x + 1) same ∙ length-nodes_of t

@@ -5,8 +5,9 @@ use Rattle.std.specs.Fmt.{decimal}
 use Rattle.std.proofs.lemmas.List.{append_cancel_left}
 use Rattle.net_graph.specs.declared.packing.Cut.{Cut}
 use Rattle.hanan_grid.specs.declared.name.EdgeName.{EdgeName}
-use Rattle.cut_cert.specs.Value.{Tree, WrittenAnswer}
-use Rattle.cut_cert.specs.Value.Tree.{Leaf, Split}
+use Rattle.cut_cert.specs.Value.{WrittenAnswer}
+use Rattle.cert_tree.specs.Tree.{Tree}
+use Rattle.cert_tree.specs.Tree.Tree.{Leaf, Split}
 use Rattle.cut_cert.specs.Text.{cut_line, edge_line, leaf_text, tree_text, head_text, network_text, proof_text, answer_text}
 use Rattle.cut_cert.specs.Spelling.{FitsName, FitsCut, FitsTree, FitsAnswer, OneReading}
 use Rattle.cut_cert.proofs.Pieces.{number_front, texts_front, first_apart, IsToldByFront}

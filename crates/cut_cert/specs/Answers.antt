@@ -6,16 +6,28 @@ use Rattle.net_graph.specs.Members.{members_of}
 use Rattle.net_graph.specs.Graph.{Graph}
 use Rattle.hanan_grid.specs.declared.name.EdgeName.{EdgeName}
 use Rattle.hanan_grid.specs.Names.{name_of_edge}
+use Rattle.cert_tree.specs.declared.split.SplitOn.{SplitOn}
+use Rattle.cert_tree.specs.declared.split.SplitOn.TheVariants as split
 use Rattle.cut_cert.specs.declared.answer.Answer.{Answer}
-use Rattle.cut_cert.specs.Value.{Tree, WrittenAnswer}
-use Rattle.cut_cert.specs.Value.Tree.{Leaf, Split}
+use Rattle.cut_cert.specs.Value.{WrittenAnswer}
+use Rattle.cert_tree.specs.Tree.{Tree}
+use Rattle.cert_tree.specs.Tree.Tree.{Leaf, Split}
 use Rattle.cut_cert.specs.Spelling.{FitsName}
-use Rattle.cut_cert.specs.Kept.{nodes_of, packings_of, split_count}
+use Rattle.cert_tree.specs.Preorder.{nodes_of, packings_of, split_count}
 
--- a tree with its edges named
-abbrev pub named : List Point → Tree ℕ → Tree EdgeName
+-- the number of the edge that a split is on; the text has no splits on vertices
+abbrev pub number_of : SplitOn → ℕ
+number_of (split.Edge e) = e
+number_of (split.Vertex v) = v
+
+-- the name of the edge that a split is on
+abbrev pub split_name : List Point → SplitOn → EdgeName
+split_name ps on = name_of_edge ps (number_of on)
+
+-- a tree with the edges of its splits named
+abbrev pub named : List Point → Tree SplitOn → Tree EdgeName
 named ps (Leaf cuts) = Leaf cuts
-named ps (Split e outside inside) = Split (name_of_edge ps e) (named ps outside) (named ps inside)
+named ps (Split on outside inside) = Split (split_name ps on) (named ps outside) (named ps inside)
 
 -- the edges of a set, named, in ascending number
 abbrev pub names_of : List Point → List ℕ → List EdgeName
@@ -35,15 +47,20 @@ pub record IsPackingOn (g : Graph) (cuts : List Cut) : Type 0 where
   pub few : length cuts ≤ 4 * length g.edges + 1
   pub each : All (IsCutOn g) cuts
 
--- a node that is a split has an edge of the graph
-abbrev pub IsNodeOn : Graph → Option ℕ → Type 0
-IsNodeOn g node = IfSome node (λ e. e < length g.edges)
+-- a split is on an edge of the graph
+abbrev pub IsSplitOn : Graph → SplitOn → Type 0
+IsSplitOn g (split.Edge e) = e < length g.edges
+IsSplitOn g (split.Vertex v) = ⊥
 
--- a node that is a split has an edge whose name has 64-bit coordinates
-abbrev pub FitsNode : List Point → Option ℕ → Type 0
-FitsNode ps node = IfSome node (λ e. FitsName (name_of_edge ps e))
+-- a node that is a split is on an edge of the graph
+abbrev pub IsNodeOn : Graph → Option SplitOn → Type 0
+IsNodeOn g node = IfSome node (IsSplitOn g)
 
--- the network is a set of the graph's edges, and the tree has at most 255 splits, each at one of the graph's edges
+-- a node that is a split is on an edge whose name has 64-bit coordinates
+abbrev pub FitsNode : List Point → Option SplitOn → Type 0
+FitsNode ps node = IfSome node (λ on. FitsName (split_name ps on))
+
+-- the network is a set of the graph's edges, and the tree has at most 255 splits, each on one of the graph's edges
 pub record IsAnswerOn (g : Graph) (a : Answer) : Type 0 where
   pub network : length a.network ≡ length g.edges
   pub few : split_count a.tree ≤ 255

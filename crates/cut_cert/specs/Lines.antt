@@ -7,8 +7,9 @@ use Rattle.cut_cert.specs.declared.line.Line.{Line}
 use Rattle.cut_cert.specs.declared.line.Line.TheVariants as line
 use Rattle.cut_cert.specs.declared.line.Stage.{Stage}
 use Rattle.cut_cert.specs.declared.line.Stage.TheVariants as stage
-use Rattle.cut_cert.specs.Value.{Tree, WrittenAnswer}
-use Rattle.cut_cert.specs.Value.Tree.{Leaf, Split}
+use Rattle.cut_cert.specs.Value.{WrittenAnswer}
+use Rattle.cert_tree.specs.Tree.{Tree}
+use Rattle.cert_tree.specs.Tree.Tree.{Leaf, Split}
 use Rattle.cut_cert.specs.Text.{set_text, status_word, concat_word}
 use Rattle.cut_cert.specs.Spelling.{FitsName, FitsCut}
 

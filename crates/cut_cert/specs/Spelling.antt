@@ -4,8 +4,9 @@ use Rattle.std.specs.Int.{w64}
 use Rattle.net_graph.specs.declared.packing.Cut.{Cut}
 use Rattle.hanan_grid.specs.declared.name.EdgeName.{EdgeName}
 use Rattle.cut_cert.specs.declared.head.AnswerHead.{AnswerHead}
-use Rattle.cut_cert.specs.Value.{Tree, WrittenAnswer}
-use Rattle.cut_cert.specs.Value.Tree.{Leaf, Split}
+use Rattle.cut_cert.specs.Value.{WrittenAnswer}
+use Rattle.cert_tree.specs.Tree.{Tree}
+use Rattle.cert_tree.specs.Tree.Tree.{Leaf, Split}
 use Rattle.cut_cert.specs.Text.{answer_text}
 
 -- the numbers of a head are within their widths

@@ -4,8 +4,9 @@ use Rattle.std.specs.Fmt.{decimal, signed_decimal, digit_glyph}
 use Rattle.net_graph.specs.declared.packing.Cut.{Cut}
 use Rattle.hanan_grid.specs.declared.name.EdgeName.{EdgeName}
 use Rattle.cut_cert.specs.declared.head.AnswerHead.{AnswerHead}
-use Rattle.cut_cert.specs.Value.{Tree, WrittenAnswer}
-use Rattle.cut_cert.specs.Value.Tree.{Leaf, Split}
+use Rattle.cut_cert.specs.Value.{WrittenAnswer}
+use Rattle.cert_tree.specs.Tree.{Tree}
+use Rattle.cert_tree.specs.Tree.Tree.{Leaf, Split}
 
 -- 1 for a member, else 0
 abbrev pub flag_value : Bool → ℕ

@@ -6,14 +6,14 @@ ghost use Rattle.text_out.specs.Gathers.{Gathers};
 ghost use Rattle.net_graph.specs.Members.{members_of};
 ghost use Rattle.hanan_grid.specs.Grid.{hanan_grid_of};
 ghost use Rattle.cut_cert.specs.Text.{answer_text, edge_lines, network_text, proof_text, tree_text};
-ghost use Rattle.cut_cert.specs.Kept.{nodes_of, packings_of};
+ghost use Rattle.cert_tree.specs.Preorder.{nodes_of, packings_of};
 ghost use Rattle.cut_cert.specs.Spelling.{FitsName, FitsWeight, SpellsAnswer};
-ghost use Rattle.cut_cert.specs.Answers.{FitsNode, IsAnswerOn, IsNodeOn, names_of, named, value_of};
+ghost use Rattle.cut_cert.specs.Answers.{FitsNode, IsAnswerOn, IsNodeOn, IsSplitOn, names_of, named, split_name, value_of};
 
 use crate::head::AnswerHead;
-use crate::tree::CertTree;
 use crate::write::{write_edge, write_head, write_leaf, write_split};
-use hanan_grid::Grid;
+use cert_tree::{CertTree, SplitOn};
+use hanan_grid::{EdgeName, Grid};
 use net_graph::EdgeSet;
 use rst_outside::{PutFault, Sink};
 use text_out::{Block, finish, literal, number};
@@ -115,11 +115,22 @@ fn write_tree<S: Sink>(block: &mut Block, sink: &mut S, grid: &Grid, tree: &Cert
     let mut leaf = 0;
     for node in tree.nodes() {
         match node {
-            Some(edge) => write_split(block, sink, &grid.edge_name(*edge)),
+            Some(on) => write_split(block, sink, &split_name(grid, on)),
             None => {
                 write_leaf(block, sink, tree.packing(leaf));
                 leaf += 1;
             }
         }
+    }
+}
+
+// The name of the edge that a split is on.
+pub(crate) fn split_name(grid: &Grid, on: &SplitOn) -> EdgeName
+    requires { IsSplitOn (hanan_grid_of grid.now) on.now }
+    ensures name { result ≡ split_name grid.now on.now }
+{
+    match on {
+        SplitOn::Edge(edge) => grid.edge_name(*edge),
+        SplitOn::Vertex(_) => unreachable!(),
     }
 }

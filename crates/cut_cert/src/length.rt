@@ -6,13 +6,13 @@ ghost use Rattle.net_graph.specs.Graph.{IsGraph};
 ghost use Rattle.net_graph.specs.Members.{members_of};
 ghost use Rattle.hanan_grid.specs.Grid.{hanan_grid_of};
 ghost use Rattle.cut_cert.specs.Text.{answer_text, head_text, edge_line, edge_lines, network_text, cut_line, cut_lines, leaf_text, tree_text};
-ghost use Rattle.cut_cert.specs.Kept.{nodes_of, packings_of};
+ghost use Rattle.cert_tree.specs.Preorder.{nodes_of, packings_of};
 ghost use Rattle.cut_cert.specs.Answers.{IsAnswerOn, IsNodeOn, IsPackingOn, names_of, named, value_of};
 
-use crate::answer::{Answer, count_of};
+use crate::answer::{Answer, count_of, split_name};
 use crate::head::AnswerHead;
-use crate::tree::CertTree;
 use crate::write::{kind_of, status_of};
+use cert_tree::CertTree;
 use hanan_grid::{EdgeName, Grid};
 use itoa::Buffer;
 use net_graph::{Cut, EdgeSet, Packing};
@@ -70,7 +70,7 @@ fn tree_len(grid: &Grid, tree: &CertTree) -> u64
     let mut sum = 0;
     for node in tree.nodes() {
         match node {
-            Some(edge) => sum += 6 + edge_len(&grid.edge_name(*edge)),
+            Some(on) => sum += 6 + edge_len(&split_name(grid, on)),
             None => {
                 sum += leaf_len(tree.packing(leaf));
                 leaf += 1;

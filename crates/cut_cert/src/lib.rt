@@ -12,7 +12,6 @@ mod reading;
 mod set_read;
 #[cfg(test)]
 mod tests;
-mod tree;
 mod words;
 mod write;
 
@@ -22,4 +21,3 @@ pub use head::{AnswerHead, ConcatNote};
 pub use length::answer_len;
 pub use read::{EventList, read_events};
 pub use reading::one_reading;
-pub use tree::CertTree;

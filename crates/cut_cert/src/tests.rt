@@ -3,7 +3,6 @@
 ghost use Rattle.std.specs.Prelude.{◌≡◌, ◌<◌, ◌≤◌, [], ◌∷◌, length, All, IfOk};
 ghost use Rattle.net_graph.specs.declared.packing.Cut.{Cut};
 ghost use Rattle.hanan_grid.specs.Grid.{hanan_grid_of};
-ghost use Rattle.cut_cert.specs.Kept.{split_count};
 ghost use Rattle.cut_cert.specs.Answers.{IsAnswerOn};
 
 use crate::answer::{Answer, write_answer};
@@ -11,8 +10,8 @@ use crate::event::Event;
 use crate::head::{AnswerHead, ConcatNote};
 use crate::length::answer_len;
 use crate::read::read_events;
-use crate::tree::CertTree;
 use crate::write::write_set;
+use cert_tree::CertTree;
 use hanan_grid::{EdgeName, Grid};
 use net_graph::{Cut, EdgeSet, Packing, VertexSet};
 use points_in::{Point, Points};
@@ -70,8 +69,7 @@ fn three_edges(alloc: Global) -> Result<EdgeSet, AllocError>
 fn worked_answer(alloc: Global, grid: &Grid) -> Result<Answer, AllocError>
     requires vertices { (hanan_grid_of grid.now).vertices ≡ 6 }
     requires edges { length (hanan_grid_of grid.now).edges ≡ 7 }
-    ensures fits { IfOk result (λ answer. IsAnswerOn (hanan_grid_of grid.now) answer) }
-    ensures leaf { IfOk result (λ answer. split_count answer.tree ≡ 0) }
+    ensures { IfOk result (λ answer. IsAnswerOn (hanan_grid_of grid.now) answer) }
 {
     let network = three_edges(alloc)?;
     let tree = CertTree::leaf(alloc, three_cuts(alloc)?)?;
@@ -110,8 +108,6 @@ fn writes_the_worked_answer(rt: HostRuntime) -> Result<(), Fail> {
     assert_eq!(rt; written, Ok(()));
     assert_eq!(rt; sink.bytes(), WORKED);
     assert_eq!(rt; answer_len(&grid, &answer), WORKED.len() as u64);
-    assert_eq!(rt; answer.tree.value(grid.graph()), 3);
-    assert_eq!(rt; (answer.tree.leaves(), answer.tree.splits()), (1, 0));
     Ok(())
 }
 

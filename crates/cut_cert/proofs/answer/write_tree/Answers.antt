@@ -5,7 +5,7 @@ use Rattle.std.proofs.lemmas.List.Elements.{All-more}
 use Rattle.text_out.specs.GatherLaws.{gathers_two}
 use Rattle.cut_cert.specs.Text.{split_line}
 use Rattle.cut_cert.specs.Spelling.{FitsName, FitsWeight}
-use Rattle.cut_cert.specs.Kept.{packings_of}
+use Rattle.cert_tree.specs.Preorder.{packings_of}
 use Rattle.cut_cert.specs.Answers.{FitsNode}
 use Rattle.cut_cert.proofs.PackingLemmas.{All-found_more}
 use Rattle.cut_cert.proofs.NodesText.{nodes_text, nodes_text-tree, split_step, split_leaves, leaf_step, leaf_leaves, leaf_below, leaf_last}
@@ -28,13 +28,13 @@ loop-node-preserved g c =
     let i = c.loop-node.node-index in
     elim c.match-node.branch [
       | in-Some w ↦ record {
-        leaf = w.leaf-is ∙ c.loop-node.invariant.leaf ∙ split_leaves nodes i w.in-Some.edge c.loop-node-test.true w.in-Some.is;
+        leaf = w.leaf-is ∙ c.loop-node.invariant.leaf ∙ split_leaves nodes i w.in-Some.on c.loop-node-test.true w.in-Some.is;
         text =
-            let text = ap (λ name. nodes_text c.args.grid.now (take i nodes) packings ++ split_line name) w.edge_name.ensures.name ∙ split_step c.args.grid.now nodes packings i w.in-Some.edge c.loop-node-test.true w.in-Some.is in
+            let text = ap (λ name. nodes_text c.args.grid.now (take i nodes) packings ++ split_line name) w.split_name.ensures.name ∙ split_step c.args.grid.now nodes packings i w.in-Some.on c.loop-node-test.true w.in-Some.is in
             rw (w.sink-is, w.block-is) (gathers_two _ _ _ _ _ _ _ _ _ c.loop-node.invariant.text w.write_split.ensures text);
         names =
-            let fits : FitsName w.edge_name.result = search rules in
-            All-more (FitsNode c.args.grid.now) nodes i None c.loop-node-test.true c.loop-node.invariant.names (subst (FitsNode c.args.grid.now) (sym w.in-Some.is) (subst FitsName w.edge_name.ensures.name fits));
+            let fits : FitsName w.split_name.result = search rules in
+            All-more (FitsNode c.args.grid.now) nodes i None c.loop-node-test.true c.loop-node.invariant.names (subst (FitsNode c.args.grid.now) (sym w.in-Some.is) (subst FitsName w.split_name.ensures.name fits));
         weights = rw w.leaf-is c.loop-node.invariant.weights;
       }
       | in-None w ↦ record {

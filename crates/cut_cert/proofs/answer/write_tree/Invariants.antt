@@ -2,9 +2,9 @@ use Rattle.std.proofs.Common.{◌≡◌, take}
 use Rattle.std.specs.Prelude.{All}
 use Rattle.text_out.specs.Gathers.{Gathers}
 use Rattle.cut_cert.specs.Spelling.{FitsWeight}
-use Rattle.cut_cert.specs.Kept.{packings_of}
+use Rattle.cert_tree.specs.Preorder.{packings_of, leaves_in}
 use Rattle.cut_cert.specs.Answers.{FitsNode}
-use Rattle.cut_cert.proofs.NodesText.{nodes_text, leaves_in}
+use Rattle.cut_cert.proofs.NodesText.{nodes_text}
 use Rattle.cut_cert.proofs.answer.write_tree.Given as goal
 
 -- the text of the nodes passed, how many of them were leaves, and what is known of their numbers

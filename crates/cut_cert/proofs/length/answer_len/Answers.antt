@@ -2,8 +2,7 @@ use Rattle.std.proofs.Common.{◌≡◌, ◌+◌, length, sym, ◌∙◌, arith}
 use Rattle.cut_cert.specs.Text.{head_text, network_text, tree_text}
 use Rattle.cut_cert.specs.Answers.{value_of}
 use Rattle.cut_cert.proofs.Lengths.{length-answer_text}
-use Rattle.cut_cert.proofs.NodesText.{length-nodes_of}
-use Rattle.cut_cert.proofs.TreeLemmas.{length-packings_of}
+use Rattle.cert_tree.specs.PreorderLaws.{length-nodes_of, length-packings_of}
 use Rattle.cut_cert.proofs.length.answer_len.Goals as goal
 
 pub overflow_add-result-3 : goal.overflow_add-result-3

@@ -2,7 +2,7 @@ use Rattle.std.proofs.Common.{◌≡◌, ◌+◌, ◌++◌, length, take, ◌∙
 use Rattle.std.proofs.lemmas.List.{take_all}
 use Rattle.hanan_grid.specs.Grid.{hanan_grid_of}
 use Rattle.cut_cert.specs.Text.{split_line, leaf_text}
-use Rattle.cut_cert.specs.Kept.{packings_of}
+use Rattle.cert_tree.specs.Preorder.{packings_of}
 use Rattle.cut_cert.proofs.Lengths.{length-split_line, sum_more}
 use Rattle.cut_cert.proofs.PackingLemmas.{packing-few, packing-small}
 use Rattle.cut_cert.proofs.NodesText.{nodes_text, nodes_text-tree, split_step, split_leaves, leaf_step, leaf_leaves, leaf_below, leaf_within, nodes_count}
@@ -46,12 +46,12 @@ loop-node-preserved c =
     let i = c.loop-node.node-index in
     elim c.match-node.branch [
       | in-Some w ↦ record {
-        leaf = w.leaf-is ∙ c.loop-node.invariant.leaf ∙ split_leaves nodes i w.in-Some.edge c.loop-node-test.true w.in-Some.is;
+        leaf = w.leaf-is ∙ c.loop-node.invariant.leaf ∙ split_leaves nodes i w.in-Some.on c.loop-node-test.true w.in-Some.is;
         length =
-            let name = w.edge_name.ensures.name in
-            let line : 6 + w.edge_len.result ≡ length (split_line w.edge_name.result) = omega (arith, length-split_line w.edge_name.result) in
-            let text = ap (λ name. nodes_text c.args.grid.now (take i nodes) packings ++ split_line name) name ∙ split_step c.args.grid.now nodes packings i w.in-Some.edge c.loop-node-test.true w.in-Some.is in
-            w.sum-is ∙ sum_more _ (split_line w.edge_name.result) _ c.loop-node.sum (6 + w.edge_len.result) c.loop-node.invariant.length line text;
+            let name = w.split_name.ensures.name in
+            let line : 6 + w.edge_len.result ≡ length (split_line w.split_name.result) = omega (arith, length-split_line w.split_name.result) in
+            let text = ap (λ name. nodes_text c.args.grid.now (take i nodes) packings ++ split_line name) name ∙ split_step c.args.grid.now nodes packings i w.in-Some.on c.loop-node-test.true w.in-Some.is in
+            w.sum-is ∙ sum_more _ (split_line w.split_name.result) _ c.loop-node.sum (6 + w.edge_len.result) c.loop-node.invariant.length line text;
         short = omega arith;
       }
       | in-None w ↦ record {

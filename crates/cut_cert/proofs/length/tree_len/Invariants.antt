@@ -1,6 +1,6 @@
 use Rattle.std.proofs.Common.{◌≡◌, ◌+◌, ◌*◌, ◌≤◌, length, take}
-use Rattle.cut_cert.specs.Kept.{packings_of}
-use Rattle.cut_cert.proofs.NodesText.{nodes_text, leaves_in}
+use Rattle.cert_tree.specs.Preorder.{packings_of, leaves_in}
+use Rattle.cut_cert.proofs.NodesText.{nodes_text}
 use Rattle.cut_cert.proofs.length.tree_len.Given as goal
 
 -- the length of the text of the nodes passed, and how many of them were leaves
