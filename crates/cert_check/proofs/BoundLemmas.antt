@@ -1,32 +1,22 @@
 -- No network is shorter than the bound of an accepted answer.
-use Rattle.std.proofs.Common.{ℕ, ◌≡◌, ◌≤◌, Bool, List, sym, ◌∙◌, arith, length, eqb-true}
-use Rattle.std.proofs.lemmas.List.{length-replicate}
+use Rattle.std.proofs.Common.{ℕ, ◌≡◌, ◌≤◌, Bool, List, sym, ◌∙◌, arith, eqb-true}
 use Rattle.points_in.specs.declared.point.Point.{Point}
-use Rattle.net_graph.specs.declared.packing.EdgeState.TheVariants.{Undecided, Inside, Outside}
 use Rattle.net_graph.specs.declared.packing.Cut.{Cut}
-use Rattle.net_graph.specs.Graph.{Graph}
 use Rattle.net_graph.specs.Network.{IsLowerBound, length_of}
-use Rattle.net_graph.specs.Decision.{Agrees, nothing_decided}
+use Rattle.net_graph.specs.Decision.{nothing_decided}
+use Rattle.net_graph.specs.DecisionLaws.{IsDecisionFor-nothing, Agrees-nothing}
 use Rattle.net_graph.specs.Packing.{packing_value}
 use Rattle.hanan_grid.specs.Grid.{hanan_grid_of}
 use Rattle.cut_cert.specs.Value.{WrittenAnswer}
 use Rattle.duality.specs.Duality.{WeakDuality}
 use Rattle.cert_check.specs.Accepted.{Accepts, AcceptsAs, AcceptedBoundHolds}
-use Rattle.cert_check.proofs.CutsTold.{undecided_alone}
-
--- where nothing is decided every set agrees
-Agrees-nothing_decided : (g : Graph) (set : List Bool) → Agrees g (nothing_decided g) set
-Agrees-nothing_decided g set = record {
-  inside = λ n at. let alone = undecided_alone g n Inside at in absurd cc;
-  outside = λ n at _. let alone = undecided_alone g n Outside at in absurd cc;
-}
 
 -- the bound of an accepted answer is at most its packing's value, and so at most the length of any network
 bound_below : WeakDuality → (ps : List Point) (bytes : List ℕ) (answer : WrittenAnswer) (network : List Bool) (packing : List Cut) → Accepts ps bytes answer network packing → IsLowerBound (hanan_grid_of ps) answer.head.bound
 bound_below duality ps bytes answer network packing accepts other joins =
     let g = hanan_grid_of ps in
     let below : packing_value g (nothing_decided g) packing ≤ length_of g other =
-    duality g (nothing_decided g) packing (length-replicate (length g.edges) Undecided) accepts.feasible other (Agrees-nothing_decided g other) joins in
+    duality g (nothing_decided g) packing (IsDecisionFor-nothing g) accepts.feasible other (Agrees-nothing g other) joins in
     omega (arith, below, accepts.bound)
 
 -- the law, by weak duality

@@ -13,7 +13,7 @@ use Rattle.cut_cert.specs.declared.head.AnswerHead.{AnswerHead}
 use Rattle.cut_cert.specs.declared.event.Event.TheVariants as event
 use Rattle.cut_cert.specs.declared.event.AnswerEvent.{AnswerEvent}
 use Rattle.cut_cert.specs.Value.{WrittenAnswer}
-use Rattle.cut_cert.specs.Value.Tree.{Leaf}
+use Rattle.cert_tree.specs.Tree.Tree.{Leaf}
 use Rattle.cut_cert.specs.Events.{Told, cut_told, events_of}
 use Rattle.cut_cert.specs.Spelling.{SpellsAnswer, OneReading}
 use Rattle.cert_check.specs.declared.verdict.Cause.TheVariants.{WrongBound, WrongStatus}

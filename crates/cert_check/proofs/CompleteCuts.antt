@@ -1,12 +1,12 @@
 -- The lines of the cuts of a feasible packing pass.
-use Rattle.std.proofs.Common.{ℕ, suc, ◌≡◌, ◌<◌, ◌≤◌, List, [], ◌∷◌, ◌++◌, length, map, refl, sym, ap, ◌∙◌, subst, arith, append_assoc, length-append, inl, inr}
-use Rattle.std.specs.Prelude.{replicate, slice_get, Some, if◌then◌else◌}
+use Rattle.std.proofs.Common.{ℕ, suc, ◌≡◌, ◌≤◌, List, [], ◌∷◌, ◌++◌, length, map, refl, sym, ap, ◌∙◌, subst, arith, append_assoc, length-append, inl, inr}
+use Rattle.std.specs.Prelude.{if◌then◌else◌}
 use Rattle.std.proofs.lemmas.Bool.{false≢true}
-use Rattle.std.proofs.lemmas.List.{append-nil, get_or_at, get_or-replicate, length-replicate}
+use Rattle.std.proofs.lemmas.List.{append-nil, get_or_at}
 use Rattle.std.proofs.lemmas.List.Sums.{sum_by-append, sum_by-cons}
-use Rattle.std.proofs.lemmas.Option.{slice_get-get_or, slice_get_within}
+use Rattle.std.proofs.lemmas.Option.{slice_get_within}
 use Rattle.points_in.specs.declared.point.Point.{Point}
-use Rattle.net_graph.specs.declared.packing.EdgeState.TheVariants.{Undecided}
+use Rattle.net_graph.specs.declared.state.EdgeState.TheVariants.{Undecided}
 use Rattle.net_graph.specs.declared.packing.Cut.{Cut}
 use Rattle.net_graph.specs.Graph.{Graph}
 use Rattle.net_graph.specs.Decision.{nothing_decided}
@@ -18,12 +18,8 @@ use Rattle.cert_check.specs.declared.verdict.Cause.TheVariants.{RootInCut, IdleC
 use Rattle.cert_check.specs.declared.verdict.Finished.{Finished}
 use Rattle.cert_check.specs.Cuts.{IsFirstOverload, CutFault}
 use Rattle.cert_check.specs.Judged.{SoFar}
+use Rattle.cert_check.proofs.Undecided.{undecided_at}
 use Rattle.cert_check.proofs.LineSteps.{JudgesTold, passed}
-
--- where nothing is decided each edge is undecided
-undecided_at : (n edge : ℕ) → edge < n → slice_get (replicate n Undecided) edge ≡ Some Undecided
-undecided_at n edge inside =
-    slice_get-get_or (replicate n Undecided) edge Undecided (omega (arith, length-replicate n Undecided)) ∙ ap Some (get_or-replicate n edge Undecided Undecided inside)
 
 -- the first cuts load an arc no more than all of them
 load-front : (done : List Cut) (c : Cut) (due : List Cut) (u v : ℕ) → load (done ++ c ∷ []) u v ≤ load (done ++ c ∷ due) u v
@@ -42,7 +38,7 @@ no_overload : (g : Graph) (done : List Cut) (c : Cut) (due : List Cut) (edge amo
     → IsFeasible g (nothing_decided g) (done ++ c ∷ due) → IsFirstOverload g (done ++ c ∷ []) c.members edge amount room → ⊥
 no_overload g done c due edge amount room feasible over =
     let e = over.is in
-    let kept = feasible.room edge e Undecided over.at (undecided_at (length g.edges) edge (slice_get_within g.edges edge e over.at)) in
+    let kept = feasible.room edge e Undecided over.at (undecided_at g edge (slice_get_within g.edges edge e over.at)) in
     elim over.entered [
       | inl entered ↦ omega (arith, over.above, over.room_is, entered.1, load-front done c due e.a e.b, kept.0)
       | inr entered ↦ omega (arith, over.above, over.room_is, entered.1, load-front done c due e.b e.a, kept.1)

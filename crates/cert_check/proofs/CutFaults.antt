@@ -1,11 +1,10 @@
 -- A cut may stand behind those before it, or its line is wrong for one cause.
-use Rattle.std.proofs.Common.{ℕ, ◌≡◌, ◌<◌, Bool, true, false, not, ◌&&◌, List, [], ◌∷◌, ◌++◌, length, slice_get, Some, ◌⊎◌, inl, inr, sym, ap, ◌∙◌, subst, arith}
+use Rattle.std.proofs.Common.{ℕ, ◌≡◌, Bool, true, false, not, ◌&&◌, List, [], ◌∷◌, ◌++◌, slice_get, Some, ◌⊎◌, inl, inr, sym, ap, ◌∙◌, subst, arith}
 use Rattle.std.proofs.lemmas.Bool.{cases_lt}
-use Rattle.std.proofs.lemmas.List.{length-replicate, get_or-replicate}
-use Rattle.std.proofs.lemmas.Option.{slice_get_within, slice_get-get_or}
+use Rattle.std.proofs.lemmas.Option.{slice_get_within}
 use Rattle.net_graph.specs.declared.edge.Edge.{Edge}
 use Rattle.net_graph.specs.declared.packing.Cut.{Cut}
-use Rattle.net_graph.specs.declared.packing.EdgeState.TheVariants.{Undecided}
+use Rattle.net_graph.specs.declared.state.EdgeState.TheVariants.{Undecided}
 use Rattle.net_graph.specs.Flags.{has}
 use Rattle.net_graph.specs.Graph.{Graph, root_of}
 use Rattle.net_graph.specs.Decision.{nothing_decided}
@@ -13,6 +12,7 @@ use Rattle.net_graph.specs.Packing.{IsCut}
 use Rattle.net_graph.specs.Feasible.{KeepsRoom}
 use Rattle.cert_check.specs.declared.verdict.Cause.{Cause}
 use Rattle.cert_check.specs.declared.verdict.Cause.TheVariants.{RootInCut, IdleCut, Overload}
+use Rattle.cert_check.proofs.Undecided.{undecided_at}
 use Rattle.cert_check.specs.Cuts.{PacksCut, IsIdle, IsEntered, IsFirstOverload, CutFault}
 
 -- a line's cut overloads an edge
@@ -33,12 +33,6 @@ cut_causes g cuts c n (Overload line edge amount room) (is, cut, first) = inr (i
 cut_causes g cuts c n cause fault = absurd fault
 
 -- ---- loads
-
--- every edge is undecided where nothing is decided
-undecided_at : (g : Graph) (n : ℕ) → n < length g.edges → slice_get (nothing_decided g) n ≡ Some Undecided
-undecided_at g n within =
-    let inside : n < length (nothing_decided g) = omega (arith, length-replicate (length g.edges) Undecided) in
-    slice_get-get_or (nothing_decided g) n Undecided inside ∙ ap (λ state. Some state) (get_or-replicate (length g.edges) n Undecided Undecided within)
 
 -- an overloaded edge does not keep its room
 overload_out_of_room : (g : Graph) (packing : List Cut) (members : List Bool) (edge amount room : ℕ) → IsFirstOverload g packing members edge amount room → KeepsRoom g (nothing_decided g) packing edge → ⊥

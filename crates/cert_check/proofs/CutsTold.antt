@@ -1,31 +1,22 @@
 -- What the lines of a tree tell that all pass: one leaf, whose packing is feasible.
-use Rattle.std.proofs.Common.{ℕ, ◌≡◌, ◌<◌, List, [], ◌∷◌, ◌++◌, length, map, All, slice_get, Some, refl, sym, ap, ◌∙◌, subst, arith, append_assoc}
-use Rattle.std.proofs.lemmas.List.{append-nil, length-replicate, get_or-replicate}
+use Rattle.std.proofs.Common.{ℕ, ◌≡◌, ◌<◌, List, [], ◌∷◌, ◌++◌, map, All, refl, sym, ap, ◌∙◌, subst, arith, append_assoc}
+use Rattle.std.proofs.lemmas.List.{append-nil}
 use Rattle.std.proofs.lemmas.List.Elements.{All-nil, All-push, All-head, All-tail}
-use Rattle.std.proofs.lemmas.Option.{slice_get_within, get_or_from_slice_get}
 use Rattle.points_in.specs.declared.point.Point.{Point}
 use Rattle.net_graph.specs.declared.packing.Cut.{Cut}
-use Rattle.net_graph.specs.declared.packing.EdgeState.{EdgeState}
-use Rattle.net_graph.specs.declared.packing.EdgeState.TheVariants.{Undecided}
 use Rattle.net_graph.specs.Graph.{Graph}
 use Rattle.net_graph.specs.Decision.{nothing_decided}
 use Rattle.net_graph.specs.Packing.{IsCut, IsFeasible}
 use Rattle.hanan_grid.specs.declared.name.EdgeName.{EdgeName}
 use Rattle.hanan_grid.specs.Grid.{hanan_grid_of}
-use Rattle.cut_cert.specs.Value.{Tree}
-use Rattle.cut_cert.specs.Value.Tree.{Leaf, Split}
+use Rattle.cert_tree.specs.Tree.{Tree}
+use Rattle.cert_tree.specs.Tree.Tree.{Leaf, Split}
 use Rattle.cut_cert.specs.Spelling.{FitsCut, FitsTree}
 use Rattle.cut_cert.specs.Events.{cut_told, tree_told}
 use Rattle.cert_check.specs.Cuts.{PacksCut}
 use Rattle.cert_check.specs.Judged.{SoFar}
+use Rattle.cert_check.proofs.Undecided.{undecided_alone}
 use Rattle.cert_check.proofs.Runs.{Runs}
-
--- no edge is decided where nothing is
-pub undecided_alone : (g : Graph) (n : ℕ) (state : EdgeState) → slice_get (nothing_decided g) n ≡ Some state → state ≡ Undecided
-undecided_alone g n state at =
-    let within : n < length (nothing_decided g) = slice_get_within (nothing_decided g) n state at in
-    let below : n < length g.edges = omega (arith, length-replicate (length g.edges) Undecided) in
-    sym (get_or_from_slice_get (nothing_decided g) n state Undecided at) ∙ get_or-replicate (length g.edges) n Undecided Undecided below
 
 -- a cut of a feasible packing
 abbrev IsPacked : Graph → Cut → Type 0

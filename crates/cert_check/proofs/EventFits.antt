@@ -6,8 +6,9 @@ use Rattle.net_graph.specs.declared.packing.Cut.{Cut}
 use Rattle.hanan_grid.specs.declared.name.EdgeName.{EdgeName}
 use Rattle.cut_cert.specs.declared.event.Event.TheVariants as event
 use Rattle.cut_cert.specs.declared.event.AnswerEvent.{AnswerEvent}
-use Rattle.cut_cert.specs.Value.{Tree, WrittenAnswer}
-use Rattle.cut_cert.specs.Value.Tree.{Leaf, Split}
+use Rattle.cut_cert.specs.Value.{WrittenAnswer}
+use Rattle.cert_tree.specs.Tree.{Tree}
+use Rattle.cert_tree.specs.Tree.Tree.{Leaf, Split}
 use Rattle.cut_cert.specs.Events.{Told, cut_told, tree_told, answer_told, numbered, events_of}
 use Rattle.cut_cert.specs.Reading.{IsReadWhole, StopsAt}
 use Rattle.cut_cert.specs.Spelling.{FitsCut, FitsTree, FitsAnswer}

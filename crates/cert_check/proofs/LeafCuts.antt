@@ -1,11 +1,10 @@
 -- From the loads of a leaf's arcs to its cuts: where nothing is decided each edge has room for its length.
 use Rattle.std.proofs.Common.{ℕ, ◌≡◌, ◌+◌, ◌-◌, ◌^◌, ◌<◌, ◌≤◌, min, List, [], ◌∷◌, ◌++◌, length, get_or, replicate, slice_get, Some, ◌⊎◌, inl, inr, ⊎_elim, sum_by, refl, sym, ap, ◌∙◌, subst, arith}
 use Rattle.std.proofs.lemmas.Bool.{cases_lt, cond-true}
-use Rattle.std.proofs.lemmas.List.{length-replicate, get_or-replicate}
 use Rattle.std.proofs.lemmas.List.Sums.{sum_by_push}
-use Rattle.std.proofs.lemmas.Option.{same_Some, slice_get_within, slice_get-get_or}
+use Rattle.std.proofs.lemmas.Option.{same_Some, slice_get_within}
 use Rattle.net_graph.specs.declared.edge.Edge.{Edge}
-use Rattle.net_graph.specs.declared.packing.EdgeState.TheVariants.{Undecided}
+use Rattle.net_graph.specs.declared.state.EdgeState.TheVariants.{Undecided}
 use Rattle.net_graph.specs.declared.packing.Cut.{Cut}
 use Rattle.net_graph.specs.Graph.{Graph}
 use Rattle.net_graph.specs.Decision.{nothing_decided}
@@ -14,25 +13,20 @@ use Rattle.net_graph.specs.Feasible.{KeepsRoom}
 use Rattle.cert_check.specs.declared.leaf.LeafRead.{LeafRead}
 use Rattle.cert_check.specs.Cuts.{IsEntered, IsFirstOverload}
 use Rattle.cert_check.specs.Loads.{IsLeafOf, HasRows, LoadsArc, OverloadsArc, weight_on}
+use Rattle.cert_check.proofs.Undecided.{undecided_at}
 use Rattle.cert_check.proofs.LeafLemmas.{LoadsBelow, LoadsBelow-more, LoadsBelow-all, LoadsBelow-room, loads_of, loads_of-nil, get_or-loads_of, load-push}
 
--- where nothing is decided each edge is undecided
-nothing_decided-at : (g : Graph) (n : ℕ) → n < length g.edges → slice_get (nothing_decided g) n ≡ Some Undecided
-nothing_decided-at g n inside =
-    let size : length (nothing_decided g) ≡ length g.edges = length-replicate (length g.edges) Undecided in
-    slice_get-get_or (nothing_decided g) n Undecided (omega arith) ∙ ap (λ state. Some state) (get_or-replicate (length g.edges) n Undecided Undecided inside)
-
--- there an edge keeps its room if neither load is above its length
+-- where nothing is decided an edge keeps its room if neither load is above its length
 KeepsRoom-from_length : (g : Graph) (packing : List Cut) (n : ℕ) →
     ((e : Edge) → slice_get g.edges n ≡ Some e → (load packing e.a e.b ≤ e.length) × (load packing e.b e.a ≤ e.length)) → KeepsRoom g (nothing_decided g) packing n
 KeepsRoom-from_length g packing n fits e state at decided =
-    let is : Undecided ≡ state = same_Some Undecided state (sym (nothing_decided-at g n (slice_get_within g.edges n e at)) ∙ decided) in
+    let is : Undecided ≡ state = same_Some Undecided state (sym (undecided_at g n (slice_get_within g.edges n e at)) ∙ decided) in
     subst (λ s. IsWithinRoom s e (load packing e.a e.b) × IsWithinRoom s e (load packing e.b e.a)) is (fits e at)
 
 -- and only then
 KeepsRoom-length : (g : Graph) (packing : List Cut) (n : ℕ) (e : Edge) → slice_get g.edges n ≡ Some e → KeepsRoom g (nothing_decided g) packing n →
     (load packing e.a e.b ≤ e.length) × (load packing e.b e.a ≤ e.length)
-KeepsRoom-length g packing n e at keeps = keeps e Undecided at (nothing_decided-at g n (slice_get_within g.edges n e at))
+KeepsRoom-length g packing n e at keeps = keeps e Undecided at (undecided_at g n (slice_get_within g.edges n e at))
 
 -- a leaf with no cut
 pub IsLeafOf-none : (g : Graph) (leaf : LeafRead) → leaf.there.items ≡ replicate (length g.edges) 0 → leaf.back.items ≡ replicate (length g.edges) 0 → leaf.weight ≡ 0 → IsLeafOf g [] leaf

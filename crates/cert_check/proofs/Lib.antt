@@ -1,3 +1,4 @@
+pub mod Undecided
 pub mod ValueLemmas
 pub mod JudgeLemmas
 pub mod LeafLemmas

@@ -7,7 +7,7 @@ use Rattle.net_graph.specs.Packing.{IsFeasible, packing_value}
 use Rattle.hanan_grid.specs.Grid.{hanan_grid_of}
 use Rattle.cut_cert.specs.declared.event.Event.TheVariants as event
 use Rattle.cut_cert.specs.Value.{WrittenAnswer}
-use Rattle.cut_cert.specs.Value.Tree.{Leaf}
+use Rattle.cert_tree.specs.Tree.Tree.{Leaf}
 use Rattle.cut_cert.specs.Spelling.{FitsTree, SpellsAnswer}
 use Rattle.cut_cert.specs.Events.{answer_told, tree_told, events_of}
 use Rattle.cut_cert.specs.Reading.{IsReadWhole}

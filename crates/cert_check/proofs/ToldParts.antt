@@ -2,7 +2,7 @@
 use Rattle.std.specs.Prelude.{List, [], ◌∷◌, ◌++◌, map, None}
 use Rattle.hanan_grid.specs.declared.name.EdgeName.{EdgeName}
 use Rattle.cut_cert.specs.declared.event.Event.TheVariants as event
-use Rattle.cut_cert.specs.Value.{Tree}
+use Rattle.cert_tree.specs.Tree.{Tree}
 use Rattle.cut_cert.specs.Events.{Told, tree_told}
 
 -- what the lines of the edges tell

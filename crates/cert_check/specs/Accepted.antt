@@ -8,7 +8,7 @@ use Rattle.net_graph.specs.Decision.{nothing_decided}
 use Rattle.net_graph.specs.Packing.{IsFeasible, packing_value}
 use Rattle.hanan_grid.specs.Grid.{hanan_grid_of}
 use Rattle.cut_cert.specs.Value.{WrittenAnswer}
-use Rattle.cut_cert.specs.Value.Tree.{Leaf}
+use Rattle.cert_tree.specs.Tree.Tree.{Leaf}
 use Rattle.cut_cert.specs.Spelling.{SpellsAnswer}
 use Rattle.cut_cert.specs.Answers.{names_of}
 use Rattle.cert_check.specs.declared.verdict.Verdict.{Verdict}
