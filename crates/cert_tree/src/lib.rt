@@ -4,6 +4,8 @@
 mod decision;
 mod laws;
 mod split;
+#[cfg(test)]
+mod tests;
 mod tree;
 mod value;
 mod way;
