@@ -30,12 +30,14 @@ IsUndecidedSplit g d (split.Vertex v) = IsVertexUndecided g d v
 abbrev pub HasUndecidedSplits : Graph → Decided → Tree SplitOn → Type 0
 HasUndecidedSplits g d (Leaf cuts) = Unit {0}
 HasUndecidedSplits g d (Split on outside inside) =
-    IsUndecidedSplit g d on × HasUndecidedSplits g (outside_of d on) outside × HasUndecidedSplits g (inside_of d on) inside
+    IsUndecidedSplit g d on × HasUndecidedSplits g (outside_of d on) outside
+    × HasUndecidedSplits g (inside_of d on) inside
 
 -- the decisions of the leaves in preorder
 abbrev pub decisions_of : Decided → Tree SplitOn → List Decided
 decisions_of d (Leaf cuts) = d ∷ []
-decisions_of d (Split on outside inside) = decisions_of (outside_of d on) outside ++ decisions_of (inside_of d on) inside
+decisions_of d (Split on outside inside) =
+    decisions_of (outside_of d on) outside ++ decisions_of (inside_of d on) inside
 
 -- the leaf at a place, in preorder, stands under this decision and has these cuts
 pub record IsLeafAt (d : Decided) (tree : Tree SplitOn) (place : ℕ) (own : Decided) (cuts : List Cut) : Type 0 where

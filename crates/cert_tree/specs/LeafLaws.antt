@@ -51,7 +51,8 @@ slice_get-append_left [] ys k below = absurd (omega arith)
 slice_get-append_left (x ∷ xs) ys zero below = refl
 slice_get-append_left (x ∷ xs) ys (suc k) below = slice_get-append_left xs ys k (omega arith)
 
-slice_get-append_right : {X : Type 0} (xs ys : List X) (k : ℕ) → length xs ≤ k → slice_get (xs ++ ys) k ≡ slice_get ys (k - length xs)
+slice_get-append_right : {X : Type 0} (xs ys : List X) (k : ℕ) → length xs ≤ k →
+    slice_get (xs ++ ys) k ≡ slice_get ys (k - length xs)
 slice_get-append_right [] ys k past = ap (slice_get ys) (omega arith)
 slice_get-append_right (x ∷ xs) ys zero past = absurd (omega arith)
 slice_get-append_right (x ∷ xs) ys (suc k) past =
@@ -63,7 +64,8 @@ pub IsLeafAt-from_outside : (d : Decided) (on : SplitOn) (o i : Tree SplitOn) (k
 IsLeafAt-from_outside d on o i k dk cuts leaf = record {
   decision = slice_get-append_left (decisions_of (outside_of d on) o) (decisions_of (inside_of d on) i) k
       (slice_get_within (decisions_of (outside_of d on) o) k dk leaf.decision) ∙ leaf.decision;
-  packing = slice_get-append_left (packings_of o) (packings_of i) k (slice_get_within (packings_of o) k cuts leaf.packing) ∙ leaf.packing;
+  packing = slice_get-append_left (packings_of o) (packings_of i) k
+      (slice_get_within (packings_of o) k cuts leaf.packing) ∙ leaf.packing;
 }
 
 -- .. and so is a leaf of the inside child, behind those of the outside child
@@ -74,7 +76,8 @@ IsLeafAt-from_inside d on o i k dk cuts leaf =
     let place : length (packings_of o) + k - length (decisions_of (outside_of d on) o) ≡ k = omega arith in
     let place' : length (packings_of o) + k - length (packings_of o) ≡ k = omega arith in
     record {
-      decision = slice_get-append_right (decisions_of (outside_of d on) o) (decisions_of (inside_of d on) i) (length (packings_of o) + k) (omega arith)
+      decision = slice_get-append_right (decisions_of (outside_of d on) o) (decisions_of (inside_of d on) i)
+          (length (packings_of o) + k) (omega arith)
           ∙ ap (slice_get (decisions_of (inside_of d on) i)) place ∙ leaf.decision;
       packing = slice_get-append_right (packings_of o) (packings_of i) (length (packings_of o) + k) (omega arith)
           ∙ ap (slice_get (packings_of i)) place' ∙ leaf.packing;
@@ -86,24 +89,28 @@ pub IsLeafAt-outside : (d : Decided) (on : SplitOn) (o i : Tree SplitOn) (k : �
 IsLeafAt-outside d on o i k dk cuts below leaf =
     let same = length-decisions_of (outside_of d on) o in
     record {
-      decision = sym (slice_get-append_left (decisions_of (outside_of d on) o) (decisions_of (inside_of d on) i) k (omega arith)) ∙ leaf.decision;
+      decision = sym (slice_get-append_left (decisions_of (outside_of d on) o) (decisions_of (inside_of d on) i) k
+          (omega arith)) ∙ leaf.decision;
       packing = sym (slice_get-append_left (packings_of o) (packings_of i) k below) ∙ leaf.packing;
     }
 
 -- .. and those that are its inside child's
 pub IsLeafAt-inside : (d : Decided) (on : SplitOn) (o i : Tree SplitOn) (k : ℕ) (dk : Decided) (cuts : List Cut) →
-    length (packings_of o) ≤ k → IsLeafAt d (Split on o i) k dk cuts → IsLeafAt (inside_of d on) i (k - length (packings_of o)) dk cuts
+    length (packings_of o) ≤ k → IsLeafAt d (Split on o i) k dk cuts →
+    IsLeafAt (inside_of d on) i (k - length (packings_of o)) dk cuts
 IsLeafAt-inside d on o i k dk cuts past leaf =
     let same = length-decisions_of (outside_of d on) o in
     let place : k - length (decisions_of (outside_of d on) o) ≡ k - length (packings_of o) = omega arith in
     record {
       decision = ap (slice_get (decisions_of (inside_of d on) i)) (sym place)
-          ∙ sym (slice_get-append_right (decisions_of (outside_of d on) o) (decisions_of (inside_of d on) i) k (omega arith)) ∙ leaf.decision;
+          ∙ sym (slice_get-append_right (decisions_of (outside_of d on) o) (decisions_of (inside_of d on) i) k
+          (omega arith)) ∙ leaf.decision;
       packing = sym (slice_get-append_right (packings_of o) (packings_of i) k past) ∙ leaf.packing;
     }
 
 -- the one leaf of a leaf
-pub IsLeafAt-leaf : (d : Decided) (last : List Cut) (k : ℕ) (dk : Decided) (cuts : List Cut) → IsLeafAt d (Leaf last) k dk cuts →
+pub IsLeafAt-leaf : (d : Decided) (last : List Cut) (k : ℕ) (dk : Decided) (cuts : List Cut) →
+    IsLeafAt d (Leaf last) k dk cuts →
     (k ≡ 0) × (d ≡ dk) × (last ≡ cuts)
 IsLeafAt-leaf d last zero dk cuts leaf = (refl, same_Some d dk leaf.decision, same_Some last cuts leaf.packing)
 IsLeafAt-leaf d last (suc k) dk cuts leaf = let none = leaf.packing in absurd cc
@@ -121,24 +128,36 @@ IsLeafAt-found d t k below = (
 )
 
 -- a place with a packing has a leaf with it
-pub IsLeafAt-from_packing : (d : Decided) (t : Tree SplitOn) (k : ℕ) (cuts : List Cut) → slice_get (packings_of t) k ≡ Some cuts →
+pub IsLeafAt-from_packing : (d : Decided) (t : Tree SplitOn) (k : ℕ) (cuts : List Cut) →
+    slice_get (packings_of t) k ≡ Some cuts →
     (dk : Decided) × IsLeafAt d t k dk cuts
 IsLeafAt-from_packing d t k cuts at =
-    let within : k < length (packings_of t) = slice_get_within (packings_of t) k cuts at in
-    (_, record { decision = slice_get-get_or (decisions_of d t) k d (omega (arith, length-decisions_of d t)); packing = at })
+    let within : k < length (packings_of t) = slice_get_within (packings_of t) k cuts at in (
+      _,
+      record {
+        decision = slice_get-get_or (decisions_of d t) k d (omega (arith, length-decisions_of d t));
+        packing = at;
+      },
+    )
 
 -- a leaf's place is below the number of leaves
-pub IsLeafAt-below : (d : Decided) (t : Tree SplitOn) (k : ℕ) (dk : Decided) (cuts : List Cut) → IsLeafAt d t k dk cuts → k < length (packings_of t)
+pub IsLeafAt-below : (d : Decided) (t : Tree SplitOn) (k : ℕ) (dk : Decided) (cuts : List Cut) →
+    IsLeafAt d t k dk cuts → k < length (packings_of t)
 IsLeafAt-below d t k dk cuts leaf = slice_get_within (packings_of t) k cuts leaf.packing
 
 -- the splits of a valid tree are on what is undecided
-pub HasUndecidedSplits-from_valid : (g : Graph) (d : Decided) (t : Tree SplitOn) → IsValidTree g d t → HasUndecidedSplits g d t
+pub HasUndecidedSplits-from_valid : (g : Graph) (d : Decided) (t : Tree SplitOn) → IsValidTree g d t →
+    HasUndecidedSplits g d t
 HasUndecidedSplits-from_valid g d (Leaf cuts) valid = tt
-HasUndecidedSplits-from_valid g d (Split on o i) (undecided, first, second) =
-    (undecided, HasUndecidedSplits-from_valid g (outside_of d on) o first, HasUndecidedSplits-from_valid g (inside_of d on) i second)
+HasUndecidedSplits-from_valid g d (Split on o i) (undecided, first, second) = (
+  undecided,
+  HasUndecidedSplits-from_valid g (outside_of d on) o first,
+  HasUndecidedSplits-from_valid g (inside_of d on) i second,
+)
 
 -- the decision of a leaf is one
-pub IsDecisionFor-leaf : (g : Graph) (d : Decided) (t : Tree SplitOn) (k : ℕ) (dk : Decided) (cuts : List Cut) → IsDecisionFor g d →
+pub IsDecisionFor-leaf : (g : Graph) (d : Decided) (t : Tree SplitOn) (k : ℕ) (dk : Decided) (cuts : List Cut) →
+    IsDecisionFor g d →
     HasUndecidedSplits g d t → IsLeafAt d t k dk cuts → IsDecisionFor g dk
 IsDecisionFor-leaf g d (Leaf last) k dk cuts decision splits leaf =
     subst (IsDecisionFor g) (IsLeafAt-leaf d last k dk cuts leaf).1 decision
@@ -148,12 +167,14 @@ IsDecisionFor-leaf g d (Split on o i) k dk cuts decision (undecided, first, seco
     IsDecisionFor-leaf g (outside_of d on) o k dk cuts (IsDecisionFor-outside_of g d on decision undecided) first
     (IsLeafAt-outside d on o i k dk cuts below leaf))
     (λ (past : length (packings_of o) ≤ k).
-    IsDecisionFor-leaf g (inside_of d on) i (k - length (packings_of o)) dk cuts (IsDecisionFor-inside_of g d on decision undecided) second
+    IsDecisionFor-leaf g (inside_of d on) i (k - length (packings_of o)) dk cuts
+    (IsDecisionFor-inside_of g d on decision undecided) second
     (IsLeafAt-inside d on o i k dk cuts past leaf))
     (cases_lt k (length (packings_of o)))
 
 -- the packing of a leaf of a valid tree is feasible under its decision
-pub IsFeasible-leaf : (g : Graph) (d : Decided) (t : Tree SplitOn) (k : ℕ) (dk : Decided) (cuts : List Cut) → IsValidTree g d t →
+pub IsFeasible-leaf : (g : Graph) (d : Decided) (t : Tree SplitOn) (k : ℕ) (dk : Decided) (cuts : List Cut) →
+    IsValidTree g d t →
     IsLeafAt d t k dk cuts → IsFeasible g dk cuts
 IsFeasible-leaf g d (Leaf last) k dk cuts valid leaf =
     let (place, same, all) = IsLeafAt-leaf d last k dk cuts leaf in
@@ -163,11 +184,13 @@ IsFeasible-leaf g d (Split on o i) k dk cuts (undecided, first, second) leaf =
     (λ (below : k < length (packings_of o)).
     IsFeasible-leaf g (outside_of d on) o k dk cuts first (IsLeafAt-outside d on o i k dk cuts below leaf))
     (λ (past : length (packings_of o) ≤ k).
-    IsFeasible-leaf g (inside_of d on) i (k - length (packings_of o)) dk cuts second (IsLeafAt-inside d on o i k dk cuts past leaf))
+    IsFeasible-leaf g (inside_of d on) i (k - length (packings_of o)) dk cuts second
+    (IsLeafAt-inside d on o i k dk cuts past leaf))
     (cases_lt k (length (packings_of o)))
 
 -- a tree's value is no more than that of each leaf
-pub tree_value-le-leaf : (g : Graph) (d : Decided) (t : Tree SplitOn) (k : ℕ) (dk : Decided) (cuts : List Cut) → IsLeafAt d t k dk cuts →
+pub tree_value-le-leaf : (g : Graph) (d : Decided) (t : Tree SplitOn) (k : ℕ) (dk : Decided) (cuts : List Cut) →
+    IsLeafAt d t k dk cuts →
     tree_value g d t ≤ packing_value g dk cuts
 tree_value-le-leaf g d (Leaf last) k dk cuts leaf =
     let (place, same, all) = IsLeafAt-leaf d last k dk cuts leaf in
@@ -177,7 +200,11 @@ tree_value-le-leaf g d (Split on o i) k dk cuts leaf =
     (λ (below : k < length (packings_of o)).
     omega (arith, tree_value-le-leaf g (outside_of d on) o k dk cuts (IsLeafAt-outside d on o i k dk cuts below leaf)))
     (λ (past : length (packings_of o) ≤ k).
-    omega (arith, tree_value-le-leaf g (inside_of d on) i (k - length (packings_of o)) dk cuts (IsLeafAt-inside d on o i k dk cuts past leaf)))
+    omega (
+      arith,
+      tree_value-le-leaf g (inside_of d on) i (k - length (packings_of o)) dk cuts
+          (IsLeafAt-inside d on o i k dk cuts past leaf),
+    ))
     (cases_lt k (length (packings_of o)))
 
 -- .. and it is that of one of them
@@ -197,24 +224,28 @@ tree_value-at_leaf g d (Split on o i) =
     (cases_lt (tree_value g (outside_of d on) o) (tree_value g (inside_of d on) i))
 
 -- a tree stays valid where a tree that is valid under a leaf's decision comes in its place
-pub IsValidTree-replaced : (g : Graph) (d : Decided) (t new : Tree SplitOn) (k : ℕ) (dk : Decided) (cuts : List Cut) → IsValidTree g d t →
+pub IsValidTree-replaced : (g : Graph) (d : Decided) (t new : Tree SplitOn) (k : ℕ) (dk : Decided)
+    (cuts : List Cut) → IsValidTree g d t →
     IsLeafAt d t k dk cuts → IsValidTree g dk new → IsValidTree g d (replaced k new t)
 IsValidTree-replaced g d (Leaf last) new k dk cuts valid leaf replacement =
     subst (λ x. IsValidTree g x new) (sym (IsLeafAt-leaf d last k dk cuts leaf).1) replacement
 IsValidTree-replaced g d (Split on o i) new k dk cuts (undecided, first, second) leaf replacement =
     ⊎_elim
     (λ (below : k < length (packings_of o)).
-    let child = IsValidTree-replaced g (outside_of d on) o new k dk cuts first (IsLeafAt-outside d on o i k dk cuts below leaf) replacement in
+    let child = IsValidTree-replaced g (outside_of d on) o new k dk cuts first
+    (IsLeafAt-outside d on o i k dk cuts below leaf) replacement in
     subst (IsValidTree g d) (sym (replaced-outside on k new o i below)) (undecided, child, second))
     (λ (past : length (packings_of o) ≤ k).
     let more = k - length (packings_of o) in
     let sum : k ≡ length (packings_of o) + more = omega arith in
-    let child = IsValidTree-replaced g (inside_of d on) i new more dk cuts second (IsLeafAt-inside d on o i k dk cuts past leaf) replacement in
+    let child = IsValidTree-replaced g (inside_of d on) i new more dk cuts second
+    (IsLeafAt-inside d on o i k dk cuts past leaf) replacement in
     subst (IsValidTree g d) (sym (replaced-inside on k more new o i sum)) (undecided, first, child))
     (cases_lt k (length (packings_of o)))
 
 -- the decisions of the replacement's leaves stand where the leaf's decision stood
-pub decisions_of-replaced : (d : Decided) (t new : Tree SplitOn) (leaf : ℕ) (before after : List Decided) (dl : Decided) →
+pub decisions_of-replaced : (d : Decided) (t new : Tree SplitOn) (leaf : ℕ) (before after : List Decided)
+    (dl : Decided) →
     decisions_of d t ≡ before ++ dl ∷ after → length before ≡ leaf →
     decisions_of d (replaced leaf new t) ≡ before ++ (decisions_of dl new ++ after)
 decisions_of-replaced d (Leaf last) new leaf [] after dl same count =
@@ -229,20 +260,26 @@ decisions_of-replaced d (Split on o i) new leaf before after dl same count =
     let size = length-decisions_of (outside_of d on) o in
     ⊎_elim
     (λ (at : IsInFirst first second before after dl).
-    let below : leaf < length (packings_of o) = omega (arith, ap length at.first ∙ length-append before (dl ∷ at.rest), size) in
+    let below : leaf < length (packings_of o) =
+    omega (arith, ap length at.first ∙ length-append before (dl ∷ at.rest), size) in
     ap (decisions_of d) (replaced-outside on leaf new o i below)
     ∙ ap (λ all. all ++ second) (decisions_of-replaced (outside_of d on) o new leaf before at.rest dl at.first count)
     ∙ append_assoc before (decisions_of dl new ++ at.rest) second
-    ∙ ap (λ z. before ++ z) (append_assoc (decisions_of dl new) at.rest second ∙ ap (λ z. decisions_of dl new ++ z) (sym at.second)))
+    ∙ ap (λ z. before ++ z) (append_assoc (decisions_of dl new) at.rest second
+    ∙ ap (λ z. decisions_of dl new ++ z) (sym at.second)))
     (λ (at : IsInSecond first second before after dl).
-    let past : leaf ≡ length (packings_of o) + length at.more = omega (arith, ap length at.first ∙ length-append first at.more, size) in
+    let past : leaf ≡ length (packings_of o) + length at.more =
+    omega (arith, ap length at.first ∙ length-append first at.more, size) in
     ap (decisions_of d) (replaced-inside on leaf (length at.more) new o i past)
-    ∙ ap (λ all. first ++ all) (decisions_of-replaced (inside_of d on) i new (length at.more) at.more after dl at.second refl)
-    ∙ sym (append_assoc first at.more (decisions_of dl new ++ after)) ∙ ap (λ z. z ++ (decisions_of dl new ++ after)) (sym at.first))
+    ∙ ap (λ all. first ++ all) (decisions_of-replaced (inside_of d on) i new (length at.more) at.more after dl
+    at.second refl)
+    ∙ sym (append_assoc first at.more (decisions_of dl new ++ after))
+    ∙ ap (λ z. z ++ (decisions_of dl new ++ after)) (sym at.first))
     (place_in_append first second before after dl same)
 
 -- each leaf of the tree after a replacement is one of the tree before, or one of the replacement
-pub IsLeafAt-replaced : (d : Decided) (t new : Tree SplitOn) (leaf : ℕ) (dl : Decided) (old : List Cut) (k : ℕ) (dk : Decided) (cuts : List Cut) →
+pub IsLeafAt-replaced : (d : Decided) (t new : Tree SplitOn) (leaf : ℕ) (dl : Decided) (old : List Cut) (k : ℕ)
+    (dk : Decided) (cuts : List Cut) →
     IsLeafAt d t leaf dl old → IsLeafAt d (replaced leaf new t) k dk cuts →
     ((j : ℕ) × IsLeafAt d t j dk cuts) ⊎ ((j : ℕ) × IsLeafAt dl new j dk cuts)
 IsLeafAt-replaced d (Leaf last) new leaf dl old k dk cuts at found =
@@ -252,27 +289,37 @@ IsLeafAt-replaced d (Split on o i) new leaf dl old k dk cuts at found =
     (λ (below : leaf < length (packings_of o)).
     let here = IsLeafAt-outside d on o i leaf dl old below at in
     let changed = replaced leaf new o in
-    let whole : IsLeafAt d (Split on changed i) k dk cuts = subst (λ x. IsLeafAt d x k dk cuts) (replaced-outside on leaf new o i below) found in
+    let whole : IsLeafAt d (Split on changed i) k dk cuts =
+    subst (λ x. IsLeafAt d x k dk cuts) (replaced-outside on leaf new o i below) found in
     ⊎_elim
     (λ (first : k < length (packings_of changed)). ⊎_elim
-    (λ (kept : (j : ℕ) × IsLeafAt (outside_of d on) o j dk cuts). inl (kept.0, IsLeafAt-from_outside d on o i kept.0 dk cuts kept.1))
+    (λ (kept : (j : ℕ) × IsLeafAt (outside_of d on) o j dk cuts). inl
+    (kept.0, IsLeafAt-from_outside d on o i kept.0 dk cuts kept.1))
     inr
-    (IsLeafAt-replaced (outside_of d on) o new leaf dl old k dk cuts here (IsLeafAt-outside d on changed i k dk cuts first whole)))
+    (IsLeafAt-replaced (outside_of d on) o new leaf dl old k dk cuts here
+    (IsLeafAt-outside d on changed i k dk cuts first whole)))
     (λ (second : length (packings_of changed) ≤ k).
-    inl (_, IsLeafAt-from_inside d on o i (k - length (packings_of changed)) dk cuts (IsLeafAt-inside d on changed i k dk cuts second whole)))
+    inl (
+      _,
+      IsLeafAt-from_inside d on o i (k - length (packings_of changed)) dk cuts
+          (IsLeafAt-inside d on changed i k dk cuts second whole),
+    ))
     (cases_lt k (length (packings_of changed))))
     (λ (past : length (packings_of o) ≤ leaf).
     let more = leaf - length (packings_of o) in
     let sum : leaf ≡ length (packings_of o) + more = omega arith in
     let here = IsLeafAt-inside d on o i leaf dl old past at in
     let changed = replaced more new i in
-    let whole : IsLeafAt d (Split on o changed) k dk cuts = subst (λ x. IsLeafAt d x k dk cuts) (replaced-inside on leaf more new o i sum) found in
+    let whole : IsLeafAt d (Split on o changed) k dk cuts =
+    subst (λ x. IsLeafAt d x k dk cuts) (replaced-inside on leaf more new o i sum) found in
     ⊎_elim
     (λ (first : k < length (packings_of o)).
     inl (k, IsLeafAt-from_outside d on o i k dk cuts (IsLeafAt-outside d on o changed k dk cuts first whole)))
     (λ (second : length (packings_of o) ≤ k). ⊎_elim
-    (λ (kept : (j : ℕ) × IsLeafAt (inside_of d on) i j dk cuts). inl (_, IsLeafAt-from_inside d on o i kept.0 dk cuts kept.1))
+    (λ (kept : (j : ℕ) × IsLeafAt (inside_of d on) i j dk cuts). inl
+    (_, IsLeafAt-from_inside d on o i kept.0 dk cuts kept.1))
     inr
-    (IsLeafAt-replaced (inside_of d on) i new more dl old (k - length (packings_of o)) dk cuts here (IsLeafAt-inside d on o changed k dk cuts second whole)))
+    (IsLeafAt-replaced (inside_of d on) i new more dl old (k - length (packings_of o)) dk cuts here
+    (IsLeafAt-inside d on o changed k dk cuts second whole)))
     (cases_lt k (length (packings_of o))))
     (cases_lt leaf (length (packings_of o)))

@@ -27,7 +27,8 @@ pub tree_of-parts : {S : Type 0} (t : Tree S) → tree_of (nodes_of t) (packings
 tree_of-parts t = ap first_tree (rw (append-nil (nodes_of t), append-nil (packings_of t)) at (trees_of-parts t [] []))
 
 -- .. so they are those of one tree, where it has few leaves
-pub IsPreorder-parts : {S : Type 0} (t : Tree S) → length (packings_of t) ≤ 2 ^ 31 → IsPreorder (nodes_of t) (packings_of t)
+pub IsPreorder-parts : {S : Type 0} (t : Tree S) → length (packings_of t) ≤ 2 ^ 31 →
+    IsPreorder (nodes_of t) (packings_of t)
 IsPreorder-parts t few = record {
   nodes_same = ap nodes_of (tree_of-parts t);
   packings_same = ap packings_of (tree_of-parts t);
@@ -94,5 +95,6 @@ split_code = code_by (ℕ ⊎ ℕ) (coded⊎ coded_ℕ coded_ℕ) split_sides sp
 -- trees are stored as their nodes and packings
 abbrev pub tree_code : Coded (Tree SplitOn)
 tree_code =
-    code_by (List (Option SplitOn) × List (List Cut)) (coded× (coded_list (coded_option split_code)) (coded_list (coded_list cut_code)))
+    code_by (List (Option SplitOn) × List (List Cut))
+    (coded× (coded_list (coded_option split_code)) (coded_list (coded_list cut_code)))
     (λ t. (nodes_of t, packings_of t)) (λ p. tree_of p.0 p.1) tree_of-parts

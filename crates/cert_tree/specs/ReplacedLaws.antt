@@ -31,8 +31,16 @@ place_in_append (y ∷ xs) ys (z ∷ before) after x same =
     let head : y ≡ z = cc in
     let tail : xs ++ ys ≡ before ++ x ∷ after = cc in
     ⊎_elim
-    (λ (at : IsInFirst xs ys before after x). inl record { rest = at.rest; first = let rest = at.first in cc; second = at.second })
-    (λ (at : IsInSecond xs ys before after x). inr record { more = at.more; first = let rest = at.first in cc; second = at.second })
+    (λ (at : IsInFirst xs ys before after x). inl record {
+      rest = at.rest;
+      first = let rest = at.first in cc;
+      second = at.second;
+    })
+    (λ (at : IsInSecond xs ys before after x). inr record {
+      more = at.more;
+      first = let rest = at.first in cc;
+      second = at.second;
+    })
     (place_in_append xs ys before after x tail)
 
 -- a replacement goes into the outside child where the leaf is there
@@ -50,7 +58,8 @@ replaced-inside on leaf more new o i past =
 
 module _ {S : Type 0} (new : Tree S) where
   -- the nodes of the replacement stand where the leaf stood
-  pub nodes_of-replaced : (t : Tree S) (leaf : ℕ) (before after : List (Option S)) → nodes_of t ≡ before ++ None ∷ after →
+  pub nodes_of-replaced : (t : Tree S) (leaf : ℕ) (before after : List (Option S)) →
+      nodes_of t ≡ before ++ None ∷ after →
       leaves_in before ≡ leaf → nodes_of (replaced leaf new t) ≡ before ++ (nodes_of new ++ after)
   nodes_of-replaced (Leaf cuts) leaf [] after same count =
       let last : after ≡ [] = cc in rw last (sym (append-nil (nodes_of new)))
@@ -65,13 +74,23 @@ module _ {S : Type 0} (new : Tree S) where
       (λ (at : IsInFirst (nodes_of o) (nodes_of i) before after None).
       let among = ap leaves_in at.first ∙ leaves_in-append before (None ∷ at.rest) in
       let below : leaf < length (packings_of o) = omega (arith, among, leaves_in-nodes_of o) in
-      rw (replaced-outside on leaf new o i below, nodes_of-replaced o leaf before at.rest at.first passed, at.second, head)
+      rw (
+        replaced-outside on leaf new o i below,
+        nodes_of-replaced o leaf before at.rest at.first passed,
+        at.second,
+        head,
+      )
       (ap (λ z. Some on ∷ z) (append_assoc before (nodes_of new ++ at.rest) (nodes_of i)
       ∙ ap (λ z. before ++ z) (append_assoc (nodes_of new) at.rest (nodes_of i)))))
       (λ (at : IsInSecond (nodes_of o) (nodes_of i) before after None).
       let among = ap leaves_in at.first ∙ leaves_in-append (nodes_of o) at.more in
       let past : leaf ≡ length (packings_of o) + leaves_in at.more = omega (arith, among, leaves_in-nodes_of o) in
-      rw (replaced-inside on leaf (leaves_in at.more) new o i past, nodes_of-replaced i (leaves_in at.more) at.more after at.second refl, at.first, head)
+      rw (
+        replaced-inside on leaf (leaves_in at.more) new o i past,
+        nodes_of-replaced i (leaves_in at.more) at.more after at.second refl,
+        at.first,
+        head,
+      )
       (ap (λ z. Some on ∷ z) (sym (append_assoc (nodes_of o) at.more (nodes_of new ++ after)))))
       (place_in_append (nodes_of o) (nodes_of i) before after None tail)
 
@@ -86,14 +105,23 @@ module _ {S : Type 0} (new : Tree S) where
   packings_of-replaced (Split on o i) leaf before after cuts same count =
       ⊎_elim
       (λ (at : IsInFirst (packings_of o) (packings_of i) before after cuts).
-      let below : leaf < length (packings_of o) = omega (arith, ap length at.first ∙ length-append before (cuts ∷ at.rest)) in
-      rw (replaced-outside on leaf new o i below, packings_of-replaced o leaf before at.rest cuts at.first count, at.second)
+      let below : leaf < length (packings_of o) =
+      omega (arith, ap length at.first ∙ length-append before (cuts ∷ at.rest)) in
+      rw (
+        replaced-outside on leaf new o i below,
+        packings_of-replaced o leaf before at.rest cuts at.first count,
+        at.second,
+      )
       (append_assoc before (packings_of new ++ at.rest) (packings_of i)
       ∙ ap (λ z. before ++ z) (append_assoc (packings_of new) at.rest (packings_of i))))
       (λ (at : IsInSecond (packings_of o) (packings_of i) before after cuts).
       let past : leaf ≡ length (packings_of o) + length at.more =
       omega (arith, ap length at.first ∙ length-append (packings_of o) at.more) in
-      rw (replaced-inside on leaf (length at.more) new o i past, packings_of-replaced i (length at.more) at.more after cuts at.second refl, at.first)
+      rw (
+        replaced-inside on leaf (length at.more) new o i past,
+        packings_of-replaced i (length at.more) at.more after cuts at.second refl,
+        at.first,
+      )
       (sym (append_assoc (packings_of o) at.more (packings_of new ++ after))))
       (place_in_append (packings_of o) (packings_of i) before after cuts same)
 

@@ -29,9 +29,10 @@ abbrev pub after_turns : Decided → List Turn → Decided
 after_turns d [] = d
 after_turns d (turn ∷ turns) = after_turns (after_turn d turn) turns
 
--- The turns on the way up from a leaf, by the nodes that stand before it, the last of them first, where so many whole trees
--- stand between those nodes and the way. A split with none behind it has the leaf in its outside child; one with one behind
--- it has that as its outside child, and the leaf in its inside child; and one with more has two of them as its children.
+-- The turns on the way up from a leaf, by the nodes that stand before it, the last of them first, where so many whole
+-- trees stand between those nodes and the way. A split with none behind it has the leaf in its outside child; one with
+-- one behind it has that as its outside child, and the leaf in its inside child; and one with more has two of them as
+-- its children.
 abbrev pub turns_up : List (Option SplitOn) → ℕ → List Turn
 turns_up [] passed = []
 turns_up (None ∷ nodes) passed = turns_up nodes (suc passed)

@@ -47,10 +47,15 @@ InRootPart-decided g set n e at =
     (flag-decided (slice_get set n))
 
 -- a state in a list in which one was written is that one, or it was there before
-state_written : {A : Type 0} (xs : List A) (n k : ℕ) (x y : A) → n < length xs → slice_get (slice_set xs n x) k ≡ Some y →
+state_written : {A : Type 0} (xs : List A) (n k : ℕ) (x y : A) → n < length xs →
+    slice_get (slice_set xs n x) k ≡ Some y →
     ((k ≡ n) × (x ≡ y)) ⊎ (slice_get xs k ≡ Some y)
 state_written xs n k x y within found = elim (cases_eq k n) [
-  | inl here ↦ inl (here, same_Some _ _ (sym (slice_get-set_same xs n x within) ∙ ap (slice_get (slice_set xs n x)) (sym here) ∙ found))
+  | inl here ↦ inl (
+    here,
+    same_Some _ _ (sym (slice_get-set_same xs n x within)
+        ∙ ap (slice_get (slice_set xs n x)) (sym here) ∙ found),
+  )
   | inr apart ↦ inr (sym (slice_get-set_other xs n k x apart) ∙ found)
 ]
 
@@ -58,9 +63,11 @@ state_written xs n k x y within found = elim (cases_eq k n) [
 Agrees-with_inside : (g : Graph) (d : Decided) (set : List Bool) (n : ℕ) → n < length d.edges → Agrees g d set →
     InRootPart g set n → Agrees g (with_edge d n Inside) set
 Agrees-with_inside g d set n within agrees part = record {
-  inside = λ k found. ⊎_elim (λ (here : (k ≡ n) × (Inside ≡ Inside)). subst (InRootPart g set) (sym here.0) part) (agrees.inside k)
+  inside = λ k found. ⊎_elim (λ (here : (k ≡ n) × (Inside ≡ Inside)). subst (InRootPart g set) (sym here.0) part)
+      (agrees.inside k)
       (state_written d.edges n k Inside Inside within found);
-  outside = λ k found. ⊎_elim (λ (here : (k ≡ n) × (Inside ≡ Outside)). let different = here.1 in absurd cc) (agrees.outside k)
+  outside = λ k found. ⊎_elim (λ (here : (k ≡ n) × (Inside ≡ Outside)). let different = here.1 in absurd cc)
+      (agrees.outside k)
       (state_written d.edges n k Inside Outside within found);
   met = agrees.met;
   missed = agrees.missed;
@@ -70,9 +77,11 @@ Agrees-with_inside g d set n within agrees part = record {
 Agrees-with_outside : (g : Graph) (d : Decided) (set : List Bool) (n : ℕ) → n < length d.edges → Agrees g d set →
     (InRootPart g set n → ⊥) → Agrees g (with_edge d n Outside) set
 Agrees-with_outside g d set n within agrees apart = record {
-  inside = λ k found. ⊎_elim (λ (here : (k ≡ n) × (Outside ≡ Inside)). let different = here.1 in absurd cc) (agrees.inside k)
+  inside = λ k found. ⊎_elim (λ (here : (k ≡ n) × (Outside ≡ Inside)). let different = here.1 in absurd cc)
+      (agrees.inside k)
       (state_written d.edges n k Outside Inside within found);
-  outside = λ k found. ⊎_elim (λ (here : (k ≡ n) × (Outside ≡ Outside)). λ part. apart (subst (InRootPart g set) here.0 part)) (agrees.outside k)
+  outside = λ k found. ⊎_elim (λ (here : (k ≡ n) × (Outside ≡ Outside)). λ part. apart
+      (subst (InRootPart g set) here.0 part)) (agrees.outside k)
       (state_written d.edges n k Outside Outside within found);
   met = agrees.met;
   missed = agrees.missed;
@@ -86,7 +95,8 @@ Agrees-with_met g d set v within agrees reached = record {
   outside = agrees.outside;
   met = λ k found. ⊎_elim (λ (here : (k ≡ v) × (Met ≡ Met)). subst (Reaches g set) (sym here.0) reached) (agrees.met k)
       (state_written d.vertices v k Met Met within found);
-  missed = λ k found. ⊎_elim (λ (here : (k ≡ v) × (Met ≡ Missed)). let different = here.1 in absurd cc) (agrees.missed k)
+  missed = λ k found. ⊎_elim (λ (here : (k ≡ v) × (Met ≡ Missed)). let different = here.1 in absurd cc)
+      (agrees.missed k)
       (state_written d.vertices v k Met Missed within found);
 }
 
@@ -98,12 +108,14 @@ Agrees-with_missed g d set v within agrees apart = record {
   outside = agrees.outside;
   met = λ k found. ⊎_elim (λ (here : (k ≡ v) × (Missed ≡ Met)). let different = here.1 in absurd cc) (agrees.met k)
       (state_written d.vertices v k Missed Met within found);
-  missed = λ k found. ⊎_elim (λ (here : (k ≡ v) × (Missed ≡ Missed)). λ reached. apart (subst (Reaches g set) here.0 reached)) (agrees.missed k)
+  missed = λ k found. ⊎_elim (λ (here : (k ≡ v) × (Missed ≡ Missed)). λ reached. apart
+      (subst (Reaches g set) here.0 reached)) (agrees.missed k)
       (state_written d.vertices v k Missed Missed within found);
 }
 
 -- a set that agrees with a decision agrees with that of one of a split's children
-Agrees-child : (g : Graph) (d : Decided) (set : List Bool) (on : SplitOn) → IsDecisionFor g d → IsUndecidedSplit g d on → Agrees g d set →
+Agrees-child : (g : Graph) (d : Decided) (set : List Bool) (on : SplitOn) → IsDecisionFor g d →
+    IsUndecidedSplit g d on → Agrees g d set →
     Agrees g (outside_of d on) set ⊎ Agrees g (inside_of d on) set
 Agrees-child g d set (split.Edge n) decision undecided agrees =
     let (within, bare, not_free) = IsUndecided-parts g d n decision undecided in
@@ -122,11 +134,20 @@ Agrees-child g d set (split.Vertex v) decision undecided agrees =
 
 -- by weak duality at the leaves
 pub trees_bound_networks_lem : WeakDuality → TreesBoundNetworks
-trees_bound_networks_lem duality g d (Leaf cuts) decision valid set agrees network = duality g d cuts decision valid set agrees network
+trees_bound_networks_lem duality g d (Leaf cuts) decision valid set agrees network =
+    duality g d cuts decision valid set agrees network
 trees_bound_networks_lem duality g d (Split on o i) decision (undecided, first, second) set agrees network =
     ⊎_elim
     (λ (out : Agrees g (outside_of d on) set).
-    omega (arith, trees_bound_networks_lem duality g (outside_of d on) o (IsDecisionFor-outside_of g d on decision undecided) first set out network))
+    omega (
+      arith,
+      trees_bound_networks_lem duality g (outside_of d on) o
+          (IsDecisionFor-outside_of g d on decision undecided) first set out network,
+    ))
     (λ (in_part : Agrees g (inside_of d on) set).
-    omega (arith, trees_bound_networks_lem duality g (inside_of d on) i (IsDecisionFor-inside_of g d on decision undecided) second set in_part network))
+    omega (
+      arith,
+      trees_bound_networks_lem duality g (inside_of d on) i
+          (IsDecisionFor-inside_of g d on decision undecided) second set in_part network,
+    ))
     (Agrees-child g d set on decision undecided agrees)

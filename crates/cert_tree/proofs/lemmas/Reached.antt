@@ -29,10 +29,12 @@ joins-self (e ∷ es) [] v = joins-self es [] v
 joins-self (e ∷ es) (flag ∷ set) v = or_left _ _ (joins-self es set v)
 
 -- what is joined to the first edge's end b is joined over it to what is joined to its end a, and the other way round
-over_forward : (test : ℕ → ℕ → Bool) (e : Edge) (v w : ℕ) → test v e.a ≡ true → test e.b w ≡ true → joins_over test e v w ≡ true
+over_forward : (test : ℕ → ℕ → Bool) (e : Edge) (v w : ℕ) → test v e.a ≡ true → test e.b w ≡ true →
+    joins_over test e v w ≡ true
 over_forward test e v w first second = or_left _ _ (and_from _ _ first second)
 
-over_back : (test : ℕ → ℕ → Bool) (e : Edge) (v w : ℕ) → test v e.b ≡ true → test e.a w ≡ true → joins_over test e v w ≡ true
+over_back : (test : ℕ → ℕ → Bool) (e : Edge) (v w : ℕ) → test v e.b ≡ true → test e.a w ≡ true →
+    joins_over test e v w ≡ true
 over_back test e v w first second = or_right _ _ (and_from _ _ first second)
 
 over_parts : (test : ℕ → ℕ → Bool) (e : Edge) (v w : ℕ) → joins_over test e v w ≡ true →
@@ -49,7 +51,8 @@ joins-here : (e : Edge) (es : List Edge) (set : List Bool) (v w : ℕ) → joins
 joins-here e es set v w over = or_right _ _ over
 
 -- what is joined goes on over an edge
-joins-step : (es : List Edge) (set : List Bool) (v u w : ℕ) → joins es set v u ≡ true → EdgeLinks es set u w → joins es set v w ≡ true
+joins-step : (es : List Edge) (set : List Bool) (v u w : ℕ) → joins es set v u ≡ true → EdgeLinks es set u w →
+    joins es set v w ≡ true
 joins-step [] set v u w joined (n, d, in_set, at, ends) = absurd cc
 joins-step (e ∷ es) [] v u w joined (n, d, in_set, at, ends) = absurd cc
 joins-step (e ∷ es) (false ∷ set) v u w joined (zero, d, in_set, at, ends) = absurd cc
@@ -75,10 +78,12 @@ joins-step (e ∷ es) (true ∷ set) v u w joined (zero, d, in_set, at, ends) =
     here = subst (λ x. HasEnds x u w) (sym (same_Some e d at)) ends
 
     onward : e.b ≡ w → joins es set v e.a ≡ true → joins (e ∷ es) (true ∷ set) v w ≡ true
-    onward b first = joins-here e es set v w (over_forward (joins es set) e v w first (ap (joins es set e.b) (sym b) ∙ joins-self es set e.b))
+    onward b first = joins-here e es set v w (over_forward (joins es set) e v w first
+        (ap (joins es set e.b) (sym b) ∙ joins-self es set e.b))
 
     back : e.a ≡ w → joins es set v e.b ≡ true → joins (e ∷ es) (true ∷ set) v w ≡ true
-    back a second = joins-here e es set v w (over_back (joins es set) e v w second (ap (joins es set e.a) (sym a) ∙ joins-self es set e.a))
+    back a second = joins-here e es set v w (over_back (joins es set) e v w second
+        (ap (joins es set e.a) (sym a) ∙ joins-self es set e.a))
 joins-step (e ∷ es) (flag ∷ set) v u w joined (suc n, d, in_set, at, ends) =
     let link : EdgeLinks es set u w = (n, d, in_set, at, ends) in
     ⊎_elim
@@ -97,25 +102,31 @@ joins-step (e ∷ es) (flag ∷ set) v u w joined (suc n, d, in_set, at, ends) =
 Leads-behind : (e : Edge) (es : List Edge) (flag : Bool) (set : List Bool) (v w : ℕ) → Leads (EdgeLinks es set) v w →
     Leads (EdgeLinks (e ∷ es) (flag ∷ set)) v w
 Leads-behind e es flag set v w led =
-    Leads-weaker (EdgeLinks es set) (EdgeLinks (e ∷ es) (flag ∷ set)) (λ u x (n, d, in_set, at, ends). (suc n, d, in_set, at, ends)) v w led
+    Leads-weaker (EdgeLinks es set) (EdgeLinks (e ∷ es) (flag ∷ set))
+    (λ u x (n, d, in_set, at, ends). (suc n, d, in_set, at, ends)) v w led
 
 -- what is joined is led to
 Leads-from_joins : (es : List Edge) (set : List Bool) (v w : ℕ) → joins es set v w ≡ true → Leads (EdgeLinks es set) v w
-Leads-from_joins [] set v w joined = subst (Leads (EdgeLinks [] set) v) (eqb-true v w joined) (Leads-start (EdgeLinks [] set) v)
+Leads-from_joins [] set v w joined = subst (Leads (EdgeLinks [] set) v) (eqb-true v w joined)
+    (Leads-start (EdgeLinks [] set) v)
 Leads-from_joins (e ∷ es) [] v w joined =
-    Leads-weaker (EdgeLinks es []) (EdgeLinks (e ∷ es) []) (λ u x (n, d, in_set, at, ends). absurd cc) v w (Leads-from_joins es [] v w joined)
+    Leads-weaker (EdgeLinks es []) (EdgeLinks (e ∷ es) []) (λ u x (n, d, in_set, at, ends). absurd cc) v w
+    (Leads-from_joins es [] v w joined)
 Leads-from_joins (e ∷ es) (flag ∷ set) v w joined =
     ⊎_elim
     (λ (less : joins es set v w ≡ true). Leads-behind e es flag set v w (Leads-from_joins es set v w less))
     (λ (over : (flag && joins_over (joins es set) e v w) ≡ true).
     let parts = and_parts flag (joins_over (joins es set) e v w) over in
     let Step = EdgeLinks (e ∷ es) (flag ∷ set) in
-    let behind = λ (x y : ℕ) (less : joins es set x y ≡ true). Leads-behind e es flag set x y (Leads-from_joins es set x y less) in
+    let behind = λ (x y : ℕ) (less : joins es set x y ≡ true). Leads-behind e es flag set x y
+    (Leads-from_joins es set x y less) in
     ⊎_elim
     (λ (first : (joins es set v e.a ≡ true) × (joins es set e.b w ≡ true)).
-    Leads-trans Step v e.b w (Leads-more Step v e.a e.b (behind v e.a first.0) (zero, e, ap Some parts.0, refl, inl (refl, refl))) (behind e.b w first.1))
+    Leads-trans Step v e.b w (Leads-more Step v e.a e.b (behind v e.a first.0)
+    (zero, e, ap Some parts.0, refl, inl (refl, refl))) (behind e.b w first.1))
     (λ (second : (joins es set v e.b ≡ true) × (joins es set e.a w ≡ true)).
-    Leads-trans Step v e.a w (Leads-more Step v e.b e.a (behind v e.b second.0) (zero, e, ap Some parts.0, refl, inr (refl, refl))) (behind e.a w second.1))
+    Leads-trans Step v e.a w (Leads-more Step v e.b e.a (behind v e.b second.0)
+    (zero, e, ap Some parts.0, refl, inr (refl, refl))) (behind e.a w second.1))
     (over_parts (joins es set) e v w parts.1))
     (or_cases _ _ joined)
 
@@ -126,6 +137,7 @@ Reaches-decided g set v =
     (λ (yes : joins g.edges set (root_of g) v ≡ true). inl (Leads-from_joins g.edges set (root_of g) v yes))
     (λ (no : joins g.edges set (root_of g) v ≡ false). inr (λ reached.
     let yes = Leads-keeps (EdgeLinks g.edges set) (λ x. joins g.edges set (root_of g) x ≡ true) (root_of g) v
-    (joins-self g.edges set (root_of g)) (λ x y joined link. joins-step g.edges set (root_of g) x y joined link) reached in
+    (joins-self g.edges set (root_of g)) (λ x y joined link. joins-step g.edges set (root_of g) x y joined link)
+    reached in
     both_ways _ no yes))
     (cases_Bool (joins g.edges set (root_of g) v))

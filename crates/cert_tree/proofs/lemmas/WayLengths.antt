@@ -32,7 +32,8 @@ inside_length-set_outside (e ∷ es) (Undecided ∷ states) zero is = refl
 inside_length-set_outside (e ∷ es) (Inside ∷ states) zero is = absurd cc
 inside_length-set_outside (e ∷ es) (Outside ∷ states) zero is = absurd cc
 inside_length-set_outside (e ∷ es) (Undecided ∷ states) (suc n) is = inside_length-set_outside es states n is
-inside_length-set_outside (e ∷ es) (Inside ∷ states) (suc n) is = ap (λ x. e.length + x) (inside_length-set_outside es states n is)
+inside_length-set_outside (e ∷ es) (Inside ∷ states) (suc n) is =
+    ap (λ x. e.length + x) (inside_length-set_outside es states n is)
 inside_length-set_outside (e ∷ es) (Outside ∷ states) (suc n) is = inside_length-set_outside es states n is
 
 -- .. and one that comes to be inside adds its length
@@ -51,19 +52,23 @@ inside_length-set_inside (e ∷ es) (Outside ∷ states) (suc n) is = inside_len
 inside_length-outside_of : (g : Graph) (d : Decided) (on : SplitOn) → IsDecisionFor g d → IsUndecidedSplit g d on →
     inside_length g.edges (outside_of d on).edges ≡ inside_length g.edges d.edges
 inside_length-outside_of g d (split.Edge n) decision undecided =
-    let (within, bare, not_free) = IsUndecided-parts g d n decision undecided in inside_length-set_outside g.edges d.edges n bare
+    let (within, bare, not_free) = IsUndecided-parts g d n decision undecided in
+    inside_length-set_outside g.edges d.edges n bare
 inside_length-outside_of g d (split.Vertex v) decision undecided = refl
 
 -- .. and the inside child has one more where the split is on an edge
 inside_length-inside_of : (g : Graph) (d : Decided) (on : SplitOn) → IsDecisionFor g d → IsUndecidedSplit g d on →
     inside_length g.edges (inside_of d on).edges ≡ inside_length g.edges d.edges + length_on g.edges on
 inside_length-inside_of g d (split.Edge n) decision undecided =
-    let (within, bare, not_free) = IsUndecided-parts g d n decision undecided in inside_length-set_inside g.edges d.edges n bare
+    let (within, bare, not_free) = IsUndecided-parts g d n decision undecided in
+    inside_length-set_inside g.edges d.edges n bare
 inside_length-inside_of g d (split.Vertex v) decision undecided = omega arith
 
 -- the edges that are inside at the end of a way are those at its start and those of its turns
-pub inside_length-way : (g : Graph) (d : Decided) (t : Tree SplitOn) (leaf : ℕ) → IsDecisionFor g d → HasUndecidedSplits g d t →
-    inside_length g.edges (after_turns d (way_to t leaf)).edges ≡ inside_length g.edges d.edges + inside_parts g.edges (way_to t leaf)
+pub inside_length-way : (g : Graph) (d : Decided) (t : Tree SplitOn) (leaf : ℕ) → IsDecisionFor g d →
+    HasUndecidedSplits g d t →
+    inside_length g.edges (after_turns d (way_to t leaf)).edges
+    ≡ inside_length g.edges d.edges + inside_parts g.edges (way_to t leaf)
 inside_length-way g d (Leaf cuts) leaf decision splits = omega arith
 inside_length-way g d (Split on o i) leaf decision (undecided, first, second) =
     ⊎_elim
@@ -86,7 +91,8 @@ inside_length-way g d (Split on o i) leaf decision (undecided, first, second) =
     (cases_lt leaf (length (packings_of o)))
 
 -- an undecided split is on one of the edges, or on a vertex
-IsSplitIn-undecided : (g : Graph) (d : Decided) (on : SplitOn) → IsDecisionFor g d → IsUndecidedSplit g d on → IsSplitIn g.edges on
+IsSplitIn-undecided : (g : Graph) (d : Decided) (on : SplitOn) → IsDecisionFor g d → IsUndecidedSplit g d on →
+    IsSplitIn g.edges on
 IsSplitIn-undecided g d (split.Edge n) decision undecided = (IsUndecided-parts g d n decision undecided).0
 IsSplitIn-undecided g d (split.Vertex v) decision undecided = tt
 
@@ -107,17 +113,21 @@ turns_in-way g d (Split on o i) leaf decision (undecided, first, second) =
     (here, turns_in-way g (inside_of d on) i more (IsDecisionFor-inside_of g d on decision undecided) second))
     (cases_lt leaf (length (packings_of o)))
 
-pub All-turns_in : (g : Graph) (d : Decided) (t : Tree SplitOn) (leaf : ℕ) → IsDecisionFor g d → HasUndecidedSplits g d t →
+pub All-turns_in : (g : Graph) (d : Decided) (t : Tree SplitOn) (leaf : ℕ) → IsDecisionFor g d →
+    HasUndecidedSplits g d t →
     All (IsTurnIn g.edges) (way_to t leaf)
-All-turns_in g d t leaf decision splits = All-from_recursion (IsTurnIn g.edges) (way_to t leaf) (turns_in-way g d t leaf decision splits)
+All-turns_in g d t leaf decision splits = All-from_recursion (IsTurnIn g.edges) (way_to t leaf)
+    (turns_in-way g d t leaf decision splits)
 
 -- the parts of two lists of turns
-pub inside_parts-append : (edges : List Edge) (xs ys : List Turn) → inside_parts edges (xs ++ ys) ≡ inside_parts edges xs + inside_parts edges ys
+pub inside_parts-append : (edges : List Edge) (xs ys : List Turn) →
+    inside_parts edges (xs ++ ys) ≡ inside_parts edges xs + inside_parts edges ys
 inside_parts-append edges [] ys = omega arith
 inside_parts-append edges (x ∷ xs) ys = omega (arith, inside_parts-append edges xs ys)
 
 -- .. and of the turns from the last to the first
-pub inside_parts-reverse : (edges : List Edge) (turns : List Turn) → inside_parts edges (reverse turns) ≡ inside_parts edges turns
+pub inside_parts-reverse : (edges : List Edge) (turns : List Turn) →
+    inside_parts edges (reverse turns) ≡ inside_parts edges turns
 inside_parts-reverse edges [] = refl
 inside_parts-reverse edges (turn ∷ turns) =
     ap (inside_parts edges) (reverse-append (turn ∷ []) turns)

@@ -30,7 +30,8 @@ way_to-inside on o i leaf more past =
     rw (test, rest)
 
 -- a leaf's decision is the one to which its way leads
-pub decision-way : (d : Decided) (t : Tree SplitOn) (leaf : ℕ) (dl : Decided) (cuts : List Cut) → IsLeafAt d t leaf dl cuts →
+pub decision-way : (d : Decided) (t : Tree SplitOn) (leaf : ℕ) (dl : Decided) (cuts : List Cut) →
+    IsLeafAt d t leaf dl cuts →
     after_turns d (way_to t leaf) ≡ dl
 decision-way d (Leaf last) leaf dl cuts at = (IsLeafAt-leaf d last leaf dl cuts at).1
 decision-way d (Split on o i) leaf dl cuts at =
@@ -50,16 +51,20 @@ turns_up-tree : (t : Tree SplitOn) (before : List (Option SplitOn)) (passed : �
     turns_up (reverse (nodes_of t) ++ before) passed ≡ turns_up before (suc passed)
 turns_up-tree (Leaf cuts) before passed = refl
 turns_up-tree (Split on o i) before passed =
-    let parts : reverse (nodes_of (Split on o i)) ++ before ≡ reverse (nodes_of i) ++ (reverse (nodes_of o) ++ (Some on ∷ before)) =
+    let parts : reverse (nodes_of (Split on o i)) ++ before
+    ≡ reverse (nodes_of i) ++ (reverse (nodes_of o) ++ (Some on ∷ before)) =
     ap (λ all. all ++ before) (reverse-append (Some on ∷ nodes_of o) (nodes_of i))
     ∙ append_assoc (reverse (nodes_of i)) (reverse (Some on ∷ nodes_of o)) before
-    ∙ ap (λ all. reverse (nodes_of i) ++ all) (ap (λ all. all ++ before) (reverse-append (Some on ∷ []) (nodes_of o)) ∙ append_assoc (reverse (nodes_of o)) (Some on ∷ []) before) in
+    ∙ ap (λ all. reverse (nodes_of i) ++ all)
+    (ap (λ all. all ++ before) (reverse-append (Some on ∷ []) (nodes_of o))
+    ∙ append_assoc (reverse (nodes_of o)) (Some on ∷ []) before) in
     ap (λ all. turns_up all passed) parts
     ∙ turns_up-tree i (reverse (nodes_of o) ++ (Some on ∷ before)) passed
     ∙ turns_up-tree o (Some on ∷ before) (suc passed)
 
 -- the turns up from a leaf are those of its way, the last of them first
-turns_up-way : (t : Tree SplitOn) (leaf : ℕ) (front back before : List (Option SplitOn)) → nodes_of t ≡ front ++ None ∷ back →
+turns_up-way : (t : Tree SplitOn) (leaf : ℕ) (front back before : List (Option SplitOn)) →
+    nodes_of t ≡ front ++ None ∷ back →
     leaves_in front ≡ leaf → turns_up (reverse front ++ before) 0 ≡ reverse (way_to t leaf) ++ turns_up before 0
 turns_up-way (Leaf cuts) leaf [] back before same count = refl
 turns_up-way (Leaf cuts) leaf (x ∷ []) back before same count = absurd cc
@@ -79,23 +84,27 @@ turns_up-way (Split on o i) leaf (x ∷ front) back before same count =
     ap (λ all. turns_up all 0) turned
     ∙ turns_up-way o leaf front at.rest (Some on ∷ before) at.first passed
     ∙ sym (append_assoc (reverse (way_to o leaf)) (turn_of on false ∷ []) (turns_up before 0))
-    ∙ ap (λ all. all ++ turns_up before 0) (sym (reverse-append (turn_of on false ∷ []) (way_to o leaf)) ∙ ap reverse (sym (way_to-outside on o i leaf below))))
+    ∙ ap (λ all. all ++ turns_up before 0) (sym (reverse-append (turn_of on false ∷ []) (way_to o leaf))
+    ∙ ap reverse (sym (way_to-outside on o i leaf below))))
     (λ (at : IsInSecond (nodes_of o) (nodes_of i) front back None).
     let among = ap leaves_in at.first ∙ leaves_in-append (nodes_of o) at.more in
     let more = leaves_in at.more in
     let past : leaf ≡ length (packings_of o) + more = omega (arith, among, leaves_in-nodes_of o) in
     let parts : reverse front ++ (Some on ∷ before) ≡ reverse at.more ++ (reverse (nodes_of o) ++ (Some on ∷ before)) =
-    ap (λ all. reverse all ++ (Some on ∷ before)) at.first ∙ ap (λ all. all ++ (Some on ∷ before)) (reverse-append (nodes_of o) at.more)
+    ap (λ all. reverse all ++ (Some on ∷ before)) at.first
+    ∙ ap (λ all. all ++ (Some on ∷ before)) (reverse-append (nodes_of o) at.more)
     ∙ append_assoc (reverse at.more) (reverse (nodes_of o)) (Some on ∷ before) in
     ap (λ all. turns_up all 0) (turned ∙ parts)
     ∙ turns_up-way i more at.more back (reverse (nodes_of o) ++ (Some on ∷ before)) at.second refl
     ∙ ap (λ all. reverse (way_to i more) ++ all) (turns_up-tree o (Some on ∷ before) 0)
     ∙ sym (append_assoc (reverse (way_to i more)) (turn_of on true ∷ []) (turns_up before 0))
-    ∙ ap (λ all. all ++ turns_up before 0) (sym (reverse-append (turn_of on true ∷ []) (way_to i more)) ∙ ap reverse (sym (way_to-inside on o i leaf more past))))
+    ∙ ap (λ all. all ++ turns_up before 0) (sym (reverse-append (turn_of on true ∷ []) (way_to i more))
+    ∙ ap reverse (sym (way_to-inside on o i leaf more past))))
     (place_in_append (nodes_of o) (nodes_of i) front back None tail)
 
 -- from a leaf's place up to the top of a tree
-pub turns_up-leaf : (t : Tree SplitOn) (leaf : ℕ) (front back : List (Option SplitOn)) → nodes_of t ≡ front ++ None ∷ back →
+pub turns_up-leaf : (t : Tree SplitOn) (leaf : ℕ) (front back : List (Option SplitOn)) →
+    nodes_of t ≡ front ++ None ∷ back →
     leaves_in front ≡ leaf → turns_up (reverse front) 0 ≡ reverse (way_to t leaf)
 turns_up-leaf t leaf front back same count =
     ap (λ all. turns_up all 0) (sym (append-nil (reverse front))) ∙ turns_up-way t leaf front back [] same count
@@ -110,18 +119,22 @@ reverse-take_more xs place d some within =
     ∙ reverse-append (take (place - 1) xs) (get_or xs (place - 1) d ∷ [])
 
 -- the turns up from a place, by what the node before it gives
-pub turns_up-step : (nodes all : List (Option SplitOn)) (place passed later : ℕ) (turns : List Turn) → nodes ≡ all → 0 < place → place ≤ length all →
-    turns_up (get_or nodes (place - 1) None ∷ reverse (take (place - 1) all)) passed ≡ turns ++ turns_up (reverse (take (place - 1) all)) later →
+pub turns_up-step : (nodes all : List (Option SplitOn)) (place passed later : ℕ) (turns : List Turn) → nodes ≡ all →
+    0 < place → place ≤ length all →
+    turns_up (get_or nodes (place - 1) None ∷ reverse (take (place - 1) all)) passed
+    ≡ turns ++ turns_up (reverse (take (place - 1) all)) later →
     turns_up (reverse (take place all)) passed ≡ turns ++ turns_up (reverse (take (place - 1) all)) later
 turns_up-step nodes all place passed later turns same some within step =
     ap (λ nodes. turns_up nodes passed) (reverse-take_more all place None some within
     ∙ ap (λ xs. get_or xs (place - 1) None ∷ reverse (take (place - 1) all)) (sym same)) ∙ step
 
 -- a leaf's place is one of the places of the nodes, and the turns up from it are those of its way
-pub turns_up-place : (t : Tree SplitOn) (leaf place : ℕ) → slice_get (nodes_of t) place ≡ Some None → leaves_in (take place (nodes_of t)) ≡ leaf →
+pub turns_up-place : (t : Tree SplitOn) (leaf place : ℕ) → slice_get (nodes_of t) place ≡ Some None →
+    leaves_in (take place (nodes_of t)) ≡ leaf →
     turns_up (reverse (take place (nodes_of t))) 0 ≡ reverse (way_to t leaf)
 turns_up-place t leaf place at count =
-    turns_up-leaf t leaf (take place (nodes_of t)) (drop (place + 1) (nodes_of t)) (around (nodes_of t) place None at) count
+    turns_up-leaf t leaf (take place (nodes_of t)) (drop (place + 1) (nodes_of t))
+    (around (nodes_of t) place None at) count
 
 -- what each turn is on is undecided where it is taken
 abbrev pub AreUndecidedTurns : Graph → Decided → List Turn → Type 0
@@ -145,5 +158,6 @@ AreUndecidedTurns-way g d (Split on o i) leaf (undecided, first, second) =
     (cases_lt leaf (length (packings_of o)))
 
 -- the turns that are left when the last of some, told from the last to the first, is taken
-pub reverse-last : (turns rest : List Turn) (turn : Turn) → turns ≡ rest ++ turn ∷ [] → reverse turns ≡ turn ∷ reverse rest
+pub reverse-last : (turns rest : List Turn) (turn : Turn) → turns ≡ rest ++ turn ∷ [] →
+    reverse turns ≡ turn ∷ reverse rest
 reverse-last turns rest turn same = ap reverse same ∙ reverse-append rest (turn ∷ [])

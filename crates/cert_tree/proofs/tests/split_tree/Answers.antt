@@ -18,5 +18,6 @@ returns-clause-splits c =
     let split : c.replace_leaf.new.self ≡ replaced 0 new c.in_ok-tree.tree = c.in_ok-replace_leaf.ensures.ok in
     let leaf : c.in_ok-tree.tree ≡ Leaf c.empty.result = c.in_ok-tree.ensures in
     let undecided : IsUndecided g (nothing_decided g) 2 =
-    ap (λ states. slice_get states 2) (states_of-nothing g) ∙ ap (λ n. slice_get (replicate n Undecided) 2) c.requires in
+    ap (λ states. slice_get states 2) (states_of-nothing g)
+    ∙ ap (λ n. slice_get (replicate n Undecided) 2) c.requires in
     subst (HasUndecidedSplits g (nothing_decided g)) (sym (split ∙ ap (replaced 0 new) leaf)) (undecided, tt, tt)

@@ -18,7 +18,8 @@ loop-turn-init c =
     record {
       decision = c.in_ok-decision.ensures.decision;
       undecided = subst (AreUndecidedTurns g c.in_ok-decision.decision) (sym turned)
-          (subst (λ d. AreUndecidedTurns g d way) (sym start) (AreUndecidedTurns-way g (nothing_decided g) c.args.self.now c.args.leaf c.requires.splits));
+          (subst (λ d. AreUndecidedTurns g d way) (sym start)
+          (AreUndecidedTurns-way g (nothing_decided g) c.args.self.now c.args.leaf c.requires.splits));
       led = ap (after_turns c.in_ok-decision.decision) turned ∙ ap (λ d. after_turns d way) start;
     }
 

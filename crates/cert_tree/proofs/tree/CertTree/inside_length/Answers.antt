@@ -13,11 +13,13 @@ pub loop-place-init : goal.loop-place-init
 loop-place-init c =
     let t = c.args.self.now in
     let edges = c.args.g.now.edges in
-    let up = turns_up-place t c.args.leaf c.place_of-place.result c.place_of-place.ensures.at c.place_of-place.ensures.before in
+    let up = turns_up-place t c.args.leaf c.place_of-place.result c.place_of-place.ensures.at
+    c.place_of-place.ensures.before in
     let within = slice_get_within (nodes_of t) c.place_of-place.result _ c.place_of-place.ensures.at in
     record {
       sum = omega (arith, ap (inside_parts edges) up, inside_parts-reverse edges (way_to t c.args.leaf));
-      turns = subst (All (IsTurnIn edges)) (sym up) (All-reverse (IsTurnIn edges) (way_to t c.args.leaf) c.requires.turns);
+      turns = subst (All (IsTurnIn edges)) (sym up)
+          (All-reverse (IsTurnIn edges) (way_to t c.args.leaf) c.requires.turns);
       passed = omega arith;
     }
 
@@ -25,7 +27,8 @@ pub inside_part-sum-requires : goal.inside_part-sum-requires
 inside_part-sum-requires c =
     let all = nodes_of c.args.self.now in
     let before = reverse (take (c.loop-place.place - 1) all) in
-    let step = turns_up-step c.nodes-nodes.result.now all c.loop-place.place c.loop-place.passed c.turn_at.new.passed (c.in-Some.turn ∷ [])
+    let step = turns_up-step c.nodes-nodes.result.now all c.loop-place.place c.loop-place.passed c.turn_at.new.passed
+    (c.in-Some.turn ∷ [])
     c.nodes-nodes.ensures.nodes (omega arith) (omega arith) (c.in-Some.ensures.turn before) in
     All-head (IsTurnIn c.args.g.now.edges) c.in-Some.turn (turns_up before c.turn_at.new.passed)
     (subst (All (IsTurnIn c.args.g.now.edges)) step c.loop-place.invariant.turns)
@@ -35,7 +38,8 @@ loop-place-preserved-in-Some c =
     let all = nodes_of c.args.self.now in
     let edges = c.args.g.now.edges in
     let before = reverse (take (c.loop-place.place - 1) all) in
-    let step = turns_up-step c.nodes-nodes.result.now all c.loop-place.place c.loop-place.passed c.turn_at.new.passed (c.in-Some.turn ∷ [])
+    let step = turns_up-step c.nodes-nodes.result.now all c.loop-place.place c.loop-place.passed c.turn_at.new.passed
+    (c.in-Some.turn ∷ [])
     c.nodes-nodes.ensures.nodes (omega arith) (omega arith) (c.in-Some.ensures.turn before) in
     record {
       sum = omega (arith, ap (inside_parts edges) step, c.loop-place.invariant.sum, c.inside_part-sum.ensures);

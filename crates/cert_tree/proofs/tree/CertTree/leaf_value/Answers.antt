@@ -38,5 +38,6 @@ returns c = λ own cuts at.
     let same = same_Some _ _ (sym c.packing.ensures ∙ at.packing) in
     let sum : c.total_weight.result ≡ sum_by (λ (x : Cut). x.weight) cuts =
     c.total_weight.ensures.sum ∙ ap (sum_by (λ (x : Cut). x.weight)) (c.cuts.ensures ∙ same) in
-    let inside : c.from.result ≡ inside_length g.edges own.edges = omega (arith, way, none, ap (λ d. inside_length g.edges d.edges) led) in
+    let inside : c.from.result ≡ inside_length g.edges own.edges =
+    omega (arith, way, none, ap (λ d. inside_length g.edges d.edges) led) in
     omega (arith, inside, sum)

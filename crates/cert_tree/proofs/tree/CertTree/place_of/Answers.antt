@@ -9,11 +9,19 @@ loop-place-preserved c =
     let nodes = c.deref-node-items.result.now in
     elim c.if-is_none.branch [
       | then-is_none+else-passed-leaf w ↦ record {
-        count = omega (arith, leaf_passed nodes c.loop-place.place c.loop-place-test.true (c.is_none.ensures ∙ ap not w.if-is_none.true));
+        count = omega (
+          arith,
+          leaf_passed nodes c.loop-place.place c.loop-place-test.true
+              (c.is_none.ensures ∙ ap not w.if-is_none.true),
+        );
         ahead = omega arith;
       }
       | else-is_none w ↦ record {
-        count = omega (arith, split_passed nodes c.loop-place.place c.loop-place-test.true (c.is_none.ensures ∙ ap not w.if-is_none.false));
+        count = omega (
+          arith,
+          split_passed nodes c.loop-place.place c.loop-place-test.true
+              (c.is_none.ensures ∙ ap not w.if-is_none.false),
+        );
         ahead = omega arith;
       }
     ]

@@ -9,10 +9,12 @@ use Rattle.cert_tree.proofs.tree.CertTree.turns_to.Goals as goal
 pub loop-place-init : goal.loop-place-init
 loop-place-init c =
     let t = c.args.self.now in
-    let up = turns_up-place t c.args.leaf c.place_of-place.result c.place_of-place.ensures.at c.place_of-place.ensures.before in
+    let up = turns_up-place t c.args.leaf c.place_of-place.result c.place_of-place.ensures.at
+    c.place_of-place.ensures.before in
     let within = slice_get_within (nodes_of t) c.place_of-place.result _ c.place_of-place.ensures.at in
     record {
-      turns = ap (λ all. all ++ turns_up (reverse (take c.place_of-place.result (nodes_of t))) 0) c.new-turns.ensures.items ∙ up;
+      turns = ap (λ all. all ++ turns_up (reverse (take c.place_of-place.result (nodes_of t))) 0)
+          c.new-turns.ensures.items ∙ up;
       passed = omega arith;
     }
 
@@ -20,7 +22,8 @@ pub loop-place-preserved-in-Continue-1 : goal.loop-place-preserved-in-Continue-1
 loop-place-preserved-in-Continue-1 c =
     let all = nodes_of c.args.self.now in
     let before = reverse (take (c.loop-place.place - 1) all) in
-    let step = turns_up-step c.nodes-nodes.result.now all c.loop-place.place c.loop-place.passed c.turn_at.new.passed (c.in-Some.turn ∷ [])
+    let step = turns_up-step c.nodes-nodes.result.now all c.loop-place.place c.loop-place.passed c.turn_at.new.passed
+    (c.in-Some.turn ∷ [])
     c.nodes-nodes.ensures.nodes (omega arith) (omega arith) (c.in-Some.ensures.turn before) in
     let pushed : c.push.new.self.items ≡ c.loop-place.turns.items ++ c.in-Some.turn ∷ [] = search rules in
     record {

@@ -6,6 +6,7 @@ use Rattle.cert_tree.proofs.tree.CertTree.turns_to.Given as goal
 -- the turns so far, with those below the nodes that are left, are the way
 abbrev pub invariant-loop-place : goal.invariant-loop-place
 invariant-loop-place l = record {
-  turns : l.turns.items ++ turns_up (reverse (take l.place (nodes_of l.self))) l.passed ≡ reverse (way_to l.self l.leaf);
+  turns : l.turns.items ++ turns_up (reverse (take l.place (nodes_of l.self))) l.passed ≡ reverse
+      (way_to l.self l.leaf);
   passed : l.passed + l.place ≤ length (nodes_of l.self);
 }

@@ -10,5 +10,6 @@ abbrev pub invariant-loop-leaf : goal.invariant-loop-leaf
 invariant-loop-leaf l = record {
   least : (k : ℕ) (own : Decided) (cuts : List Cut) → k < l.leaf → IsLeafAt (nothing_decided l.g) l.self k own cuts →
       l.least ≤ packing_value l.g own cuts;
-  some : (k : ℕ) × (own : Decided) × (cuts : List Cut) × IsLeafAt (nothing_decided l.g) l.self k own cuts × (l.least ≡ packing_value l.g own cuts);
+  some : (k : ℕ) × (own : Decided) × (cuts : List Cut) × IsLeafAt (nothing_decided l.g) l.self k own cuts ×
+      (l.least ≡ packing_value l.g own cuts);
 }
