@@ -1,5 +1,5 @@
 -- Where nothing is decided each edge is undecided.
-use Rattle.std.proofs.Common.{◌≡◌, ap, sym, ◌∙◌, subst, replicate, Some}
+use Rattle.std.proofs.Common.{◌≡◌, ap, sym, ◌∙◌, subst, replicate}
 use Rattle.std.specs.Prelude.{slice_get}
 use Rattle.net_graph.specs.declared.state.EdgeState.TheVariants.{Undecided}
 use Rattle.net_graph.specs.Decision.{nothing_decided, IsUndecided}

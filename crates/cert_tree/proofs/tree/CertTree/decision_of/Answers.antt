@@ -1,9 +1,7 @@
 -- The turns to the leaf are taken from the top.
-use Rattle.std.proofs.Common.{◌≡◌, ◌++◌, [], ◌∷◌, Some, reverse, ap, sym, ◌∙◌, subst, arith, rules}
+use Rattle.std.proofs.Common.{◌≡◌, ◌++◌, [], ◌∷◌, Some, reverse, ap, sym, ◌∙◌, subst, rules}
 use Rattle.std.proofs.lemmas.List.{reverse-reverse}
-use Rattle.std.specs.Prelude.{slice_get}
 use Rattle.net_graph.specs.Decision.{nothing_decided}
-use Rattle.cert_tree.specs.Decisions.{decisions_of}
 use Rattle.cert_tree.specs.LeafLaws.{IsLeafAt-found}
 use Rattle.cert_tree.specs.Way.{after_turn, after_turns, way_to}
 use Rattle.cert_tree.proofs.lemmas.Ways.{AreUndecidedTurns, AreUndecidedTurns-way, decision-way, reverse-last}

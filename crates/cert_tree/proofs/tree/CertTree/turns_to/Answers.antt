@@ -1,8 +1,8 @@
 -- The turns on the way up are those of the way to the leaf.
-use Rattle.std.proofs.Common.{◌≡◌, ◌+◌, ◌-◌, ◌<◌, ◌≤◌, [], ◌∷◌, ◌++◌, length, take, reverse, ap, sym, ◌∙◌, arith, append_assoc, append-nil, rules}
+use Rattle.std.proofs.Common.{◌≡◌, ◌-◌, [], ◌∷◌, ◌++◌, take, reverse, ap, sym, ◌∙◌, arith, append_assoc, rules}
 use Rattle.std.proofs.lemmas.Option.{slice_get_within}
 use Rattle.cert_tree.specs.Preorder.{nodes_of}
-use Rattle.cert_tree.specs.Way.{turns_up, way_to}
+use Rattle.cert_tree.specs.Way.{turns_up}
 use Rattle.cert_tree.proofs.lemmas.Ways.{turns_up-place, turns_up-step}
 use Rattle.cert_tree.proofs.tree.CertTree.turns_to.Goals as goal
 
