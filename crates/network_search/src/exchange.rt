@@ -8,6 +8,9 @@ use net_graph::NetGraph;
 use std::alloc::{AllocError, Global};
 use std::mem::swap;
 
+// How often all key paths are tried at most while that gains.
+const REPEATS: u32 = 100;
+
 /// What exchange works with; it keeps its memory from call to call.
 #[derive(Drop)]
 pub struct Exchanger {
@@ -34,9 +37,26 @@ impl Exchanger {
         })
     }
 
-    /// Exchanges each key path of a tree in turn, where a shorter path joins the two parts (Duin and Voss 1997, Uchoa and
-    /// Werneck 2012). An `Err` is want of memory.
+    /// Exchanges key paths of a tree until nothing is gained (Duin and Voss 1997, Uchoa and Werneck 2012). An `Err` is
+    /// want of memory.
     pub fn exchange_all(
+        &mut self,
+        g: &NetGraph,
+        terminals: &[bool],
+        tree: &mut Subgraph,
+    ) -> Result<(), AllocError> {
+        for _ in 0..REPEATS {
+            let length = tree.length();
+            self.exchange_each(g, terminals, tree)?;
+            if tree.length() >= length {
+                break;
+            }
+        }
+        Ok(())
+    }
+
+    // Exchanges each key path of a tree in turn, where a shorter path joins the two parts. An `Err` is want of memory.
+    fn exchange_each(
         &mut self,
         g: &NetGraph,
         terminals: &[bool],

@@ -37,7 +37,7 @@ impl KeyTree {
         }
     }
 
-    /// The sum of its lengths.
+    /// The sum of its lengths; `FAR` of a tree of no vertex.
     pub fn length(&self) -> u64 {
         self.length
     }
@@ -46,7 +46,7 @@ impl KeyTree {
     pub fn span(&mut self, keys: &[u32], distances: &Distances) -> Result<(), AllocError> {
         self.joined.clear();
         self.waiting.clear();
-        self.length = 0;
+        self.length = if keys.is_empty() { FAR } else { 0 };
         for vertex in keys {
             self.waiting.push(Joined {
                 vertex: *vertex,

@@ -1,5 +1,7 @@
 //! Moves of key vertices: insertion of Steiner vertices, and their elimination.
 
+ghost use Rattle.std.specs.Prelude.{◌<◌, vec_len};
+
 use crate::access::at;
 use crate::distances::Distances;
 use crate::key_path::is_key;
@@ -7,77 +9,88 @@ use crate::key_tree::KeyTree;
 use crate::subgraph::Subgraph;
 use net_graph::NetGraph;
 use std::alloc::{AllocError, Global};
+use std::mem::swap;
 
 // How many key vertices a tree has at most whose key vertices are moved: for more it would take too long.
 const MAX_KEYS: usize = 300;
 
+// How often insertion and elimination are repeated at most while they gain.
+const REPEATS: u32 = 100;
+
+/// What the moves begin with.
+#[derive(Clone, Copy)]
+pub enum Start {
+    /// The key vertices of a tree.
+    Tree,
+    /// The terminals alone.
+    Terminals,
+    /// The key vertices of a tree but one, which isn't inserted again.
+    Without(u32),
+}
+
 /// What moves work with; it keeps its memory from call to call.
 #[derive(Drop)]
 pub struct KeyVertices {
-    // The terminals, and then the Steiner vertices.
+    // The terminals and Steiner vertices; none of them where there are too many.
     keys: Vec<u32>,
     tree: KeyTree,
+    tried: KeyTree,
     distances: Distances,
+    start: Start,
+    // Vertices with which the tree is shorter, each behind its length then.
+    gaining: Vec<(u64, u32)>,
 }
 
 impl KeyVertices {
     /// The work space for a graph. An `Err` is want of memory.
     pub fn new(alloc: Global, g: &NetGraph) -> Result<KeyVertices, AllocError> {
         Ok(KeyVertices {
-            keys: Vec::new(alloc),
+            keys: Vec::with_capacity(alloc, MAX_KEYS)?,
             tree: KeyTree::new(alloc),
+            tried: KeyTree::new(alloc),
             distances: Distances::new(alloc, g)?,
+            start: Start::Terminals,
+            gaining: Vec::with_capacity(alloc, g.vertex_count() as usize)?,
         })
     }
 
-    /// Takes the key vertices of a tree. An `Err` is want of memory.
+    /// Takes key vertices, as a start says. An `Err` is want of memory.
     pub fn take(
         &mut self,
         g: &NetGraph,
         terminals: &[bool],
         tree: &Subgraph,
+        start: Start,
     ) -> Result<(), AllocError> {
+        self.start = start;
         self.keys.clear();
         for vertex in 0..g.vertex_count() {
-            let is_used = tree.degree(vertex) > 0 && is_key(terminals, tree, vertex);
-            if self.keys.len() < MAX_KEYS && (is_used || at(terminals, vertex, false)) {
+            if self.keys.len() < MAX_KEYS && is_taken(terminals, tree, start, vertex) {
                 self.keys.push(vertex)?;
                 self.distances.find(g, vertex)?;
             }
         }
+        if self.keys.len() >= MAX_KEYS {
+            self.keys.clear();
+        }
         self.tree.span(&self.keys, &self.distances)
     }
 
-    /// Inserts the vertex that makes the tree shortest, as long as one makes it shorter (Minoux 1990, Kahng and Robins
-    /// 1992). An `Err` is want of memory.
-    pub fn insert_all(&mut self, g: &NetGraph) -> Result<(), AllocError> {
-        for _ in self.keys.len()..MAX_KEYS {
-            let Some(vertex) = self.best_to_insert(g)? else {
-                break;
-            };
-            self.keys.push(vertex)?;
-            self.distances.find(g, vertex)?;
-            self.tree.span(&self.keys, &self.distances)?;
-        }
-        Ok(())
-    }
-
-    /// Eliminates each Steiner vertex without which the tree is no longer (Uchoa and Werneck 2012). An `Err` is want of
-    /// memory.
-    pub fn eliminate_all(&mut self, terminals: &[bool]) -> Result<(), AllocError> {
-        for place in (0..self.keys.len()).rev() {
+    /// Inserts and eliminates Steiner vertices until nothing is gained. An `Err` is want of memory.
+    pub fn improve(&mut self, g: &NetGraph, terminals: &[bool]) -> Result<(), AllocError> {
+        for _ in 0..REPEATS {
             let length = self.tree.length();
-            if let Some(vertex) = self.eliminate(terminals, place)? {
-                if self.tree.length() > length {
-                    self.keys.push(vertex)?;
-                    self.tree.span(&self.keys, &self.distances)?;
-                }
+            self.find_gaining(g)?;
+            self.insert_gaining(g)?;
+            self.eliminate_all(terminals)?;
+            if self.tree.length() >= length {
+                break;
             }
         }
         Ok(())
     }
 
-    /// The length of the tree of the key vertices.
+    /// The length of a least spanning tree of the key vertices by their distances; `FAR` where there are too many of them.
     pub fn length(&self) -> u64 {
         self.tree.length()
     }
@@ -87,27 +100,74 @@ impl KeyVertices {
         self.tree.add_paths(g, &self.distances, subgraph);
     }
 
-    // The first of the vertices that make the tree shortest; none where none makes it shorter. An `Err` is want of memory.
-    fn best_to_insert(&mut self, g: &NetGraph) -> Result<Option<u32>, AllocError> {
-        let mut best = None;
-        let mut length = self.tree.length();
+    // Finds the vertices with which the tree is shorter, the best ones first. An `Err` is want of memory.
+    fn find_gaining(&mut self, g: &NetGraph) -> Result<(), AllocError> {
+        self.gaining.clear();
         for vertex in 0..g.vertex_count() {
-            let with = self.tree.length_with(vertex, &self.distances)?;
-            if with < length {
-                best = Some(vertex);
-                length = with;
+            let length = self.tree.length_with(vertex, &self.distances)?;
+            if length < self.tree.length() && !is_left_out(self.start, vertex) {
+                self.gaining.push((length, vertex))?;
             }
         }
-        Ok(best)
+        self.gaining.sort_unstable();
+        Ok(())
     }
 
-    // Takes the key vertex at a place out, where it is no terminal. An `Err` is want of memory.
-    fn eliminate(&mut self, terminals: &[bool], place: usize) -> Result<Option<u32>, AllocError> {
-        if place >= self.keys.len() || at(terminals, self.keys[place], true) {
-            return Ok(None);
+    // Inserts those of the vertices found that make the tree shorter still (Minoux 1990, Kahng and Robins 1992). An `Err`
+    // is want of memory.
+    fn insert_gaining(&mut self, g: &NetGraph) -> Result<(), AllocError> {
+        for (_, vertex) in &self.gaining {
+            let length = self.tree.length_with(*vertex, &self.distances)?;
+            if length < self.tree.length() && self.keys.len() < MAX_KEYS {
+                self.keys.push(*vertex)?;
+                self.distances.find(g, *vertex)?;
+                self.tree.span(&self.keys, &self.distances)?;
+            }
         }
+        Ok(())
+    }
+
+    // Eliminates each Steiner vertex without which the tree is no longer (Uchoa and Werneck 2012). An `Err` is want of
+    // memory.
+    fn eliminate_all(&mut self, terminals: &[bool]) -> Result<(), AllocError> {
+        for place in (0..self.keys.len()).rev() {
+            if place < self.keys.len() && !at(terminals, self.keys[place], true) {
+                self.eliminate(place)?;
+            }
+        }
+        Ok(())
+    }
+
+    // Eliminates the key vertex at a place, where the tree is no longer then. An `Err` is want of memory.
+    fn eliminate(&mut self, place: usize) -> Result<(), AllocError>
+        requires { place < vec_len self.old.keys }
+    {
         let vertex = self.keys.swap_remove(place);
-        self.tree.span(&self.keys, &self.distances)?;
-        Ok(Some(vertex))
+        self.tried.span(&self.keys, &self.distances)?;
+        if self.tried.length() <= self.tree.length() {
+            swap(&mut self.tree, &mut self.tried);
+        } else {
+            self.keys.push(vertex)?;
+        }
+        Ok(())
+    }
+}
+
+// Whether a vertex is a terminal, or a key vertex to begin with.
+fn is_taken(terminals: &[bool], tree: &Subgraph, start: Start, vertex: u32) -> bool {
+    let is_steiner = tree.degree(vertex) > 0 && is_key(terminals, tree, vertex);
+    at(terminals, vertex, false)
+        || match start {
+            Start::Tree => is_steiner,
+            Start::Terminals => false,
+            Start::Without(other) => is_steiner && vertex != other,
+        }
+}
+
+// Whether a start leaves a vertex out.
+fn is_left_out(start: Start, vertex: u32) -> bool {
+    match start {
+        Start::Without(other) => vertex == other,
+        _ => false,
     }
 }

@@ -1,14 +1,15 @@
 //! Local search for a shorter tree.
 
+use crate::access::at;
 use crate::cleaning::{Cleaner, terminal_marks};
 use crate::exchange::Exchanger;
-use crate::key_vertices::KeyVertices;
+use crate::key_vertices::{KeyVertices, Start};
 use crate::subgraph::Subgraph;
 use net_graph::NetGraph;
 use std::alloc::{AllocError, Global};
 use std::mem::swap;
 
-// How often the moves of key vertices, or the exchanges of key paths, are repeated at most while they gain.
+// How often a descent goes on, and how often all Steiner vertices are left out in turn, at most while that gains.
 const REPEATS: u32 = 100;
 
 /// What the search works with.
@@ -19,7 +20,7 @@ pub struct LocalSearch {
     exchanger: Exchanger,
     keys: KeyVertices,
     paths: Subgraph,
-    cleaned: Subgraph,
+    found: Subgraph,
 }
 
 impl LocalSearch {
@@ -31,21 +32,30 @@ impl LocalSearch {
             exchanger: Exchanger::new(alloc, g)?,
             keys: KeyVertices::new(alloc, g)?,
             paths: Subgraph::empty(alloc, g)?,
-            cleaned: Subgraph::empty(alloc, g)?,
+            found: Subgraph::empty(alloc, g)?,
         })
     }
 
-    /// Makes a tree shorter until nothing is gained, in at most so many rounds. An `Err` is want of memory.
+    /// Makes a tree shorter by at most so many descents: the first begins with the tree, the second with the terminals
+    /// alone, and each further one with the shortest tree so far without one of its Steiner vertices, each of them in turn
+    /// as long as that gains. An `Err` is want of memory.
     pub fn improve(
         &mut self,
         g: &NetGraph,
-        rounds: u32,
+        descents: u32,
         tree: &mut Subgraph,
     ) -> Result<(), AllocError> {
-        for _ in 0..rounds {
+        if descents > 0 {
+            self.exchanger.exchange_all(g, &self.terminals, tree)?;
+            self.descend(g, Start::Tree, tree)?;
+        }
+        if descents > 1 {
+            self.descend(g, Start::Terminals, tree)?;
+        }
+        let mut left = descents.saturating_sub(2);
+        for _ in 0..REPEATS {
             let length = tree.length();
-            self.move_key_vertices(g, tree)?;
-            self.exchange_key_paths(g, tree)?;
+            left = self.perturb(g, left, tree)?;
             if tree.length() >= length {
                 break;
             }
@@ -53,37 +63,52 @@ impl LocalSearch {
         Ok(())
     }
 
-    // Inserts and eliminates key vertices, and takes the tree that this gives where it is shorter. An `Err` is want of
-    // memory.
-    fn move_key_vertices(&mut self, g: &NetGraph, tree: &mut Subgraph) -> Result<(), AllocError> {
-        self.keys.take(g, &self.terminals, tree)?;
-        for _ in 0..REPEATS {
-            let length = self.keys.length();
-            self.keys.insert_all(g)?;
-            self.keys.eliminate_all(&self.terminals)?;
-            if self.keys.length() >= length {
-                break;
+    // Leaves each Steiner vertex of a tree out in turn, in at most so many descents; tells how many are left. An `Err` is
+    // want of memory.
+    fn perturb(
+        &mut self,
+        g: &NetGraph,
+        descents: u32,
+        tree: &mut Subgraph,
+    ) -> Result<u32, AllocError> {
+        let mut left = descents;
+        for vertex in 0..g.vertex_count() {
+            if left > 0 && tree.degree(vertex) > 2 && !at(&self.terminals, vertex, true) {
+                left -= 1;
+                self.descend(g, Start::Without(vertex), tree)?;
             }
         }
+        Ok(left)
+    }
+
+    // Moves key vertices and exchanges key paths until nothing is gained, and takes what is shorter than the tree. An
+    // `Err` is want of memory.
+    fn descend(
+        &mut self,
+        g: &NetGraph,
+        start: Start,
+        tree: &mut Subgraph,
+    ) -> Result<(), AllocError> {
+        self.keys.take(g, &self.terminals, tree, start)?;
+        for _ in 0..REPEATS {
+            self.keys.improve(g, &self.terminals)?;
+            if self.keys.length() >= tree.length() {
+                break;
+            }
+            self.find_tree(g)?;
+            self.exchanger
+                .exchange_all(g, &self.terminals, &mut self.found)?;
+            swap(tree, &mut self.found);
+            self.keys.take(g, &self.terminals, tree, Start::Tree)?;
+        }
+        Ok(())
+    }
+
+    // Finds a tree that is no longer than that of the key vertices. An `Err` is want of memory.
+    fn find_tree(&mut self, g: &NetGraph) -> Result<(), AllocError> {
         self.paths.clear();
         self.keys.add_paths(g, &mut self.paths);
         self.cleaner
-            .clean(g, &self.terminals, &self.paths, &mut self.cleaned)?;
-        if self.cleaned.length() < tree.length() {
-            swap(tree, &mut self.cleaned);
-        }
-        Ok(())
-    }
-
-    // Exchanges key paths until nothing is gained. An `Err` is want of memory.
-    fn exchange_key_paths(&mut self, g: &NetGraph, tree: &mut Subgraph) -> Result<(), AllocError> {
-        for _ in 0..REPEATS {
-            let length = tree.length();
-            self.exchanger.exchange_all(g, &self.terminals, tree)?;
-            if tree.length() >= length {
-                break;
-            }
-        }
-        Ok(())
+            .clean(g, &self.terminals, &self.paths, &mut self.found)
     }
 }

@@ -9,8 +9,8 @@ use crate::subgraph::Subgraph;
 use net_graph::{EdgeSet, NetGraph, joins, length};
 use std::alloc::{AllocError, Global};
 
-/// A network without what it doesn't need: of each cycle the longest edge is left out, of edges as long as one another one of
-/// them, and so are all leaves that are no terminals, again and again. An `Err` is want of memory.
+/// A network without what it doesn't need: a least spanning tree of its edges, without the leaves that are no terminals and what hangs
+/// on them alone. An `Err` is want of memory.
 pub fn cleaned(alloc: Global, g: &NetGraph, network: &EdgeSet) -> Result<EdgeSet, AllocError>
     requires size { length network.now ≡ length g.now.edges }
     requires network { IsNetwork g.now network.now }
@@ -25,13 +25,14 @@ pub fn cleaned(alloc: Global, g: &NetGraph, network: &EdgeSet) -> Result<EdgeSet
     shorter(alloc, g, network, tree.edge_set(alloc, g)?)
 }
 
-/// A network that is no longer than one that is given: this one cleaned, and made shorter by local search as long as that gains,
-/// in at most so many rounds. The same arguments give the same network. An `Err` is want of memory.
+/// A network that is no longer than a given one: this one cleaned, and then made shorter by local search as long as that gains, in at
+/// most so many descents. With none it is only cleaned; about a hundred gain nearly all that there is to gain on 50
+/// terminals. The same arguments give the same network. An `Err` is want of memory.
 pub fn shortened(
     alloc: Global,
     g: &NetGraph,
     network: &EdgeSet,
-    rounds: u32,
+    descents: u32,
 ) -> Result<EdgeSet, AllocError>
     requires size { length network.now ≡ length g.now.edges }
     requires network { IsNetwork g.now network.now }
@@ -41,7 +42,7 @@ pub fn shortened(
 {
     let start = cleaned(alloc, g, network)?;
     let mut tree = Subgraph::of_set(alloc, g, &start)?;
-    LocalSearch::new(alloc, g)?.improve(g, rounds, &mut tree)?;
+    LocalSearch::new(alloc, g)?.improve(g, descents, &mut tree)?;
     shorter(alloc, g, &start, tree.edge_set(alloc, g)?)
 }
 
