@@ -1,8 +1,8 @@
 //! Cleaning: a least spanning tree of a subgraph, without dead ends.
 
-use crate::access::{arcs_from, at, length_of, put};
+use crate::access::{at, put};
+use crate::instance::Instance;
 use crate::subgraph::Subgraph;
-use net_graph::NetGraph;
 use std::alloc::{AllocError, Global};
 use std::cmp::Reverse;
 use std::collections::BinaryHeap;
@@ -20,7 +20,7 @@ pub struct Cleaner {
 
 impl Cleaner {
     /// The work space for a graph. An `Err` is want of memory.
-    pub fn new(alloc: Global, g: &NetGraph) -> Result<Cleaner, AllocError> {
+    pub fn new(alloc: Global, g: Instance) -> Result<Cleaner, AllocError> {
         Ok(Cleaner {
             reached: vec![in alloc; false; g.vertex_count() as usize]?,
             offers: BinaryHeap::with_capacity(alloc, OFFERS as usize)?,
@@ -31,14 +31,13 @@ impl Cleaner {
     /// and what hangs on them alone. An `Err` is want of memory.
     pub fn clean(
         &mut self,
-        g: &NetGraph,
-        terminals: &[bool],
+        g: Instance,
         subgraph: &Subgraph,
         tree: &mut Subgraph,
     ) -> Result<(), AllocError> {
         self.span(g, subgraph, tree)?;
         for vertex in 0..g.vertex_count() {
-            prune_from(g, terminals, vertex, tree);
+            prune_from(g, vertex, tree);
         }
         Ok(())
     }
@@ -46,7 +45,7 @@ impl Cleaner {
     // Makes `tree` a least spanning tree of what a subgraph joins to the root (Jarnik 1930, Prim 1957).
     fn span(
         &mut self,
-        g: &NetGraph,
+        g: Instance,
         subgraph: &Subgraph,
         tree: &mut Subgraph,
     ) -> Result<(), AllocError> {
@@ -67,13 +66,13 @@ impl Cleaner {
     }
 
     // Marks a vertex as reached, and offers the edges that lead on from it.
-    fn reach(&mut self, g: &NetGraph, subgraph: &Subgraph, vertex: u32) -> Result<(), AllocError> {
+    fn reach(&mut self, g: Instance, subgraph: &Subgraph, vertex: u32) -> Result<(), AllocError> {
         put(&mut self.reached, vertex, true);
-        for arc in arcs_from(g, vertex) {
+        for arc in g.arcs_from(vertex) {
             let edge = arc.number / 2;
             if subgraph.has(edge) && !at(&self.reached, arc.to, true) {
                 self.offers
-                    .push(Reverse((length_of(g, edge), edge, arc.to)))?;
+                    .push(Reverse((g.length_of(edge), edge, arc.to)))?;
             }
         }
         Ok(())
@@ -81,10 +80,10 @@ impl Cleaner {
 }
 
 // Takes a dead end off a tree, from the leaf to the first vertex that has another use.
-fn prune_from(g: &NetGraph, terminals: &[bool], leaf: u32, tree: &mut Subgraph) {
+fn prune_from(g: Instance, leaf: u32, tree: &mut Subgraph) {
     let mut vertex = leaf;
     for _ in 0..g.vertex_count() {
-        if tree.degree(vertex) != 1 || at(terminals, vertex, true) {
+        if tree.degree(vertex) != 1 || g.is_terminal(vertex) {
             break;
         }
         if let Some(arc) = tree.arc_beside(g, vertex, None) {
@@ -92,13 +91,4 @@ fn prune_from(g: &NetGraph, terminals: &[bool], leaf: u32, tree: &mut Subgraph) 
             vertex = arc.to;
         }
     }
-}
-
-/// Whether each vertex is a terminal. An `Err` is want of memory.
-pub fn terminal_marks(alloc: Global, g: &NetGraph) -> Result<Vec<bool>, AllocError> {
-    let mut marks = vec![in alloc; false; g.vertex_count() as usize]?;
-    for terminal in g.terminals() {
-        put(&mut marks, *terminal, true);
-    }
-    Ok(marks)
 }

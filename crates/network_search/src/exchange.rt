@@ -1,10 +1,10 @@
 //! Key-path exchange: a key path of a tree gives way to a shorter path between the two parts that it joins.
 
-use crate::access::{arcs_from, at, put};
+use crate::access::{at, put};
+use crate::instance::Instance;
 use crate::key_path::KeyPath;
 use crate::shortest_paths::ShortestPaths;
 use crate::subgraph::Subgraph;
-use net_graph::NetGraph;
 use std::alloc::{AllocError, Global};
 use std::mem::swap;
 
@@ -26,7 +26,7 @@ pub struct Exchanger {
 
 impl Exchanger {
     /// The work space for a graph. An `Err` is want of memory.
-    pub fn new(alloc: Global, g: &NetGraph) -> Result<Exchanger, AllocError> {
+    pub fn new(alloc: Global, g: Instance) -> Result<Exchanger, AllocError> {
         Ok(Exchanger {
             path: KeyPath::new(alloc),
             tried: vec![in alloc; false; g.edge_count() as usize]?,
@@ -39,15 +39,10 @@ impl Exchanger {
 
     /// Exchanges key paths of a tree until nothing is gained (Duin and Voss 1997, Uchoa and Werneck 2012). An `Err` is
     /// want of memory.
-    pub fn exchange_all(
-        &mut self,
-        g: &NetGraph,
-        terminals: &[bool],
-        tree: &mut Subgraph,
-    ) -> Result<(), AllocError> {
+    pub fn exchange_all(&mut self, g: Instance, tree: &mut Subgraph) -> Result<(), AllocError> {
         for _ in 0..REPEATS {
             let length = tree.length();
-            self.exchange_each(g, terminals, tree)?;
+            self.exchange_each(g, tree)?;
             if tree.length() >= length {
                 break;
             }
@@ -56,16 +51,11 @@ impl Exchanger {
     }
 
     // Exchanges each key path of a tree in turn, where a shorter path joins the two parts. An `Err` is want of memory.
-    fn exchange_each(
-        &mut self,
-        g: &NetGraph,
-        terminals: &[bool],
-        tree: &mut Subgraph,
-    ) -> Result<(), AllocError> {
+    fn exchange_each(&mut self, g: Instance, tree: &mut Subgraph) -> Result<(), AllocError> {
         self.tried.fill(false);
         for edge in 0..g.edge_count() {
             if tree.has(edge) && !at(&self.tried, edge, true) {
-                self.path.find(g, terminals, tree, edge)?;
+                self.path.find(g, tree, edge)?;
                 self.exchange(g, tree)?;
             }
         }
@@ -73,7 +63,7 @@ impl Exchanger {
     }
 
     // Takes the path at hand out of a tree, and puts a shortest path between the two parts in. An `Err` is want of memory.
-    fn exchange(&mut self, g: &NetGraph, tree: &mut Subgraph) -> Result<(), AllocError> {
+    fn exchange(&mut self, g: Instance, tree: &mut Subgraph) -> Result<(), AllocError> {
         for edge in &self.path.edges {
             tree.remove(g, *edge);
             put(&mut self.tried, *edge, true);
@@ -90,7 +80,7 @@ impl Exchanger {
     }
 
     // Finds the two parts that are left of a tree, and marks the one with more vertices. An `Err` is want of memory.
-    fn part(&mut self, g: &NetGraph, tree: &Subgraph) -> Result<(), AllocError> {
+    fn part(&mut self, g: Instance, tree: &Subgraph) -> Result<(), AllocError> {
         self.goals.fill(false);
         find_part(g, tree, self.path.start, &mut self.goals, &mut self.one)?;
         find_part(g, tree, self.path.end, &mut self.goals, &mut self.other)?;
@@ -107,7 +97,7 @@ impl Exchanger {
 
 // Finds the vertices that a tree joins to one of them, which it marks. An `Err` is want of memory.
 fn find_part(
-    g: &NetGraph,
+    g: Instance,
     tree: &Subgraph,
     start: u32,
     marks: &mut [bool],
@@ -127,13 +117,13 @@ fn find_part(
 
 // Appends the neighbours of a vertex in a tree that aren't marked, and marks them. An `Err` is want of memory.
 fn add_neighbours(
-    g: &NetGraph,
+    g: Instance,
     tree: &Subgraph,
     vertex: u32,
     marks: &mut [bool],
     part: &mut Vec<u32>,
 ) -> Result<(), AllocError> {
-    for arc in arcs_from(g, vertex) {
+    for arc in g.arcs_from(vertex) {
         if tree.has(arc.number / 2) && !at(marks, arc.to, true) {
             put(marks, arc.to, true);
             part.push(arc.to)?;

@@ -1,13 +1,12 @@
 //! Key paths of a tree.
 
-use crate::access::{at, length_of};
+use crate::instance::Instance;
 use crate::subgraph::Subgraph;
-use net_graph::NetGraph;
 use std::alloc::{AllocError, Global};
 
 /// Whether a vertex of a tree is a key vertex: a terminal, or one where other than two edges meet.
-pub fn is_key(terminals: &[bool], tree: &Subgraph, vertex: u32) -> bool {
-    tree.degree(vertex) != 2 || at(terminals, vertex, false)
+pub fn is_key(g: Instance, tree: &Subgraph, vertex: u32) -> bool {
+    tree.degree(vertex) != 2 || g.is_terminal(vertex)
 }
 
 /// A key path of a tree: a path between two key vertices with none between them (Duin and Voss 1997).
@@ -31,25 +30,19 @@ impl KeyPath {
     }
 
     /// Finds the key path of a tree with an edge. An `Err` is want of memory.
-    pub fn find(
-        &mut self,
-        g: &NetGraph,
-        terminals: &[bool],
-        tree: &Subgraph,
-        number: u32,
-    ) -> Result<(), AllocError> {
+    pub fn find(&mut self, g: Instance, tree: &Subgraph, number: u32) -> Result<(), AllocError> {
         self.edges.clear();
         self.length = 0;
         self.push(g, number)?;
-        if let Some(edge) = g.edges().get(number as usize) {
-            self.start = self.follow(g, terminals, tree, number, edge.a)?;
-            self.end = self.follow(g, terminals, tree, number, edge.b)?;
+        if let Some(edge) = g.edge(number) {
+            self.start = self.follow(g, tree, number, edge.a)?;
+            self.end = self.follow(g, tree, number, edge.b)?;
         }
         Ok(())
     }
 
     /// Puts the path's edges into a tree.
-    pub fn put_into(&self, g: &NetGraph, tree: &mut Subgraph) {
+    pub fn put_into(&self, g: Instance, tree: &mut Subgraph) {
         for edge in &self.edges {
             tree.add(g, *edge);
         }
@@ -58,8 +51,7 @@ impl KeyPath {
     // Follows the tree from an end of an edge to the next key vertex. An `Err` is want of memory.
     fn follow(
         &mut self,
-        g: &NetGraph,
-        terminals: &[bool],
+        g: Instance,
         tree: &Subgraph,
         edge: u32,
         end: u32,
@@ -67,7 +59,7 @@ impl KeyPath {
         let mut last = edge;
         let mut vertex = end;
         for _ in 0..g.vertex_count() {
-            if is_key(terminals, tree, vertex) {
+            if is_key(g, tree, vertex) {
                 break;
             }
             if let Some(arc) = tree.arc_beside(g, vertex, Some(last)) {
@@ -80,8 +72,8 @@ impl KeyPath {
     }
 
     // Appends an edge. An `Err` is want of memory.
-    fn push(&mut self, g: &NetGraph, edge: u32) -> Result<(), AllocError> {
-        self.length = self.length.saturating_add(length_of(g, edge));
+    fn push(&mut self, g: Instance, edge: u32) -> Result<(), AllocError> {
+        self.length = self.length.saturating_add(g.length_of(edge));
         self.edges.push(edge)?;
         Ok(())
     }

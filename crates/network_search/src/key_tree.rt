@@ -1,9 +1,9 @@
 //! Least spanning trees of some vertices of a graph by their distances.
 
 use crate::distances::Distances;
+use crate::instance::Instance;
 use crate::shortest_paths::FAR;
 use crate::subgraph::Subgraph;
-use net_graph::NetGraph;
 use std::alloc::{AllocError, Global};
 
 /// A vertex that a tree joins to one before it.
@@ -81,7 +81,7 @@ impl KeyTree {
     }
 
     /// Adds shortest paths for all that is joined.
-    pub fn add_paths(&self, g: &NetGraph, distances: &Distances, subgraph: &mut Subgraph) {
+    pub fn add_paths(&self, g: Instance, distances: &Distances, subgraph: &mut Subgraph) {
         for joined in self.joined.iter().skip(1) {
             if let Some(parent) = self.joined.get(joined.parent) {
                 distances.add_path(g, parent.vertex, joined.vertex, subgraph);

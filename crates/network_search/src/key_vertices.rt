@@ -2,12 +2,11 @@
 
 ghost use Rattle.std.specs.Prelude.{◌<◌, vec_len};
 
-use crate::access::at;
 use crate::distances::Distances;
+use crate::instance::Instance;
 use crate::key_path::is_key;
 use crate::key_tree::KeyTree;
 use crate::subgraph::Subgraph;
-use net_graph::NetGraph;
 use std::alloc::{AllocError, Global};
 use std::mem::swap;
 
@@ -43,7 +42,7 @@ pub struct KeyVertices {
 
 impl KeyVertices {
     /// The work space for a graph. An `Err` is want of memory.
-    pub fn new(alloc: Global, g: &NetGraph) -> Result<KeyVertices, AllocError> {
+    pub fn new(alloc: Global, g: Instance) -> Result<KeyVertices, AllocError> {
         Ok(KeyVertices {
             keys: Vec::with_capacity(alloc, MAX_KEYS)?,
             tree: KeyTree::new(alloc),
@@ -55,17 +54,11 @@ impl KeyVertices {
     }
 
     /// Takes key vertices, as a start says. An `Err` is want of memory.
-    pub fn take(
-        &mut self,
-        g: &NetGraph,
-        terminals: &[bool],
-        tree: &Subgraph,
-        start: Start,
-    ) -> Result<(), AllocError> {
+    pub fn take(&mut self, g: Instance, tree: &Subgraph, start: Start) -> Result<(), AllocError> {
         self.start = start;
         self.keys.clear();
         for vertex in 0..g.vertex_count() {
-            if self.keys.len() < MAX_KEYS && is_taken(terminals, tree, start, vertex) {
+            if self.keys.len() < MAX_KEYS && is_taken(g, tree, start, vertex) {
                 self.keys.push(vertex)?;
                 self.distances.find(g, vertex)?;
             }
@@ -77,12 +70,12 @@ impl KeyVertices {
     }
 
     /// Inserts and eliminates Steiner vertices until nothing is gained. An `Err` is want of memory.
-    pub fn improve(&mut self, g: &NetGraph, terminals: &[bool]) -> Result<(), AllocError> {
+    pub fn improve(&mut self, g: Instance) -> Result<(), AllocError> {
         for _ in 0..REPEATS {
             let length = self.tree.length();
             self.find_gaining(g)?;
             self.insert_gaining(g)?;
-            self.eliminate_all(terminals)?;
+            self.eliminate_all(g)?;
             if self.tree.length() >= length {
                 break;
             }
@@ -96,12 +89,12 @@ impl KeyVertices {
     }
 
     /// Adds shortest paths for the whole tree of the key vertices.
-    pub fn add_paths(&self, g: &NetGraph, subgraph: &mut Subgraph) {
+    pub fn add_paths(&self, g: Instance, subgraph: &mut Subgraph) {
         self.tree.add_paths(g, &self.distances, subgraph);
     }
 
     // Finds the vertices with which the tree is shorter, the best ones first. An `Err` is want of memory.
-    fn find_gaining(&mut self, g: &NetGraph) -> Result<(), AllocError> {
+    fn find_gaining(&mut self, g: Instance) -> Result<(), AllocError> {
         self.gaining.clear();
         for vertex in 0..g.vertex_count() {
             let length = self.tree.length_with(vertex, &self.distances)?;
@@ -115,7 +108,7 @@ impl KeyVertices {
 
     // Inserts those of the vertices found that make the tree shorter still (Minoux 1990, Kahng and Robins 1992). An `Err`
     // is want of memory.
-    fn insert_gaining(&mut self, g: &NetGraph) -> Result<(), AllocError> {
+    fn insert_gaining(&mut self, g: Instance) -> Result<(), AllocError> {
         for (_, vertex) in &self.gaining {
             let length = self.tree.length_with(*vertex, &self.distances)?;
             if length < self.tree.length() && self.keys.len() < MAX_KEYS {
@@ -129,9 +122,9 @@ impl KeyVertices {
 
     // Eliminates each Steiner vertex without which the tree is no longer (Uchoa and Werneck 2012). An `Err` is want of
     // memory.
-    fn eliminate_all(&mut self, terminals: &[bool]) -> Result<(), AllocError> {
+    fn eliminate_all(&mut self, g: Instance) -> Result<(), AllocError> {
         for place in (0..self.keys.len()).rev() {
-            if place < self.keys.len() && !at(terminals, self.keys[place], true) {
+            if place < self.keys.len() && !g.is_terminal(self.keys[place]) {
                 self.eliminate(place)?;
             }
         }
@@ -154,9 +147,9 @@ impl KeyVertices {
 }
 
 // Whether a vertex is a terminal, or a key vertex to begin with.
-fn is_taken(terminals: &[bool], tree: &Subgraph, start: Start, vertex: u32) -> bool {
-    let is_steiner = tree.degree(vertex) > 0 && is_key(terminals, tree, vertex);
-    at(terminals, vertex, false)
+fn is_taken(g: Instance, tree: &Subgraph, start: Start, vertex: u32) -> bool {
+    let is_steiner = tree.degree(vertex) > 0 && is_key(g, tree, vertex);
+    g.is_terminal(vertex)
         || match start {
             Start::Tree => is_steiner,
             Start::Terminals => false,

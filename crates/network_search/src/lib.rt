@@ -5,6 +5,7 @@ mod access;
 mod cleaning;
 mod distances;
 mod exchange;
+mod instance;
 mod key_path;
 mod key_tree;
 mod key_vertices;

@@ -1,11 +1,10 @@
 //! Local search for a shorter tree.
 
-use crate::access::at;
-use crate::cleaning::{Cleaner, terminal_marks};
+use crate::cleaning::Cleaner;
 use crate::exchange::Exchanger;
+use crate::instance::Instance;
 use crate::key_vertices::{KeyVertices, Start};
 use crate::subgraph::Subgraph;
-use net_graph::NetGraph;
 use std::alloc::{AllocError, Global};
 use std::mem::swap;
 
@@ -15,7 +14,6 @@ const REPEATS: u32 = 100;
 /// What the search works with.
 #[derive(Drop)]
 pub struct LocalSearch {
-    terminals: Vec<bool>,
     cleaner: Cleaner,
     exchanger: Exchanger,
     keys: KeyVertices,
@@ -25,9 +23,8 @@ pub struct LocalSearch {
 
 impl LocalSearch {
     /// The work space for a graph. An `Err` is want of memory.
-    pub fn new(alloc: Global, g: &NetGraph) -> Result<LocalSearch, AllocError> {
+    pub fn new(alloc: Global, g: Instance) -> Result<LocalSearch, AllocError> {
         Ok(LocalSearch {
-            terminals: terminal_marks(alloc, g)?,
             cleaner: Cleaner::new(alloc, g)?,
             exchanger: Exchanger::new(alloc, g)?,
             keys: KeyVertices::new(alloc, g)?,
@@ -41,12 +38,12 @@ impl LocalSearch {
     /// as long as that gains. An `Err` is want of memory.
     pub fn improve(
         &mut self,
-        g: &NetGraph,
+        g: Instance,
         descents: u32,
         tree: &mut Subgraph,
     ) -> Result<(), AllocError> {
         if descents > 0 {
-            self.exchanger.exchange_all(g, &self.terminals, tree)?;
+            self.exchanger.exchange_all(g, tree)?;
             self.descend(g, Start::Tree, tree)?;
         }
         if descents > 1 {
@@ -67,13 +64,13 @@ impl LocalSearch {
     // want of memory.
     fn perturb(
         &mut self,
-        g: &NetGraph,
+        g: Instance,
         descents: u32,
         tree: &mut Subgraph,
     ) -> Result<u32, AllocError> {
         let mut left = descents;
         for vertex in 0..g.vertex_count() {
-            if left > 0 && tree.degree(vertex) > 2 && !at(&self.terminals, vertex, true) {
+            if left > 0 && tree.degree(vertex) > 2 && !g.is_terminal(vertex) {
                 left -= 1;
                 self.descend(g, Start::Without(vertex), tree)?;
             }
@@ -85,30 +82,28 @@ impl LocalSearch {
     // `Err` is want of memory.
     fn descend(
         &mut self,
-        g: &NetGraph,
+        g: Instance,
         start: Start,
         tree: &mut Subgraph,
     ) -> Result<(), AllocError> {
-        self.keys.take(g, &self.terminals, tree, start)?;
+        self.keys.take(g, tree, start)?;
         for _ in 0..REPEATS {
-            self.keys.improve(g, &self.terminals)?;
+            self.keys.improve(g)?;
             if self.keys.length() >= tree.length() {
                 break;
             }
             self.find_tree(g)?;
-            self.exchanger
-                .exchange_all(g, &self.terminals, &mut self.found)?;
+            self.exchanger.exchange_all(g, &mut self.found)?;
             swap(tree, &mut self.found);
-            self.keys.take(g, &self.terminals, tree, Start::Tree)?;
+            self.keys.take(g, tree, Start::Tree)?;
         }
         Ok(())
     }
 
     // Finds a tree that is no longer than that of the key vertices. An `Err` is want of memory.
-    fn find_tree(&mut self, g: &NetGraph) -> Result<(), AllocError> {
+    fn find_tree(&mut self, g: Instance) -> Result<(), AllocError> {
         self.paths.clear();
         self.keys.add_paths(g, &mut self.paths);
-        self.cleaner
-            .clean(g, &self.terminals, &self.paths, &mut self.found)
+        self.cleaner.clean(g, &self.paths, &mut self.found)
     }
 }

@@ -3,7 +3,8 @@
 ghost use Rattle.std.specs.Prelude.{◌≡◌, ◌≤◌, length, IfOk};
 ghost use Rattle.net_graph.specs.Network.{IsNetwork, length_of};
 
-use crate::cleaning::{Cleaner, terminal_marks};
+use crate::cleaning::Cleaner;
+use crate::instance::{Instance, terminal_marks};
 use crate::local_search::LocalSearch;
 use crate::subgraph::Subgraph;
 use net_graph::{EdgeSet, NetGraph, joins, length};
@@ -18,10 +19,11 @@ pub fn cleaned(alloc: Global, g: &NetGraph, network: &EdgeSet) -> Result<EdgeSet
     ensures network { IfOk result (λ found. IsNetwork g.now found) }
     ensures length { IfOk result (λ found. length_of g.now found ≤ length_of g.now network.now) }
 {
-    let mut tree = Subgraph::empty(alloc, g)?;
     let terminals = terminal_marks(alloc, g)?;
-    let given = Subgraph::of_set(alloc, g, network)?;
-    Cleaner::new(alloc, g)?.clean(g, &terminals, &given, &mut tree)?;
+    let instance = Instance::new(g, &terminals);
+    let given = Subgraph::of_set(alloc, instance, network)?;
+    let mut tree = Subgraph::empty(alloc, instance)?;
+    Cleaner::new(alloc, instance)?.clean(instance, &given, &mut tree)?;
     shorter(alloc, g, network, tree.edge_set(alloc, g)?)
 }
 
@@ -41,8 +43,10 @@ pub fn shortened(
     ensures length { IfOk result (λ found. length_of g.now found ≤ length_of g.now network.now) }
 {
     let start = cleaned(alloc, g, network)?;
-    let mut tree = Subgraph::of_set(alloc, g, &start)?;
-    LocalSearch::new(alloc, g)?.improve(g, descents, &mut tree)?;
+    let terminals = terminal_marks(alloc, g)?;
+    let instance = Instance::new(g, &terminals);
+    let mut tree = Subgraph::of_set(alloc, instance, &start)?;
+    LocalSearch::new(alloc, instance)?.improve(instance, descents, &mut tree)?;
     shorter(alloc, g, &start, tree.edge_set(alloc, g)?)
 }
 

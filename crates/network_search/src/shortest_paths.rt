@@ -1,8 +1,9 @@
 //! Shortest paths from some vertices of a graph.
 
-use crate::access::{arcs_from, at, length_of, put};
+use crate::access::{at, put};
+use crate::instance::Instance;
 use crate::subgraph::Subgraph;
-use net_graph::{Arc, NetGraph};
+use net_graph::Arc;
 use std::alloc::{AllocError, Global};
 use std::cmp::Reverse;
 use std::collections::BinaryHeap;
@@ -24,7 +25,7 @@ pub struct ShortestPaths {
 
 impl ShortestPaths {
     /// The work space for a graph. An `Err` is want of memory.
-    pub fn new(alloc: Global, g: &NetGraph) -> Result<ShortestPaths, AllocError> {
+    pub fn new(alloc: Global, g: Instance) -> Result<ShortestPaths, AllocError> {
         Ok(ShortestPaths {
             distances: vec![in alloc; FAR; g.vertex_count() as usize]?,
             found_by: vec![in alloc; None; g.vertex_count() as usize]?,
@@ -36,7 +37,7 @@ impl ShortestPaths {
     /// nearer than the limit have their distance. An `Err` is want of memory.
     pub fn search(
         &mut self,
-        g: &NetGraph,
+        g: Instance,
         sources: &[u32],
         goals: &[bool],
         limit: u64,
@@ -65,7 +66,7 @@ impl ShortestPaths {
     }
 
     /// Adds the edges of the path that found a vertex.
-    pub fn add_path(&self, g: &NetGraph, goal: u32, tree: &mut Subgraph) {
+    pub fn add_path(&self, g: Instance, goal: u32, tree: &mut Subgraph) {
         let mut vertex = goal;
         for _ in 0..g.vertex_count() {
             let Some(arc) = at(&self.found_by, vertex, None) else {
@@ -89,9 +90,9 @@ impl ShortestPaths {
     }
 
     // Finds the vertices that a path to a vertex leads on to, where that is shorter.
-    fn relax(&mut self, g: &NetGraph, vertex: u32, distance: u64) -> Result<(), AllocError> {
-        for arc in arcs_from(g, vertex) {
-            let longer = distance.saturating_add(length_of(g, arc.number / 2));
+    fn relax(&mut self, g: Instance, vertex: u32, distance: u64) -> Result<(), AllocError> {
+        for arc in g.arcs_from(vertex) {
+            let longer = distance.saturating_add(g.length_of(arc.number / 2));
             if longer < at(&self.distances, arc.to, 0) {
                 put(&mut self.distances, arc.to, longer);
                 put(&mut self.found_by, arc.to, Some(*arc));

@@ -2,7 +2,8 @@
 
 ghost use Rattle.std.specs.Prelude.{◌≡◌, length, IfOk};
 
-use crate::access::{arcs_from, at, put};
+use crate::access::{at, put};
+use crate::instance::Instance;
 use net_graph::{Arc, EdgeSet, NetGraph};
 use std::alloc::{AllocError, Global};
 
@@ -16,7 +17,7 @@ pub struct Subgraph {
 
 impl Subgraph {
     /// No edge of the graph. An `Err` is want of memory.
-    pub fn empty(alloc: Global, g: &NetGraph) -> Result<Subgraph, AllocError> {
+    pub fn empty(alloc: Global, g: Instance) -> Result<Subgraph, AllocError> {
         Ok(Subgraph {
             inside: vec![in alloc; false; g.edge_count() as usize]?,
             degrees: vec![in alloc; 0; g.vertex_count() as usize]?,
@@ -25,7 +26,7 @@ impl Subgraph {
     }
 
     /// The edges of a set. An `Err` is want of memory.
-    pub fn of_set(alloc: Global, g: &NetGraph, set: &EdgeSet) -> Result<Subgraph, AllocError> {
+    pub fn of_set(alloc: Global, g: Instance, set: &EdgeSet) -> Result<Subgraph, AllocError> {
         let mut subgraph = Subgraph::empty(alloc, g)?;
         for edge in 0..set.len() {
             if set.has(edge) {
@@ -64,8 +65,8 @@ impl Subgraph {
     }
 
     /// The first of its arcs from a vertex that is no arc of another edge.
-    pub fn arc_beside(&self, g: &NetGraph, vertex: u32, other: Option<u32>) -> Option<Arc> {
-        for arc in arcs_from(g, vertex) {
+    pub fn arc_beside(&self, g: Instance, vertex: u32, other: Option<u32>) -> Option<Arc> {
+        for arc in g.arcs_from(vertex) {
             if self.has(arc.number / 2) && other != Some(arc.number / 2) {
                 return Some(*arc);
             }
@@ -74,8 +75,8 @@ impl Subgraph {
     }
 
     /// Puts an edge in.
-    pub fn add(&mut self, g: &NetGraph, number: u32) {
-        if let Some(edge) = g.edges().get(number as usize) {
+    pub fn add(&mut self, g: Instance, number: u32) {
+        if let Some(edge) = g.edge(number) {
             if !self.has(number) {
                 put(&mut self.inside, number, true);
                 self.length = self.length.saturating_add(edge.length);
@@ -88,8 +89,8 @@ impl Subgraph {
     }
 
     /// Takes an edge out.
-    pub fn remove(&mut self, g: &NetGraph, number: u32) {
-        if let Some(edge) = g.edges().get(number as usize) {
+    pub fn remove(&mut self, g: Instance, number: u32) {
+        if let Some(edge) = g.edge(number) {
             if self.has(number) {
                 put(&mut self.inside, number, false);
                 self.length = self.length.saturating_sub(edge.length);

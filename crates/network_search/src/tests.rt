@@ -2,8 +2,8 @@
 
 ghost use Rattle.std.specs.Prelude.{◌≡◌, length, IfOk};
 
-use crate::cleaning::terminal_marks;
 use crate::exchange::Exchanger;
+use crate::instance::{Instance, terminal_marks};
 use crate::subgraph::Subgraph;
 use crate::{cleaned, shortened};
 use item_list::ItemList;
@@ -117,9 +117,10 @@ fn shorter_networks(rt: HostRuntime) -> Result<(), Fail> {
 fn exchanged_key_path(rt: HostRuntime) -> Result<(), Fail> {
     let g = graph(rt.alloc())?;
     let marks = terminal_marks(rt.alloc(), &g)?;
-    let mut tree = Subgraph::of_set(rt.alloc(), &g, &set_of(rt.alloc(), &g, &[0, 2])?)?;
+    let instance = Instance::new(&g, &marks);
+    let mut tree = Subgraph::of_set(rt.alloc(), instance, &set_of(rt.alloc(), &g, &[0, 2])?)?;
     assert_eq!(rt; tree.length(), 9);
-    Exchanger::new(rt.alloc(), &g)?.exchange_all(&g, &marks, &mut tree)?;
+    Exchanger::new(rt.alloc(), instance)?.exchange_all(instance, &mut tree)?;
     // The edges 3 and 5 take the place of edge 2, and then edge 4 that of edge 0.
     assert_eq!(rt; tree.length(), 6);
     Ok(())
