@@ -7,7 +7,8 @@ use std::alloc::{AllocError, Global};
 use std::cmp::Reverse;
 use std::collections::BinaryHeap;
 
-// At least as many edges as a spanning tree is offered: a graph has at most 4,900, each of them from both ends.
+// At least as many edges as a spanning tree is offered: a graph has at most 4,900, each of them
+// from both ends.
 const OFFERS: u32 = 9_800;
 
 /// What cleaning works with; it keeps its memory from call to call.
@@ -27,8 +28,8 @@ impl Cleaner {
         })
     }
 
-    /// Makes `tree` a least spanning tree of what a subgraph joins to the root, without the leaves that are no terminals
-    /// and what hangs on them alone. An `Err` is want of memory.
+    /// Makes `tree` a least spanning tree of what a subgraph joins to the root, without the leaves
+    /// that are no terminals and what hangs on them alone. An `Err` is want of memory.
     pub fn clean(
         &mut self,
         g: Instance,
@@ -42,7 +43,8 @@ impl Cleaner {
         Ok(())
     }
 
-    // Makes `tree` a least spanning tree of what a subgraph joins to the root (Jarnik 1930, Prim 1957).
+    // Makes `tree` a least spanning tree of what a subgraph joins to the root (Jarnik 1930, Prim
+    // 1957).
     fn span(
         &mut self,
         g: Instance,

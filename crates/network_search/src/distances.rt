@@ -28,7 +28,8 @@ impl Distances {
         })
     }
 
-    /// Finds the distances from a vertex, where they weren't asked for before. An `Err` is want of memory.
+    /// Finds the distances from a vertex, where they weren't asked for before. An `Err` is want of
+    /// memory.
     pub fn find(&mut self, g: Instance, vertex: u32) -> Result<(), AllocError> {
         let place = vertex as usize;
         if place < self.rows.len() && self.rows[place].is_empty() {
@@ -46,8 +47,8 @@ impl Distances {
         }
     }
 
-    /// Adds the edges of a shortest path from a vertex, whose distances were found, to another one. Where it may, it goes
-    /// along what is there.
+    /// Adds the edges of a shortest path from a vertex, whose distances were found, to another one.
+    /// Where it may, it goes along what is there.
     pub fn add_path(&self, g: Instance, from: u32, to: u32, subgraph: &mut Subgraph) {
         let mut vertex = to;
         for _ in 0..g.vertex_count() {

@@ -1,4 +1,5 @@
-//! Key-path exchange: a key path of a tree gives way to a shorter path between the two parts that it joins.
+//! Key-path exchange: a key path of a tree gives way to a shorter path between the two parts that
+//! it joins.
 
 use crate::access::{at, put};
 use crate::instance::Instance;
@@ -37,8 +38,8 @@ impl Exchanger {
         })
     }
 
-    /// Exchanges key paths of a tree until nothing is gained (Duin and Voss 1997, Uchoa and Werneck 2012). An `Err` is
-    /// want of memory.
+    /// Exchanges key paths of a tree until nothing is gained (Duin and Voss 1997, Uchoa and Werneck
+    /// 2012). An `Err` is want of memory.
     pub fn exchange_all(&mut self, g: Instance, tree: &mut Subgraph) -> Result<(), AllocError> {
         for _ in 0..REPEATS {
             let length = tree.length();
@@ -50,7 +51,8 @@ impl Exchanger {
         Ok(())
     }
 
-    // Exchanges each key path of a tree in turn, where a shorter path joins the two parts. An `Err` is want of memory.
+    // Exchanges each key path of a tree in turn, where a shorter path joins the two parts. An `Err`
+    // is want of memory.
     fn exchange_each(&mut self, g: Instance, tree: &mut Subgraph) -> Result<(), AllocError> {
         self.tried.fill(false);
         for edge in 0..g.edge_count() {
@@ -62,7 +64,8 @@ impl Exchanger {
         Ok(())
     }
 
-    // Takes the path at hand out of a tree, and puts a shortest path between the two parts in. An `Err` is want of memory.
+    // Takes the path at hand out of a tree, and puts a shortest path between the two parts in. An
+    // `Err` is want of memory.
     fn exchange(&mut self, g: Instance, tree: &mut Subgraph) -> Result<(), AllocError> {
         for edge in &self.path.edges {
             tree.remove(g, *edge);
@@ -79,7 +82,8 @@ impl Exchanger {
         Ok(())
     }
 
-    // Finds the two parts that are left of a tree, and marks the one with more vertices. An `Err` is want of memory.
+    // Finds the two parts that are left of a tree, and marks the one with more vertices. An `Err`
+    // is want of memory.
     fn part(&mut self, g: Instance, tree: &Subgraph) -> Result<(), AllocError> {
         self.goals.fill(false);
         find_part(g, tree, self.path.start, &mut self.goals, &mut self.one)?;
@@ -115,7 +119,8 @@ fn find_part(
     Ok(())
 }
 
-// Appends the neighbours of a vertex in a tree that aren't marked, and marks them. An `Err` is want of memory.
+// Appends the neighbours of a vertex in a tree that aren't marked, and marks them. An `Err` is want
+// of memory.
 fn add_neighbours(
     g: Instance,
     tree: &Subgraph,

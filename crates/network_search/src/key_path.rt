@@ -9,7 +9,8 @@ pub fn is_key(g: Instance, tree: &Subgraph, vertex: u32) -> bool {
     tree.degree(vertex) != 2 || g.is_terminal(vertex)
 }
 
-/// A key path of a tree: a path between two key vertices with none between them (Duin and Voss 1997).
+/// A key path of a tree: a path between two key vertices with none between them (Duin and Voss
+/// 1997).
 #[derive(Drop)]
 pub struct KeyPath {
     pub edges: Vec<u32>,

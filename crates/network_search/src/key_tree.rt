@@ -42,7 +42,8 @@ impl KeyTree {
         self.length
     }
 
-    /// Spans some vertices, whose distances were found (Jarnik 1930, Prim 1957). An `Err` is want of memory.
+    /// Spans some vertices, whose distances were found (Jarnik 1930, Prim 1957). An `Err` is want
+    /// of memory.
     pub fn span(&mut self, keys: &[u32], distances: &Distances) -> Result<(), AllocError> {
         self.joined.clear();
         self.waiting.clear();
@@ -66,7 +67,8 @@ impl KeyTree {
         Ok(())
     }
 
-    /// The length of a least spanning tree with one more vertex (Spira and Pan 1975). An `Err` is want of memory.
+    /// The length of a least spanning tree with one more vertex (Spira and Pan 1975). An `Err` is
+    /// want of memory.
     pub fn length_with(&mut self, vertex: u32, distances: &Distances) -> Result<u64, AllocError> {
         self.links.clear();
         for joined in &self.joined {
@@ -89,7 +91,8 @@ impl KeyTree {
         }
     }
 
-    // Of the joining of a place and of its link it keeps the shorter, and hands the longer on as a link of the parent.
+    // Of the joining of a place and of its link it keeps the shorter, and hands the longer on as a
+    // link of the parent.
     fn cut_cycle(&mut self, place: usize) -> u64 {
         if place >= self.joined.len() || place >= self.links.len() {
             return 0;

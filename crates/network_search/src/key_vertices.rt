@@ -10,7 +10,8 @@ use crate::subgraph::Subgraph;
 use std::alloc::{AllocError, Global};
 use std::mem::swap;
 
-// How many key vertices a tree has at most whose key vertices are moved: for more it would take too long.
+// How many key vertices a tree has at most whose key vertices are moved: for more it would take too
+// long.
 const MAX_KEYS: usize = 300;
 
 // How often insertion and elimination are repeated at most while they gain.
@@ -71,6 +72,9 @@ impl KeyVertices {
 
     /// Inserts and eliminates Steiner vertices until nothing is gained. An `Err` is want of memory.
     pub fn improve(&mut self, g: Instance) -> Result<(), AllocError> {
+        if self.keys.is_empty() {
+            return Ok(());
+        }
         for _ in 0..REPEATS {
             let length = self.tree.length();
             self.find_gaining(g)?;
@@ -83,7 +87,8 @@ impl KeyVertices {
         Ok(())
     }
 
-    /// The length of a least spanning tree of the key vertices by their distances; `FAR` where there are too many of them.
+    /// The length of a least spanning tree of the key vertices by their distances; `FAR` where
+    /// there are too many of them.
     pub fn length(&self) -> u64 {
         self.tree.length()
     }
@@ -93,7 +98,8 @@ impl KeyVertices {
         self.tree.add_paths(g, &self.distances, subgraph);
     }
 
-    // Finds the vertices with which the tree is shorter, the best ones first. An `Err` is want of memory.
+    // Finds the vertices with which the tree is shorter, the best ones first. An `Err` is want of
+    // memory.
     fn find_gaining(&mut self, g: Instance) -> Result<(), AllocError> {
         self.gaining.clear();
         for vertex in 0..g.vertex_count() {
@@ -106,8 +112,8 @@ impl KeyVertices {
         Ok(())
     }
 
-    // Inserts those of the vertices found that make the tree shorter still (Minoux 1990, Kahng and Robins 1992). An `Err`
-    // is want of memory.
+    // Inserts those of the vertices found that make the tree shorter still (Minoux 1990, Kahng and
+    // Robins 1992). An `Err` is want of memory.
     fn insert_gaining(&mut self, g: Instance) -> Result<(), AllocError> {
         for (_, vertex) in &self.gaining {
             let length = self.tree.length_with(*vertex, &self.distances)?;
@@ -120,8 +126,8 @@ impl KeyVertices {
         Ok(())
     }
 
-    // Eliminates each Steiner vertex without which the tree is no longer (Uchoa and Werneck 2012). An `Err` is want of
-    // memory.
+    // Eliminates each Steiner vertex without which the tree is no longer (Uchoa and Werneck 2012).
+    // An `Err` is want of memory.
     fn eliminate_all(&mut self, g: Instance) -> Result<(), AllocError> {
         for place in (0..self.keys.len()).rev() {
             if place < self.keys.len() && !g.is_terminal(self.keys[place]) {
@@ -131,7 +137,8 @@ impl KeyVertices {
         Ok(())
     }
 
-    // Eliminates the key vertex at a place, where the tree is no longer then. An `Err` is want of memory.
+    // Eliminates the key vertex at a place, where the tree is no longer then. An `Err` is want of
+    // memory.
     fn eliminate(&mut self, place: usize) -> Result<(), AllocError>
         requires { place < vec_len self.old.keys }
     {

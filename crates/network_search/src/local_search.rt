@@ -8,7 +8,8 @@ use crate::subgraph::Subgraph;
 use std::alloc::{AllocError, Global};
 use std::mem::swap;
 
-// How often a descent goes on, and how often all Steiner vertices are left out in turn, at most while that gains.
+// How often a descent goes on, and how often all Steiner vertices are left out in turn, at most
+// while that gains.
 const REPEATS: u32 = 100;
 
 /// What the search works with.
@@ -33,9 +34,10 @@ impl LocalSearch {
         })
     }
 
-    /// Makes a tree shorter by at most so many descents: the first begins with the tree, the second with the terminals
-    /// alone, and each further one with the shortest tree so far without one of its Steiner vertices, each of them in turn
-    /// as long as that gains. An `Err` is want of memory.
+    /// Makes a tree shorter by at most so many descents: the first begins with the tree, the second
+    /// with the terminals alone, and each further one with the shortest tree so far without one of
+    /// its Steiner vertices, each of them in turn as long as that gains. An `Err` is want of
+    /// memory.
     pub fn improve(
         &mut self,
         g: Instance,
@@ -60,8 +62,8 @@ impl LocalSearch {
         Ok(())
     }
 
-    // Leaves each Steiner vertex of a tree out in turn, in at most so many descents; tells how many are left. An `Err` is
-    // want of memory.
+    // Leaves each Steiner vertex of a tree out in turn, in at most so many descents; tells how many
+    // are left. An `Err` is want of memory.
     fn perturb(
         &mut self,
         g: Instance,
@@ -78,8 +80,8 @@ impl LocalSearch {
         Ok(left)
     }
 
-    // Moves key vertices and exchanges key paths until nothing is gained, and takes what is shorter than the tree. An
-    // `Err` is want of memory.
+    // Moves key vertices and exchanges key paths until nothing is gained, and takes what is shorter
+    // than the tree. An `Err` is want of memory.
     fn descend(
         &mut self,
         g: Instance,

@@ -10,8 +10,8 @@ use crate::subgraph::Subgraph;
 use net_graph::{EdgeSet, NetGraph, joins, length};
 use std::alloc::{AllocError, Global};
 
-/// A network without what it doesn't need: a least spanning tree of its edges, without the leaves that are no terminals and what hangs
-/// on them alone. An `Err` is want of memory.
+/// A network without what it doesn't need: a least spanning tree of its edges, without the leaves
+/// that are no terminals and what hangs on them alone. An `Err` is want of memory.
 pub fn cleaned(alloc: Global, g: &NetGraph, network: &EdgeSet) -> Result<EdgeSet, AllocError>
     requires size { length network.now ≡ length g.now.edges }
     requires network { IsNetwork g.now network.now }
@@ -27,9 +27,10 @@ pub fn cleaned(alloc: Global, g: &NetGraph, network: &EdgeSet) -> Result<EdgeSet
     shorter(alloc, g, network, tree.edge_set(alloc, g)?)
 }
 
-/// A network that is no longer than a given one: this one cleaned, and then made shorter by local search as long as that gains, in at
-/// most so many descents. With none it is only cleaned; about a hundred gain nearly all that there is to gain on 50
-/// terminals. The same arguments give the same network. An `Err` is want of memory.
+/// A network that is no longer than a given one: this one cleaned, and then made shorter by local
+/// search as long as that gains, in at most so many descents. With none it is only cleaned; about a
+/// hundred gain nearly all that there is to gain on 50 terminals. The same arguments give the same
+/// network. An `Err` is want of memory.
 pub fn shortened(
     alloc: Global,
     g: &NetGraph,
@@ -50,7 +51,8 @@ pub fn shortened(
     shorter(alloc, g, &start, tree.edge_set(alloc, g)?)
 }
 
-// What is proposed in place of a network, where it is a shorter network; else the network. An `Err` is want of memory.
+// What is proposed in place of a network, where it is a shorter network; else the network. An `Err`
+// is want of memory.
 fn shorter(
     alloc: Global,
     g: &NetGraph,

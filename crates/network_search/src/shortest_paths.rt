@@ -11,7 +11,8 @@ use std::collections::BinaryHeap;
 /// Farther than any vertex that a path leads to.
 pub const FAR: u64 = u64::MAX;
 
-// At least as many entries as a search takes from its heap: one for each of 2,500 vertices and of 9,800 arcs.
+// At least as many entries as a search takes from its heap: one for each of 2,500 vertices and of
+// 9,800 arcs.
 const ENTRIES: u32 = 12_300;
 
 /// A search for shortest paths (Dijkstra 1959). It keeps its memory from search to search.
@@ -33,8 +34,8 @@ impl ShortestPaths {
         })
     }
 
-    /// Searches from some vertices for the nearest goal that is nearer than a limit. Where there is none, all vertices
-    /// nearer than the limit have their distance. An `Err` is want of memory.
+    /// Searches from some vertices for the nearest goal that is nearer than a limit. Where there is
+    /// none, all vertices nearer than the limit have their distance. An `Err` is want of memory.
     pub fn search(
         &mut self,
         g: Instance,
