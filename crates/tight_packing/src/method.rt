@@ -1,0 +1,158 @@
+//! The exchange method.
+
+ghost use Rattle.std.specs.Prelude.{◌≡◌, length, All, IfOk, IfSome};
+ghost use Rattle.hanan_grid.specs.Grid.{hanan_grid_of};
+ghost use Rattle.tight_packing.specs.Exchanged.{IsJudged, IsShorter};
+
+use crate::bound::{Bound, judged};
+use crate::budget::Budget;
+use crate::kept::Kept;
+use crate::mesh::Mesh;
+use crate::rounds::{Ending, Rounds};
+use crate::side::Side;
+use crate::state::State;
+use crate::tree::Tree;
+use hanan_grid::Grid;
+use net_graph::{Cut, EdgeSet, NetGraph, Packing, VertexSet, joins, length};
+use std::alloc::{AllocError, Global};
+
+// Longer networks are refused, so that no sum wraps.
+const MAX_LENGTH: i64 = 1 << 42;
+
+/// How an exchange ended.
+#[derive(Debug, Drop)]
+pub enum Outcome {
+    /// The value of the packing is the length of the cleaned network.
+    Tight(Bound),
+    /// There is no such packing. That is computed and not proved. The bound is what is at hand.
+    Impossible(Option<Bound>),
+    /// The budget is spent, or the network doesn't join the terminals. The bound is what is at hand.
+    Exhausted(Option<Bound>),
+    /// The network is longer than 2^42.
+    TooLong,
+}
+
+/// What an exchange gives.
+#[derive(Debug, Drop)]
+pub struct Exchanged {
+    pub outcome: Outcome,
+    /// The cleaned network, where it is shorter than the given one.
+    pub shorter: Option<EdgeSet>,
+}
+
+/// Looks for a packing whose value is the length of a network on a grid. The network is first cleaned: an edge of each
+/// cycle goes, and what joins no terminal. `start` has cuts to begin with, as those of an ascent. Equal arguments give equal
+/// results. An `Err` is want of memory.
+pub fn exchange(
+    alloc: Global,
+    grid: &Grid,
+    network: &EdgeSet,
+    start: &Packing,
+    budget: Budget,
+) -> Result<Exchanged, AllocError>
+    requires { length network.now ≡ length (hanan_grid_of grid.now).edges }
+    ensures bound { IfOk result (λ found. IsJudged (hanan_grid_of grid.now) found.outcome) }
+    ensures shorter { IfOk result (λ found. IfSome found.shorter (IsShorter (hanan_grid_of grid.now) network.now)) }
+{
+    let graph = grid.graph();
+    let mesh = Mesh::of(alloc, grid)?;
+    let found = Tree::of(alloc, &mesh, network, graph.terminals())?;
+    let Some(tree) = found else {
+        return Ok(Exchanged {
+            outcome: Outcome::Exhausted(None),
+            shorter: None,
+        });
+    };
+    let shorter = shorter(alloc, graph, network, &tree)?;
+    let outcome = packed(alloc, graph, mesh, tree, start, budget)?;
+    Ok(Exchanged { outcome, shorter })
+}
+
+// Plays the rounds along a tree, and judges what is found. An `Err` is want of memory.
+fn packed(
+    alloc: Global,
+    graph: &NetGraph,
+    mesh: Mesh,
+    tree: Tree,
+    start: &Packing,
+    budget: Budget,
+) -> Result<Outcome, AllocError>
+    ensures { IfOk result (IsJudged graph.now) }
+{
+    if tree.length > MAX_LENGTH {
+        return Ok(Outcome::TooLong);
+    }
+    let mut state = State::new(alloc, mesh, tree)?;
+    state.start(start)?;
+    let ending = Rounds::new().play(&mut state, budget)?;
+    state.kept.relieve(&state.mesh)?;
+    let packing = packing_of(alloc, graph, &state.kept)?;
+    let bound = judged(alloc, graph, packing)?;
+    Ok(match (ending, bound) {
+        (Ending::Tight, Some(bound)) => Outcome::Tight(bound),
+        (Ending::Impossible, bound) => Outcome::Impossible(bound),
+        (_, bound) => Outcome::Exhausted(bound),
+    })
+}
+
+// The tree, where it is shorter than the network. An `Err` is want of memory.
+fn shorter(
+    alloc: Global,
+    graph: &NetGraph,
+    network: &EdgeSet,
+    tree: &Tree,
+) -> Result<Option<EdgeSet>, AllocError>
+    requires { length network.now ≡ length graph.now.edges }
+    ensures { IfOk result (λ found. IfSome found (IsShorter graph.now network.now)) }
+{
+    let set = edges_of(alloc, graph.edge_count(), tree)?;
+    if net_graph::length(graph, &set) < net_graph::length(graph, network)
+        && joins(alloc, graph, &set)?
+    {
+        return Ok(Some(set));
+    }
+    Ok(None)
+}
+
+// The edges of a tree, as far as they are below a count. An `Err` is want of memory.
+fn edges_of(alloc: Global, count: u32, tree: &Tree) -> Result<EdgeSet, AllocError>
+    ensures { IfOk result (λ set. length set ≡ count) }
+{
+    let mut set = EdgeSet::empty(alloc, count)?;
+    for group in 0..tree.groups() {
+        let edge = tree.arc(group) / 2;
+        if edge < count {
+            set.add(edge);
+        }
+    }
+    Ok(set)
+}
+
+// What was kept, as a packing. An `Err` is want of memory.
+fn packing_of(alloc: Global, graph: &NetGraph, kept: &Kept) -> Result<Packing, AllocError>
+    ensures { IfOk result (All (λ c. length c.members ≡ graph.now.vertices)) }
+{
+    let mut packing = Packing::empty(alloc);
+    for cut in &kept.cuts {
+        if cut.weight > 0 {
+            packing.push(Cut {
+                weight: cut.weight.unsigned_abs(),
+                members: members_of(alloc, graph.vertex_count(), &cut.side)?,
+            })?;
+        }
+    }
+    Ok(packing)
+}
+
+// The vertices below a count that a side has. An `Err` is want of memory.
+fn members_of(alloc: Global, count: u32, side: &Side) -> Result<VertexSet, AllocError>
+    ensures { IfOk result (λ set. length set ≡ count) }
+{
+    let mut set = VertexSet::empty(alloc, count)?;
+    for vertex in 0..count {
+        if side.has(vertex) {
+            set.add(vertex);
+        }
+    }
+    Ok(set)
+}

@@ -1,0 +1,1 @@
+//! The grid of three points.
