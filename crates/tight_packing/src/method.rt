@@ -1,23 +1,23 @@
 //! The exchange method.
 
 ghost use Rattle.std.specs.Prelude.{◌≡◌, length, All, IfOk, IfSome};
+ghost use Rattle.net_graph.specs.Network.{length_of};
 ghost use Rattle.hanan_grid.specs.Grid.{hanan_grid_of};
-ghost use Rattle.tight_packing.specs.Exchanged.{IsJudged, IsShorter};
+ghost use Rattle.tight_packing.specs.Exchanged.{IsOutcomeFor, aim_of, IsShorter};
 
 use crate::bound::{Bound, judged};
 use crate::budget::Budget;
 use crate::kept::Kept;
-use crate::mesh::Mesh;
 use crate::rounds::{Ending, Rounds};
 use crate::side::Side;
 use crate::state::State;
 use crate::tree::Tree;
 use hanan_grid::Grid;
-use net_graph::{Cut, EdgeSet, NetGraph, Packing, VertexSet, joins, length};
+use net_graph::{Cut, EdgeSet, NetGraph, Packing, VertexSet, joins};
 use std::alloc::{AllocError, Global};
 
 // Longer networks are refused, so that no sum wraps.
-const MAX_LENGTH: i64 = 1 << 42;
+const MAX_LENGTH: u64 = 1 << 42;
 
 /// How an exchange ended.
 #[derive(Debug, Drop)]
@@ -28,7 +28,7 @@ pub enum Outcome {
     Impossible(Option<Bound>),
     /// The budget is spent, or the network doesn't join the terminals. The bound is what is at hand.
     Exhausted(Option<Bound>),
-    /// The network is longer than 2^42.
+    /// The cleaned network is longer than 2^42.
     TooLong,
 }
 
@@ -41,8 +41,8 @@ pub struct Exchanged {
 }
 
 /// Looks for a packing whose value is the length of a network on a grid. The network is first cleaned: an edge of each
-/// cycle goes, and what joins no terminal. `start` has cuts to begin with, as those of an ascent. Equal arguments give equal
-/// results. An `Err` is want of memory.
+/// cycle goes, and what joins no terminal. `start` has cuts to begin with, as those of an ascent. Equal arguments give
+/// equal results. An `Err` is want of memory.
 pub fn exchange(
     alloc: Global,
     grid: &Grid,
@@ -51,61 +51,65 @@ pub fn exchange(
     budget: Budget,
 ) -> Result<Exchanged, AllocError>
     requires { length network.now ≡ length (hanan_grid_of grid.now).edges }
-    ensures bound { IfOk result (λ found. IsJudged (hanan_grid_of grid.now) found.outcome) }
-    ensures shorter { IfOk result (λ found. IfSome found.shorter (IsShorter (hanan_grid_of grid.now) network.now)) }
+    ensures outcome { IfOk result (λ found. IsOutcomeFor (hanan_grid_of grid.now)
+        (length_of (hanan_grid_of grid.now) (aim_of network.now found.shorter)) found.outcome) }
+    ensures shorter { IfOk result
+        (λ found. IfSome found.shorter (IsShorter (hanan_grid_of grid.now) network.now)) }
 {
     let graph = grid.graph();
-    let mesh = Mesh::of(alloc, grid)?;
-    let found = Tree::of(alloc, &mesh, network, graph.terminals())?;
-    let Some(tree) = found else {
-        return Ok(Exchanged {
-            outcome: Outcome::Exhausted(None),
-            shorter: None,
-        });
+    let state = State::along(alloc, grid, network)?;
+    let shorter = shorter(alloc, graph, network, &state)?;
+    let length = match &shorter {
+        Some(set) => net_graph::length(graph, set),
+        None => net_graph::length(graph, network),
     };
-    let shorter = shorter(alloc, graph, network, &tree)?;
-    let outcome = packed(alloc, graph, mesh, tree, start, budget)?;
+    let outcome = packed(alloc, graph, state, start, budget, length)?;
     Ok(Exchanged { outcome, shorter })
 }
 
-// Plays the rounds along a tree, and judges what is found. An `Err` is want of memory.
+// Plays the rounds along a tree, if there is one, and judges what is found. An `Err` is want of memory.
 fn packed(
     alloc: Global,
     graph: &NetGraph,
-    mesh: Mesh,
-    tree: Tree,
+    state: Option<State>,
     start: &Packing,
     budget: Budget,
+    length: u64,
 ) -> Result<Outcome, AllocError>
-    ensures { IfOk result (IsJudged graph.now) }
+    ensures { IfOk result (IsOutcomeFor graph.now length) }
 {
-    if tree.length > MAX_LENGTH {
+    if length > MAX_LENGTH {
         return Ok(Outcome::TooLong);
     }
-    let mut state = State::new(alloc, mesh, tree)?;
+    let Some(mut state) = state else {
+        return Ok(Outcome::Exhausted(None));
+    };
     state.start(start)?;
     let ending = Rounds::new().play(&mut state, budget)?;
     state.kept.relieve(&state.mesh)?;
     let packing = packing_of(alloc, graph, &state.kept)?;
     let bound = judged(alloc, graph, packing)?;
     Ok(match (ending, bound) {
-        (Ending::Tight, Some(bound)) => Outcome::Tight(bound),
+        (_, Some(bound)) if bound.value == u128::from(length) => Outcome::Tight(bound),
         (Ending::Impossible, bound) => Outcome::Impossible(bound),
         (_, bound) => Outcome::Exhausted(bound),
     })
 }
 
-// The tree, where it is shorter than the network. An `Err` is want of memory.
+// The edges of a tree, where they are shorter than the network. An `Err` is want of memory.
 fn shorter(
     alloc: Global,
     graph: &NetGraph,
     network: &EdgeSet,
-    tree: &Tree,
+    state: &Option<State>,
 ) -> Result<Option<EdgeSet>, AllocError>
     requires { length network.now ≡ length graph.now.edges }
     ensures { IfOk result (λ found. IfSome found (IsShorter graph.now network.now)) }
 {
-    let set = edges_of(alloc, graph.edge_count(), tree)?;
+    let Some(state) = state else {
+        return Ok(None);
+    };
+    let set = edges_of(alloc, graph.edge_count(), &state.tree)?;
     if net_graph::length(graph, &set) < net_graph::length(graph, network)
         && joins(alloc, graph, &set)?
     {

@@ -11,6 +11,8 @@ use crate::random::Random;
 use crate::tidy::Tidier;
 use crate::tree::Tree;
 use crate::units::Units;
+use hanan_grid::Grid;
+use net_graph::EdgeSet;
 use std::alloc::{AllocError, Global};
 
 /// The work done.
@@ -47,8 +49,22 @@ pub struct State {
 }
 
 impl State {
-    /// The empty pool along a tree. An `Err` is want of memory.
-    pub fn new(alloc: Global, mesh: Mesh, tree: Tree) -> Result<State, AllocError> {
+    /// The empty pool along a network on a grid; `None` where it doesn't join the terminals. An `Err` is want of memory.
+    pub fn along(
+        alloc: Global,
+        grid: &Grid,
+        network: &EdgeSet,
+    ) -> Result<Option<State>, AllocError> {
+        let mesh = Mesh::of(alloc, grid)?;
+        let tree = Tree::of(alloc, &mesh, network, grid.graph().terminals())?;
+        match tree {
+            Some(tree) => Ok(Some(State::new(alloc, mesh, tree)?)),
+            None => Ok(None),
+        }
+    }
+
+    // The empty pool along a tree. An `Err` is want of memory.
+    fn new(alloc: Global, mesh: Mesh, tree: Tree) -> Result<State, AllocError> {
         let groups = tree.groups();
         let mut order = Vec::new(alloc);
         for group in 0..groups {
