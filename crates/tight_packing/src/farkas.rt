@@ -29,7 +29,7 @@ impl State {
 
     // The price of a cheapest cut of a group, over all terminals. An `Err` is want of memory.
     fn cheapest(&mut self, group: u32) -> Result<i64, AllocError> {
-        let mut least = self.pool.least_cost(group, &self.loads, BLOCKED);
+        let mut least = self.pool.least_price(group, &self.loads, BLOCKED);
         for place in 0..self.tree.terminal_count(group) {
             if least > 0 {
                 let terminal = self.tree.terminal(group, place);

@@ -46,7 +46,7 @@ impl State {
         if failures > 0 && self.random.below(rest) != 0 {
             return Ok(0);
         }
-        let cheapest = self.pool.least_cost(group, &self.loads, BLOCKED);
+        let cheapest = self.pool.least_price(group, &self.loads, BLOCKED);
         if cheapest == 0 {
             return Ok(0);
         }

@@ -113,27 +113,36 @@ impl Pool {
         }
     }
 
-    /// What a cut costs: the prices of the arcs off the tree that enter it.
+    /// What a cut costs: the overloads of the arcs off the tree that enter it.
     pub fn cost(&self, cut: u32, loads: &Loads) -> i64 {
         let mut sum = 0i64;
         for arc in self.entered(cut) {
-            sum = sum.wrapping_add(loads.price(*arc));
+            sum = sum.wrapping_add(loads.over(*arc));
         }
         sum
     }
 
-    /// The least cost of a group's cuts, or the default where it has none.
-    pub fn least_cost(&self, group: u32, loads: &Loads, default: i64) -> i64 {
+    /// The least price of a group's cuts, or the default where it has none.
+    pub fn least_price(&self, group: u32, loads: &Loads, default: i64) -> i64 {
         let mut least = default;
         let mut cut = self.first(group);
         for _ in 0..self.len() {
             if cut == NONE {
                 break;
             }
-            least = least.min(self.cost(cut, loads));
+            least = least.min(self.price(cut, loads));
             cut = self.next(cut);
         }
         least
+    }
+
+    // The price of a cut: those of the arcs off the tree that enter it.
+    fn price(&self, cut: u32, loads: &Loads) -> i64 {
+        let mut sum = 0i64;
+        for arc in self.entered(cut) {
+            sum = sum.wrapping_add(loads.price(*arc));
+        }
+        sum
     }
 
     /// Adds to the weight of a cut and to the loads; the sums of the groups are the caller's care.

@@ -204,10 +204,7 @@ impl Rounds {
     // Whether it is time to test that no packing exists.
     fn is_time_to_test(&self, state: &State) -> bool {
         match self.multiplying_since {
-            Some(since) => {
-                let rounds = state.work.rounds.wrapping_sub(since);
-                self.phase == Phase::Fine && rounds % TEST_GAP == TEST_GAP - 1
-            }
+            Some(since) => state.work.rounds.wrapping_sub(since) % TEST_GAP == TEST_GAP - 1,
             None => false,
         }
     }
