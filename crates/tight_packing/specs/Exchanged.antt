@@ -17,8 +17,9 @@ abbrev pub aim_of : List Bool → Option (List Bool) → List Bool
 aim_of network None = network
 aim_of network (Some shorter) = shorter
 
--- how an exchange may end where the network aimed at has this length: every packing that is handed out was judged, a tight
--- one has this length as its value, and only what is longer than 2^42 is refused
+-- how an exchange may end where the network aimed at has this length: every packing that is handed
+-- out was judged, a tight one has this length as its value, and only what is longer than 2^42 is
+-- refused
 abbrev pub IsOutcomeFor : Graph → ℕ → Outcome → Type 0
 IsOutcomeFor g aim (Tight bound) = IsBoundOf g bound × (bound.value ≡ aim)
 IsOutcomeFor g aim (Impossible bound) = IfSome bound (IsBoundOf g) × (aim ≤ 2 ^ 42)

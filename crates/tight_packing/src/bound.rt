@@ -6,14 +6,16 @@ ghost use Rattle.tight_packing.specs.Bound.{IsBoundOf};
 use net_graph::{Decision, NetGraph, Packing, feasible, value};
 use std::alloc::{AllocError, Global};
 
-/// A packing that is feasible where nothing is decided, with its value, which no network is shorter than.
+/// A packing that is feasible where nothing is decided, with its value, which no network is shorter
+/// than.
 #[derive(Debug, Drop)]
 pub struct Bound {
     pub packing: Packing,
     pub value: u128,
 }
 
-/// Judges a packing; `None` where it isn't feasible, or has more cuts than the graph has arcs. An `Err` is want of memory.
+/// Judges a packing; `None` where it isn't feasible, or has more cuts than the graph has arcs. An
+/// `Err` is want of memory.
 pub fn judged(
     alloc: Global,
     graph: &NetGraph,

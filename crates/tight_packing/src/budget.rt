@@ -13,11 +13,9 @@ pub struct Budget {
 
 impl Budget {
     /// What serves up to 50 points.
-    pub fn usual() -> Budget {
-        Budget {
-            rounds: 400,
-            searches: 400_000,
-            moves: 4_000_000,
-        }
-    }
+    pub const USUAL: Budget = Budget {
+        rounds: 400,
+        searches: 400_000,
+        moves: 4_000_000,
+    };
 }

@@ -1,12 +1,13 @@
-//! The network cleaned to a tree: a walk from the root drops an edge of each cycle, and what holds no terminal goes.
+//! The network cleaned to a tree: a walk from the root drops an edge of each cycle, and what holds
+//! no terminal goes.
 
 use crate::cells::{NONE, add_at, at, set};
 use crate::mesh::Mesh;
 use net_graph::EdgeSet;
 use std::alloc::{AllocError, Global};
 
-/// A walk from the root along a network: the vertices in the order in which they are come to, the arc into each, and
-/// how many terminals are at each and at or below it.
+/// A walk from the root along a network: the vertices in the order in which they are come to, the
+/// arc into each, and how many terminals are at each and at or below it.
 #[derive(Drop)]
 pub struct Walk {
     pub order: Vec<u32>,
@@ -15,8 +16,8 @@ pub struct Walk {
     pub held: Vec<u32>,
 }
 
-/// Walks along a network, whose terminals begin with the root; `None` where it doesn't join them. An `Err` is want of
-/// memory.
+/// Walks along a network, whose terminals begin with the root; `None` where it doesn't join them.
+/// An `Err` is want of memory.
 pub fn walked(
     alloc: Global,
     mesh: &Mesh,

@@ -1,6 +1,7 @@
-//! Cheapest cuts as shortest closed curves in the planar dual, along the faces of the grid (Dijkstra 1959).
+//! Cheapest cuts as shortest closed curves in the planar dual, along the faces of the grid
+//! (Dijkstra 1959).
 
-use crate::cells::{NONE, at, count, set};
+use crate::cells::{NONE, add_at, at, count, set};
 use crate::mesh::{Arc, Mesh};
 use crate::tree::Tree;
 use std::alloc::{AllocError, Global};
@@ -24,7 +25,8 @@ struct Step {
     price: i64,
 }
 
-/// A wanted curve: round the head of a group's arc and a terminal below it, at a price below the limit.
+/// A wanted curve: round the head of a group's arc and a terminal below it, at a price below the
+/// limit.
 #[derive(Clone, Copy)]
 pub struct Curve {
     pub arc: Arc,
@@ -44,7 +46,8 @@ pub struct Dual {
     via: Vec<u32>,
     // The faces reached.
     reached: Vec<u32>,
-    // Ways to look at, with their faces in the lowest bits. All bits are turned, since the greatest comes first.
+    // Ways to look at, with their faces in the lowest bits. All bits are turned, since the greatest
+    // comes first.
     waiting: BinaryHeap<u64>,
 }
 
@@ -63,11 +66,11 @@ impl Dual {
         let faces = mesh.faces as usize;
         let mut first = vec![in alloc; 0; faces.saturating_add(1)]?;
         for step in &steps {
-            crate::cells::add_at(&mut first, step.from.wrapping_add(1), 1);
+            add_at(&mut first, step.from.wrapping_add(1), 1);
         }
         for face in 0..mesh.faces {
             let before = at(&first, face, 0);
-            crate::cells::add_at(&mut first, face.wrapping_add(1), before);
+            add_at(&mut first, face.wrapping_add(1), before);
         }
         Ok(Dual {
             steps,
@@ -104,8 +107,8 @@ impl Dual {
         at(&self.via, face, NONE)
     }
 
-    /// Searches the cheapest curve, and tells its price; `None` where there is none below the limit. An `Err` is want of
-    /// memory.
+    /// Searches the cheapest curve, and tells its price; `None` where there is none below the
+    /// limit. An `Err` is want of memory.
     pub fn search(&mut self, tree: &Tree, curve: Curve) -> Result<Option<i64>, AllocError> {
         self.begin(curve.arc.to_face)?;
         let mut curve = curve;
@@ -134,7 +137,8 @@ impl Dual {
         self.reach(start, NONE, 0)
     }
 
-    // Takes all steps out of a face. Ways as dear as one to the goal are of no use. An `Err` is want of memory.
+    // Takes all steps out of a face. Ways as dear as one to the goal are of no use. An `Err` is
+    // want of memory.
     fn go_on(
         &mut self,
         tree: &Tree,

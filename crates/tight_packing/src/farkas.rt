@@ -1,4 +1,5 @@
-//! The test that no packing of the wanted value exists, with fractional weights either (after Farkas 1902).
+//! The test that no packing of the wanted value exists, with fractional weights either (after
+//! Farkas 1902).
 
 use crate::cells::at;
 use crate::dual::BLOCKED;
@@ -6,9 +7,9 @@ use crate::state::State;
 use std::alloc::AllocError;
 
 impl State {
-    /// Whether the overloads, as prices, show that no packing has the tree's length as its value: it would pay at least
-    /// the length of each group's arc times its cheapest cut, and at most the capacity of each arc times its price. An
-    /// `Err` is want of memory.
+    /// Whether the overloads, as prices, show that no packing has the tree's length as its value:
+    /// it would pay at least the length of each group's arc times its cheapest cut, and at most the
+    /// capacity of each arc times its price. An `Err` is want of memory.
     pub fn is_impossible(&mut self) -> Result<bool, AllocError> {
         let mut have = 0i128;
         self.loads.choose_shift();

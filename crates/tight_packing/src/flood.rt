@@ -25,8 +25,8 @@ impl Flood {
         })
     }
 
-    /// The vertices enclosed, with the head of the arc `number`, by the curve across it that was found last. An `Err` is
-    /// want of memory.
+    /// The vertices enclosed, with the head of the arc `number`, by the curve across it that was
+    /// found last. An `Err` is want of memory.
     pub fn enclosed(&mut self, mesh: &Mesh, dual: &Dual, number: u32) -> Result<Side, AllocError> {
         self.curve = self.curve.wrapping_add(1);
         let arc = mesh.arc(number);
@@ -43,7 +43,8 @@ impl Flood {
         self.fill(mesh, arc)
     }
 
-    // The vertices that are reached from the head of an arc without crossing the curve. An `Err` is want of memory.
+    // The vertices that are reached from the head of an arc without crossing the curve. An `Err` is
+    // want of memory.
     fn fill(&mut self, mesh: &Mesh, arc: Arc) -> Result<Side, AllocError> {
         let mut side = Side::empty();
         side.add(arc.head);

@@ -1,5 +1,5 @@
-//! Packings of whole-weighted directed cuts whose value is the length of a given network (the exchange method, this
-//! project's own). What is found is judged before it is handed out.
+//! Packings of whole-weighted directed cuts whose value is the length of a given network (the
+//! exchange method, this project's own). What is found is judged before it is handed out.
 #![tactic(auto)]
 
 mod bound;

@@ -73,8 +73,8 @@ impl Line {
         bad
     }
 
-    // The change of the potential from a number of grains to the next one. It grows with the number, since the potential
-    // is convex.
+    // The change of the potential from a number of grains to the next one. It grows with the
+    // number, since the potential is convex.
     fn change(&self, grains: i64, grain: i64) -> i128 {
         let moved = grains.wrapping_mul(grain);
         let mut sum = 0i128;

@@ -23,7 +23,8 @@ pub struct Limit {
     pub marked: bool,
 }
 
-/// The loads of all arcs, in parts: of each arc off the tree the weights of the cuts that it enters.
+/// The loads of all arcs, in parts: of each arc off the tree the weights of the cuts that it
+/// enters.
 #[derive(Drop)]
 pub struct Loads {
     limits: Vec<Limit>,

@@ -15,8 +15,8 @@ pub struct Arc {
     pub to_face: u32,
 }
 
-/// The arcs of a grid: arc 2e runs from the lower or left end of edge e to the other, arc 2e + 1 back. The faces are
-/// its cells and, as the last one, the outside.
+/// The arcs of a grid: arc 2e runs from the lower or left end of edge e to the other, arc 2e + 1
+/// back. The faces are its cells and, as the last one, the outside.
 #[derive(Drop)]
 pub struct Mesh {
     pub vertices: u32,

@@ -26,7 +26,8 @@ pub enum Outcome {
     Tight(Bound),
     /// There is no such packing. That is computed and not proved. The bound is what is at hand.
     Impossible(Option<Bound>),
-    /// The budget is spent, or the network doesn't join the terminals. The bound is what is at hand.
+    /// The budget is spent, or the network doesn't join the terminals. The bound is what is at
+    /// hand.
     Exhausted(Option<Bound>),
     /// The cleaned network is longer than 2^42.
     TooLong,
@@ -40,9 +41,9 @@ pub struct Exchanged {
     pub shorter: Option<EdgeSet>,
 }
 
-/// Looks for a packing whose value is the length of a network on a grid. The network is first cleaned: an edge of each
-/// cycle goes, and what joins no terminal. `start` has cuts to begin with, as those of an ascent. Equal arguments give
-/// equal results. An `Err` is want of memory.
+/// Looks for a packing whose value is the length of a network on a grid. The network is first
+/// cleaned: an edge of each cycle goes, and what joins no terminal. `start` has cuts to begin with,
+/// as those of an ascent. Equal arguments give equal results. An `Err` is want of memory.
 pub fn exchange(
     alloc: Global,
     grid: &Grid,
@@ -67,7 +68,8 @@ pub fn exchange(
     Ok(Exchanged { outcome, shorter })
 }
 
-// Plays the rounds along a tree, if there is one, and judges what is found. An `Err` is want of memory.
+// Plays the rounds along a tree, if there is one, and judges what is found. An `Err` is want of
+// memory.
 fn packed(
     alloc: Global,
     graph: &NetGraph,

@@ -18,7 +18,8 @@ const NOISE: u32 = 3;
 const SKIP_MOST: u32 = 6;
 
 impl State {
-    /// Sets the prices for new cuts: mainly the overload; the charge keeps away from full arcs and varies the cuts.
+    /// Sets the prices for new cuts: mainly the overload; the charge keeps away from full arcs and
+    /// varies the cuts.
     pub fn set_prices(&mut self) {
         self.loads.choose_shift();
         for step in 0..self.dual.len() {
@@ -38,8 +39,8 @@ impl State {
         filled.unwrap_or(FILL_CHARGE).wrapping_add(1)
     }
 
-    /// Looks for cuts of a group cheaper than all that it has, for so many terminals, and tells how many were taken in.
-    /// An `Err` is want of memory.
+    /// Looks for cuts of a group cheaper than all that it has, for so many terminals, and tells how
+    /// many were taken in. An `Err` is want of memory.
     pub fn find_cuts(&mut self, group: u32, tries: u32) -> Result<u32, AllocError> {
         let failures = at(&self.failures, group, 0);
         let rest = failures.min(SKIP_MOST).wrapping_add(1);
@@ -73,8 +74,8 @@ impl State {
         Ok(found)
     }
 
-    /// Offers the pool a cheapest cut of a group that has a terminal, if there is one below the limit. An `Err` is want of
-    /// memory.
+    /// Offers the pool a cheapest cut of a group that has a terminal, if there is one below the
+    /// limit. An `Err` is want of memory.
     pub fn new_cut(
         &mut self,
         group: u32,
@@ -89,8 +90,8 @@ impl State {
         self.pool.offer(&self.mesh, &self.tree, &side)
     }
 
-    /// The price of a cheapest cut of a group that has a terminal, if there is one below the limit. An `Err` is want of
-    /// memory.
+    /// The price of a cheapest cut of a group that has a terminal, if there is one below the limit.
+    /// An `Err` is want of memory.
     pub fn search(
         &mut self,
         group: u32,

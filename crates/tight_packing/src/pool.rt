@@ -24,7 +24,8 @@ pub struct Cut {
     end: u32,
 }
 
-/// Cuts. In each group the weights sum to the length of its arc, except where a function says otherwise.
+/// Cuts. In each group the weights sum to the length of its arc, except where a function says
+/// otherwise.
 #[derive(Drop)]
 pub struct Pool {
     cuts: Vec<Cut>,
@@ -162,8 +163,8 @@ impl Pool {
         }
     }
 
-    /// Offers a side: it is taken in with weight 0 if the tree enters it once, it has a terminal and not the root, and it
-    /// isn't there. An `Err` is want of memory.
+    /// Offers a side: it is taken in with weight 0 if the tree enters it once, it has a terminal
+    /// and not the root, and it isn't there. An `Err` is want of memory.
     pub fn offer(&mut self, mesh: &Mesh, tree: &Tree, side: &Side) -> Result<Offered, AllocError> {
         let start = self.entered.len();
         let cut = self.entry(mesh, tree, side)?;
@@ -181,8 +182,8 @@ impl Pool {
         Ok(Offered::Taken(number))
     }
 
-    // Appends the arcs that enter a side, and makes its cut; the group is `NONE` unless the tree enters once. An `Err` is
-    // want of memory.
+    // Appends the arcs that enter a side, and makes its cut; the group is `NONE` unless the tree
+    // enters once. An `Err` is want of memory.
     fn entry(&mut self, mesh: &Mesh, tree: &Tree, side: &Side) -> Result<Cut, AllocError> {
         let mut cut = NO_CUT;
         cut.first = count(&self.entered);

@@ -5,9 +5,9 @@ use crate::state::State;
 use std::alloc::AllocError;
 
 impl State {
-    /// Rounds all weights to multiples of a grain, in which they move from now on. In each group the running sum is
-    /// rounded, larger cuts first: each weight moves by at most one grain, and since the sum of the group is a multiple
-    /// already it stays. An `Err` is want of memory.
+    /// Rounds all weights to multiples of a grain, in which they move from now on. In each group
+    /// the running sum is rounded, larger cuts first: each weight moves by at most one grain, and
+    /// since the sum of the group is a multiple already it stays. An `Err` is want of memory.
     pub fn coarsen(&mut self, grain: i64) -> Result<(), AllocError> {
         self.grain = grain;
         for group in 0..self.tree.groups() {

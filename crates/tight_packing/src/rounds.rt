@@ -18,8 +18,8 @@ const FINE_ROUNDS: u32 = 50;
 // The longest stay in the whole phase; then it is back to the fine phase.
 const WHOLE_ROUNDS: u32 = 30;
 
-// A unit search is tried at this overload in units, or after so many rounds of the whole phase; so many rounds are between
-// two.
+// A unit search is tried at this overload in units, or after so many rounds of the whole phase; so
+// many rounds are between two.
 const UNIT_EXCESS: i64 = 20;
 
 const UNIT_WAIT: u32 = 8;
@@ -31,7 +31,8 @@ const UNIT_STEPS: u32 = 500;
 
 const MOST_UNIT_STEPS: u32 = 8000;
 
-// New cuts are looked for after so many rounds, and at once if the last search found one for each third group.
+// New cuts are looked for after so many rounds, and at once if the last search found one for each
+// third group.
 const SEARCH_GAP: u32 = 3;
 
 const SEARCH_SHARE: u32 = 3;
@@ -93,7 +94,8 @@ impl Rounds {
         }
     }
 
-    /// Plays rounds until the outcome is decided or the budget is spent. An `Err` is want of memory.
+    /// Plays rounds until the outcome is decided or the budget is spent. An `Err` is want of
+    /// memory.
     pub fn play(&mut self, state: &mut State, budget: Budget) -> Result<Ending, AllocError> {
         for _ in 0..budget.rounds {
             let work = state.work;
@@ -147,8 +149,8 @@ impl Rounds {
         self.last_potential = Some(potential);
     }
 
-    // Goes from the fine to the whole phase when the overload is small or the multipliers have worked long enough. An
-    // `Err` is want of memory.
+    // Goes from the fine to the whole phase when the overload is small or the multipliers have
+    // worked long enough. An `Err` is want of memory.
     fn advance(&mut self, state: &mut State) -> Result<(), AllocError> {
         let is_long = match self.multiplying_since {
             Some(since) => state.work.rounds.wrapping_sub(since) >= FINE_ROUNDS,
@@ -169,8 +171,8 @@ impl Rounds {
         state.coarsen(grain)
     }
 
-    // The unit search of a round in the whole phase, where it is due; whether it found a packing without overload. An
-    // `Err` is want of memory.
+    // The unit search of a round in the whole phase, where it is due; whether it found a packing
+    // without overload. An `Err` is want of memory.
     fn whole_round(&mut self, state: &mut State) -> Result<bool, AllocError> {
         let excess = state.loads.true_excess();
         let round = state.work.rounds;
@@ -209,7 +211,8 @@ impl Rounds {
         }
     }
 
-    // Looks for new cuts of all groups, unless the last search found few and is recent. An `Err` is want of memory.
+    // Looks for new cuts of all groups, unless the last search found few and is recent. An `Err` is
+    // want of memory.
     fn new_cuts(&mut self, state: &mut State) -> Result<(), AllocError> {
         let round = state.work.rounds;
         let is_few = self.last_found < state.tree.groups() / SEARCH_SHARE;
@@ -253,7 +256,8 @@ fn is_past(last: Option<u32>, round: u32, gap: u32) -> bool {
     }
 }
 
-// The overload in units at which the fine phase ends: with more terminals there are more arcs to repair.
+// The overload in units at which the fine phase ends: with more terminals there are more arcs to
+// repair.
 fn fine_excess(state: &State) -> i64 {
     match state.tree.terminals() {
         0..=20 => 6,

@@ -10,7 +10,8 @@ use net_graph::{Packing, VertexSet};
 use std::alloc::AllocError;
 
 impl State {
-    /// Takes the weights of the given cuts that fit, then fills every group up to its sum. An `Err` is want of memory.
+    /// Takes the weights of the given cuts that fit, then fills every group up to its sum. An `Err`
+    /// is want of memory.
     pub fn start(&mut self, start: &Packing) -> Result<(), AllocError> {
         for cut in start.cuts() {
             let side = side_of(&cut.members);

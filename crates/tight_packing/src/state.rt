@@ -49,7 +49,8 @@ pub struct State {
 }
 
 impl State {
-    /// The empty pool along a network on a grid; `None` where it doesn't join the terminals. An `Err` is want of memory.
+    /// The empty pool along a network on a grid; `None` where it doesn't join the terminals. An
+    /// `Err` is want of memory.
     pub fn along(
         alloc: Global,
         grid: &Grid,

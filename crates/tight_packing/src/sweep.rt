@@ -7,7 +7,8 @@ use std::alloc::AllocError;
 // Moves that a group may make in one sweep.
 const MOVES_PER_GROUP: u8 = 3;
 
-/// The dearest cut with weight and the cheapest cut of a group, with their costs; `NONE` where there is none.
+/// The dearest cut with weight and the cheapest cut of a group, with their costs; `NONE` where
+/// there is none.
 #[derive(Clone, Copy)]
 pub struct Extremes {
     pub dear: u32,
@@ -17,8 +18,8 @@ pub struct Extremes {
 }
 
 impl State {
-    /// Visits each group in drawn order, and tells how many moves were made; the potential doesn't grow. An `Err` is
-    /// want of memory.
+    /// Visits each group in drawn order, and tells how many moves were made; the potential doesn't
+    /// grow. An `Err` is want of memory.
     pub fn sweep(&mut self) -> Result<u32, AllocError> {
         let before = self.work.moves;
         self.random.shuffle(&mut self.order);
@@ -33,7 +34,8 @@ impl State {
         Ok(self.work.moves.wrapping_sub(before))
     }
 
-    // Moves weight in a group, and tells whether that lowered the potential. An `Err` is want of memory.
+    // Moves weight in a group, and tells whether that lowered the potential. An `Err` is want of
+    // memory.
     fn move_in(&mut self, group: u32) -> Result<bool, AllocError> {
         let extremes = self.extremes(group);
         if extremes.dear == NONE || extremes.most <= extremes.least {

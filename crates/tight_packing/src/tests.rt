@@ -1,4 +1,5 @@
-//! The grid of three points, with networks that are shortest, that have a dead end, that are too long and that don't join.
+//! The grid of three points, with networks that are shortest, that have a dead end, that are too
+//! long and that don't join.
 
 ghost use Rattle.std.specs.Prelude.{◌≡◌, length, IfOk};
 ghost use Rattle.hanan_grid.specs.Grid.{hanan_grid_of};
@@ -10,7 +11,8 @@ use points_in::{Point, Points};
 use std::alloc::{AllocError, Global};
 use std::test::Fail;
 
-// How an exchange ended: in words, with the value of the bound, and whether there is a shorter network.
+// How an exchange ended: in words, with the value of the bound, and whether there is a shorter
+// network.
 type Told = (&'static str, Option<u128>, bool);
 
 // The grid of the points (0, 0), (right, 0) and (1, 1).
@@ -39,7 +41,7 @@ fn told(alloc: Global, right: i64, edges: &[u32]) -> Result<Told, Fail> {
     let grid = grid_of(alloc, right)?;
     let network = network_of(alloc, &grid, edges)?;
     let start = Packing::empty(alloc);
-    let found = exchange(alloc, &grid, &network, &start, Budget::usual())?;
+    let found = exchange(alloc, &grid, &network, &start, Budget::USUAL)?;
     let (word, value) = ending(&found.outcome);
     Ok((word, value, found.shorter.is_some()))
 }

@@ -25,8 +25,8 @@ impl Tidier {
         })
     }
 
-    /// Ages all cuts, drops the oldest cuts of weight 0 beyond a few in each group, and numbers the others by their
-    /// groups. An `Err` is want of memory.
+    /// Ages all cuts, drops the oldest cuts of weight 0 beyond a few in each group, and numbers the
+    /// others by their groups. An `Err` is want of memory.
     pub fn tidy(&mut self, pool: &mut Pool) -> Result<(), AllocError> {
         self.spare.clear();
         for group in 0..pool.groups() {
@@ -47,7 +47,8 @@ impl Tidier {
         Ok(())
     }
 
-    // The age and the number, counted back, from which cuts of weight 0 are dropped. An `Err` is want of memory.
+    // The age and the number, counted back, from which cuts of weight 0 are dropped. An `Err` is
+    // want of memory.
     fn age_limit(&mut self, pool: &Pool, group: u32) -> Result<(u32, u32), AllocError> {
         self.idle.clear();
         let mut number = pool.first(group);

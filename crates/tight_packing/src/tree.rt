@@ -7,8 +7,8 @@ use crate::side::Side;
 use net_graph::EdgeSet;
 use std::alloc::{AllocError, Global};
 
-// The numbers of the vertices at or below one, when those below each follow one another: from `enter` to below `leave`.
-// A vertex off the tree has none.
+// The numbers of the vertices at or below one, when those below each follow one another: from
+// `enter` to below `leave`. A vertex off the tree has none.
 #[derive(Clone, Copy)]
 struct Span {
     enter: u32,
@@ -33,7 +33,8 @@ pub struct Tree {
     // The group of each arc, `NONE` off the tree.
     group_of: Vec<u32>,
     spans: Vec<Span>,
-    // The terminals, so that those at or below an arc's head follow one another; where those of each group are.
+    // The terminals, so that those at or below an arc's head follow one another; where those of
+    // each group are.
     ranked: Vec<u32>,
     below: Vec<Places>,
 }
@@ -43,7 +44,8 @@ const NO_SPAN: Span = Span { enter: 1, leave: 0 };
 const NO_PLACES: Places = Places { first: 0, count: 0 };
 
 impl Tree {
-    /// The tree of a network; `None` where it doesn't join the terminals. An `Err` is want of memory.
+    /// The tree of a network; `None` where it doesn't join the terminals. An `Err` is want of
+    /// memory.
     pub fn of(
         alloc: Global,
         mesh: &Mesh,
@@ -117,8 +119,8 @@ impl Tree {
         false
     }
 
-    /// Whether the tree may leave a cut, that it enters at `head` and that has `terminal`, towards a vertex: it must be
-    /// strictly below the head, and not on the way from there to the terminal.
+    /// Whether the tree may leave a cut, that it enters at `head` and that has `terminal`, towards
+    /// a vertex: it must be strictly below the head, and not on the way from there to the terminal.
     #[inline]
     pub fn may_leave(&self, outside: u32, head: u32, terminal: u32) -> bool {
         let outer = at(&self.spans, outside, NO_SPAN);
@@ -143,8 +145,8 @@ impl Tree {
         set(numbers, vertex, enter.wrapping_add(1));
     }
 
-    // Makes the group of the arc into a vertex; `ranks` has the vertex's rank, then the next rank of a terminal below.
-    // An `Err` is want of memory.
+    // Makes the group of the arc into a vertex; `ranks` has the vertex's rank, then the next rank
+    // of a terminal below. An `Err` is want of memory.
     fn rank(
         &mut self,
         mesh: &Mesh,

@@ -21,7 +21,8 @@ const WIDE: i64 = 1;
 const SHUNNED: i64 = 1_000_000;
 
 impl State {
-    /// Looks for new cuts in place of those that a drawn overloaded arc enters. An `Err` is want of memory.
+    /// Looks for new cuts in place of those that a drawn overloaded arc enters. An `Err` is want of
+    /// memory.
     pub fn unit_cuts(&mut self) -> Result<(), AllocError> {
         let drawn = self.random.below(count(&self.units.overloaded));
         let arc = at(&self.units.overloaded, drawn, NONE);

@@ -18,7 +18,8 @@ const LEAST_REST: u32 = 2;
 
 const REST_SPREAD: u32 = 8;
 
-/// The best move of a unit so far, with the number of those as good; `NONE` where there is none yet.
+/// The best move of a unit so far, with the number of those as good; `NONE` where there is none
+/// yet.
 #[derive(Clone, Copy)]
 struct Pick {
     change: i64,
@@ -29,8 +30,9 @@ struct Pick {
 }
 
 impl State {
-    /// Searches for whole units without overload, from the weights of the pool, which are whole units, and keeps the best
-    /// packing met. The pool may gain cuts of weight 0. An `Err` is want of memory.
+    /// Searches for whole units without overload, from the weights of the pool, which are whole
+    /// units, and keeps the best packing met. The pool may gain cuts of weight 0. An `Err` is want
+    /// of memory.
     pub fn unit_search(&mut self, steps: u32) -> Result<(), AllocError> {
         self.units.begin(&self.mesh, &self.pool)?;
         let mut best = self.units.total;
@@ -56,8 +58,8 @@ impl State {
         self.kept.offer(&self.pool, self.units.best(), best)
     }
 
-    // Moves one unit off a drawn overloaded arc, the way that changes the overload least; ties are broken by a draw. It
-    // tells how many pairs of cuts it looked at. An `Err` is want of memory.
+    // Moves one unit off a drawn overloaded arc, the way that changes the overload least; ties are
+    // broken by a draw. It tells how many pairs of cuts it looked at. An `Err` is want of memory.
     fn unit_move(&mut self, step: u32) -> Result<u32, AllocError> {
         let drawn = self.random.below(count(&self.units.overloaded));
         let arc = at(&self.units.overloaded, drawn, NONE);

@@ -19,7 +19,8 @@ pub struct Units {
     weights: Vec<i64>,
     // Of each cut the step until which it takes and gives nothing.
     resting: Vec<u32>,
-    // Of each arc its load less its length, and where it stands among the overloaded ones, or `NONE`.
+    // Of each arc its load less its length, and where it stands among the overloaded ones, or
+    // `NONE`.
     excess: Vec<i64>,
     places: Vec<u32>,
     // The weights of the least overload met.
