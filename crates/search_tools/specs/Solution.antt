@@ -13,7 +13,7 @@ use Rattle.hanan_grid.specs.Grid.{hanan_grid_of}
 use Rattle.cut_cert.specs.declared.head.AnswerHead.{AnswerHead}
 use Rattle.cut_cert.specs.declared.head.ConcatNote.{ConcatNote}
 use Rattle.cut_cert.specs.Value.{WrittenAnswer}
-use Rattle.cut_cert.specs.Value.Tree.{Leaf}
+use Rattle.cert_tree.specs.Tree.Tree.{Leaf}
 use Rattle.cut_cert.specs.Answers.{names_of}
 
 -- the edge set is a network of a graph

@@ -9,21 +9,27 @@ use fst_concat::{ChosenKind, ConcatFault, concat, trees_in_form_have_members};
 use full_tree::TreeList;
 use hanan_grid::Grid;
 use net_graph::EdgeSet;
+use network_search::shortened;
 use std::alloc::{AllocError, Global};
 use tree_network::network_of;
 
 /// How many splits the search for a least concatenation may make.
 const MOST_SPLITS: u32 = 4000;
 
-/// A network of a grid that is made of full trees, and what is told of their concatenation.
+/// How many descents the search for a shorter network may make: about what gains nearly all at 50 points.
+const DESCENTS: u32 = 100;
+
+/// A network of a grid that is made of full trees, or that is shorter than such a one, and what is told of their
+/// concatenation.
 #[derive(Debug, Drop)]
 pub struct Found {
     pub network: EdgeSet,
     pub note: ConcatNote,
 }
 
-/// The union of the trees of a concatenation, of a least one where the search comes to its end; or the place of the first
-/// terminal that all trees together leave apart. An outer `Err` is want of memory.
+/// The union of the trees of a concatenation, of a least one where the search comes to its end, without what no terminal
+/// needs, and made shorter where a local search finds how; or the place of the first terminal that all trees together leave
+/// apart. An outer `Err` is want of memory.
 pub fn network_on(
     alloc: Global,
     grid: &Grid,
@@ -39,7 +45,8 @@ pub fn network_on(
         Err(ConcatFault::Unspanned { place }) => return Ok(Err(place)),
         Err(ConcatFault::Memory(error)) => return Err(error),
     };
-    let network = network_of(alloc, grid, trees, chosen.places.as_slice())?;
+    let union = network_of(alloc, grid, trees, chosen.places.as_slice())?;
+    let network = shortened(alloc, grid.graph(), &union, DESCENTS)?;
     let note = ConcatNote {
         least: is_least(&chosen.kind),
         total: chosen.total,

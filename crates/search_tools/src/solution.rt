@@ -7,7 +7,8 @@ ghost use Rattle.search_tools.specs.Steps.{IsPrintable, IsSpelled, SolvesFile, T
 
 use crate::bound::{Leaf, leaf_for};
 use crate::network::{Found, network_on};
-use cut_cert::{Answer as CutAnswer, AnswerHead, CertTree, ConcatNote, answer_len, write_answer};
+use cert_tree::CertTree;
+use cut_cert::{Answer as CutAnswer, AnswerHead, ConcatNote, answer_len, write_answer};
 use frame::{Answer, AnswerStatus};
 use fst_file::FstFile;
 use hanan_grid::Grid;
@@ -66,7 +67,7 @@ fn answer_with(alloc: Global, grid: &Grid, found: Found) -> Result<CutAnswer, Al
     ensures { IfOk result (Tells grid.now found) }
 {
     let Found { network, note } = found;
-    let Leaf { packing, value } = leaf_for(alloc, grid.graph())?;
+    let Leaf { packing, value } = leaf_for(alloc, grid, &network)?;
     let head = head_for(length(grid.graph(), &network), value, note);
     let tree = CertTree::leaf(alloc, packing)?;
     Ok(CutAnswer {

@@ -9,5 +9,5 @@ value-value-requires g c =
 
 pub returns-clause-leaf : goal.returns-clause-leaf
 returns-clause-leaf g c =
-    leaf_of_ascent c.args.g.now c.in_ok-decision.decision c.in_ok-packing.field-0.packing c.in_ok-packing.field-0.closed c.in_ok-decision.ensures
+    leaf_of_ascent c.args.g.now c.in_ok-decision.decision c.in_ok-packing.field-0.packing c.in_ok-packing.field-0.closed c.in_ok-decision.ensures.value
     c.in_ok-packing.ensures.feasible c.in_ok-packing.ensures.few c.in_ok-packing.ensures.maximal c.in_ok-packing.ensures.closed c.in_ok-packing.ensures.bound
