@@ -12,10 +12,10 @@ pub struct Budget {
 }
 
 impl Budget {
-    /// What serves up to 50 points.
+    /// About twice what closes 50 drawn points.
     pub const USUAL: Budget = Budget {
-        rounds: 400,
-        searches: 400_000,
-        moves: 4_000_000,
+        rounds: 200,
+        searches: 120_000,
+        moves: 2_000_000,
     };
 }

@@ -34,6 +34,3 @@ mod users;
 pub use bound::Bound;
 pub use budget::Budget;
 pub use method::{Exchanged, Outcome, exchange};
-
-#[cfg(test)]
-mod tests;
