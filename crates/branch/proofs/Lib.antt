@@ -1,0 +1,13 @@
+pub mod CandidateLemmas
+pub mod CarriedLemmas
+pub mod EnoughLemmas
+pub mod InsideLemmas
+pub mod ListLemmas
+pub mod OpenedLemmas
+pub mod OpeningLemmas
+pub mod SaturatedLemmas
+pub mod ScanLemmas
+pub mod SearchLemmas
+pub mod SettledLemmas
+pub mod SolvingLemmas
+pub mod TreeLemmas

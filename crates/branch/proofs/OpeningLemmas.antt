@@ -1,0 +1,169 @@
+-- How the next open leaf can be opened.
+use Rattle.std.proofs.Common.{ℕ, ◌≡◌, ◌<◌, ◌≤◌, ◌^◌, ◌⊎◌, ⊎_elim, Bool, true, List, length, slice_get, Option, Some, None, refl, ap, sym, ◌∙◌, subst, arith, get_or}
+use Rattle.std.proofs.lemmas.Option.{same_Some, slice_get_within, slice_get_read}
+use Rattle.net_graph.specs.declared.state.EdgeState.{EdgeState}
+use Rattle.net_graph.specs.declared.state.EdgeState.TheVariants.{Undecided, Inside, Outside}
+use Rattle.net_graph.specs.declared.packing.Cut.{Cut}
+use Rattle.net_graph.specs.Graph.{Graph, total_of}
+use Rattle.net_graph.specs.Network.{length_of}
+use Rattle.net_graph.specs.LengthLaws.{length_of_edges-le-sum}
+use Rattle.net_graph.specs.Decision.{Decided, IsDecisionFor, IsUndecided, states_of, nothing_decided, with_edge}
+use Rattle.net_graph.specs.DecisionLaws.{states_of-inside}
+use Rattle.net_graph.specs.Packing.{IsFeasible, room_of, load}
+use Rattle.dual_ascent.specs.Ascending.{BeginsWith}
+use Rattle.dual_ascent.specs.Carried.{carried}
+use Rattle.branch.specs.SaturatedArcs.{HasSaturatedArc}
+use Rattle.cert_tree.specs.declared.split.SplitOn.TheVariants as split
+use Rattle.cert_tree.specs.Preorder.{packings_of, split_count}
+use Rattle.cert_tree.specs.PreorderLaws.{length-packings_of}
+use Rattle.branch.specs.declared.note.LeafNote.{LeafNote}
+use Rattle.branch.specs.declared.leaf.NewLeaf.{NewLeaf}
+use Rattle.branch.specs.declared.best.Best.{Best}
+use Rattle.branch.specs.declared.frontier.Frontier.{Frontier}
+use Rattle.branch.specs.Leaves.{DecidedLeaf, leaf_under, leaves_of}
+use Rattle.branch.specs.States.{IsOpenLeaf, leaf_value}
+use Rattle.branch.specs.Openings.{IsSplitEdge}
+use Rattle.branch.specs.Notes.{IsBest, ShowsOwn, IsNoteOf, IsUpToOwn, IsKeptNote, IsNextNote, CanSplit, IsOfOwn}
+use Rattle.branch.specs.Searching.{IsSearch, IsOpeningOf}
+use Rattle.branch.proofs.ListLemmas.{beside_right}
+use Rattle.branch.proofs.TreeLemmas.{length-leaves_of, packing_at}
+use Rattle.branch.proofs.SearchLemmas.{shorter_own}
+use Rattle.branch.proofs.InsideLemmas.{inside-covers}
+
+-- the leaf that the next note stands for
+pub record IsNextLeaf (g : Graph) (kept : Frontier) (place : ℕ) (note : LeafNote) (leaf : DecidedLeaf) : Type 0 where
+  pub at : slice_get (leaves_of (nothing_decided g) kept.tree) place ≡ Some leaf
+  pub of_note : IsNoteOf g leaf note
+  pub own : IsUpToOwn g kept.best.length note.network
+  pub below : IsOpenLeaf g (length_of g kept.best.network) leaf
+
+pub next_leaf : (g : Graph) (kept : Frontier) (place : ℕ) (note : LeafNote) → IsSearch g kept → IsNextNote kept.best.length kept.notes.items place →
+    note ≡ get_or kept.notes.items place note → (leaf : DecidedLeaf) × IsNextLeaf g kept place note leaf
+next_leaf g kept place note search next is =
+    let (found, at, below, least) = next in
+    let within : place < length kept.notes.items = slice_get_within kept.notes.items place found at in
+    let same : found ≡ note = same_Some found note (sym at ∙ slice_get_read kept.notes.items (length kept.notes.items) place note refl within is) in
+    let here : slice_get kept.notes.items place ≡ Some note = at ∙ ap (λ (n : LeafNote). Some n) same in
+    let (leaf, leaf_at, kept_note) = beside_right (IsKeptNote g kept.best.length) (leaves_of (nothing_decided g) kept.tree) kept.notes.items place note search.notes here in
+    let lower : note.value < kept.best.length = subst (λ (n : LeafNote). n.value < kept.best.length) same below in
+    let length_is = search.best.length in
+    let value = kept_note.0.value in
+    (leaf, record { at = leaf_at; of_note = kept_note.0; own = kept_note.1; below = omega arith })
+
+-- an edge with a saturated arc that isn't undecided is inside
+pub saturated_inside : (g : Graph) (d : Decided) (packing : List Cut) (n : ℕ) → HasSaturatedArc g d packing n → (IsUndecided g d n → ⊥) →
+    slice_get d.edges n ≡ Some Inside
+saturated_inside g d packing n (e, state, at, state_at, saturated) other = go state state_at saturated
+  where
+    go : (s : EdgeState) → slice_get (states_of g d) n ≡ Some s →
+        ((room_of s e ≡ Some (load packing e.a e.b)) ⊎ (room_of s e ≡ Some (load packing e.b e.a))) → slice_get d.edges n ≡ Some Inside
+    go Undecided s_at full = absurd (other s_at)
+    go Inside s_at full = states_of-inside g d n s_at
+    go Outside s_at full = absurd (⊎_elim
+        (λ (no : room_of Outside e ≡ Some (load packing e.a e.b)). cc)
+        (λ (no : room_of Outside e ≡ Some (load packing e.b e.a)). cc)
+        full)
+
+module _ (g : Graph) (kept : Frontier) (place : ℕ) (note : LeafNote) (search : IsSearch g kept)
+    (next : IsNextNote kept.best.length kept.notes.items place) (is : note ≡ get_or kept.notes.items place note) where
+  abbrev leaf : DecidedLeaf
+  leaf = (next_leaf g kept place note search next is).0
+
+  abbrev is_next : IsNextLeaf g kept place note leaf
+  is_next = (next_leaf g kept place note search next is).1
+
+  pub note_decided : IsDecisionFor g note.decision
+  note_decided = subst (λ (d : Decided). IsDecisionFor g d) (sym is_next.of_note.decision) is_next.of_note.decided
+
+  -- were no edge of its network undecided, the leaf would not be below the best network's length
+  pub note_can_split : CanSplit g note
+  note_can_split = go note.network refl is_next.of_note.own is_next.own
+    where
+      go : (own : Option (List Bool)) → note.network ≡ own → ShowsOwn g leaf own → IsUpToOwn g kept.best.length own → CanSplit g note
+      go None same shows up_to =
+          let least : length_of g kept.best.network ≤ total_of g = length_of_edges-le-sum g.edges kept.best.network in
+          let below : leaf_value g leaf < length_of g kept.best.network = is_next.below in
+          absurd (omega arith)
+      go (Some set) same shows up_to = record {
+        set = set;
+        own = same;
+        size = shows.network_of.size;
+        some = λ none.
+            let covered = inside-covers g.edges leaf.decision.edges set
+            (λ n at. saturated_inside g leaf.decision leaf.packing n (shows.arcs.arcs n at)
+            (λ undecided. none n at (subst (λ (d : Decided). IsUndecided g d n) (sym is_next.of_note.decision) undecided))) in
+            let below : leaf_value g leaf < length_of g kept.best.network = is_next.below in
+            let length_is = search.best.length in
+            omega arith;
+      }
+
+  pub place_within : place < length (packings_of kept.tree)
+  place_within =
+      let within : place < length (leaves_of (nothing_decided g) kept.tree) =
+      slice_get_within (leaves_of (nothing_decided g) kept.tree) place leaf is_next.at in
+      omega (arith, length-leaves_of (nothing_decided g) kept.tree)
+
+  pub place_small : split_count kept.tree < 255 → place < 2 ^ 31
+  place_small few = omega (arith, place_within, length-packings_of kept.tree)
+
+  pub parent_is : (parent : List Cut) → slice_get (packings_of kept.tree) place ≡ Some parent → leaf.packing ≡ parent
+  parent_is parent at = same_Some leaf.packing parent (sym (packing_at (nothing_decided g) kept.tree place leaf is_next.at) ∙ at)
+
+  pub parent_feasible : (parent : List Cut) → slice_get (packings_of kept.tree) place ≡ Some parent → IsFeasible g note.decision parent
+  parent_feasible parent at =
+      subst (λ (p : List Cut). IsFeasible g note.decision p) (parent_is parent at)
+      (subst (λ (d : Decided). IsFeasible g d leaf.packing) (sym is_next.of_note.decision) is_next.of_note.feasible)
+
+  pub own_splits : (e : ℕ) → IsOfOwn g note e → IsSplitEdge g leaf e
+  own_splits e of_own = go note.network refl is_next.of_note.own
+    where
+      go : (own : Option (List Bool)) → note.network ≡ own → ShowsOwn g leaf own → IsSplitEdge g leaf e
+      go None same shows = let no : Some of_own.set ≡ None = sym of_own.own ∙ same in absurd cc
+      go (Some set) same shows =
+          let sets : of_own.set ≡ set = same_Some of_own.set set (sym of_own.own ∙ same) in
+          record {
+            undecided = subst (λ (d : Decided). IsUndecided g d e) is_next.of_note.decision of_own.undecided;
+            saturated = shows.arcs.arcs e (subst (λ (s : List Bool). slice_get s e ≡ Some true) sets of_own.within);
+          }
+
+  -- a child, once its decision is known to be one more on the leaf's
+  pub child_note : (e : ℕ) (state : EdgeState) (now : Decided) (child : NewLeaf) → now ≡ with_edge note.decision e state →
+      IsNoteOf g (leaf_under now child.packing) child.note → IsNoteOf g (leaf_under (with_edge leaf.decision e state) child.packing) child.note
+  child_note e state now child same of_note =
+      subst (λ (d : Decided). IsNoteOf g (leaf_under d child.packing) child.note)
+      (same ∙ ap (λ (d : Decided). with_edge d e state) is_next.of_note.decision) of_note
+
+  pub child_begins : (e : ℕ) (state : EdgeState) (now : Decided) (parent packing : List Cut) → now ≡ with_edge note.decision e state →
+      slice_get (packings_of kept.tree) place ≡ Some parent → BeginsWith packing (carried g now parent) →
+      BeginsWith packing (carried g (with_edge leaf.decision e state) leaf.packing)
+  child_begins e state now parent packing same at begins =
+      subst (λ (d : Decided). BeginsWith packing (carried g d leaf.packing))
+      (same ∙ ap (λ (d : Decided). with_edge d e state) is_next.of_note.decision)
+      (subst (λ (p : List Cut). BeginsWith packing (carried g now p)) (sym (parent_is parent at)) begins)
+
+  -- all together
+  pub is_opening : (e : ℕ) (d_out d_in : Decided) (parent : List Cut) (outside inside : NewLeaf) (copy second best : Best) →
+      IsOfOwn g note e → d_out ≡ with_edge note.decision e Outside → d_in ≡ with_edge note.decision e Inside →
+      slice_get (packings_of kept.tree) place ≡ Some parent →
+      IsNoteOf g (leaf_under d_out outside.packing) outside.note → BeginsWith outside.packing (carried g d_out parent) →
+      IsNoteOf g (leaf_under d_in inside.packing) inside.note → BeginsWith inside.packing (carried g d_in parent) →
+      copy ≡ kept.best → second.length ≤ copy.length → IsUpToOwn g second.length outside.note.network →
+      IsBest g best → best.length ≤ second.length → IsUpToOwn g best.length inside.note.network →
+      IsOpeningOf g kept (record { leaf = place; on = split.Edge e; outside = outside; inside = inside; best = best })
+  is_opening e d_out d_in parent outside inside copy second best of_own out_is in_is parent_at out_note out_begins in_note in_begins
+      copy_is second_less second_own is_best best_less best_own = record {
+        leaf = leaf;
+        edge = e;
+        at = is_next.at;
+        below = is_next.below;
+        on = refl;
+        splits = own_splits e of_own;
+        outside = child_note e Outside d_out outside out_is out_note;
+        inside = child_note e Inside d_in inside in_is in_note;
+        outside_begins = child_begins e Outside d_out parent outside.packing out_is parent_at out_begins;
+        inside_begins = child_begins e Inside d_in parent inside.packing in_is parent_at in_begins;
+        best = is_best;
+        no_longer = let same : copy.length ≡ kept.best.length = ap (λ (b : Best). b.length) copy_is in omega arith;
+        outside_own = shorter_own g second.length best.length outside.note.network best_less second_own;
+        inside_own = best_own;
+      }

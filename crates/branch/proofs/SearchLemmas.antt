@@ -1,0 +1,184 @@
+-- What a search keeps, through its openings.
+use Rattle.std.proofs.Common.{ℕ, suc, ◌≡◌, ◌+◌, ◌<◌, ◌≤◌, Bool, List, [], ◌∷◌, length, slice_set, Option, Some, None, refl, ap, sym, ◌∙◌, subst, arith}
+use Rattle.std.specs.List.{AllZip, insert}
+use Rattle.std.proofs.lemmas.Option.{slice_get_within}
+use Rattle.net_graph.specs.declared.packing.Cut.{Cut}
+use Rattle.net_graph.specs.Graph.{Graph, total_of}
+use Rattle.net_graph.specs.Network.{length_of}
+use Rattle.net_graph.specs.LengthLaws.{length_of_edges-le-sum}
+use Rattle.net_graph.specs.Decision.{nothing_decided}
+use Rattle.cert_tree.specs.declared.split.SplitOn.{SplitOn}
+use Rattle.cert_tree.specs.declared.split.SplitOn.TheVariants as split
+use Rattle.cert_tree.specs.Tree.{Tree, split_with}
+use Rattle.cert_tree.specs.Tree.Tree.{Leaf}
+use Rattle.cert_tree.specs.Preorder.{split_count}
+use Rattle.cert_tree.specs.Replaced.{replaced}
+use Rattle.cert_tree.specs.Decisions.{outside_of, inside_of}
+use Rattle.cert_tree.specs.TreeValue.{IsValidTree}
+use Rattle.branch.specs.declared.note.LeafNote.{LeafNote}
+use Rattle.branch.specs.declared.best.Best.{Best}
+use Rattle.branch.specs.declared.frontier.Frontier.{Frontier}
+use Rattle.branch.specs.declared.opening.Opening.{Opening}
+use Rattle.branch.specs.Leaves.{DecidedLeaf, leaf_under, leaves_of}
+use Rattle.branch.specs.States.{IsReadyLeaf, IsOpenLeaf, IsState}
+use Rattle.branch.specs.Openings.{IsOpening}
+use Rattle.branch.specs.Runs.{EndsOpenings, EndsRunOfOpenings}
+use Rattle.branch.specs.Notes.{IsBest, ShowsOwn, IsNoteOf, IsUpToOwn, IsKeptNote, AreNotesOf}
+use Rattle.branch.specs.Searching.{search_state, SplitsEdges, IsSearch, IsOpeningOf, IsOpened, OpensTo}
+use Rattle.branch.proofs.ListLemmas.{two_at, insert-set, AllZip-two_at, AllZip-weaker, AllZip-length, beside_left, all_from_places}
+use Rattle.branch.proofs.TreeLemmas.{leaves_of-replaced, IsValidTree-replaced, split_count-replaced, SplitsEdges-replaced}
+
+-- an open leaf can be opened
+own_ready : (g : Graph) (network : List Bool) (leaf : DecidedLeaf) (own : Option (List Bool)) → ShowsOwn g leaf own →
+    IsUpToOwn g (length_of g network) own → IsOpenLeaf g (length_of g network) leaf → IsReadyLeaf g (length_of g network) leaf
+own_ready g network leaf None shows up_to below =
+    let least : length_of g network ≤ total_of g = length_of_edges-le-sum g.edges network in absurd (omega arith)
+own_ready g network leaf (Some set) shows up_to below = record {
+  maximal = shows.maximal;
+  saturated = set;
+  arcs = shows.arcs;
+  long = up_to;
+}
+
+-- a best network and a valid tree with notes are a state
+pub state_of : (g : Graph) (best : Best) (tree : Tree SplitOn) (notes : List LeafNote) → IsBest g best →
+    IsValidTree g (nothing_decided g) tree → AreNotesOf g best.length (leaves_of (nothing_decided g) tree) notes → IsState g best.network tree
+state_of g best tree notes is_best valid are = record {
+  network_of = is_best.network_of;
+  valid = valid;
+  leaves = all_from_places (λ (leaf : DecidedLeaf). IsOpenLeaf g (length_of g best.network) leaf → IsReadyLeaf g (length_of g best.network) leaf)
+      (leaves_of (nothing_decided g) tree)
+      (λ k leaf at below.
+      let (note, _, kept) = beside_left (IsKeptNote g best.length) (leaves_of (nothing_decided g) tree) notes k leaf are at in
+      own_ready g best.network leaf note.network kept.0.own
+      (subst (λ (n : ℕ). IsUpToOwn g n note.network) is_best.length kept.1) below);
+}
+
+-- a shorter length is still no longer than a leaf's own network
+pub shorter_own : (g : Graph) (length less : ℕ) (own : Option (List Bool)) → less ≤ length → IsUpToOwn g length own → IsUpToOwn g less own
+shorter_own g length less None le up_to = tt
+shorter_own g length less (Some set) le up_to = omega arith
+
+module _ (g : Graph) (old : Frontier) (opening : Opening) (search : IsSearch g old) (op : IsOpeningOf g old opening) where
+  abbrev first_leaves : List DecidedLeaf
+  first_leaves = leaves_of (nothing_decided g) old.tree
+
+  abbrev outside_leaf : DecidedLeaf
+  outside_leaf = leaf_under (outside_of op.leaf.decision (split.Edge op.edge)) opening.outside.packing
+
+  abbrev inside_leaf : DecidedLeaf
+  inside_leaf = leaf_under (inside_of op.leaf.decision (split.Edge op.edge)) opening.inside.packing
+
+  abbrev opened_tree : Tree SplitOn
+  opened_tree = replaced opening.leaf (split_with (split.Edge op.edge) opening.outside.packing opening.inside.packing) old.tree
+
+  opened_valid : IsValidTree g (nothing_decided g) opened_tree
+  opened_valid =
+      IsValidTree-replaced (split.Edge op.edge) opening.outside.packing opening.inside.packing g (nothing_decided g) old.tree opening.leaf op.leaf op.at
+      search.valid op.splits.undecided op.outside.feasible op.inside.feasible
+
+  opened_edges : SplitsEdges opened_tree
+  opened_edges =
+      SplitsEdges-replaced (split.Edge op.edge) opening.outside.packing opening.inside.packing op.edge refl (nothing_decided g) old.tree
+      opening.leaf op.leaf op.at search.edges
+
+  opened_notes : AllZip (IsKeptNote g opening.best.length) (leaves_of (nothing_decided g) opened_tree)
+      (insert (slice_set old.notes.items opening.leaf opening.outside.note) (opening.leaf + 1) opening.inside.note)
+  opened_notes =
+      let within : opening.leaf < length first_leaves = slice_get_within first_leaves opening.leaf op.leaf op.at in
+      let same : length first_leaves ≡ length old.notes.items = AllZip-length (IsKeptNote g old.best.length) first_leaves old.notes.items search.notes in
+      let leaves = leaves_of-replaced (split.Edge op.edge) opening.outside.packing opening.inside.packing (nothing_decided g) old.tree opening.leaf op.leaf op.at in
+      let notes = insert-set old.notes.items opening.leaf opening.outside.note opening.inside.note (omega arith) in
+      let all : AllZip (IsKeptNote g opening.best.length) first_leaves old.notes.items =
+      AllZip-weaker (IsKeptNote g old.best.length) (IsKeptNote g opening.best.length)
+      (λ leaf note kept. (kept.0, shorter_own g old.best.length opening.best.length note.network op.no_longer kept.1))
+      first_leaves old.notes.items search.notes in
+      subst (λ (xs : List DecidedLeaf). AllZip (IsKeptNote g opening.best.length) xs
+      (insert (slice_set old.notes.items opening.leaf opening.outside.note) (opening.leaf + 1) opening.inside.note)) (sym leaves)
+      (subst (λ (ys : List LeafNote). AllZip (IsKeptNote g opening.best.length) (two_at first_leaves opening.leaf outside_leaf inside_leaf) ys) (sym notes)
+      (AllZip-two_at (IsKeptNote g opening.best.length) first_leaves old.notes.items opening.leaf outside_leaf inside_leaf
+      opening.outside.note opening.inside.note all (op.outside, op.outside_own) (op.inside, op.inside_own)))
+
+  opened_count : split_count opened_tree ≡ split_count old.tree + 1
+  opened_count = split_count-replaced (split.Edge op.edge) opening.outside.packing opening.inside.packing (nothing_decided g) old.tree opening.leaf op.leaf op.at
+
+  opened_opening : IsOpening g old.best.network opening.best.network old.tree opened_tree
+  opened_opening = record {
+    place = opening.leaf;
+    leaf = op.leaf;
+    on = split.Edge op.edge;
+    outside = opening.outside.packing;
+    inside = opening.inside.packing;
+    at = op.at;
+    below = op.below;
+    splits = op.splits;
+    tree_is = refl;
+    outside_begins = op.outside_begins;
+    inside_begins = op.inside_begins;
+    no_longer = let less = op.no_longer in let before = search.best.length in let after = op.best.length in omega arith;
+  }
+
+  opened_state : IsState g opening.best.network opened_tree
+  opened_state = state_of g opening.best opened_tree
+      (insert (slice_set old.notes.items opening.leaf opening.outside.note) (opening.leaf + 1) opening.inside.note) op.best opened_valid opened_notes
+
+  opened_run : EndsRunOfOpenings g old.first_length opening.best.network opened_tree
+  opened_run =
+      let count : split_count opened_tree ≡ suc (split_count old.tree) = omega (arith, opened_count) in
+      subst (λ (n : ℕ). EndsOpenings g old.first_length n opening.best.network opened_tree) (sym count)
+      (opened_state, count, (old.best.network, old.tree, search.run, opened_opening))
+
+-- what is kept once an opening is made
+pub search_opened : (g : Graph) (old new : Frontier) (opening : Opening) → IsSearch g old → IsOpeningOf g old opening → IsOpened opening old new →
+    IsSearch g new × OpensTo (search_state g old) (search_state g new)
+search_opened g old new opening search op opened =
+    let tree : opened_tree g old opening search op ≡ new.tree =
+    sym (opened.tree ∙ ap (λ s. replaced opening.leaf (split_with s opening.outside.packing opening.inside.packing) old.tree) op.on) in
+    let best : opening.best ≡ new.best = sym opened.best in
+    let notes = sym opened.notes in
+    let first : old.first_length ≡ new.first_length = sym opened.first_length in (
+      record {
+        best = subst (λ (b : Best). IsBest g b) best op.best;
+        valid = subst (λ (t : Tree SplitOn). IsValidTree g (nothing_decided g) t) tree (opened_valid g old opening search op);
+        edges = subst SplitsEdges tree (opened_edges g old opening search op);
+        notes = subst (λ (b : Best). AreNotesOf g b.length (leaves_of (nothing_decided g) new.tree) new.notes.items) best
+            (subst (λ (t : Tree SplitOn). AreNotesOf g opening.best.length (leaves_of (nothing_decided g) t) new.notes.items) tree
+            (subst (λ (ns : List LeafNote). AreNotesOf g opening.best.length (leaves_of (nothing_decided g) (opened_tree g old opening search op)) ns) notes
+            (opened_notes g old opening search op)));
+        run = subst (λ (b : Best). EndsRunOfOpenings g new.first_length b.network new.tree) best
+            (subst (λ (t : Tree SplitOn). EndsRunOfOpenings g new.first_length opening.best.network t) tree
+            (subst (λ (n : ℕ). EndsRunOfOpenings g n opening.best.network (opened_tree g old opening search op)) first
+            (opened_run g old opening search op)));
+        no_longer = subst (λ (b : Best). b.length ≤ new.first_length) best
+            (let less = op.no_longer in let before = search.no_longer in omega arith);
+      },
+      record {
+        graph = refl;
+        first_length = opened.first_length;
+        splits = ap split_count (sym tree) ∙ opened_count g old opening search op;
+        opening = subst (λ (b : Best). IsOpening g old.best.network b.network old.tree new.tree) best
+            (subst (λ (t : Tree SplitOn). IsOpening g old.best.network opening.best.network old.tree t) tree (opened_opening g old opening search op));
+      },
+    )
+
+-- a search that begins with one leaf
+pub search_begun : (g : Graph) (kept : Frontier) (packing : List Cut) (note : LeafNote) → IsBest g kept.best →
+    kept.best.length ≤ kept.first_length → kept.tree ≡ Leaf packing → kept.notes.items ≡ note ∷ [] →
+    IsNoteOf g (leaf_under (nothing_decided g) packing) note → IsUpToOwn g kept.best.length note.network → IsSearch g kept
+search_begun g kept packing note best no_longer tree notes of_note own =
+    let valid : IsValidTree g (nothing_decided g) kept.tree =
+    subst (λ (t : Tree SplitOn). IsValidTree g (nothing_decided g) t) (sym tree) of_note.feasible in
+    let are : AreNotesOf g kept.best.length (leaves_of (nothing_decided g) kept.tree) kept.notes.items =
+    subst (λ (t : Tree SplitOn). AreNotesOf g kept.best.length (leaves_of (nothing_decided g) t) kept.notes.items) (sym tree)
+    (subst (λ (ns : List LeafNote). AreNotesOf g kept.best.length (leaf_under (nothing_decided g) packing ∷ []) ns) (sym notes)
+    ((of_note, own), tt)) in
+    let none : split_count kept.tree ≡ 0 = ap split_count tree in
+    record {
+      best = best;
+      valid = valid;
+      edges = subst SplitsEdges (sym tree) tt;
+      notes = are;
+      run = subst (λ (n : ℕ). EndsOpenings g kept.first_length n kept.best.network kept.tree) (sym none)
+          (state_of g kept.best kept.tree kept.notes.items best valid are, none, let same = best.length in omega arith);
+      no_longer = no_longer;
+    }

@@ -1,0 +1,42 @@
+-- How an open leaf is opened.
+use Rattle.std.proofs.Common.{◌<◌, ◌^◌, arith}
+use Rattle.branch.proofs.OpeningLemmas.{note_decided, note_can_split, place_within, place_small, parent_feasible, is_opening}
+use Rattle.branch.proofs.next_opening.opening_at.Goals as goal
+
+pub edge_to_split-requires-clause-decision : goal.edge_to_split-requires-clause-decision
+edge_to_split-requires-clause-decision _ c = note_decided _ _ _ _ c.requires.search c.requires.next c.index-note.ensures
+
+pub edge_to_split-requires-clause-can : goal.edge_to_split-requires-clause-can
+edge_to_split-requires-clause-can _ c = note_can_split _ _ _ _ c.requires.search c.requires.next c.index-note.ensures
+
+pub overflow_cast-place : goal.overflow_cast-place
+overflow_cast-place _ c =
+    let small : c.args.place < 2 ^ 31 = place_small _ _ _ _ c.requires.search c.requires.next c.index-note.ensures c.requires.few in omega arith
+
+pub packing-parent-requires : goal.packing-parent-requires
+packing-parent-requires _ c = place_within _ _ _ _ c.requires.search c.requires.next c.index-note.ensures
+
+pub with_outside-requires-clause-decision : goal.with_outside-requires-clause-decision
+with_outside-requires-clause-decision _ c = note_decided _ _ _ _ c.requires.search c.requires.next c.index-note.ensures
+
+pub child_of-requires-clause-feasible : goal.child_of-requires-clause-feasible
+child_of-requires-clause-feasible _ c = parent_feasible _ _ _ _ c.requires.search c.requires.next c.index-note.ensures _ c.packing-parent.ensures
+
+pub with_inside-requires-clause-decision : goal.with_inside-requires-clause-decision
+with_inside-requires-clause-decision _ c = note_decided _ _ _ _ c.requires.search c.requires.next c.index-note.ensures
+
+pub child_of-requires-2-clause-feasible : goal.child_of-requires-2-clause-feasible
+child_of-requires-2-clause-feasible _ c = parent_feasible _ _ _ _ c.requires.search c.requires.next c.index-note.ensures _ c.packing-parent.ensures
+
+pub overflow_cast-result : goal.overflow_cast-result
+overflow_cast-result _ c =
+    let small : c.args.place < 2 ^ 31 = place_small _ _ _ _ c.requires.search c.requires.next c.index-note.ensures c.requires.few in omega arith
+
+pub returns : goal.returns
+returns _ c =
+    is_opening _ _ _ _ c.requires.search c.requires.next c.index-note.ensures _ _ _ _ c.in_ok-outside.outside c.in_ok-inside.inside
+    c.in_ok-best.best c.in_ok-best-2.best c.in_ok-best-3.best c.in_ok-e.ensures
+    c.in_ok-with_outside.ensures.value c.in_ok-with_inside.ensures.value c.packing-parent.ensures
+    c.in_ok-outside.ensures.note c.in_ok-outside.ensures.begins c.in_ok-inside.ensures.note c.in_ok-inside.ensures.begins
+    c.in_ok-best.ensures c.in_ok-best-2.ensures.no_longer c.in_ok-best-2.ensures.own
+    c.in_ok-best-3.ensures.best c.in_ok-best-3.ensures.no_longer c.in_ok-best-3.ensures.own

@@ -1,0 +1,32 @@
+-- A step settles the search or makes an opening.
+use Rattle.std.proofs.Common.{◌≤◌, List, All, refl, subst}
+use Rattle.branch.specs.declared.note.LeafNote.{LeafNote}
+use Rattle.branch.specs.Searching.{SearchState, search_state, IsSettled, OpensTo}
+use Rattle.branch.proofs.SearchLemmas.{search_opened}
+use Rattle.branch.proofs.SettledLemmas.{settled}
+use Rattle.branch.proofs.OpenedLemmas.{opens_within, opens_within_notes, opens_few}
+use Rattle.branch.proofs.search.Search.split_one.Goals as goal
+
+pub returns-in_default-clause-step : goal.returns-in_default-clause-step
+returns-in_default-clause-step _ c = (
+  subst (λ (s : SearchState). IsSettled s) c.self.view_is
+      (settled _ _ c.self.invariant (subst (λ (xs : List LeafNote). All (λ (note : LeafNote). c.self.inside.kept.best.length ≤ note.value) xs) c.as_slice.ensures.value c.in_default.ensures.none)),
+  refl,
+)
+
+pub open-requires-clause-leaf : goal.open-requires-clause-leaf
+open-requires-clause-leaf _ c = opens_within _ _ _ c.in_ok-opening.ensures
+
+pub open-requires-clause-note : goal.open-requires-clause-note
+open-requires-clause-note _ c = opens_within_notes _ _ _ c.self.invariant c.in_ok-opening.ensures
+
+pub open-requires-clause-few : goal.open-requires-clause-few
+open-requires-clause-few _ c = opens_few c.self.inside.kept _ c.self.inside.graph.now c.self.view_is c.requires
+
+pub invariant_of-self-2 : goal.invariant_of-self-2
+invariant_of-self-2 _ c = (search_opened _ _ _ _ c.self.invariant c.in_ok-opening.ensures c.in_ok-open.ensures.ok).0
+
+pub returns-clause-step : goal.returns-clause-step
+returns-clause-step _ c =
+    subst (λ (s : SearchState). OpensTo s (search_state c.self.inside.graph.now c.open.new.self)) c.self.view_is
+    (search_opened _ _ _ _ c.self.invariant c.in_ok-opening.ensures c.in_ok-open.ensures.ok).1

@@ -1,0 +1,9 @@
+pub mod Leaves
+pub mod SaturatedArcs
+pub mod States
+pub mod Openings
+pub mod Runs
+pub mod Notes
+pub mod Searching
+pub mod SearchCode
+pub mod Solving

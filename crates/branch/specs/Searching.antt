@@ -1,0 +1,110 @@
+-- What a search keeps, and its steps.
+use Rattle.std.specs.Prelude.{ℕ, ◌≡◌, ◌+◌, ◌≤◌, Bool, List, slice_get, slice_set, Some}
+use Rattle.std.specs.List.{insert}
+use Rattle.net_graph.specs.Graph.{Graph}
+use Rattle.net_graph.specs.Network.{length_of}
+use Rattle.net_graph.specs.Decision.{nothing_decided}
+use Rattle.cert_tree.specs.declared.split.SplitOn.{SplitOn}
+use Rattle.cert_tree.specs.declared.split.SplitOn.TheVariants as split
+use Rattle.cert_tree.specs.Tree.{Tree, split_with}
+use Rattle.cert_tree.specs.Tree.Tree.{Leaf, Split}
+use Rattle.cert_tree.specs.Replaced.{replaced}
+use Rattle.cert_tree.specs.Preorder.{split_count}
+use Rattle.cert_tree.specs.Decisions.{outside_of, inside_of}
+use Rattle.cert_tree.specs.TreeValue.{IsValidTree, tree_value}
+use Rattle.branch.specs.declared.frontier.Frontier.{Frontier}
+use Rattle.branch.specs.declared.opening.Opening.{Opening}
+use Rattle.branch.specs.declared.step.Step.{Step}
+use Rattle.branch.specs.declared.step.Step.TheVariants as step
+use Rattle.branch.specs.Leaves.{DecidedLeaf, leaf_under, leaves_of}
+use Rattle.branch.specs.States.{IsOpenLeaf}
+use Rattle.branch.specs.Openings.{IsOpening, IsSplitEdge, BeginsAt}
+use Rattle.branch.specs.Runs.{EndsRunOfOpenings}
+use Rattle.branch.specs.Notes.{IsBest, AreNotesOf, IsNoteOf, IsUpToOwn}
+
+-- A search as contracts see it: its graph, its best network, its tree, and the length of the network that it
+-- began with.
+pub record SearchState : Type 0 where
+  pub graph : Graph
+  pub network : List Bool
+  pub tree : Tree SplitOn
+  pub first_length : ℕ
+
+-- what contracts see of what is kept
+abbrev pub search_state : Graph → Frontier → SearchState
+search_state g kept = record {
+  graph = g;
+  network = kept.best.network;
+  tree = kept.tree;
+  first_length = kept.first_length;
+}
+
+-- each split of the tree is on an edge
+abbrev pub SplitsEdges : Tree SplitOn → Type 0
+SplitsEdges (Leaf cuts) = Unit {0}
+SplitsEdges (Split (split.Edge e) outside inside) = SplitsEdges outside × SplitsEdges inside
+SplitsEdges (Split (split.Vertex v) outside inside) = ⊥
+
+-- What is kept is a search: the best network is one, the tree is valid where nothing is decided and its splits
+-- are on edges, what is kept beside its leaves is true of them, no leaf's own network is shorter than the best
+-- one, and both end a run of openings whose first network is no longer than the one that the search began with.
+pub record IsSearch (g : Graph) (kept : Frontier) : Type 0 where
+  pub best : IsBest g kept.best
+  pub valid : IsValidTree g (nothing_decided g) kept.tree
+  pub edges : SplitsEdges kept.tree
+  pub notes : AreNotesOf g kept.best.length (leaves_of (nothing_decided g) kept.tree) kept.notes.items
+  pub run : EndsRunOfOpenings g kept.first_length kept.best.network kept.tree
+  pub no_longer : kept.best.length ≤ kept.first_length
+
+-- What an opening of a search makes of one of its leaves: two new leaves, with what is kept beside them, and a
+-- best network that is no longer than before or than theirs.
+pub record IsOpeningOf (g : Graph) (kept : Frontier) (opening : Opening) : Type 0 where
+  pub leaf : DecidedLeaf
+  pub edge : ℕ
+  pub at : slice_get (leaves_of (nothing_decided g) kept.tree) opening.leaf ≡ Some leaf
+  pub below : IsOpenLeaf g (length_of g kept.best.network) leaf
+  pub on : opening.on ≡ split.Edge edge
+  pub splits : IsSplitEdge g leaf edge
+  pub outside : IsNoteOf g (leaf_under (outside_of leaf.decision (split.Edge edge)) opening.outside.packing)
+      opening.outside.note
+  pub inside : IsNoteOf g (leaf_under (inside_of leaf.decision (split.Edge edge)) opening.inside.packing)
+      opening.inside.note
+  pub outside_begins : BeginsAt g leaf (outside_of leaf.decision (split.Edge edge)) opening.outside.packing
+  pub inside_begins : BeginsAt g leaf (inside_of leaf.decision (split.Edge edge)) opening.inside.packing
+  pub best : IsBest g opening.best
+  pub no_longer : opening.best.length ≤ kept.best.length
+  pub outside_own : IsUpToOwn g opening.best.length opening.outside.note.network
+  pub inside_own : IsUpToOwn g opening.best.length opening.inside.note.network
+
+-- the opening is made: its split stands in place of its leaf, and its best network is kept
+pub record IsOpened (opening : Opening) (old new : Frontier) : Type 0 where
+  pub tree : new.tree
+      ≡ replaced opening.leaf (split_with opening.on opening.outside.packing opening.inside.packing) old.tree
+  pub notes : new.notes.items
+      ≡ insert (slice_set old.notes.items opening.leaf opening.outside.note) (opening.leaf + 1) opening.inside.note
+  pub best : new.best ≡ opening.best
+  pub first_length : new.first_length ≡ old.first_length
+
+-- nothing that is kept has changed
+pub record IsAsBefore (old new : Frontier) : Type 0 where
+  pub tree : new.tree ≡ old.tree
+  pub notes : new.notes.items ≡ old.notes.items
+  pub best : new.best ≡ old.best
+  pub first_length : new.first_length ≡ old.first_length
+
+-- no leaf's value is below the best network's length
+abbrev pub IsSettled : SearchState → Type 0
+IsSettled s = length_of s.graph s.network ≤ tree_value s.graph (nothing_decided s.graph) s.tree
+
+-- the one state leads to the other by an opening
+pub record OpensTo (old new : SearchState) : Type 0 where
+  pub graph : new.graph ≡ old.graph
+  pub first_length : new.first_length ≡ old.first_length
+  pub splits : split_count new.tree ≡ split_count old.tree + 1
+  pub opening : IsOpening old.graph old.network new.network old.tree new.tree
+
+-- What a step of a search does: settled, no leaf's value is below the best network's length, and the search
+-- stays as it was; else it makes an opening.
+abbrev pub TakesStep : SearchState → SearchState → Step → Type 0
+TakesStep old new step.Settled = IsSettled old × (new ≡ old)
+TakesStep old new step.Split = OpensTo old new

@@ -1,0 +1,54 @@
+//! Leaves that an ascent makes.
+
+ghost use Rattle.std.specs.Prelude.{◌≡◌, ◌*◌, ◌≤◌, length, IfOk};
+ghost use Rattle.net_graph.specs.Decision.{IsDecisionFor};
+ghost use Rattle.net_graph.specs.Packing.{IsFeasible};
+ghost use Rattle.dual_ascent.specs.Ascending.{BeginsWith};
+ghost use Rattle.branch.specs.Leaves.{leaf_under};
+ghost use Rattle.branch.specs.Notes.{IsNoteOf};
+
+use crate::note::LeafNote;
+use crate::saturated::saturated_network;
+use dual_ascent::{Chooser, Rule, ascend};
+use net_graph::{Decision, NetGraph, Packing, value};
+use std::alloc::{AllocError, Global};
+
+/// A leaf for the tree: its packing, and what is kept beside it.
+#[derive(Debug, Drop)]
+pub(crate) struct NewLeaf {
+    pub packing: Packing,
+    pub note: LeafNote,
+}
+
+/// The leaf of the ascent that begins with these cuts, under a decision. An `Err` is want of memory.
+pub(crate) fn leaf_from<F: Rule>(
+    alloc: Global,
+    g: &NetGraph,
+    decision: Decision,
+    start: Packing,
+    rule: &Chooser<F>,
+) -> Result<NewLeaf, AllocError>
+    requires decision { IsDecisionFor g.now decision }
+    requires feasible { IsFeasible g.now decision start }
+    requires few { length start ≤ 2 * length g.now.edges }
+    ensures begins { IfOk result (λ leaf. BeginsWith leaf.packing start) }
+    ensures note { IfOk result (λ leaf. IsNoteOf g.now (leaf_under decision leaf.packing) leaf.note) }
+{
+    let edges = g.edge_count();
+    prove!(edges <= 4900);
+    let ascent = ascend(alloc, g, &decision, start, rule)?;
+    let network = if ascent.closed {
+        None
+    } else {
+        Some(saturated_network(alloc, g, &decision, &ascent.packing)?)
+    };
+    let value = value(g, &decision, &ascent.packing);
+    Ok(NewLeaf {
+        packing: ascent.packing,
+        note: LeafNote {
+            decision,
+            value,
+            network,
+        },
+    })
+}

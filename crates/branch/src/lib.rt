@@ -1,0 +1,26 @@
+//! The search that proves a network short: it splits the leaves of a certificate tree, each time one whose
+//! value is below the length of the best network.
+#![tactic(auto)]
+
+mod best;
+mod frontier;
+mod leaf;
+mod next_opening;
+mod note;
+mod open;
+mod opening;
+mod saturated;
+mod saturation;
+mod search;
+mod solve;
+mod solved;
+mod split_edge;
+mod step;
+#[cfg(test)]
+mod tests;
+
+pub use saturated::saturated_network;
+pub use search::Search;
+pub use solve::solve_graph;
+pub use solved::Solved;
+pub use step::Step;

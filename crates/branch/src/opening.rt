@@ -1,0 +1,67 @@
+//! What is made of a leaf that is split.
+
+ghost use Rattle.std.specs.Prelude.{◌≡◌, ◌<◌, ◌≤◌, IfOk};
+ghost use Rattle.net_graph.specs.Decision.{IsDecisionFor};
+ghost use Rattle.net_graph.specs.Packing.{IsFeasible};
+ghost use Rattle.dual_ascent.specs.Ascending.{BeginsWith};
+ghost use Rattle.dual_ascent.specs.Carried.{carried, DecidesOneMore};
+ghost use Rattle.branch.specs.Leaves.{leaf_under};
+ghost use Rattle.branch.specs.Notes.{IsNoteOf, CanSplit, IsOfOwn, IsNextNote};
+
+use crate::best::Best;
+use crate::leaf::{NewLeaf, leaf_from};
+use crate::note::LeafNote;
+use crate::split_edge::undecided_edges;
+use cert_tree::SplitOn;
+use dual_ascent::{Chooser, Rule, carry};
+use net_graph::{Decision, NetGraph, Packing};
+use std::alloc::{AllocError, Global};
+
+/// What is made of a leaf, given by its place in preorder: what it is split on, two new leaves, and the best
+/// network with theirs looked at.
+#[derive(Debug, Drop)]
+pub(crate) struct Opening {
+    pub leaf: u32,
+    pub on: SplitOn,
+    pub outside: NewLeaf,
+    pub inside: NewLeaf,
+    pub best: Best,
+}
+
+/// The edge that the rule chooses among the undecided edges of a leaf's own network. An `Err` is want of memory.
+pub(crate) fn edge_to_split<G: Rule>(
+    alloc: Global,
+    g: &NetGraph,
+    note: &LeafNote,
+    rule: &Chooser<G>,
+) -> Result<u32, AllocError>
+    requires decision { IsDecisionFor g.now note.now.decision }
+    requires can { CanSplit g.now note.now }
+    ensures { IfOk result (IsOfOwn g.now note.now) }
+{
+    let Some(network) = &note.network else {
+        unreachable!()
+    };
+    let list = undecided_edges(alloc, g, &note.decision, network)?;
+    let place = rule.choose(list.as_slice());
+    Ok(list[place].number)
+}
+
+/// The leaf of the ascent that begins with what a packing carries to a further decision. An `Err` is want of memory.
+pub(crate) fn child_of<F: Rule>(
+    alloc: Global,
+    g: &NetGraph,
+    before: &Decision,
+    parent: &Packing,
+    now: Decision,
+    rule: &Chooser<F>,
+) -> Result<NewLeaf, AllocError>
+    requires now { IsDecisionFor g.now now }
+    requires one_more { DecidesOneMore g.now before.now now }
+    requires feasible { IsFeasible g.now before.now parent.now }
+    ensures begins { IfOk result (λ leaf. BeginsWith leaf.packing (carried g.now now parent.now)) }
+    ensures note { IfOk result (λ leaf. IsNoteOf g.now (leaf_under now leaf.packing) leaf.note) }
+{
+    let start = carry(alloc, g, before, &now, parent)?;
+    leaf_from(alloc, g, now, start, rule)
+}

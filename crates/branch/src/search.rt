@@ -1,0 +1,152 @@
+//! The search by splits.
+
+ghost use Rattle.std.specs.Prelude.{◌≡◌, ◌*◌, ◌<◌, ◌≤◌, length, IfOk, OnErr};
+ghost use Rattle.net_graph.specs.Network.{length_of};
+ghost use Rattle.net_graph.specs.Decision.{nothing_decided};
+ghost use Rattle.net_graph.specs.Packing.{IsFeasible};
+ghost use Rattle.cert_tree.specs.Preorder.{split_count};
+
+use crate::best::Best;
+use crate::frontier::Frontier;
+use crate::leaf::leaf_from;
+use crate::next_opening::opening_at;
+use crate::open::{bound_of, next_open};
+use crate::solved::Solved;
+use crate::step::Step;
+use cert_tree::tree_bounds_every_network;
+use dual_ascent::{Chooser, Rule};
+use net_graph::{Decision, EdgeSet, NetGraph, Packing};
+use std::alloc::{AllocError, Global};
+use std::marker::Model;
+
+/// A search for a shortest network (branch and bound after Land and Doig 1960, with dual ascents after Wong
+/// 1984). It keeps its best network and a certificate tree, and beside each leaf of the tree a network of edges
+/// with a saturated arc where the leaf's packing is maximal. The best network is never longer than one of
+/// these.
+#[derive(Drop)]
+pub struct Search<'a, F: Rule, G: Rule> {
+    alloc: Global,
+    graph: &'a NetGraph,
+    ascent: Chooser<F>,
+    split: Chooser<G>,
+    kept: Frontier,
+}
+
+impl<'a, F: Rule, G: Rule> Model for Search<'a, F, G> {
+    ghost use Rattle.branch.specs.Searching.{SearchState, search_state, IsSearch};
+    ghost use Rattle.branch.specs.SearchCode.{search_code};
+
+    ghost Value = { SearchState };
+
+    ghost coded = { search_code };
+
+    ghost view = { λ s. search_state s.graph.now s.kept };
+
+    ghost invariant = { λ s. IsSearch s.graph.now s.kept };
+}
+
+impl<'a, F: Rule, G: Rule> Search<'a, F, G> {
+    ghost use Rattle.branch.specs.States.{IsNetworkOf};
+    ghost use Rattle.branch.specs.Searching.{SplitsEdges, TakesStep};
+    ghost use Rattle.branch.specs.Solving.{IsSolved};
+
+    /// A search that begins with a network and with the leaf of an ascent from no cut. The rule `ascent`
+    /// chooses among the candidates of an ascent, and `split` among the edges on which a leaf may be split,
+    /// each with its length. An `Err` is want of memory.
+    pub fn start(
+        alloc: Global,
+        g: &'a NetGraph,
+        first: EdgeSet,
+        ascent: Chooser<F>,
+        split: Chooser<G>,
+    ) -> Result<Search<'a, F, G>, AllocError>
+        requires { IsNetworkOf g.now first }
+        ensures graph { IfOk result (λ s. s.graph ≡ g.now) }
+        ensures first { IfOk result (λ s. s.first_length ≡ length_of g.now first) }
+        ensures leaf { IfOk result (λ s. split_count s.tree ≡ 0) }
+    {
+        Search::start_from(alloc, g, first, Packing::empty(alloc), ascent, split)
+    }
+
+    /// The same, with the leaf of an ascent that begins with given cuts. An `Err` is want of memory.
+    pub fn start_from(
+        alloc: Global,
+        g: &'a NetGraph,
+        first: EdgeSet,
+        cuts: Packing,
+        ascent: Chooser<F>,
+        split: Chooser<G>,
+    ) -> Result<Search<'a, F, G>, AllocError>
+        requires network { IsNetworkOf g.now first }
+        requires feasible { IsFeasible g.now (nothing_decided g.now) cuts }
+        requires few { length cuts ≤ 2 * length g.now.edges }
+        ensures graph { IfOk result (λ s. s.graph ≡ g.now) }
+        ensures first { IfOk result (λ s. s.first_length ≡ length_of g.now first) }
+        ensures leaf { IfOk result (λ s. split_count s.tree ≡ 0) }
+    {
+        let leaf = leaf_from(alloc, g, Decision::none(alloc, g)?, cuts, &ascent)?;
+        let kept = Frontier::begin(alloc, g, first, leaf)?;
+        Ok(Search {
+            alloc,
+            graph: g,
+            ascent,
+            split,
+            kept,
+        })
+    }
+
+    /// Splits the open leaf of the least value, the earliest in preorder on a tie: a leaf is open where its
+    /// value is below the best network's length. An `Err` is want of memory, and leaves the search as it was.
+    pub fn split_one(&mut self) -> Result<Step, AllocError>
+        requires { split_count self.old.tree < 255 }
+        ensures step { IfOk result (TakesStep self.old self.new) }
+        ensures err { OnErr result (self.new ≡ self.old) }
+    {
+        let Some(place) = next_open(self.kept.notes.as_slice(), self.kept.best.length) else {
+            return Ok(Step::Settled);
+        };
+        let opening = opening_at(
+            self.alloc,
+            self.graph,
+            &self.kept,
+            place,
+            &self.ascent,
+            &self.split,
+        )?;
+        self.kept.open(opening)?;
+        Ok(Step::Split)
+    }
+
+    /// How many splits the tree has. It takes no memory.
+    pub fn splits(&self) -> u32
+        ensures { result ≡ split_count self.now.tree }
+    {
+        self.kept.tree.splits()
+    }
+
+    /// What the search has found so far. It takes no memory.
+    pub fn finish(self) -> Solved
+        ensures network { result.network ≡ self.entry.network }
+        ensures tree { result.tree ≡ self.entry.tree }
+        ensures edges { SplitsEdges result.tree }
+        ensures solved { IsSolved self.entry.graph self.entry.first_length result }
+    {
+        tree_bounds_every_network();
+        let kept = self.kept;
+        let bound = bound_of(kept.notes.as_slice(), kept.best.length);
+        let Frontier {
+            first_length: _,
+            best,
+            tree,
+            notes: _,
+        } = kept;
+        let Best { network, length } = best;
+        Solved {
+            network,
+            length,
+            bound,
+            optimal: bound == length,
+            tree,
+        }
+    }
+}

@@ -1,0 +1,46 @@
+//! The search as one call.
+
+ghost use Rattle.std.specs.Prelude.{◌≡◌, ◌+◌, ◌<◌, ◌≤◌, ◌^◌, true, false, length, IfOk};
+ghost use Rattle.net_graph.specs.Network.{length_of};
+ghost use Rattle.net_graph.specs.Decision.{nothing_decided};
+ghost use Rattle.cert_tree.specs.Preorder.{split_count};
+ghost use Rattle.cert_tree.specs.TreeValue.{tree_value};
+ghost use Rattle.branch.specs.States.{IsNetworkOf};
+ghost use Rattle.branch.specs.Solving.{IsSolved};
+
+use crate::search::Search;
+use crate::solved::Solved;
+use crate::step::Step;
+use dual_ascent::{Chooser, Rule};
+use net_graph::{EdgeSet, NetGraph};
+use std::alloc::{AllocError, Global};
+
+/// What a search finds that begins with a network and makes at most `allowed` splits. It stops before that only
+/// where no leaf's value is below its network's length. An `Err` is want of memory.
+pub fn solve_graph<F: Rule, G: Rule>(
+    alloc: Global,
+    g: &NetGraph,
+    first: EdgeSet,
+    allowed: u8,
+    ascent: Chooser<F>,
+    split: Chooser<G>,
+) -> Result<Solved, AllocError>
+    requires { IsNetworkOf g.now first }
+    ensures solved { IfOk result (IsSolved g.now (length_of g.now first)) }
+    ensures few { IfOk result (λ s. split_count s.tree ≤ allowed) }
+    // It is not optimal only where all allowed splits were made and some leaf's value is below the length.
+    ensures stopped { IfOk result (λ s. s.optimal ≡ false → split_count s.tree ≡ allowed) }
+    ensures below { IfOk result
+        (λ s. s.optimal ≡ false → tree_value g.now (nothing_decided g.now) s.tree < s.length) }
+    // With as many allowed splits as there are sets of edges but one, it is optimal.
+    ensures enough { IfOk result (λ s. 2 ^ length g.now.edges ≤ allowed + 1 → s.optimal ≡ true) }
+{
+    let mut search = Search::start(alloc, g, first, ascent, split)?;
+    for _made in 0..allowed {
+        match search.split_one()? {
+            Step::Settled => return Ok(search.finish()),
+            Step::Split => {}
+        }
+    }
+    Ok(search.finish())
+}
