@@ -39,7 +39,7 @@ abbrev pub is_least : ChosenKind → Bool
 is_least Least = true
 is_least (Spent trail) = false
 
--- A network of the grid of points that is made of their trees, and what is told of these.
+-- A network of the grid of points, no longer than a concatenation of their trees, and what is told of these.
 pub record IsMadeOf (ps : List Point) (trees : List Tree) (found : Found) : Type 0 where
   pub network : IsNetworkOf (hanan_grid_of ps) found.network
   pub concat : IsConcatNote (length ps) trees found.note
@@ -75,8 +75,8 @@ pub record Tells (ps : List Point) (found : Found) (answer : Answer) : Type 0 wh
   pub told : value_of ps answer ≡ solution ps found.network packing found.note
   pub fits : IsAnswerOn (hanan_grid_of ps) answer
 
--- The answer tells a network of the grid that is made of these trees and, as its one leaf, a packing that bounds every
--- network from below.
+-- The answer tells a network of the grid, no longer than a concatenation of these trees, and, as its one leaf, a packing that
+-- bounds every network from below.
 pub record IsFor (ps : List Point) (trees : List Tree) (s : Solution) : Type 0 where
   pub packing : List Cut
   pub grid : s.grid ≡ ps

@@ -1,4 +1,4 @@
-//! The tool `bb`: a file of full trees comes in, the answer of a network that is made of them goes out.
+//! The tool `bb`: a file of full trees comes in, the answer of a network no longer than a concatenation of them goes out.
 
 ghost use Rattle.std.specs.Prelude.{◌≡◌, IfOk};
 ghost use Rattle.rst_outside.specs.Shelf.{ShelfState};

@@ -8,7 +8,7 @@ use rst_outside::Sink;
 use text_out::{Block, literal, number};
 use tree_inputs::FstFault;
 
-/// Why a text gives no network that is made of the trees of a file.
+/// Why a text gives no network for the trees of a file.
 #[derive(Clone, Copy, Debug, PartialEq, Eq)]
 pub enum BuildFault {
     /// It is no file of full trees.

@@ -1,4 +1,4 @@
-//! A network that is made of full trees.
+//! A network no longer than full trees that join its points.
 
 ghost use Rattle.std.specs.Prelude.{◌≡◌, IfOk};
 ghost use Rattle.fst_file.specs.Value.{AreTreesOf};

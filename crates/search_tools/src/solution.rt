@@ -45,7 +45,7 @@ impl Answer for Solution {
     }
 }
 
-/// The answer for the points of a file: a network that is made of the file's trees, and beside it the packing of an ascent
+/// The answer for the points of a file: a network no longer than a concatenation of the file's trees, and beside it a packing
 /// as the one leaf that bounds every network from below; or the place of the first point that all trees together leave
 /// apart. An outer `Err` is want of memory.
 pub fn solution_of(alloc: Global, file: FstFile) -> Result<Result<Solution, u8>, AllocError>
