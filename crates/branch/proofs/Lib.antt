@@ -5,6 +5,7 @@ pub mod InsideLemmas
 pub mod ListLemmas
 pub mod OpenedLemmas
 pub mod OpeningLemmas
+pub mod RaisedLemmas
 pub mod SaturatedLemmas
 pub mod ScanLemmas
 pub mod SearchLemmas

@@ -1,5 +1,6 @@
 -- What a search comes to.
-use Rattle.std.proofs.Common.{ℕ, ◌≡◌, ◌+◌, ◌*◌, ◌<◌, ◌≤◌, ⊎_elim, Bool, List, length, min, slice_get, Some, All, IsTrue, ◌↔◌, sym, ◌∙◌, subst, arith}
+use Rattle.std.proofs.Common.{ℕ, ◌≡◌, ◌+◌, ◌*◌, ◌<◌, ◌≤◌, ⊎_elim, Bool, true, false, List, length, min, slice_get, Option, None, Some, All, IsTrue, ◌↔◌, refl, sym, ◌∙◌, subst, arith}
+use Rattle.std.specs.Prelude.{IfNone, IfSome, is_some, not}
 use Rattle.std.proofs.Math.Nat.{min-le_left, min-le_right, le-min}
 use Rattle.std.proofs.lemmas.Option.{slice_get_within, slice_get-get_or, same_Some}
 use Rattle.net_graph.specs.declared.packing.Cut.{Cut}
@@ -14,7 +15,7 @@ use Rattle.branch.specs.declared.note.LeafNote.{LeafNote}
 use Rattle.branch.specs.declared.frontier.Frontier.{Frontier}
 use Rattle.branch.specs.Leaves.{DecidedLeaf, leaves_of}
 use Rattle.branch.specs.States.{IsOpenLeaf, IsReadyLeaf, IsState, leaf_value}
-use Rattle.branch.specs.Notes.{IsKeptNote, IsLesserOfNotes}
+use Rattle.branch.specs.Notes.{IsKeptNote, IsLesserOfNotes, IsNextNote}
 use Rattle.branch.specs.Searching.{search_state, IsSearch, IsSettled}
 use Rattle.branch.specs.Solving.{IsSolved}
 use Rattle.branch.proofs.ListLemmas.{all_at, all_from_places, beside_left, beside_right}
@@ -98,3 +99,19 @@ module _ (g : Graph) (kept : Frontier) (search : IsSearch g kept) where
     maximal = open_maximal;
     run = search.run;
   }
+
+  -- the search is settled exactly where no open leaf was found
+  pub settled_where_none : (found : Option ℕ) (none : Bool) → is_some found ≡ not none →
+      IfNone found (All (λ (note : LeafNote). kept.best.length ≤ note.value) kept.notes.items) →
+      IfSome found (IsNextNote kept.best.length kept.notes.items) → IsTrue none ↔ IsSettled (search_state g kept)
+  settled_where_none None true is each next = (λ yes. settled each, λ holds. refl)
+  settled_where_none None false is each next = absurd cc
+  settled_where_none (Some place) true is each next = absurd cc
+  settled_where_none (Some place) false is each (note, at, below, least) = (
+    λ yes. absurd cc,
+    λ holds.
+        let (leaf, leaf_at, kept_note) = beside_right (IsKeptNote g kept.best.length) leaves kept.notes.items place note search.notes at in
+        let above = tree_value-le g (nothing_decided g) kept.tree place leaf leaf_at in
+        let value = kept_note.0.value in
+        let length_is = search.best.length in absurd (omega arith),
+  )

@@ -3,6 +3,7 @@ pub mod SaturatedArcs
 pub mod States
 pub mod Openings
 pub mod Runs
+pub mod RunLaws
 pub mod Notes
 pub mod Searching
 pub mod SearchCode

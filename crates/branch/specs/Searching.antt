@@ -92,6 +92,14 @@ pub record IsAsBefore (old new : Frontier) : Type 0 where
   pub best : new.best ≡ old.best
   pub first_length : new.first_length ≡ old.first_length
 
+-- Another leaf may stand in place of the only one, of no lesser value.
+pub record IsRaised (old new : SearchState) : Type 0 where
+  pub graph : new.graph ≡ old.graph
+  pub first_length : new.first_length ≡ old.first_length
+  pub leaf : split_count new.tree ≡ 0
+  pub value : tree_value old.graph (nothing_decided old.graph) old.tree
+      ≤ tree_value new.graph (nothing_decided new.graph) new.tree
+
 -- no leaf's value is below the best network's length
 abbrev pub IsSettled : SearchState → Type 0
 IsSettled s = length_of s.graph s.network ≤ tree_value s.graph (nothing_decided s.graph) s.tree

@@ -58,6 +58,26 @@ impl Frontier {
         })
     }
 
+    /// What is kept with another leaf in place of the tree's only one. An `Err` is want of memory.
+    pub fn with_leaf(
+        &self,
+        alloc: Global,
+        g: &NetGraph,
+        leaf: NewLeaf,
+    ) -> Result<Frontier, AllocError>
+        requires search { IsSearch g.now self.now }
+        requires note { IsNoteOf g.now (leaf_under (nothing_decided g.now) leaf.packing) leaf.note }
+        ensures search { IfOk result (λ kept. IsSearch g.now kept) }
+        ensures first { IfOk result (λ kept. kept.first_length ≡ self.now.first_length) }
+        ensures leaf { IfOk result (λ kept. kept.tree ≡ Leaf leaf.packing) }
+    {
+        let kept = Frontier::begin(alloc, g, self.best.network.copy()?, leaf)?;
+        Ok(Frontier {
+            first_length: self.first_length,
+            ..kept
+        })
+    }
+
     /// Makes an opening. An `Err` is want of memory, and leaves everything as it was.
     pub fn open(&mut self, opening: Opening) -> Result<(), AllocError>
         requires leaf { opening.leaf < length (packings_of self.old.tree) }

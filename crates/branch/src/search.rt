@@ -1,10 +1,11 @@
 //! The search by splits.
 
-ghost use Rattle.std.specs.Prelude.{◌≡◌, ◌*◌, ◌<◌, ◌≤◌, length, IfOk, OnErr};
+ghost use Rattle.std.specs.Prelude.{◌≡◌, ◌+◌, ◌*◌, ◌<◌, ◌≤◌, ◌^◌, ◌↔◌, false, true, length, IsTrue, IfOk, OnOk, OnErr};
 ghost use Rattle.net_graph.specs.Network.{length_of};
 ghost use Rattle.net_graph.specs.Decision.{nothing_decided};
 ghost use Rattle.net_graph.specs.Packing.{IsFeasible};
 ghost use Rattle.cert_tree.specs.Preorder.{split_count};
+ghost use Rattle.cert_tree.specs.TreeValue.{tree_value};
 
 use crate::best::Best;
 use crate::frontier::Frontier;
@@ -13,7 +14,7 @@ use crate::next_opening::opening_at;
 use crate::open::{bound_of, next_open};
 use crate::solved::Solved;
 use crate::step::Step;
-use cert_tree::tree_bounds_every_network;
+use cert_tree::{CertTree, tree_bounds_every_network};
 use dual_ascent::{Chooser, Rule};
 use net_graph::{Decision, EdgeSet, NetGraph, Packing};
 use std::alloc::{AllocError, Global};
@@ -47,7 +48,7 @@ impl<'a, F: Rule, G: Rule> Model for Search<'a, F, G> {
 
 impl<'a, F: Rule, G: Rule> Search<'a, F, G> {
     ghost use Rattle.branch.specs.States.{IsNetworkOf};
-    ghost use Rattle.branch.specs.Searching.{SplitsEdges, TakesStep};
+    ghost use Rattle.branch.specs.Searching.{IsRaised, IsSettled, SplitsEdges, TakesStep};
     ghost use Rattle.branch.specs.Solving.{IsSolved};
 
     /// A search that begins with a network and with the leaf of an ascent from no cut. The rule `ascent`
@@ -65,26 +66,8 @@ impl<'a, F: Rule, G: Rule> Search<'a, F, G> {
         ensures first { IfOk result (λ s. s.first_length ≡ length_of g.now first) }
         ensures leaf { IfOk result (λ s. split_count s.tree ≡ 0) }
     {
-        Search::start_from(alloc, g, first, Packing::empty(alloc), ascent, split)
-    }
-
-    /// The same, with the leaf of an ascent that begins with given cuts. An `Err` is want of memory.
-    pub fn start_from(
-        alloc: Global,
-        g: &'a NetGraph,
-        first: EdgeSet,
-        cuts: Packing,
-        ascent: Chooser<F>,
-        split: Chooser<G>,
-    ) -> Result<Search<'a, F, G>, AllocError>
-        requires network { IsNetworkOf g.now first }
-        requires feasible { IsFeasible g.now (nothing_decided g.now) cuts }
-        requires few { length cuts ≤ 2 * length g.now.edges }
-        ensures graph { IfOk result (λ s. s.graph ≡ g.now) }
-        ensures first { IfOk result (λ s. s.first_length ≡ length_of g.now first) }
-        ensures leaf { IfOk result (λ s. split_count s.tree ≡ 0) }
-    {
-        let leaf = leaf_from(alloc, g, Decision::none(alloc, g)?, cuts, &ascent)?;
+        let start = Packing::empty(alloc);
+        let leaf = leaf_from(alloc, g, Decision::none(alloc, g)?, start, &ascent)?;
         let kept = Frontier::begin(alloc, g, first, leaf)?;
         Ok(Search {
             alloc,
@@ -93,6 +76,24 @@ impl<'a, F: Rule, G: Rule> Search<'a, F, G> {
             split,
             kept,
         })
+    }
+
+    /// Takes the leaf of an ascent that begins with given cuts in place of the tree's only leaf, where its value is
+    /// greater. An `Err` is want of memory, and leaves the search as it was.
+    pub fn raise(&mut self, cuts: Packing) -> Result<(), AllocError>
+        requires leaf { split_count self.old.tree ≡ 0 }
+        requires feasible { IsFeasible self.old.graph (nothing_decided self.old.graph) cuts }
+        requires few { length cuts ≤ 2 * length self.old.graph.edges }
+        ensures ok { OnOk result (IsRaised self.old self.new) }
+        ensures err { OnErr result (self.new ≡ self.old) }
+    {
+        let decision = Decision::none(self.alloc, self.graph)?;
+        let leaf = leaf_from(self.alloc, self.graph, decision, cuts, &self.ascent)?;
+        let first = &self.kept.notes[0];
+        if first.value < leaf.note.value {
+            self.kept = self.kept.with_leaf(self.alloc, self.graph, leaf)?;
+        }
+        Ok(())
     }
 
     /// Splits the open leaf of the least value, the earliest in preorder on a tie: a leaf is open where its
@@ -115,6 +116,52 @@ impl<'a, F: Rule, G: Rule> Search<'a, F, G> {
         )?;
         self.kept.open(opening)?;
         Ok(Step::Split)
+    }
+
+    /// Makes at most `allowed` splits, and tells what was found. It stops before that only where no leaf's value is
+    /// below the network's length. An `Err` is want of memory.
+    pub fn solve(mut self, allowed: u8) -> Result<Solved, AllocError>
+        requires { split_count self.tree ≡ 0 }
+        ensures solved { IfOk result (IsSolved self.entry.graph self.entry.first_length) }
+        ensures edges { IfOk result (λ s. SplitsEdges s.tree) }
+        ensures few { IfOk result (λ s. split_count s.tree ≤ allowed) }
+        // It is not optimal only where all allowed splits were made and some leaf's value is below the length.
+        ensures stopped { IfOk result (λ s. s.optimal ≡ false → split_count s.tree ≡ allowed) }
+        ensures below { IfOk result (λ s. s.optimal ≡ false
+            → tree_value self.entry.graph (nothing_decided self.entry.graph) s.tree < s.length) }
+        // With as many allowed splits as there are sets of edges but one, it is optimal.
+        ensures enough { IfOk result
+            (λ s. 2 ^ length self.entry.graph.edges ≤ allowed + 1 → s.optimal ≡ true) }
+    {
+        for _made in 0..allowed {
+            match self.split_one()? {
+                Step::Settled => return Ok(self.finish()),
+                Step::Split => {}
+            }
+        }
+        Ok(self.finish())
+    }
+
+    /// Whether no leaf's value is below the best network's length. It takes no memory.
+    pub fn is_settled(&self) -> bool
+        ensures { IsTrue result ↔ IsSettled self.now }
+    {
+        next_open(self.kept.notes.as_slice(), self.kept.best.length).is_none()
+    }
+
+    /// The best network. It takes no memory.
+    pub fn network(&self) -> &EdgeSet
+        ensures network { result.now ≡ self.now.network }
+        ensures network_of { IsNetworkOf self.now.graph result.now }
+    {
+        &self.kept.best.network
+    }
+
+    /// The tree. It takes no memory.
+    pub fn tree(&self) -> &CertTree
+        ensures { result.now ≡ self.now.tree }
+    {
+        &self.kept.tree
     }
 
     /// How many splits the tree has. It takes no memory.

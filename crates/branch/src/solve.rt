@@ -10,7 +10,6 @@ ghost use Rattle.branch.specs.Solving.{IsSolved};
 
 use crate::search::Search;
 use crate::solved::Solved;
-use crate::step::Step;
 use dual_ascent::{Chooser, Rule};
 use net_graph::{EdgeSet, NetGraph};
 use std::alloc::{AllocError, Global};
@@ -35,12 +34,5 @@ pub fn solve_graph<F: Rule, G: Rule>(
     // With as many allowed splits as there are sets of edges but one, it is optimal.
     ensures enough { IfOk result (λ s. 2 ^ length g.now.edges ≤ allowed + 1 → s.optimal ≡ true) }
 {
-    let mut search = Search::start(alloc, g, first, ascent, split)?;
-    for _made in 0..allowed {
-        match search.split_one()? {
-            Step::Settled => return Ok(search.finish()),
-            Step::Split => {}
-        }
-    }
-    Ok(search.finish())
+    Search::start(alloc, g, first, ascent, split)?.solve(allowed)
 }

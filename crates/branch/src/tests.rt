@@ -153,7 +153,7 @@ fn solved_on<F: Rule, G: Rule>(
     Ok(Some(solve_graph(alloc, g, first, allowed, ascent, split)?))
 }
 
-// Two steps of a search, how many splits they made, and the bound.
+// Two steps of a search whose first leaf no cuts raise, how many splits they made, and the bound.
 fn stepped_by<F: Rule, G: Rule>(
     alloc: Global,
     ascent: F,
@@ -172,6 +172,10 @@ fn stepped_by<F: Rule, G: Rule>(
     let ascent = Chooser::new(ascent);
     let split = Chooser::new(split);
     let mut search = Search::start(alloc, &g, first, ascent, split)?;
+    search.raise(Packing::empty(alloc))?;
+    if search.is_settled() || search.network().len() != 9 || search.tree().leaves() != 1 {
+        return Ok(None);
+    }
     let one = search.split_one()?;
     if search.splits() > 1 {
         return Ok(None);

@@ -1,46 +1,65 @@
--- What is kept of the cuts of a leaf that were read.
-use Rattle.std.specs.Prelude.{ℕ, ◌≡◌, ◌+◌, ◌-◌, ◌^◌, ◌<◌, ◌≤◌, true, List, length, map, min, sum_by, slice_index, slice_set, if◌then◌else◌}
+-- What is kept of a leaf's cuts, of which some were read.
+use Rattle.std.specs.Prelude.{ℕ, ◌≡◌, ◌≢◌, ◌-◌, ◌^◌, ◌<◌, ◌≤◌, Bool, List, length, min, sum_by, slice_get, slice_index, Some, IfSome, ◌⊎◌}
+use Rattle.net_graph.specs.declared.edge.Edge.{Edge}
+use Rattle.net_graph.specs.declared.state.EdgeState.{EdgeState}
 use Rattle.net_graph.specs.declared.packing.Cut.{Cut}
 use Rattle.net_graph.specs.Graph.{Graph}
-use Rattle.net_graph.specs.Decision.{nothing_decided}
-use Rattle.net_graph.specs.Packing.{load, enters}
-use Rattle.net_graph.specs.Feasible.{KeepsRoom}
-use Rattle.cert_check.specs.declared.leaf.LeafRead.{LeafRead}
+use Rattle.net_graph.specs.Decision.{Decided, nothing_decided}
+use Rattle.net_graph.specs.Packing.{load, room_of}
+use Rattle.cert_check.specs.declared.leaf.Excess.{Excess}
+use Rattle.cert_check.specs.Cuts.{IsEntered}
+use Rattle.cert_check.specs.Room.{Kept}
 
--- the load of each edge's arc from its end a to its end b, and of the arc back
-abbrev pub loads_there : Graph → List Cut → List ℕ
-loads_there g cuts = map (λ e. load cuts e.a e.b) g.edges
+-- an arc's load is kept where the arc has a room, and is within it
+abbrev pub IsLoadKept : EdgeState → Edge → ℕ → ℕ → Type 0
+IsLoadKept state e amount kept = IfSome (room_of state e) (λ room. (kept ≡ amount) × (amount ≤ room))
 
-abbrev pub loads_back : Graph → List Cut → List ℕ
-loads_back g cuts = map (λ e. load cuts e.b e.a) g.edges
+-- the loads of both arcs of an edge are kept
+pub record KeepsLoads (state : EdgeState) (e : Edge) (cuts : List Cut) (there back : ℕ) : Type 0 where
+  pub forward : IsLoadKept state e (load cuts e.a e.b) there
+  pub backward : IsLoadKept state e (load cuts e.b e.a) back
+
+-- the loads of the arcs of the edge of this number are kept
+abbrev pub KeepsEdge : Graph → List Cut → Kept → ℕ → Type 0
+KeepsEdge g cuts kept n = (e : Edge) (state : EdgeState) → slice_get g.edges n ≡ Some e →
+    slice_get kept.states n ≡ Some state → KeepsLoads state e cuts (slice_index kept.there n) (slice_index kept.back n)
+
+-- these cuts were read, which load no arc above its room
+abbrev pub IsLeafOf : Graph → List Cut → Kept → Type 0
+IsLeafOf g cuts kept = (n : ℕ) → KeepsEdge g cuts kept n
 
 -- the sum of the weights, or 2^64-1 where it is more
 abbrev pub weight_kept : List Cut → ℕ
 weight_kept cuts = min (sum_by (λ c. c.weight) cuts) (2 ^ 64 - 1)
 
--- there is a load for each edge
-pub record HasRows (g : Graph) (leaf : LeafRead) : Type 0 where
-  pub there : length leaf.there.items ≡ length g.edges
-  pub back : length leaf.back.items ≡ length g.edges
+-- there is a load of each arc and a state of each edge of the graph, and room for each of its vertices
+pub record HasRows (g : Graph) (kept : Kept) : Type 0 where
+  pub there : length kept.there ≡ length g.edges
+  pub back : length kept.back ≡ length g.edges
+  pub states : length kept.states ≡ length g.edges
+  pub vertices : kept.vertices ≡ g.vertices
 
--- these cuts were read, which load no arc above its room
-pub record IsLeafOf (g : Graph) (cuts : List Cut) (leaf : LeafRead) : Type 0 where
-  pub there : leaf.there.items ≡ loads_there g cuts
-  pub back : leaf.back.items ≡ loads_back g cuts
-  pub weight : leaf.weight ≡ weight_kept cuts
-  pub room : (n : ℕ) → KeepsRoom g (nothing_decided g) cuts n
+-- the states are those of the decision's edges, which decides no vertex
+pub record KeepsDecision (g : Graph) (d : Decided) (kept : Kept) : Type 0 where
+  pub edges : kept.states ≡ d.edges
+  pub vertices : d.vertices ≡ (nothing_decided g).vertices
 
--- what a cut loads on the arc from u to v
-abbrev pub weight_on : Cut → ℕ → ℕ → ℕ
-weight_on c u v = if enters c.members u v then c.weight else 0
+-- states and way stay
+pub record SameWay (old new : Kept) : Type 0 where
+  pub states : new.states ≡ old.states
+  pub path : new.path ≡ old.path
+  pub vertices : new.vertices ≡ old.vertices
 
--- the load of the arc from u to v is the n-th of a row; the cut is added to it, within the room if the arc enters the cut
-pub record LoadsArc (row loaded : List ℕ) (n : ℕ) (c : Cut) (u v room : ℕ) : Type 0 where
-  pub load : loaded ≡ slice_set row n (slice_index row n + weight_on c u v)
-  pub within : enters c.members u v ≡ true → slice_index row n + c.weight ≤ room
+-- states and way stay, and so do all loads but those of the edge n
+pub record LoadsOnly (n : ℕ) (old new : Kept) : Type 0 where
+  pub there_size : length new.there ≡ length old.there
+  pub back_size : length new.back ≡ length old.back
+  pub there : (k : ℕ) → k ≢ n → slice_index new.there k ≡ slice_index old.there k
+  pub back : (k : ℕ) → k ≢ n → slice_index new.back k ≡ slice_index old.back k
+  pub way : SameWay old new
 
--- that arc enters the cut, and with the cut its load is this one, above the room
-pub record OverloadsArc (row : List ℕ) (n : ℕ) (c : Cut) (u v room amount : ℕ) : Type 0 where
-  pub entered : enters c.members u v ≡ true
-  pub sum : amount ≡ slice_index row n + c.weight
-  pub above : room < amount
+-- an arc of the edge enters the set, and is loaded above its room by so much
+pub record IsOverload (state : EdgeState) (e : Edge) (packing : List Cut) (members : List Bool) (over : Excess) : Type 0 where
+  pub room : room_of state e ≡ Some over.room
+  pub entered : IsEntered packing members e.a e.b over.load ⊎ IsEntered packing members e.b e.a over.load
+  pub above : over.room < over.load

@@ -2,7 +2,7 @@
 use Rattle.std.specs.Prelude.{ℕ, ◌≡◌, List}
 use Rattle.points_in.specs.declared.point.Point.{Point}
 use Rattle.cert_check.specs.declared.verdict.Finished.{Finished}
-use Rattle.cert_check.specs.Judged.{IsVerdict}
+use Rattle.cert_check.specs.Verdicts.{IsVerdict}
 
 -- terminals and bytes have one verdict at most, and one set of edges that came before it
 abbrev pub OneVerdict : Type 0

@@ -1,13 +1,12 @@
 //! The edges of an answer, as they are read.
 
-ghost use Rattle.std.specs.Prelude.{◌≡◌, ℕ, ◌<◌, length, replicate, slice_set, true, false, IfOk, IfSome, IfNone};
+ghost use Rattle.std.specs.Prelude.{◌≡◌, ℕ, ◌<◌, length, replicate, slice_set, true, false, IfSome, IfNone};
 ghost use Rattle.hanan_grid.specs.Grid.{hanan_grid_of};
 ghost use Rattle.cert_check.specs.Edges.{FollowsEdges, EdgeFault};
 
 use crate::verdict::Cause;
 use hanan_grid::{EdgeName, Grid};
 use net_graph::EdgeSet;
-use std::alloc::{AllocError, Global};
 use std::marker::Model;
 
 /// The edges that were read so far, whose numbers ascend. Contracts see their set.
@@ -30,12 +29,12 @@ impl Model for EdgesRead {
 }
 
 impl EdgesRead {
-    /// No edge of a grid with so many of them. An `Err` is want of memory.
-    pub(crate) fn none(alloc: Global, size: u32) -> Result<EdgesRead, AllocError>
-        ensures { IfOk result (λ r. r ≡ replicate size false) }
+    /// No edge so far, to be kept in an empty set.
+    pub(crate) fn begin(network: EdgeSet) -> EdgesRead
+        requires { network ≡ replicate (length network) false }
+        ensures { result ≡ network }
     {
-        let network = EdgeSet::empty(alloc, size)?;
-        Ok(EdgesRead { network, next: 0 })
+        EdgesRead { network, next: 0 }
     }
 
     /// The edges so far.

@@ -1,21 +1,26 @@
 //! The judge of an answer's lines, one after another.
 
-ghost use Rattle.std.specs.Prelude.{◌≡◌, List, [], Bool, Option, IfOk, IfSome, IfNone};
+ghost use Rattle.std.specs.Prelude.{◌≡◌, ◌+◌, ◌*◌, List, [], Bool, Option, Some, IfSome, IfNone, false, length, replicate};
 ghost use Rattle.points_in.specs.declared.point.Point.{Point};
 ghost use Rattle.hanan_grid.specs.Grid.{hanan_grid_of};
 ghost use Rattle.cut_cert.specs.Events.{no_head};
-ghost use Rattle.cert_check.specs.Judged.{SoFar, Passes, Fails, Judges, IsNetworkRight, IsNetworkWrong, nothing_told};
-ghost use Rattle.cert_check.specs.Standing.{StandsFor, IsJudgeOn, FitsEvent};
+ghost use Rattle.cert_check.specs.Lines.Behind.{Ended};
+ghost use Rattle.cert_check.specs.Judged.{SoFar, Passes, Fails, Judges, IsNetworkRight, IsNetworkWrong, nothing_told, with_cuts_due};
+ghost use Rattle.cert_check.specs.Standing.{StandsFor, IsJudgeOn};
 
 use crate::edges::EdgesRead;
 use crate::end::end_verdict;
-use crate::leaf::LeafRead;
+use crate::leaf::read_cut;
 use crate::network::network_fault;
+use crate::room::Room;
 use crate::verdict::{Cause, Finished, Verdict};
-use cut_cert::{AnswerEvent, AnswerHead, ConcatNote, Event};
+use crate::way::{go_on, go_outside, length_inside};
+use cut_cert::{AnswerHead, ConcatNote, Event, Row};
 use hanan_grid::{EdgeName, Grid};
-use net_graph::VertexSet;
-use std::alloc::{AllocError, Global};
+use net_graph::{EdgeSet, VertexSet};
+
+/// An answer has at most so many splits.
+const MOST_SPLITS: u32 = 255;
 
 /// What is kept of the lines that were judged.
 #[derive(Debug, Drop)]
@@ -23,95 +28,135 @@ pub(crate) struct Judge {
     /// What the head told.
     head: AnswerHead,
     /// How many edges are still due.
-    due: u32,
+    edges_due: u32,
     edges: EdgesRead,
-    leaf: LeafRead,
+    /// How many splits there were, at most 255.
+    splits: u32,
+    /// How many cuts of the leaf are still due.
+    cuts_due: u32,
+    /// The loads of the leaf's cuts, and the way to the leaf.
+    room: Room,
+    /// The sum of the weights of the leaf's cuts, or 2^64-1 where it is more.
+    weight: u64,
+    /// The least value of the leaves before, or 2^64-1 where it is more.
+    least: u64,
 }
 
 impl Judge {
-    /// Before the first line. An `Err` is want of memory.
-    pub(crate) fn begin(alloc: Global, grid: &Grid) -> Result<Judge, AllocError>
-        ensures sizes { IfOk result (IsJudgeOn grid.now) }
-        ensures nothing { IfOk result (StandsFor grid.now (nothing_told grid.now)) }
+    /// Before the first line.
+    pub(crate) fn begin(grid: &Grid, network: EdgeSet, work: Row) -> Judge
+        requires network { network ≡ replicate (length (hanan_grid_of grid.now).edges) false }
+        requires work { length work ≡ 3 * length (hanan_grid_of grid.now).edges
+            + 3 * (hanan_grid_of grid.now).vertices + 512 }
+        ensures sizes { IsJudgeOn grid.now result }
+        ensures nothing { StandsFor grid.now (nothing_told grid.now) result }
     {
         let g = grid.graph();
-        Ok(Judge {
+        Judge {
             head: empty_head(),
-            due: 0,
-            edges: EdgesRead::none(alloc, g.edge_count())?,
-            leaf: LeafRead::empty(alloc, g)?,
-        })
+            edges_due: 0,
+            edges: EdgesRead::begin(network),
+            splits: 0,
+            cuts_due: 0,
+            room: Room::begin(work, g.edge_count(), g.vertex_count()),
+            weight: 0,
+            least: u64::MAX,
+        }
     }
 
-    /// Judges the next line. Gives why it is wrong, if it is. An `Err` is want of memory.
+    /// Judges the next line, of which the members are those of a cut. Gives why it is wrong, if it is.
     pub(crate) fn judge(
         &mut self,
-        alloc: Global,
         grid: &Grid,
-        told: &AnswerEvent,
-    ) -> Result<Option<Cause>, AllocError>
+        line: u64,
+        event: &Event,
+        members: &VertexSet,
+    ) -> Option<Cause>
         requires sizes { IsJudgeOn grid.now self.old }
-        requires fits { FitsEvent (hanan_grid_of grid.now).vertices told.now }
+        requires members { length members.now ≡ (hanan_grid_of grid.now).vertices }
         ensures sizes { IsJudgeOn grid.now self.new }
-        ensures passes { IfOk result (λ fault. IfNone fault ((s : SoFar) → StandsFor grid.now s self.old
-            → (s' : SoFar) × Passes grid.now s told.now.event told.now.members s' × StandsFor grid.now s' self.new)) }
-        ensures fault { IfOk result (λ fault. IfSome fault (λ cause. (s : SoFar) → StandsFor grid.now s self.old
-            → Fails grid.now s told.now.line told.now.event told.now.members cause self.new.edges)) }
+        ensures passes { IfNone result ((s : SoFar) → StandsFor grid.now s self.old
+            → (s' : SoFar) × Passes grid.now s event.now (Some members.now) s' × StandsFor grid.now s' self.new) }
+        ensures fault { IfSome result (λ cause. (s : SoFar) → StandsFor grid.now s self.old
+            → Fails grid.now s line event.now (Some members.now) cause self.new.edges) }
     {
-        match told.event {
+        match event {
             Event::Head(head) => {
-                self.head = head;
-                Ok(None)
+                self.head = *head;
+                None
             }
             Event::EdgeCount(count) => {
-                self.due = count;
-                self.judge_network(alloc, grid)
+                self.edges_due = *count;
+                self.judge_network(grid)
             }
-            Event::Edge(name) => self.judge_edge(alloc, grid, told.line, &name),
-            Event::Tree | Event::End => Ok(None),
-            Event::Split(_) => Ok(Some(Cause::SplitLine(told.line))),
-            Event::Leaf(_) => {
-                self.leaf.clear(grid.graph());
-                Ok(None)
+            Event::Edge(name) => self.judge_edge(grid, line, name),
+            Event::Tree | Event::End => None,
+            Event::Split(name) => self.judge_split(grid, line, name),
+            Event::Leaf(count) => {
+                self.set_cuts_due(grid, *count);
+                None
             }
-            Event::Cut(weight) => Ok(self.judge_cut(grid, told.line, weight, &told.members)),
+            Event::Cut(weight) => self.judge_cut(grid, line, *weight, members),
         }
     }
 
     // Judges the name of an edge.
-    fn judge_edge(
-        &mut self,
-        alloc: Global,
-        grid: &Grid,
-        line: u64,
-        name: &EdgeName,
-    ) -> Result<Option<Cause>, AllocError>
+    fn judge_edge(&mut self, grid: &Grid, line: u64, name: &EdgeName) -> Option<Cause>
         requires sizes { IsJudgeOn grid.now self.old }
         ensures sizes { IsJudgeOn grid.now self.new }
-        ensures passes { IfOk result (λ fault. IfNone fault ((s : SoFar) (members : Option (List Bool)) → StandsFor grid.now s self.old
-            → (s' : SoFar) × Passes grid.now s (Event.Edge name.now) members s' × StandsFor grid.now s' self.new)) }
-        ensures fault { IfOk result (λ fault. IfSome fault (λ cause. (s : SoFar) (members : Option (List Bool)) → StandsFor grid.now s self.old
-            → Fails grid.now s line (Event.Edge name.now) members cause self.new.edges)) }
+        ensures passes { IfNone result ((s : SoFar) (members : Option (List Bool)) → StandsFor grid.now s self.old
+            → (s' : SoFar) × Passes grid.now s (Event.Edge name.now) members s' × StandsFor grid.now s' self.new) }
+        ensures fault { IfSome result (λ cause. (s : SoFar) (members : Option (List Bool)) → StandsFor grid.now s self.old
+            → Fails grid.now s line (Event.Edge name.now) members cause self.new.edges) }
     {
         if let Some(cause) = self.edges.read(grid, line, name) {
-            return Ok(Some(cause));
+            return Some(cause);
         }
-        self.due = self.due.saturating_sub(1);
-        self.judge_network(alloc, grid)
+        self.edges_due = self.edges_due.saturating_sub(1);
+        self.judge_network(grid)
     }
 
     // Judges the edges, where none is due any more.
-    fn judge_network(&self, alloc: Global, grid: &Grid) -> Result<Option<Cause>, AllocError>
-        requires sizes { IsJudgeOn grid.now self.now }
-        ensures passes { IfOk result (λ fault. IfNone fault ((s : SoFar) → StandsFor grid.now s self.now → IsNetworkRight grid.now s)) }
-        ensures fault { IfOk result (λ fault. IfSome fault (λ cause. (s : SoFar) → StandsFor grid.now s self.now → IsNetworkWrong grid.now s cause)) }
+    fn judge_network(&mut self, grid: &Grid) -> Option<Cause>
+        requires sizes { IsJudgeOn grid.now self.old }
+        ensures same { self.new ≡ self.old }
+        ensures passes { IfNone result ((s : SoFar) → StandsFor grid.now s self.old → IsNetworkRight grid.now s) }
+        ensures fault { IfSome result (λ cause. (s : SoFar) → StandsFor grid.now s self.old → IsNetworkWrong grid.now s cause) }
     {
-        if self.due > 0 {
-            return Ok(None);
+        if self.edges_due > 0 {
+            return None;
         }
         let terminals = grid.points().len();
         prove!(terminals <= 50);
-        network_fault(alloc, grid.graph(), self.head.length, self.edges.network())
+        network_fault(
+            &mut self.room,
+            grid.graph(),
+            self.head.length,
+            self.edges.network(),
+        )
+    }
+
+    // Judges a split by the name of its edge.
+    fn judge_split(&mut self, grid: &Grid, line: u64, name: &EdgeName) -> Option<Cause>
+        requires sizes { IsJudgeOn grid.now self.old }
+        ensures sizes { IsJudgeOn grid.now self.new }
+        ensures passes { IfNone result ((s : SoFar) (members : Option (List Bool)) → StandsFor grid.now s self.old
+            → (s' : SoFar) × Passes grid.now s (Event.Split name.now) members s' × StandsFor grid.now s' self.new) }
+        ensures fault { IfSome result (λ cause. (s : SoFar) (members : Option (List Bool)) → StandsFor grid.now s self.old
+            → Fails grid.now s line (Event.Split name.now) members cause self.new.edges) }
+    {
+        let Some(edge) = grid.edge_named(name) else {
+            return Some(Cause::OffGrid(line));
+        };
+        if !self.room.is_undecided(edge) {
+            return Some(Cause::Decided { line, edge });
+        }
+        if self.splits >= MOST_SPLITS {
+            return Some(Cause::TooDeep(line));
+        }
+        go_outside(&mut self.room, grid.graph(), edge);
+        self.splits += 1;
+        None
     }
 
     // Judges a cut.
@@ -120,20 +165,42 @@ impl Judge {
         grid: &Grid,
         line: u64,
         weight: u64,
-        members: &Option<VertexSet>,
+        members: &VertexSet,
     ) -> Option<Cause>
         requires sizes { IsJudgeOn grid.now self.old }
-        requires fits { FitsEvent (hanan_grid_of grid.now).vertices (record { line = line; event = Event.Cut weight; members = members.now }) }
+        requires members { length members.now ≡ (hanan_grid_of grid.now).vertices }
         ensures sizes { IsJudgeOn grid.now self.new }
-        ensures passes { IfNone result ((s : SoFar) → StandsFor grid.now s self.old
-            → (s' : SoFar) × Passes grid.now s (Event.Cut weight) members.now s' × StandsFor grid.now s' self.new) }
+        ensures passes { IfNone result ((s : SoFar) → StandsFor grid.now s self.old → (s' : SoFar)
+            × Passes grid.now s (Event.Cut weight) (Some members.now) s' × StandsFor grid.now s' self.new) }
         ensures fault { IfSome result (λ cause. (s : SoFar) → StandsFor grid.now s self.old
-            → Fails grid.now s line (Event.Cut weight) members.now cause self.new.edges) }
+            → Fails grid.now s line (Event.Cut weight) (Some members.now) cause self.new.edges) }
     {
-        let Some(set) = members else {
-            return None;
-        };
-        self.leaf.read(grid.graph(), line, weight, set)
+        if let Some(cause) = read_cut(&mut self.room, grid.graph(), line, weight, members) {
+            return Some(cause);
+        }
+        self.weight = self.weight.saturating_add(weight);
+        self.set_cuts_due(grid, self.cuts_due.saturating_sub(1));
+        None
+    }
+
+    // So many cuts of the leaf are due: where none is, it ends, and the next node is due.
+    fn set_cuts_due(&mut self, grid: &Grid, due: u32)
+        requires sizes { IsJudgeOn grid.now self.old }
+        ensures sizes { IsJudgeOn grid.now self.new }
+        ensures stands { (s : SoFar) → StandsFor grid.now s self.old
+            → StandsFor grid.now (with_cuts_due grid.now s due) self.new }
+        ensures edges { self.new.edges ≡ self.old.edges }
+    {
+        self.cuts_due = due;
+        if due > 0 {
+            return;
+        }
+        let g = grid.graph();
+        let value = self.weight.saturating_add(length_inside(&self.room, g));
+        self.least = self.least.min(value);
+        self.weight = 0;
+        self.room.clear_loads();
+        go_on(&mut self.room, g);
     }
 
     /// The answer is refused for a cause.
@@ -147,15 +214,15 @@ impl Judge {
         }
     }
 
-    /// The verdict behind the last line: the text goes wrong in the line `fault`, or ends.
-    pub(crate) fn finish(self, fault: Option<u64>) -> Finished
-        ensures { (ps : List Point) (s : SoFar) → StandsFor ps s self → Judges ps s [] fault result }
+    /// The verdict behind the last line, where the text ends with it.
+    pub(crate) fn finish(self) -> Finished
+        ensures { (ps : List Point) (s : SoFar) → StandsFor ps s self → Judges ps s [] Ended result }
     {
-        if let Some(line) = fault {
-            return self.refused(Cause::NotAnswer(line));
-        }
+        let length = self.head.length;
+        prove!(length <= u64::MAX);
+        let found = self.least.min(length);
         Finished {
-            verdict: end_verdict(&self.head, self.leaf.weight()),
+            verdict: end_verdict(&self.head, found),
             network: self.edges.into_network(),
         }
     }

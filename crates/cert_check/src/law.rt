@@ -3,15 +3,15 @@
 ghost use Rattle.cert_check.specs.Accepted.{AcceptedBoundHolds};
 ghost use Rattle.cert_check.specs.VerdictLaw.{OneVerdict};
 
+use cert_tree::tree_bounds_every_network;
 use cut_cert::one_reading;
-use duality::weak_duality;
 
 /// No network of the terminals' grid is shorter than the bound of an accepted answer, and where it says optimal none
 /// is shorter than its length. A law: the call does nothing, and its caller knows the fact from there on.
 pub fn accepted_bound_holds()
     ensures { AcceptedBoundHolds }
 {
-    weak_duality();
+    tree_bounds_every_network();
 }
 
 /// Terminals and bytes have one verdict at most, and one set of edges that came before it: so the cause that a verdict

@@ -1,156 +1,157 @@
 //! The cuts of a leaf, as they are read.
 
-ghost use Rattle.std.specs.Prelude.{◌≡◌, ◌+◌, ◌<◌, ◌≤◌, ◌↔◌, ◌⊎◌, ℕ, true, List, [], ◌∷◌, ◌++◌, length, Contains, IsTrue, IfOk, IfSome, IfNone};
+ghost use Rattle.std.specs.Prelude.{◌≡◌, ◌+◌, ◌<◌, ◌≤◌, ◌↔◌, ◌⊎◌, ℕ, true, false, List, [], ◌∷◌, ◌++◌, length, Contains, slice_get, slice_index, Some, IsTrue, IfOk, IfErr, IfNone, IfSome};
 ghost use Rattle.net_graph.specs.declared.packing.Cut.{Cut};
+ghost use Rattle.net_graph.specs.declared.state.EdgeState.{EdgeState};
 ghost use Rattle.net_graph.specs.Flags.{has};
-ghost use Rattle.net_graph.specs.Graph.{Graph, HasEndsBelow};
-ghost use Rattle.net_graph.specs.Decision.{nothing_decided};
-ghost use Rattle.net_graph.specs.Packing.{IsCut};
+ghost use Rattle.net_graph.specs.Graph.{HasEndsBelow};
+ghost use Rattle.net_graph.specs.Decision.{Decided, EndsInside, decided_of};
+ghost use Rattle.net_graph.specs.Packing.{IsCut, room_of};
 ghost use Rattle.net_graph.specs.Packing as packing;
 ghost use Rattle.cert_check.specs.Cuts.{PacksCut, CutFault, cut_of};
-ghost use Rattle.cert_check.specs.Loads.{IsLeafOf, HasRows, LoadsArc, OverloadsArc, weight_kept};
+ghost use Rattle.cert_check.specs.Loads.{HasRows, IsLeafOf, IsOverload, KeepsDecision, KeepsLoads, LoadsOnly, SameWay};
 
+use crate::room::Room;
 use crate::verdict::Cause;
-use net_graph::{Edge, NetGraph, VertexSet};
-use std::alloc::{AllocError, Global};
+use net_graph::{Edge, EdgeState, NetGraph, VertexSet};
 
-/// What the cuts of a leaf that were read so far load on the arcs, and what they weigh.
-#[derive(Debug, Drop)]
-pub(crate) struct LeafRead {
-    /// The load of each edge's arc from its end a to its end b.
-    there: Vec<u64>,
-    /// The load of each edge's arc from b to a.
-    back: Vec<u64>,
-    /// The sum of the weights, or 2^64-1 where it is more.
+/// A load that is above its room.
+#[derive(Clone, Copy, Debug, PartialEq, Eq)]
+pub(crate) struct Excess {
+    pub load: u128,
+    pub room: u64,
+}
+
+/// Reads one more cut of a leaf, which stands in a line. Gives why the line is wrong, if it is; the loads are then
+/// those of no packing.
+pub(crate) fn read_cut(
+    room: &mut Room,
+    g: &NetGraph,
+    line: u64,
     weight: u64,
-}
-
-impl LeafRead {
-    /// A leaf with no cut. An `Err` is want of memory.
-    pub(crate) fn empty(alloc: Global, g: &NetGraph) -> Result<LeafRead, AllocError>
-        ensures rows { IfOk result (HasRows g.now) }
-        ensures leaf { IfOk result (IsLeafOf g.now []) }
-    {
-        let edges = g.edge_count() as usize;
-        Ok(LeafRead {
-            there: vec![in alloc; 0; edges]?,
-            back: vec![in alloc; 0; edges]?,
-            weight: 0,
-        })
-    }
-
-    /// Forgets the cuts.
-    pub(crate) fn clear(&mut self, g: &NetGraph)
-        requires { HasRows g.now self.old }
-        ensures rows { HasRows g.now self.new }
-        ensures leaf { IsLeafOf g.now [] self.new }
-    {
-        for n in 0..g.edge_count() as usize {
-            self.there[n] = 0;
-            self.back[n] = 0;
-        }
-        self.weight = 0;
-    }
-
-    /// The sum of the weights, or 2^64-1 where it is more.
-    pub(crate) fn weight(&self) -> u64
-        ensures { (g : Graph) (cuts : List Cut) → IsLeafOf g cuts self.now → result ≡ weight_kept cuts }
-    {
-        self.weight
-    }
-
-    /// Reads one more cut, which stands in a line. Gives why the line is wrong, if it is; the loads are then those
-    /// of no packing.
-    pub(crate) fn read(
-        &mut self,
-        g: &NetGraph,
-        line: u64,
-        weight: u64,
-        members: &VertexSet,
-    ) -> Option<Cause>
-        requires rows { HasRows g.now self.old }
-        requires size { length members.now ≡ g.now.vertices }
-        ensures rows { HasRows g.now self.new }
-        ensures passes { IfNone result ((cuts : List Cut) → IsLeafOf g.now cuts self.old
-            → PacksCut g.now cuts (cut_of weight members.now)
-            × IsLeafOf g.now (cuts ++ cut_of weight members.now ∷ []) self.new) }
-        ensures fault { IfSome result (λ cause. (cuts : List Cut) → IsLeafOf g.now cuts self.old
-            → CutFault g.now cuts (cut_of weight members.now) line cause) }
-    {
-        if let Some(cause) = set_fault(g, line, members) {
-            return Some(cause);
-        }
-        self.load_arcs(g, line, weight, members)
-    }
-
-    // Loads the arcs that enter a cut, edge by edge, up to the first edge of which one is then loaded above its room.
-    fn load_arcs(
-        &mut self,
-        g: &NetGraph,
-        line: u64,
-        weight: u64,
-        members: &VertexSet,
-    ) -> Option<Cause>
-        requires rows { HasRows g.now self.old }
-        requires cut { IsCut g.now (nothing_decided g.now) members.now }
-        ensures rows { HasRows g.now self.new }
-        ensures leaf { IfNone result ((cuts : List Cut) → IsLeafOf g.now cuts self.old
-            → IsLeafOf g.now (cuts ++ cut_of weight members.now ∷ []) self.new) }
-        ensures fault { IfSome result (λ cause. (cuts : List Cut) → IsLeafOf g.now cuts self.old
-            → CutFault g.now cuts (cut_of weight members.now) line cause) }
-    {
-        for n in 0..g.edge_count() {
-            let e = g.edge(n);
-            if let Some(load) = self.load_edge(n as usize, e, weight, members) {
-                return Some(Cause::Overload {
-                    line,
-                    edge: n,
-                    load,
-                    room: e.length,
-                });
-            }
-        }
-        self.weight = self.weight.saturating_add(weight);
-        None
-    }
-
-    // Loads that arc of an edge which enters the set. Gives its load where that is above its room.
-    fn load_edge(&mut self, n: usize, e: Edge, weight: u64, members: &VertexSet) -> Option<u128>
-        requires there { n < length self.old.there.items }
-        requires back { n < length self.old.back.items }
-        requires ends { HasEndsBelow (length members.now) e }
-        ensures there { IfNone result (LoadsArc self.old.there.items self.new.there.items n (cut_of weight members.now) e.a e.b e.length) }
-        ensures back { IfNone result (LoadsArc self.old.back.items self.new.back.items n (cut_of weight members.now) e.b e.a e.length) }
-        ensures over { IfSome result (λ load. OverloadsArc self.old.there.items n (cut_of weight members.now) e.a e.b e.length load
-            ⊎ OverloadsArc self.old.back.items n (cut_of weight members.now) e.b e.a e.length load) }
-        ensures there_size { length self.new.there.items ≡ length self.old.there.items }
-        ensures back_size { length self.new.back.items ≡ length self.old.back.items }
-        ensures weight { self.new.weight ≡ self.old.weight }
-    {
-        if enters(members, e.a, e.b) {
-            add_load(&mut self.there[n], weight, e.length)
-        } else if enters(members, e.b, e.a) {
-            add_load(&mut self.back[n], weight, e.length)
-        } else {
-            None
-        }
-    }
-}
-
-// Adds a weight to a load. Gives the sum, and leaves the load, where the sum is above the room.
-fn add_load(load: &mut u64, weight: u64, room: u64) -> Option<u128>
-    ensures added { IfNone result (load.new ≡ load.old + weight) }
-    ensures fits { IfNone result (load.new ≤ room) }
-    ensures sum { IfSome result (λ sum. sum ≡ load.old + weight) }
-    ensures above { IfSome result (λ sum. room < sum) }
-    ensures kept { IfSome result (λ _. load.new ≡ load.old) }
+    members: &VertexSet,
+) -> Option<Cause>
+    requires rows { HasRows g.now room.old }
+    requires size { length members.now ≡ g.now.vertices }
+    ensures rows { HasRows g.now room.new }
+    ensures way { SameWay room.old room.new }
+    ensures passes { IfNone result ((d : Decided) (cuts : List Cut) → KeepsDecision g.now d room.old
+        → IsLeafOf g.now cuts room.old → PacksCut g.now d cuts (cut_of weight members.now)
+        × IsLeafOf g.now (cuts ++ cut_of weight members.now ∷ []) room.new) }
+    ensures fault { IfSome result (λ cause. (d : Decided) (cuts : List Cut) → KeepsDecision g.now d room.old
+        → IsLeafOf g.now cuts room.old → CutFault g.now d cuts (cut_of weight members.now) line cause) }
 {
-    let sum = u128::from(*load) + u128::from(weight);
-    if sum > u128::from(room) {
-        return Some(sum);
+    if let Some(cause) = set_fault(room, g, line, members) {
+        return Some(cause);
     }
-    *load = sum as u64;
+    load_arcs(room, g, line, weight, members)
+}
+
+// Loads the arcs that enter a cut, edge by edge, up to the first edge of which one is then loaded above its room.
+fn load_arcs(
+    room: &mut Room,
+    g: &NetGraph,
+    line: u64,
+    weight: u64,
+    members: &VertexSet,
+) -> Option<Cause>
+    requires rows { HasRows g.now room.old }
+    requires size { length members.now ≡ g.now.vertices }
+    ensures rows { HasRows g.now room.new }
+    ensures way { SameWay room.old room.new }
+    ensures leaf { IfNone result ((cuts : List Cut) → IsLeafOf g.now cuts room.old
+        → IsLeafOf g.now (cuts ++ cut_of weight members.now ∷ []) room.new) }
+    ensures fault { IfSome result (λ cause. (d : Decided) (cuts : List Cut) → KeepsDecision g.now d room.old
+        → IsCut g.now d members.now → IsLeafOf g.now cuts room.old
+        → CutFault g.now d cuts (cut_of weight members.now) line cause) }
+{
+    for n in 0..g.edge_count() {
+        if let Err(over) = load_edge(room, n, g.edge(n), weight, members) {
+            return Some(Cause::Overload {
+                line,
+                edge: n,
+                load: over.load,
+                room: over.room,
+            });
+        }
+    }
     None
+}
+
+// Loads that arc of an edge which enters the set, if it has a room. An `Err` is its load where that is above its room.
+fn load_edge(
+    room: &mut Room,
+    n: u32,
+    e: Edge,
+    weight: u64,
+    members: &VertexSet,
+) -> Result<(), Excess>
+    requires there { n < length room.old.there }
+    requires back { n < length room.old.back }
+    requires states { n < length room.old.states }
+    requires ends { HasEndsBelow (length members.now) e }
+    ensures only { LoadsOnly n room.old room.new }
+    ensures passes { IfOk result (λ _. (cuts : List Cut) (state : EdgeState) → slice_get room.old.states n ≡ Some state
+        → KeepsLoads state e cuts (slice_index room.old.there n) (slice_index room.old.back n)
+        → KeepsLoads state e (cuts ++ cut_of weight members.now ∷ [])
+        (slice_index room.new.there n) (slice_index room.new.back n)) }
+    ensures over { IfErr result (λ over. (cuts : List Cut) (state : EdgeState) → slice_get room.old.states n ≡ Some state
+        → KeepsLoads state e cuts (slice_index room.old.there n) (slice_index room.old.back n)
+        → IsOverload state e (cuts ++ cut_of weight members.now ∷ []) members.now over) }
+{
+    // Most edges have both ends inside the set, or both outside.
+    if !parts_ends(members, e) {
+        return Ok(());
+    }
+    let Some(limit) = arc_room(room.state(n), &e) else {
+        return Ok(());
+    };
+    if enters(members, e.a, e.b) {
+        let load = with_weight(room.there(n), weight, limit)?;
+        room.set_there(n, load);
+        Ok(())
+    } else if enters(members, e.b, e.a) {
+        let load = with_weight(room.back(n), weight, limit)?;
+        room.set_back(n, load);
+        Ok(())
+    } else {
+        Ok(())
+    }
+}
+
+// The room of each arc of an edge, where there is a limit.
+fn arc_room(state: EdgeState, e: &Edge) -> Option<u64>
+    ensures { result ≡ room_of state e.now }
+{
+    match state {
+        EdgeState::Undecided => Some(e.length),
+        EdgeState::Inside => Some(0),
+        EdgeState::Outside => None,
+    }
+}
+
+// The load with a weight more. An `Err` is that sum where it is above the room.
+fn with_weight(load: u64, weight: u64, room: u64) -> Result<u64, Excess>
+    ensures sum { IfOk result (λ sum. sum ≡ load + weight) }
+    ensures fits { IfOk result (λ sum. sum ≤ room) }
+    ensures over { IfErr result (λ over. over.load ≡ load + weight) }
+    ensures room { IfErr result (λ over. over.room ≡ room) }
+    ensures above { IfErr result (λ over. room < over.load) }
+{
+    let sum = u128::from(load) + u128::from(weight);
+    if sum > u128::from(room) {
+        return Err(Excess { load: sum, room });
+    }
+    Ok(sum as u64)
+}
+
+// Whether the set holds one end of the edge alone: where it doesn't, neither arc enters it.
+fn parts_ends(members: &VertexSet, e: Edge) -> bool
+    requires { HasEndsBelow (length members.now) e }
+    ensures there { result ≡ false → packing.enters members.now e.a e.b ≡ false }
+    ensures back { result ≡ false → packing.enters members.now e.b e.a ≡ false }
+{
+    members.has(e.a) != members.has(e.b)
 }
 
 // Whether the arc from `u` to `v` enters the set.
@@ -162,26 +163,59 @@ fn enters(members: &VertexSet, u: u32, v: u32) -> bool
     members.has(v) && !members.has(u)
 }
 
-// Why the set is no cut where nothing is decided, if it is none.
-fn set_fault(g: &NetGraph, line: u64, members: &VertexSet) -> Option<Cause>
-    requires { length members.now ≡ g.now.vertices }
-    ensures passes { IfNone result (IsCut g.now (nothing_decided g.now) members.now) }
-    ensures fault { IfSome result (λ cause. (cuts : List Cut) (weight : ℕ)
-        → CutFault g.now cuts (cut_of weight members.now) line cause) }
+// Why the set is no cut, if it is none.
+fn set_fault(room: &Room, g: &NetGraph, line: u64, members: &VertexSet) -> Option<Cause>
+    requires rows { HasRows g.now room.now }
+    requires size { length members.now ≡ g.now.vertices }
+    ensures passes { IfNone result ((d : Decided) → KeepsDecision g.now d room.now → IsCut g.now d members.now) }
+    ensures fault { IfSome result (λ cause. (d : Decided) (cuts : List Cut) (weight : ℕ) → KeepsDecision g.now d room.now
+        → CutFault g.now d cuts (cut_of weight members.now) line cause) }
 {
     if members.has(g.root()) {
         return Some(Cause::RootInCut(line));
     }
-    if !holds_terminal(g, members) {
+    if !holds_required(room, g, members) {
         return Some(Cause::IdleCut(line));
     }
     None
 }
 
-// Whether the set holds a terminal: where nothing is decided, a required vertex.
+// Whether the set holds a terminal or an end of an inside edge: where no vertex is decided, a required vertex.
+fn holds_required(room: &Room, g: &NetGraph, members: &VertexSet) -> bool
+    requires rows { HasRows g.now room.now }
+    requires size { length members.now ≡ g.now.vertices }
+    ensures { IsTrue result ↔ ((v : ℕ) × (Contains g.now.terminals v
+        ⊎ EndsInside g.now (decided_of room.now.states []) v) × (has members.now v ≡ true)) }
+{
+    holds_terminal(g, members) || holds_inside_end(room, g, members)
+}
+
+// Whether the set holds a terminal.
 fn holds_terminal(g: &NetGraph, members: &VertexSet) -> bool
     requires { length members.now ≡ g.now.vertices }
     ensures { IsTrue result ↔ ((v : ℕ) × Contains g.now.terminals v × (has members.now v ≡ true)) }
 {
     g.terminals().iter().any(|v| members.has(*v))
+}
+
+// Whether the set holds an end of an inside edge.
+fn holds_inside_end(room: &Room, g: &NetGraph, members: &VertexSet) -> bool
+    requires rows { HasRows g.now room.now }
+    requires size { length members.now ≡ g.now.vertices }
+    ensures { IsTrue result ↔ ((v : ℕ) × EndsInside g.now (decided_of room.now.states []) v × (has members.now v ≡ true)) }
+{
+    for n in 0..g.edge_count() {
+        if room.is_inside(n) && holds_end(members, g.edge(n)) {
+            return true;
+        }
+    }
+    false
+}
+
+// Whether the set holds an end of the edge.
+fn holds_end(members: &VertexSet, e: Edge) -> bool
+    requires { HasEndsBelow (length members.now) e }
+    ensures { IsTrue result ↔ ((has members.now e.a ≡ true) ⊎ (has members.now e.b ≡ true)) }
+{
+    members.has(e.a) || members.has(e.b)
 }

@@ -1,17 +1,21 @@
 //! The checker of answers: it judges points and bytes alone, and rests on nothing that proposes or bounds.
 #![tactic(auto)]
 
-mod check;
+mod checker;
 mod edges;
 mod end;
 mod judge;
 mod law;
 mod leaf;
 mod network;
+mod read;
+mod room;
 #[cfg(test)]
 mod tests;
+mod turn;
 mod verdict;
+mod way;
 
-pub use check::check_whole;
+pub use checker::Checker;
 pub use law::{accepted_bound_holds, one_verdict};
 pub use verdict::{Cause, Finished, Verdict};

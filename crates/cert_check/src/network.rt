@@ -1,31 +1,34 @@
 //! Whether the edges of an answer are the network that it says.
 
-ghost use Rattle.std.specs.Prelude.{◌≡◌, ◌≤◌, length, IfOk, IfSome, IfNone};
+ghost use Rattle.std.specs.Prelude.{◌≡◌, ◌≤◌, length, IfSome, IfNone};
+ghost use Rattle.cert_check.specs.Loads.{HasRows};
 ghost use Rattle.cert_check.specs.Networks.{IsMeasured, NetworkFault};
 
+use crate::room::Room;
 use crate::verdict::Cause;
-use net_graph::{EdgeSet, NetGraph, first_apart, length};
-use std::alloc::{AllocError, Global};
+use net_graph::{EdgeSet, NetGraph, length};
 
-/// Why the edges are not a network of the printed length: None where they are. An `Err` is want of memory.
+/// Why the edges are not a network of the printed length: None where they are.
 pub(crate) fn network_fault(
-    alloc: Global,
+    room: &mut Room,
     g: &NetGraph,
     printed: u64,
     network: &EdgeSet,
-) -> Result<Option<Cause>, AllocError>
+) -> Option<Cause>
+    requires rows { HasRows g.now room.old }
     requires size { length network.now ≡ length g.now.edges }
     requires few { length g.now.terminals ≤ 255 }
-    ensures passes { IfOk result (λ fault. IfNone fault (IsMeasured g.now printed network.now)) }
-    ensures fault { IfOk result (λ fault. IfSome fault (NetworkFault g.now printed network.now)) }
+    ensures passes { IfNone result (IsMeasured g.now printed network.now) }
+    ensures fault { IfSome result (NetworkFault g.now printed network.now) }
+    ensures kept { room.new ≡ room.old }
 {
-    if let Some(place) = first_apart(alloc, g, network)? {
-        return Ok(Some(Cause::NotJoined(place)));
+    if let Some(place) = room.first_apart(g, network) {
+        return Some(Cause::NotJoined(place));
     }
     let found = length(g, network);
     if found == printed {
-        Ok(None)
+        None
     } else {
-        Ok(Some(Cause::WrongLength { printed, found }))
+        Some(Cause::WrongLength { printed, found })
     }
 }

@@ -1,23 +1,75 @@
-//! Right answers and wrong ones for the points (0, 0), (2, 0) and (1, 1).
+//! Right answers and wrong ones for the points (0, 0), (2, 0) and (1, 1), whole and in pieces.
 
-use crate::check::check_whole;
+use crate::checker::Checker;
 use crate::verdict::{Cause, Verdict};
+use cut_cert::Row;
 use hanan_grid::Grid;
+use net_graph::{EdgeSet, VertexSet};
 use points_in::{Point, Points};
+use std::alloc::{AllocError, Global};
 use std::test::Fail;
 
-/// The verdict on a head, the edges and the tree of an answer.
-fn verdict_on(rt: &HostRuntime, grid: &Grid, parts: [&[u8]; 3]) -> Result<Verdict, Fail> {
-    let mut bytes = Vec::new(rt.alloc());
-    for part in parts {
-        bytes.extend_from_slice(part)?;
+/// A checker with the room that it works in.
+fn checker_on<'a>(alloc: Global, grid: &'a Grid) -> Result<Checker<'a>, AllocError> {
+    let (edges, vertices) = (grid.graph().edge_count(), grid.graph().vertex_count());
+    let network = EdgeSet::empty(alloc, edges)?;
+    let members = VertexSet::empty(alloc, vertices)?;
+    let work = Row::zeros(alloc, 3 * edges + 3 * vertices + 512)?;
+    Ok(Checker::begin(grid, network, members, work))
+}
+
+/// The verdict on an answer that is fed in two pieces, cut at a place, with an empty one between them.
+fn verdict_in_two(
+    alloc: Global,
+    grid: &Grid,
+    bytes: &[u8],
+    cut: usize,
+) -> Result<Verdict, AllocError> {
+    let (front, back) = bytes.split_at(cut.min(bytes.len()));
+    let mut checker = checker_on(alloc, grid)?;
+    checker.feed(front);
+    checker.feed(b"");
+    checker.feed(back);
+    Ok(checker.finish().verdict)
+}
+
+/// The verdict on an answer that is fed byte by byte.
+fn verdict_by_bytes(alloc: Global, grid: &Grid, bytes: &[u8]) -> Result<Verdict, AllocError> {
+    let mut checker = checker_on(alloc, grid)?;
+    for byte in bytes {
+        checker.feed(&[*byte]);
     }
-    Ok(check_whole(rt.alloc(), grid, bytes.as_slice())?.verdict)
+    Ok(checker.finish().verdict)
+}
+
+/// In how many ways of feeding it an answer doesn't get a verdict: whole, cut at each place, and byte by byte.
+fn misjudged(
+    alloc: Global,
+    grid: &Grid,
+    bytes: &[u8],
+    verdict: Verdict,
+) -> Result<usize, AllocError> {
+    let mut wrong = usize::from(verdict_by_bytes(alloc, grid, bytes)? != verdict);
+    for cut in 0..bytes.len() + 1 {
+        if verdict_in_two(alloc, grid, bytes, cut)? != verdict {
+            wrong = wrong.saturating_add(1);
+        }
+    }
+    Ok(wrong)
+}
+
+/// The refusal of a cut that loads an edge above its room.
+fn over(line: u64, edge: u32, load: u128, room: u64) -> Verdict {
+    Verdict::Refused(Cause::Overload {
+        line,
+        edge,
+        load,
+        room,
+    })
 }
 
 /// The grid of the points.
-fn worked_grid(rt: &HostRuntime) -> Result<Grid, Fail> {
-    let alloc = rt.alloc();
+fn worked_grid(alloc: Global) -> Result<Grid, Fail> {
     let mut points = Points::begin(alloc, Point { x: 0, y: 0 })?;
     let _ = points.add(Point { x: 2, y: 0 })?;
     let _ = points.add(Point { x: 1, y: 1 })?;
@@ -36,29 +88,16 @@ const TREE: &[u8] = b"tree\nleaf 3\ncut 1 20\ncut 1 08\ncut 1 64\nend\n";
 
 const ONE_CUT: &[u8] = b"tree\nleaf 1\ncut 1 20\nend\n";
 
-#[test]
-fn accepts_right_answers(rt: HostRuntime) -> Result<(), Fail> {
-    let grid = worked_grid(&rt)?;
-    let rows = [
-        ([OPTIMAL, EDGES, TREE], (3, 3, true)),
-        ([STOPPED, EDGES, ONE_CUT], (3, 1, false)),
-    ];
-    for (parts, (length, bound, optimal)) in rows {
-        let accepted = Verdict::Accepted {
-            length,
-            bound,
-            optimal,
-        };
-        assert_eq!(rt; verdict_on(&rt, &grid, parts)?, accepted);
-    }
-    Ok(())
-}
-
-/// How many of the answers, from the first on, are refused for their causes.
-fn refused(rt: &HostRuntime, rows: &[([&[u8]; 3], Cause)]) -> Result<usize, Fail> {
-    let grid = worked_grid(rt)?;
-    for (place, (parts, cause)) in rows.iter().enumerate() {
-        if verdict_on(rt, &grid, *parts)? != Verdict::Refused(*cause) {
+/// How many of the answers, from the first on, get their verdicts in each way of feeding them.
+fn judged(rt: &HostRuntime, rows: &[([&[u8]; 3], Verdict)]) -> Result<usize, Fail> {
+    let alloc = rt.alloc();
+    let grid = worked_grid(alloc)?;
+    for (place, (parts, verdict)) in rows.iter().enumerate() {
+        let mut bytes = Vec::new(alloc);
+        for part in parts {
+            bytes.extend_from_slice(part)?;
+        }
+        if misjudged(alloc, &grid, bytes.as_slice(), *verdict)? != 0 {
             return Ok(place);
         }
     }
@@ -66,59 +105,92 @@ fn refused(rt: &HostRuntime, rows: &[([&[u8]; 3], Cause)]) -> Result<usize, Fail
 }
 
 #[test]
-fn names_the_first_wrong_edge(rt: HostRuntime) -> Result<(), Fail> {
+fn judges_heads_and_edges(rt: HostRuntime) -> Result<(), Fail> {
     let longer: &[u8] =
         b"rst answer 1\nlength 4\nbound 3\nstatus optimal\nopenings 100\nconcat least 3\n";
+    let wrong_status: &[u8] =
+        b"rst answer 1\nlength 3\nbound 1\nstatus optimal\nopenings 0\nconcat least 3\n";
     let off_the_grid: &[u8] = b"edges 1\n0 0 2 0\n";
     let exchanged: &[u8] = b"edges 3\n1 0 2 0\n0 0 1 0\n1 0 1 1\n";
     let two_edges: &[u8] = b"edges 2\n0 0 1 0\n1 0 2 0\n";
-    let (printed, found) = (4, 3);
+    let (length, bound, optimal) = (3, 1, false);
+    let stopped = Verdict::Accepted {
+        length,
+        bound,
+        optimal,
+    };
+    let wrong_length = Cause::WrongLength {
+        printed: 4,
+        found: 3,
+    };
+    let wrong_bound = Cause::WrongBound {
+        printed: 3,
+        found: 1,
+    };
     let rows = [
-        ([OPTIMAL, off_the_grid, TREE], Cause::OffGrid(8)),
-        ([OPTIMAL, exchanged, TREE], Cause::EdgeOrder(9)),
-        ([OPTIMAL, two_edges, TREE], Cause::NotJoined(2)),
-        ([longer, EDGES, TREE], Cause::WrongLength { printed, found }),
+        ([STOPPED, EDGES, ONE_CUT], stopped),
+        (
+            [OPTIMAL, off_the_grid, TREE],
+            Verdict::Refused(Cause::OffGrid(8)),
+        ),
+        (
+            [OPTIMAL, exchanged, TREE],
+            Verdict::Refused(Cause::EdgeOrder(9)),
+        ),
+        (
+            [OPTIMAL, two_edges, TREE],
+            Verdict::Refused(Cause::NotJoined(2)),
+        ),
+        ([longer, EDGES, TREE], Verdict::Refused(wrong_length)),
+        ([OPTIMAL, EDGES, ONE_CUT], Verdict::Refused(wrong_bound)),
+        (
+            [wrong_status, EDGES, ONE_CUT],
+            Verdict::Refused(Cause::WrongStatus),
+        ),
     ];
-    assert_eq!(rt; refused(&rt, &rows)?, rows.len());
+    assert_eq!(rt; judged(&rt, &rows)?, rows.len());
     Ok(())
 }
 
 #[test]
-fn names_the_first_wrong_cut(rt: HostRuntime) -> Result<(), Fail> {
-    let split: &[u8] = b"tree\nsplit 0 0 1 0\nleaf 0\nleaf 0\nend\n";
+fn judges_trees(rt: HostRuntime) -> Result<(), Fail> {
+    let split: &[u8] =
+        b"tree\nsplit 0 0 1 0\nleaf 3\ncut 1 20\ncut 1 08\ncut 1 64\nleaf 2\ncut 1 20\ncut 1 08\nend\n";
+    let loaded_inside: &[u8] =
+        b"tree\nsplit 0 0 1 0\nleaf 3\ncut 1 20\ncut 1 08\ncut 1 64\nleaf 3\ncut 1 20\ncut 1 08\ncut 1 64\nend\n";
+    let split_again: &[u8] = b"tree\nsplit 0 0 1 0\nleaf 0\nsplit 0 0 1 0\n";
     let with_root: &[u8] = b"tree\nleaf 1\ncut 1 80\nend\n";
     let idle: &[u8] = b"tree\nleaf 1\ncut 1 10\nend\n";
     let overload: &[u8] = b"tree\nleaf 1\ncut 2 20\nend\n";
+    let cut_short: &[u8] = b"tree\nleaf 3\ncut 1 2";
     let no_end: &[u8] = b"tree\nleaf 1\ncut 1 20\nend";
-    let loaded = Cause::Overload {
-        line: 13,
-        edge: 1,
-        load: 2,
-        room: 1,
+    let (length, bound, optimal) = (3, 3, true);
+    let accepted = Verdict::Accepted {
+        length,
+        bound,
+        optimal,
     };
+    let again = Cause::Decided { line: 14, edge: 0 };
     let rows = [
-        ([OPTIMAL, EDGES, split], Cause::SplitLine(12)),
-        ([OPTIMAL, EDGES, with_root], Cause::RootInCut(13)),
-        ([OPTIMAL, EDGES, idle], Cause::IdleCut(13)),
-        ([OPTIMAL, EDGES, overload], loaded),
-        ([STOPPED, EDGES, no_end], Cause::NotAnswer(14)),
-    ];
-    assert_eq!(rt; refused(&rt, &rows)?, rows.len());
-    Ok(())
-}
-
-#[test]
-fn judges_the_bound_and_then_the_status(rt: HostRuntime) -> Result<(), Fail> {
-    let wrong_status: &[u8] =
-        b"rst answer 1\nlength 3\nbound 1\nstatus optimal\nopenings 0\nconcat least 3\n";
-    let (printed, found) = (3, 1);
-    let rows = [
+        ([OPTIMAL, EDGES, TREE], accepted),
+        ([OPTIMAL, EDGES, split], accepted),
+        ([OPTIMAL, EDGES, loaded_inside], over(20, 0, 1, 0)),
+        ([OPTIMAL, EDGES, split_again], Verdict::Refused(again)),
         (
-            [OPTIMAL, EDGES, ONE_CUT],
-            Cause::WrongBound { printed, found },
+            [OPTIMAL, EDGES, with_root],
+            Verdict::Refused(Cause::RootInCut(13)),
         ),
-        ([wrong_status, EDGES, ONE_CUT], Cause::WrongStatus),
+        ([OPTIMAL, EDGES, idle], Verdict::Refused(Cause::IdleCut(13))),
+        ([OPTIMAL, EDGES, overload], over(13, 1, 2, 1)),
+        (
+            [OPTIMAL, EDGES, cut_short],
+            Verdict::Refused(Cause::NotAnswer(13)),
+        ),
+        (
+            [STOPPED, EDGES, no_end],
+            Verdict::Refused(Cause::NotAnswer(14)),
+        ),
     ];
-    assert_eq!(rt; refused(&rt, &rows)?, rows.len());
+    assert_eq!(rt; judged(&rt, &rows)?, rows.len());
     Ok(())
 }

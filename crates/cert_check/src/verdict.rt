@@ -18,8 +18,13 @@ pub enum Cause {
         printed: u64,
         found: u64,
     },
-    /// The line is a split: trees of more than one leaf are not judged yet.
-    SplitLine(u64),
+    /// The line is a split on an edge that isn't undecided there.
+    Decided {
+        line: u64,
+        edge: u32,
+    },
+    /// The line is the 256th split.
+    TooDeep(u64),
     /// The line's cut holds the root.
     RootInCut(u64),
     /// The line's cut holds no required vertex.
@@ -31,7 +36,7 @@ pub enum Cause {
         load: u128,
         room: u64,
     },
-    /// The answer says one bound, and the lesser of its packing's value and its length is another.
+    /// The answer says one bound, and the lesser of its tree's value and its length is another.
     WrongBound {
         printed: u64,
         found: u64,
@@ -51,6 +56,8 @@ pub enum Verdict {
     },
     /// It is refused.
     Refused(Cause),
+    /// It has more than 2^32-1 bytes, whatever they are.
+    TooLong,
 }
 
 /// The verdict on an answer, and the edges whose lines came before its first failing line.

@@ -21,7 +21,7 @@ flag_one false true e = absurd (omega arith)
 flag_one false false e = refl
 
 -- four flags are worth less than 16
-four_value-below : (a b c d : Bool) → four_value a b c d < 16
+pub four_value-below : (a b c d : Bool) → four_value a b c d < 16
 four_value-below a b c d = omega (arith, flag_value-le a, flag_value-le b, flag_value-le c, flag_value-le d)
 
 -- four flags are told by their digit

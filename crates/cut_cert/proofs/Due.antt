@@ -7,8 +7,8 @@ use Rattle.std.proofs.lemmas.List.Elements.{All-cons, All-nil, All-append, All-m
 use Rattle.net_graph.specs.declared.packing.Cut.{Cut}
 use Rattle.hanan_grid.specs.declared.name.EdgeName.{EdgeName}
 use Rattle.cut_cert.specs.declared.head.AnswerHead.{AnswerHead}
-use Rattle.cut_cert.specs.declared.line.Line.{Line}
-use Rattle.cut_cert.specs.declared.line.Line.TheVariants as line
+use Rattle.cut_cert.specs.AnswerLine.{Line}
+use Rattle.cut_cert.specs.LineKinds as line
 use Rattle.cut_cert.specs.declared.line.Stage.{Stage}
 use Rattle.cut_cert.specs.declared.line.Stage.TheVariants as stage
 use Rattle.cut_cert.specs.Value.{WrittenAnswer}
@@ -127,7 +127,7 @@ body_end_fits V cuts nodes =
     (All-append (FitsLine V) (replicate nodes (line.Leaf 0)) (line.End ∷ []) (All-replicate (FitsLine V) nodes (line.Leaf 0) (omega arith)) (All-cons (FitsLine V) line.End [] tt (All-nil (FitsLine V))))
 
 -- the coordinate 0 fits
-zero_fits : FitsSigned w64 (pos 0)
+pub zero_fits : FitsSigned w64 (pos 0)
 zero_fits = search rules
 
 edges_end_fits : (V edges : ℕ) → All (FitsLine V) (edges_end V edges)

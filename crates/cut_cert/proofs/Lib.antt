@@ -11,7 +11,14 @@ pub mod Machine
 pub mod Due
 pub mod LineTexts
 pub mod WordLemmas
-pub mod NoLine
 pub mod EventLaws
 pub mod ReadLaws
 pub mod ReadSoFar
+pub mod FrontNumbers
+pub mod ScanNumbers
+pub mod ScanWords
+pub mod ScanSets
+pub mod Steps
+pub mod ScanLines
+pub mod ReaderLaws
+pub mod ScanClose

@@ -5,7 +5,7 @@ use Rattle.std.proofs.lemmas.List.Concat.{flat_map-append}
 use Rattle.std.proofs.lemmas.List.Elements.{All-head, All-tail, All-append}
 use Rattle.spelled.specs.Words.{Lacks}
 use Rattle.spelled.specs.Fronts.{front_unique, separator_missing}
-use Rattle.cut_cert.specs.declared.line.Line.{Line}
+use Rattle.cut_cert.specs.AnswerLine.{Line}
 use Rattle.cut_cert.specs.declared.line.Stage.{Stage}
 use Rattle.cut_cert.specs.declared.line.Stage.TheVariants as stage
 use Rattle.cut_cert.specs.Value.{WrittenAnswer}
@@ -21,15 +21,15 @@ use Rattle.cut_cert.proofs.EventLaws.{events_from-answer, events_from-front}
 -- ---- the lines of a text are determined by what is due
 
 -- where something is due behind a line, the line was due
-first_step : (more : Stage → Option Stage) (due : Option Stage) (s : Stage) → option_and_then more due ≡ Some s → (s' : Stage) × (due ≡ Some s') × (more s' ≡ Some s)
+pub first_step : (more : Stage → Option Stage) (due : Option Stage) (s : Stage) → option_and_then more due ≡ Some s → (s' : Stage) × (due ≡ Some s') × (more s' ≡ Some s)
 first_step more None s e = absurd cc
 first_step more (Some s') s e = (s', refl, e)
 
 -- lines behind others, and their text
-record Behind (ls ms : List Line) (bytes : List ℕ) : Type 0 where
-  rest : List Line
-  lines : ms ≡ ls ++ rest
-  text : bytes ≡ lines_text rest
+pub record Behind (ls ms : List Line) (bytes : List ℕ) : Type 0 where
+  pub rest : List Line
+  pub lines : ms ≡ ls ++ rest
+  pub text : bytes ≡ lines_text rest
 
 -- the first line of some, and what follows it
 line_split : (l : Line) (ls : List Line) (bytes : List ℕ) → lines_text (l ∷ ls) ++ bytes ≡ line_bytes l ++ 10 ∷ (lines_text ls ++ bytes)
@@ -61,20 +61,20 @@ lines_front V s s' s'' (l ∷ ls) (m ∷ ms) bytes d e f g same =
     record { rest = behind.rest; lines = λ i. sym here i ∷ behind.lines i; text = behind.text }
 
 -- the lines of an answer whose text begins with lines that were due begin with them
-answer_front : (V : ℕ) (s : Stage) (ls : List Line) (bytes behind : List ℕ) (a : WrittenAnswer) → run stage.Title ls ≡ Some s → All (FitsLine V) ls
+pub answer_front : (V : ℕ) (s : Stage) (ls : List Line) (bytes behind : List ℕ) (a : WrittenAnswer) → run stage.Title ls ≡ Some s → All (FitsLine V) ls
     → SpellsAnswer V bytes a → bytes ≡ lines_text ls ++ behind → Behind ls (answer_lines a) behind
 answer_front V s ls bytes behind a due fits spells parts =
     lines_front V stage.Title s stage.Done ls (answer_lines a) behind due (run-answer a) fits (answer_fits V a spells.fits) (sym parts ∙ spells.spelled ∙ sym (answer_lines-text a))
 
 -- what is due behind lines that begin others up to the end
-due_behind : (s : Stage) (ls rest ms : List Line) → run stage.Title ls ≡ Some s → run stage.Title ms ≡ Some stage.Done → ms ≡ ls ++ rest → run s rest ≡ Some stage.Done
+pub due_behind : (s : Stage) (ls rest ms : List Line) → run stage.Title ls ≡ Some s → run stage.Title ms ≡ Some stage.Done → ms ≡ ls ++ rest → run s rest ≡ Some stage.Done
 due_behind s ls rest ms due whole parts =
     sym (ap (option_and_then (λ s'. run s' rest)) due) ∙ sym (run-append stage.Title ls rest) ∙ sym (ap (run stage.Title) parts) ∙ whole
 
 -- ---- lines that begin an answer
 
 -- they do
-begins_answer : (V : ℕ) (s : Stage) (ls : List Line) → run stage.Title ls ≡ Some s → All (FitsLine V) ls → BeginsAnswer V (lines_text ls)
+pub begins_answer : (V : ℕ) (s : Stage) (ls : List Line) → run stage.Title ls ≡ Some s → All (FitsLine V) ls → BeginsAnswer V (lines_text ls)
 begins_answer V s ls due fits =
     let more = end_of V s in
     let whole : run stage.Title (ls ++ more) ≡ Some stage.Done =
@@ -90,7 +90,7 @@ begins_answer V s ls due fits =
     }
 
 -- their events are the first events of each answer that begins with them
-begun_events : (V : ℕ) (s : Stage) (ls : List Line) (rest : List ℕ) (a : WrittenAnswer) → run stage.Title ls ≡ Some s → All (FitsLine V) ls → SpellsAnswer V (lines_text ls ++ rest) a
+pub begun_events : (V : ℕ) (s : Stage) (ls : List Line) (rest : List ℕ) (a : WrittenAnswer) → run stage.Title ls ≡ Some s → All (FitsLine V) ls → SpellsAnswer V (lines_text ls ++ rest) a
     → events_from no_head 1 ls ≡ take (length ls + 1 - 6) (events_of a)
 begun_events V s ls rest a due fits spells =
     let behind = answer_front V s ls (lines_text ls ++ rest) rest a due fits spells refl in
@@ -108,7 +108,7 @@ read_whole V ls bytes due fits text =
     }
 
 -- bytes that stop behind lines of an answer
-stops : (V : ℕ) (s : Stage) (ls : List Line) (bytes rest : List ℕ) → run stage.Title ls ≡ Some s → All (FitsLine V) ls → bytes ≡ lines_text ls ++ rest
+pub stops : (V : ℕ) (s : Stage) (ls : List Line) (bytes rest : List ℕ) → run stage.Title ls ≡ Some s → All (FitsLine V) ls → bytes ≡ lines_text ls ++ rest
     → ((longer more : List ℕ) → bytes ≡ longer ++ more → BeginsAnswer V longer → line_feeds longer < length ls + 1)
     → ((a : WrittenAnswer) → SpellsAnswer V bytes a → ⊥) → StopsAt V bytes (length ls + 1) (events_from no_head 1 ls)
 stops V s ls bytes rest due fits parts last unspelled = record {
@@ -151,7 +151,7 @@ stops_unended V s ls bytes rest due fits parts lacks open_end = stops V s ls byt
 -- ---- bytes with a line that was not due
 
 -- a front of bytes with a mark in them ends before the mark or holds it
-front_cases : (mark : ℕ) (front back before after : List ℕ) → front ++ back ≡ before ++ mark ∷ after
+pub front_cases : (mark : ℕ) (front back before after : List ℕ) → front ++ back ≡ before ++ mark ∷ after
     → ((more : List ℕ) × (before ≡ front ++ more)) ⊎ ((more : List ℕ) × (front ≡ before ++ mark ∷ more))
 front_cases mark [] back before after e = inl (before, refl)
 front_cases mark (f ∷ front) back [] after e = let same : f ≡ mark = cc in inr (front, ap (λ x. x ∷ front) same)
@@ -163,7 +163,7 @@ front_cases mark (f ∷ front) back (b ∷ before) after e =
     (front_cases mark front back before after cc)
 
 -- what holds of all holds of one between others
-holds_between : {X : Type 0} (P : X → Type 0) (xs : List X) (y : X) (zs : List X) → All P (xs ++ y ∷ zs) → P y
+pub holds_between : {X : Type 0} (P : X → Type 0) (xs : List X) (y : X) (zs : List X) → All P (xs ++ y ∷ zs) → P y
 holds_between P [] y zs all = All-head P y zs all
 holds_between P (x ∷ xs) y zs all = holds_between P xs y zs (All-tail P x (xs ++ y ∷ zs) all)
 
@@ -180,7 +180,7 @@ line_behind V s ls (m ∷ ms) line after a due fits lines text lacks none =
     none m t fit here first.0
 
 -- so no answer has the lines and then one that was not due
-no_answer : (V : ℕ) (s : Stage) (ls : List Line) (bytes line after : List ℕ) (a : WrittenAnswer) → run stage.Title ls ≡ Some s → All (FitsLine V) ls
+pub no_answer : (V : ℕ) (s : Stage) (ls : List Line) (bytes line after : List ℕ) (a : WrittenAnswer) → run stage.Title ls ≡ Some s → All (FitsLine V) ls
     → SpellsAnswer V bytes a → bytes ≡ lines_text ls ++ (line ++ 10 ∷ after) → Lacks line 10 → IsNoLine V s line → ⊥
 no_answer V s ls bytes line after a due fits spells parts lacks none =
     let behind = answer_front V s ls bytes (line ++ 10 ∷ after) a due fits spells parts in

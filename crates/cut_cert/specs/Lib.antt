@@ -3,6 +3,13 @@ pub mod Text
 pub mod Spelling
 pub mod SetLaws
 pub mod Answers
+pub mod AnswerLine
+pub mod LineKinds
 pub mod Lines
 pub mod Reading
 pub mod Events
+pub mod LinesRead
+pub mod Given
+pub mod Scanning
+pub mod Reader
+pub mod RowLending

@@ -3,8 +3,8 @@ use Rattle.std.specs.Prelude.{ℕ, suc, zero, ◌≡◌, ◌<◌, ◌^◌, List,
 use Rattle.std.specs.Fmt.{decimal, signed_decimal}
 use Rattle.hanan_grid.specs.declared.name.EdgeName.{EdgeName}
 use Rattle.cut_cert.specs.declared.head.AnswerHead.{AnswerHead}
-use Rattle.cut_cert.specs.declared.line.Line.{Line}
-use Rattle.cut_cert.specs.declared.line.Line.TheVariants as line
+use Rattle.cut_cert.specs.AnswerLine.{Line}
+use Rattle.cut_cert.specs.LineKinds as line
 use Rattle.cut_cert.specs.declared.line.Stage.{Stage}
 use Rattle.cut_cert.specs.declared.line.Stage.TheVariants as stage
 use Rattle.cut_cert.specs.Value.{WrittenAnswer}
@@ -107,9 +107,3 @@ IsNoLine V s bytes = (l : Line) (s' : Stage) → FitsLine V l → step s l ≡ S
 abbrev pub nodes_due : Stage → ℕ
 nodes_due (stage.Body cuts nodes) = nodes
 nodes_due s = 0
-
--- neither edges nor nodes are due
-abbrev pub IsHeadStage : Stage → Type 0
-IsHeadStage (stage.Edges edges) = ⊥
-IsHeadStage (stage.Body cuts nodes) = ⊥
-IsHeadStage s = Unit {0}

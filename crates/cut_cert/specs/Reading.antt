@@ -1,5 +1,5 @@
 -- Which bytes begin an answer, and where bytes stop to begin one.
-use Rattle.std.specs.Prelude.{ℕ, suc, ◌≡◌, ◌+◌, ◌-◌, ◌<◌, ◌==◌, List, [], ◌∷◌, ◌++◌, take, Option, if◌then◌else◌}
+use Rattle.std.specs.Prelude.{ℕ, suc, ◌≡◌, ◌+◌, ◌-◌, ◌<◌, ◌==◌, List, [], ◌∷◌, ◌++◌, take, if◌then◌else◌}
 use Rattle.cut_cert.specs.declared.event.AnswerEvent.{AnswerEvent}
 use Rattle.cut_cert.specs.Value.{WrittenAnswer}
 use Rattle.cut_cert.specs.Spelling.{SpellsAnswer}
@@ -34,8 +34,3 @@ pub record StopsAt (V : ℕ) (bytes : List ℕ) (n : ℕ) (events : List AnswerE
   pub last : (longer rest : List ℕ) → bytes ≡ longer ++ rest → BeginsAnswer V longer → line_feeds longer < n
   pub unspelled : (answer : WrittenAnswer) → SpellsAnswer V bytes answer → ⊥
   pub told : (rest : List ℕ) (answer : WrittenAnswer) → SpellsAnswer V (front ++ rest) answer → events ≡ take (n - 6) (events_of answer)
-
--- what a reader gives: events, and the line of the first fault, if there is one
-pub record Reading : Type 0 where
-  pub events : List AnswerEvent
-  pub fault : Option ℕ

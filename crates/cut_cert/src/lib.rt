@@ -6,18 +6,18 @@ mod event;
 mod head;
 mod length;
 mod line;
-mod line_read;
-mod read;
+mod reader;
 mod reading;
-mod set_read;
+mod row;
+mod scan;
 #[cfg(test)]
 mod tests;
-mod words;
 mod write;
 
 pub use answer::{Answer, write_answer};
 pub use event::{AnswerEvent, Event};
 pub use head::{AnswerHead, ConcatNote};
 pub use length::answer_len;
-pub use read::{EventList, read_events};
-pub use reading::one_reading;
+pub use reader::{EventReader, Spelling};
+pub use reading::{one_reading, reads_beginnings};
+pub use row::Row;

@@ -1,15 +1,17 @@
 //! A worked answer, and sets whose digits were worked out by hand.
 
-ghost use Rattle.std.specs.Prelude.{◌≡◌, ◌<◌, ◌≤◌, [], ◌∷◌, length, All, IfOk};
+ghost use Rattle.std.specs.Prelude.{◌≡◌, ◌+◌, ◌-◌, ◌<◌, ◌≤◌, ◌^◌, [], ◌∷◌, length, All, IfOk};
 ghost use Rattle.net_graph.specs.declared.packing.Cut.{Cut};
 ghost use Rattle.hanan_grid.specs.Grid.{hanan_grid_of};
 ghost use Rattle.cut_cert.specs.Answers.{IsAnswerOn};
+ghost use Rattle.cut_cert.specs.Reader.{bytes_fed};
 
 use crate::answer::{Answer, write_answer};
 use crate::event::Event;
 use crate::head::{AnswerHead, ConcatNote};
 use crate::length::answer_len;
-use crate::read::read_events;
+use crate::reader::EventReader;
+use crate::row::Row;
 use crate::write::write_set;
 use cert_tree::CertTree;
 use hanan_grid::{EdgeName, Grid};
@@ -133,70 +135,105 @@ fn writes_the_digits_of_sets(rt: HostRuntime) -> Result<(), Fail> {
     Ok(())
 }
 
-/// What a reader tells of a text: its faulty line, and how many events come before.
-fn read(rt: &HostRuntime, vertices: u32, text: &[u8]) -> Result<(Option<u64>, usize), Fail> {
-    let events = read_events(rt.alloc(), vertices, text)?;
-    Ok((events.fault(), events.len()))
-}
-
 /// The worked answer.
 const WORKED: &[u8] =
     b"rst answer 1\nlength 3\nbound 3\nstatus optimal\nopenings 100\nconcat least 3\n\
     edges 3\n0 0 1 0\n1 0 2 0\n1 0 1 1\ntree\nleaf 3\ncut 1 20\ncut 1 08\ncut 1 64\nend\n";
 
+/// Feeds a text to a reader, and keeps the events. The line of the first fault, if there is one.
+fn feed_all(
+    reader: &mut EventReader,
+    events: &mut Vec<Event>,
+    text: &[u8],
+) -> Result<Option<u64>, AllocError>
+    requires { bytes_fed reader.old + length text.now < 2 ^ 32 - 1 }
+    ensures { bytes_fed reader.new ≤ bytes_fed reader.old + length text.now }
+{
+    for byte in text {
+        match reader.feed(*byte) {
+            Ok(Some(event)) => events.push(event)?,
+            Ok(None) => {}
+            Err(fault) => return Ok(Some(fault.line)),
+        }
+    }
+    Ok(None)
+}
+
 #[test]
-fn reads_the_worked_answer(rt: HostRuntime) -> Result<(), Fail> {
-    let events = read_events(rt.alloc(), 6, WORKED)?;
-    assert_eq!(rt; events.fault(), None);
-    assert_eq!(rt; events.len(), 11);
-    assert!(rt; events.len() > 8);
-    let edge = events.get(2);
-    let name = EdgeName {
-        x1: 0,
-        y1: 0,
-        x2: 1,
-        y2: 0,
+fn tells_the_events_of_the_worked_answer(rt: HostRuntime) -> Result<(), Fail> {
+    let alloc = rt.alloc();
+    let mut reader = EventReader::begin(6, VertexSet::empty(alloc, 6)?);
+    let mut events = Vec::new(alloc);
+    let fault = feed_all(&mut reader, &mut events, WORKED)?;
+    assert_eq!(rt; fault, None);
+    assert!(rt; reader.ended());
+    assert_eq!(rt; (reader.line(), reader.fed()), (17, WORKED.len() as u64));
+    let head = AnswerHead {
+        length: 3,
+        bound: 3,
+        optimal: true,
+        openings: 100,
+        concat: ConcatNote {
+            least: true,
+            total: 3,
+        },
     };
-    assert_eq!(rt; (edge.line, edge.event), (8, Event::Edge(name)));
-    let cut = events.get(8);
-    assert_eq!(rt; (cut.line, cut.event), (14, Event::Cut(1)));
-    let flags = cut
-        .members
-        .as_ref()
-        .map(|set| (set.len(), set.len() > 4 && set.has(4)));
-    assert_eq!(rt; flags, Some((6, true)));
+    let names = [(0, 0, 1, 0), (1, 0, 2, 0), (1, 0, 1, 1)].map(|(x1, y1, x2, y2)| Event::Edge(
+        EdgeName { x1, y1, x2, y2 },
+    ));
+    let wanted = [
+        Event::Head(head),
+        Event::EdgeCount(3),
+        names[0],
+        names[1],
+        names[2],
+        Event::Tree,
+        Event::Leaf(3),
+        Event::Cut(1),
+        Event::Cut(1),
+        Event::Cut(1),
+        Event::End,
+    ];
+    assert_eq!(rt; events.as_slice(), &wanted[..]);
+    Ok(())
+}
+
+/// The lines before the tree of an answer without edges.
+const BEFORE_TREE: &[u8] =
+    b"rst answer 1\nlength 3\nbound 3\nstatus stopped\nopenings 1\nconcat spent 0\nedges 0\ntree\n";
+
+#[test]
+fn refuses_at_the_first_byte_with_which_no_answer_begins(rt: HostRuntime) -> Result<(), Fail> {
+    let alloc = rt.alloc();
+    let rows: [(&[u8], Option<u64>); 9] = [
+        (b"leaf 1\ncut 0", Some(10)),
+        (b"leaf 1\ncut 01", Some(10)),
+        (b"leaf 4294967296", Some(9)),
+        (b"leaf 1\ncut 18446744073709551615 1", None),
+        (b"leaf 1\ncut 1 21", Some(10)),
+        (b"leaf 1\ncut 1 A", Some(10)),
+        (b"split -0", Some(9)),
+        (b"split -9223372036854775808 0 0 1\nleaf 0\ne", Some(11)),
+        (b"leaf 0\nend\n\n", Some(11)),
+    ];
+    for (text, line) in rows {
+        let mut reader = EventReader::begin(6, VertexSet::empty(alloc, 6)?);
+        let mut events = Vec::new(alloc);
+        assert_eq!(rt; feed_all(&mut reader, &mut events, BEFORE_TREE)?, None);
+        assert_eq!(rt; feed_all(&mut reader, &mut events, text)?, line);
+        assert!(rt; !reader.ended());
+    }
     Ok(())
 }
 
 #[test]
-fn names_the_line_of_the_first_fault(rt: HostRuntime) -> Result<(), Fail> {
-    let rows: [(&[u8], (Option<u64>, usize)); 8] = [
-        (b"", (Some(1), 0)),
-        (b"rst answer 2\n", (Some(1), 0)),
-        (b"rst answer 1\nlength 03\n", (Some(2), 0)),
-        (
-            b"rst answer 1\nlength 3\nbound 3\nstatus done\n",
-            (Some(4), 0),
-        ),
-        (
-            b"rst answer 1\nlength 3\nbound 3\nstatus stopped\nopenings 256\n",
-            (Some(5), 0),
-        ),
-        (
-            b"rst answer 1\nlength 3\nbound 3\nstatus stopped\nopenings 1\nconcat spent 0\nedges 0\ntree\nleaf 1\ncut 1 21\n",
-            (Some(10), 4),
-        ),
-        (
-            b"rst answer 1\nlength 3\nbound 3\nstatus stopped\nopenings 1\nconcat spent 0\nedges 0\ntree\nsplit 0 0 0 1\nleaf 0\nend\n",
-            (Some(11), 5),
-        ),
-        (
-            b"rst answer 1\nlength 3\nbound 3\nstatus stopped\nopenings 1\nconcat spent 0\nedges 0\ntree\nleaf 0\nend\n\n",
-            (Some(11), 5),
-        ),
-    ];
-    for (text, told) in rows {
-        assert_eq!(rt; read(&rt, 6, text)?, told);
+fn keeps_numbers_in_a_row(rt: HostRuntime) -> Result<(), Fail> {
+    let mut row = Row::zeros(rt.alloc(), 3)?;
+    row.set(1, 7);
+    for number in row.numbers_mut() {
+        *number = number.wrapping_add(1);
     }
+    assert!(rt; row.len() == 3);
+    assert_eq!(rt; (row.get(0), row.get(1), row.get(2)), (1, 8, 1));
     Ok(())
 }

@@ -5,6 +5,8 @@ ghost use Rattle.net_graph.specs.Decision.{IsDecisionFor};
 ghost use Rattle.net_graph.specs.Packing.{IsFeasible};
 ghost use Rattle.dual_ascent.specs.Choosing.{IsCallableOnSome, AnswersAPlace};
 
+mod plain;
+
 use crate::ascent::{Ascent, ascend};
 use crate::candidate::Candidate;
 use crate::carried::carry;

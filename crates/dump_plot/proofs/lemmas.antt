@@ -1,1 +1,3 @@
+pub mod Sections
+pub mod Strokes
 pub mod Texts

@@ -1,11 +1,12 @@
 -- What follows of how a run ends.
 use Rattle.std.specs.Prelude.{ℕ, ◌≡◌, List, Option, None, Some, Result, Ok, Err, IfOk, IfSome, ◌⊎◌}
-use Rattle.std.proofs.Common.{inl, inr, sym, ◌∙◌}
+use Rattle.std.proofs.Common.{inl, inr, refl, sym, ◌∙◌}
 use Rattle.rst_outside.specs.Counts.{Rose}
 use Rattle.frame.specs.declared.status.AnswerStatus.{AnswerStatus}
 use Rattle.frame.specs.declared.status.AnswerStatus.TheVariants.{Done, Refused, Stopped}
 use Rattle.frame.specs.declared.status.FaultStatus.{FaultStatus}
 use Rattle.frame.specs.declared.status.FaultStatus.TheVariants.{Malformed, Unread, TooLarge}
+use Rattle.frame.specs.declared.status.TheConstants.{UNWRITTEN, NO_MEMORY}
 use Rattle.frame.specs.Statuses.{answer_code, fault_code}
 use Rattle.frame.specs.Outside.{Readable, Writable, Outside}
 use Rattle.frame.specs.Ends.{Print, Printed, Concludes, Ends, print_of, prints_of}
@@ -43,6 +44,26 @@ unwritten_is_none : (s : AnswerStatus) → 6 ≡ answer_code s → ⊥
 unwritten_is_none Done is = cc
 unwritten_is_none Refused is = cc
 unwritten_is_none Stopped is = cc
+
+-- That of want of memory is none of a fault, nor that of a failed write.
+memory_is_no_fault : (f : FaultStatus) → 7 ≡ fault_code f → ⊥
+memory_is_no_fault Malformed is = cc
+memory_is_no_fault Unread is = cc
+memory_is_no_fault TooLarge is = cc
+
+memory_is_not_unwritten : NO_MEMORY ≡ UNWRITTEN → ⊥
+memory_is_not_unwritten is = cc
+
+-- Where memory was wanting, the tool found nothing.
+pub nothing_found : {F : Type 0} (fault_status : F → FaultStatus) (fault_text : F → List ℕ) (tool : List ℕ)
+    (before after : Writable) (found : Option (Result Print F)) (status : ℕ) → Concludes fault_status fault_text tool found before after status →
+    status ≡ NO_MEMORY → found ≡ None
+nothing_found fault_status fault_text tool before after None status concludes is = refl
+nothing_found fault_status fault_text tool before after (Some (Err fault)) status concludes is =
+    absurd (memory_is_no_fault (fault_status fault) (sym is ∙ concludes.ends))
+nothing_found fault_status fault_text tool before after (Some (Ok print)) status (inl printed) is =
+    absurd (memory_is_none print.status (sym is ∙ printed.ends))
+nothing_found fault_status fault_text tool before after (Some (Ok print)) status (inr cut) is = absurd (memory_is_not_unwritten (sym is ∙ cut.ends))
 
 -- what a run that printed its whole text found and printed
 printed_by : {F : Type 0} (fault_status : F → FaultStatus) (fault_text : F → List ℕ) (tool : List ℕ) (Finds : Result Print F → Type 0)

@@ -1,8 +1,9 @@
 -- Inputs and files that are read whole, within a limit, and why they are not.
-use Rattle.std.specs.Prelude.{ℕ, ◌≡◌, ◌<◌, ◌≤◌, List, length, Result, Ok, Err}
+use Rattle.std.specs.Prelude.{ℕ, ◌≡◌, ◌<◌, ◌≤◌, List, length, Result, Ok, Err, ⊤}
 use Rattle.std.specs.Global.{Vec}
 use Rattle.rst_outside.specs.Counts.{Rose}
 use Rattle.rst_outside.specs.Source.{SourceState, Came, CameToTheEnd}
+use Rattle.rst_outside.specs.Fed.{Fed}
 use Rattle.rst_outside.specs.Shelf.{ShelfState, OfFile}
 use Rattle.frame.specs.declared.take.InputFault.{InputFault}
 use Rattle.frame.specs.declared.take.InputFault.TheVariants as input_fault
@@ -24,6 +25,12 @@ IsInputFault limit before after (input_fault.TooLong most) =
 abbrev pub TakesInput : ℕ → SourceState → SourceState → Result (Vec ℕ) InputFault → Type 0
 TakesInput limit before after (Ok bytes) = IsWholeInput limit before after bytes.items
 TakesInput limit before after (Err fault) = IsInputFault limit before after fault
+
+-- The input was read to its end, and a consumer was fed its bytes; or it couldn't be read so.
+abbrev pub FeedsInput : {T : Type 0} → (T → List ℕ → Type 0) → ℕ → SourceState → SourceState → T → T → Result ⊤ InputFault → Type 0
+FeedsInput stands limit before after consumer consumer' (Ok done) =
+    (bytes : List ℕ) × IsWholeInput limit before after bytes × Fed stands consumer bytes consumer'
+FeedsInput stands limit before after consumer consumer' (Err fault) = IsInputFault limit before after fault
 
 -- Some first bytes of the rest were taken, and no more; the count of failed reads doesn't fall.
 pub record TakesSome (before after : SourceState) : Type 0 where

@@ -16,5 +16,5 @@ pub use fault::Fault;
 pub use points::{ListFault, PointsFault, read_grid, read_points_file, write_total};
 pub use reports::report;
 pub use status::{AnswerStatus, FaultStatus, MISUSED, NO_MEMORY, UNWRITTEN};
-pub use take::{FileFault, InputFault, TEXT_LIMIT, take_file, take_input};
+pub use take::{FileFault, InputFault, TEXT_LIMIT, feed_input, take_file, take_input};
 pub use text_fault::TextFault;

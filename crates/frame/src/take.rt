@@ -1,13 +1,15 @@
 //! Inputs and files that are read whole, within a limit.
 
-ghost use Rattle.std.specs.Prelude.{◌≡◌, IfOk};
+ghost use Rattle.std.specs.Prelude.{◌≡◌, ◌<◌, length, IfOk};
 ghost use Rattle.text_out.specs.Gathers.{Gathers};
-ghost use Rattle.frame.specs.Taking.{TakesInput, TakesSome, TakesFile, KeepsFiles};
+ghost use Rattle.frame.specs.Taking.{TakesInput, FeedsInput, TakesSome, TakesFile, KeepsFiles};
 ghost use Rattle.frame.specs.FaultTexts.{input_fault_text, input_fault_status, file_fault_text, file_fault_status, too_long_text};
 
 use crate::fault::Fault;
 use crate::status::FaultStatus;
-use rst_outside::{Shelf, Sink, Source, TakeFault, take_all, take_named};
+use rst_outside::{
+    Consumer, FeedFault, Shelf, Sink, Source, TakeFault, feed_all, take_all, take_named,
+};
 use std::alloc::{AllocError, Global};
 use text_out::{Block, literal, number};
 
@@ -47,6 +49,23 @@ pub fn take_input<I: Source>(
         Err(TakeFault::TooLong) => Ok(Err(InputFault::TooLong { limit })),
         Err(TakeFault::Memory(error)) => Err(error),
     }
+}
+
+/// Feeds the consumer all bytes of the input, of which there may be `limit`, by way of the buffer. It takes no memory.
+pub fn feed_input<I: Source, C: Consumer>(
+    input: &mut I,
+    buffer: &mut [u8],
+    consumer: &mut C,
+    limit: u64,
+) -> Result<(), InputFault>
+    requires { 0 < length buffer.old }
+    ensures feeds { FeedsInput C.stands limit (I.state input.old) (I.state input.new) consumer.old consumer.new result }
+    ensures some { TakesSome (I.state input.old) (I.state input.new) }
+{
+    feed_all(input, buffer, consumer, limit).map_err(|fault| match fault {
+        FeedFault::Failed => InputFault::Unread,
+        FeedFault::TooLong => InputFault::TooLong { limit },
+    })
 }
 
 /// All bytes of the file of points of this name, of which there may be `limit`. An `Err` is want of memory.

@@ -1,28 +1,50 @@
--- From the steps of `check` to what it finds.
-use Rattle.std.proofs.Common.{ℕ, ◌≡◌, List, Ok, refl, subst}
+-- From the steps of `check` to what it finds, and to how it ends.
+use Rattle.std.proofs.Common.{ℕ, ◌≡◌, List, Some, None, Result, Ok, Err, refl, subst, arith}
+use Rattle.std.specs.Prelude.{OnErr}
+use Rattle.rst_outside.specs.Source.{SourceState}
 use Rattle.points_in.specs.declared.point.Point.{Point}
-use Rattle.points_in.specs.Terminals.{terminals_of}
-use Rattle.cert_check.specs.declared.verdict.Finished.{Finished}
+use Rattle.frame.specs.declared.status.AnswerStatus.{AnswerStatus}
+use Rattle.frame.specs.declared.status.FaultStatus.{FaultStatus}
+use Rattle.frame.specs.declared.status.TheConstants.{NO_MEMORY}
+use Rattle.frame.specs.declared.take.InputFault.{InputFault}
 use Rattle.frame.specs.declared.take.TheConstants.{TEXT_LIMIT}
-use Rattle.frame.specs.Outside.{Readable}
+use Rattle.frame.specs.Outside.{Readable, Writable}
+use Rattle.frame.specs.Ends.{Concludes, print_of, prints_of}
+use Rattle.frame.specs.EndLaws.{nothing_found}
 use Rattle.frame.specs.Points.{ReadsPointsFile}
-use Rattle.frame.specs.Taking.{IsWholeInput}
+use Rattle.frame.specs.Taking.{IsWholeInput, IsInputFault}
 use Rattle.judge_tools.specs.declared.judge.TheConstants.{ANSWER_LIMIT}
-use Rattle.judge_tools.specs.Verdicts.{verdict_print}
-use Rattle.judge_tools.specs.Check.{JudgesBytes, Checks}
+use Rattle.judge_tools.specs.declared.judge.CheckFault.TheVariants.{Input}
+use Rattle.judge_tools.specs.declared.verdict_line.VerdictLine.{VerdictLine}
+use Rattle.judge_tools.specs.Verdicts.{line_print}
+use Rattle.judge_tools.specs.Check.{TellsVerdict, JudgesInput, Checks}
 
--- the verdict on the input's bytes, which a slice holds, for the grid of the file's points
-pub found_verdict : (name : List ℕ) (before after : Readable) (grid : List Point) (bytes slice : List ℕ) (f : Finished) →
-    ReadsPointsFile TEXT_LIMIT before.shelf after.shelf name (Ok grid) → IsWholeInput ANSWER_LIMIT before.input after.input bytes →
-    slice ≡ bytes → JudgesBytes grid slice f → Checks name before after (Ok (verdict_print f.verdict))
-found_verdict name before after grid bytes slice f (ps, lists, is) whole same judges = (
-  ps,
-  bytes,
-  f,
-  record {
-    points = lists;
-    input = whole;
-    judges = subst (λ b. JudgesBytes (terminals_of ps) b f) same (subst (λ h. JudgesBytes h slice f) is judges);
-  },
-  refl,
-)
+-- the line of the verdict on the bytes of an input that was read to its end is that of the input
+pub judges_whole : (terminals : List Point) (before after : SourceState) (bytes : List ℕ) (result : Result VerdictLine InputFault) →
+    IsWholeInput ANSWER_LIMIT before after bytes → TellsVerdict terminals bytes result → JudgesInput terminals before after result
+judges_whole terminals before after bytes (Ok line) whole (f, judges, told) = (bytes, f, whole, judges, told)
+judges_whole terminals before after bytes (Err fault) whole (is, many) = let within = whole.within in absurd (omega (arith, within, many))
+
+-- the line of the verdict on the input, for the grid of the file's points
+pub found_line : (name : List ℕ) (before after : Readable) (grid : List Point) (line : VerdictLine) →
+    ReadsPointsFile TEXT_LIMIT before.shelf after.shelf name (Ok grid) → JudgesInput grid before.input after.input (Ok line) →
+    Checks name before after (Ok (line_print line))
+found_line name before after grid line (ps, lists, is) judged =
+    let (bytes, f, whole, judges, told) = subst (λ h. JudgesInput h before.input after.input (Ok line)) is judged in
+    (ps, bytes, f, line, record { points = lists; input = whole; judges = judges }, told, refl)
+
+-- a fault of the input, where the file has a grid
+pub found_fault : (name : List ℕ) (before after : Readable) (grid : List Point) (fault : InputFault) →
+    ReadsPointsFile TEXT_LIMIT before.shelf after.shelf name (Ok grid) → IsInputFault ANSWER_LIMIT before.input after.input fault →
+    Checks name before after (Err (Input fault))
+found_fault name before after grid fault (ps, lists, is) why = ((ps, lists), why)
+
+-- what holds where the tool found nothing holds where memory was wanting
+pub without_memory : {A : Type 0} {F : Type 0} {E : Type 0} (text : A → List ℕ) (answer_status : A → AnswerStatus) (fault_status : F → FaultStatus)
+    (fault_text : F → List ℕ) (tool : List ℕ) (before after : Writable) (status : ℕ) (found : Result (Result A F) E) (P : Type 0) →
+    Concludes fault_status fault_text tool (prints_of text answer_status found) before after status → OnErr found P → status ≡ NO_MEMORY → P
+without_memory text answer_status fault_status fault_text tool before after status (Ok found) P concludes holds is =
+    let none : Some (print_of text answer_status found) ≡ None =
+    nothing_found fault_status fault_text tool before after (Some (print_of text answer_status found)) status concludes is in
+    absurd cc
+without_memory text answer_status fault_status fault_text tool before after status (Err memory) P concludes holds is = holds

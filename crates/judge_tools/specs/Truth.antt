@@ -1,11 +1,12 @@
 -- What is true where `check` told a verdict.
-use Rattle.std.specs.Prelude.{ℕ, ◌≡◌, ◌≤◌, Bool, true, List, ◌↔◌}
+use Rattle.std.specs.Prelude.{ℕ, ◌≡◌, Bool, true, List, ◌↔◌}
 use Rattle.rst_outside.specs.Source.{CameToTheEnd}
 use Rattle.rst_outside.specs.Sink.{SinkState, Appended}
 use Rattle.points_in.specs.declared.point.Point.{Point}
 use Rattle.points_in.specs.Terminals.{terminals_of}
-use Rattle.net_graph.specs.declared.packing.Cut.{Cut}
 use Rattle.net_graph.specs.Network.{IsLowerBound, IsShortest}
+use Rattle.cert_tree.specs.declared.split.SplitOn.{SplitOn}
+use Rattle.cert_tree.specs.Tree.{Tree}
 use Rattle.cut_cert.specs.Value.{WrittenAnswer}
 use Rattle.cert_check.specs.Accepted.{Accepts, IsAccepted}
 use Rattle.frame.specs.declared.take.TheConstants.{TEXT_LIMIT}
@@ -17,7 +18,7 @@ use Rattle.judge_tools.specs.Verdicts.{accepted_line}
 -- says optimal its network is a shortest one.
 abbrev pub TellsAccepted : List Point → List ℕ → SinkState → SinkState → Type 0
 TellsAccepted ps bytes out out' =
-    (answer : WrittenAnswer) × (network : List Bool) × (packing : List Cut) × Accepts (terminals_of ps) bytes answer network packing
+    (answer : WrittenAnswer) × (network : List Bool) × (tree : Tree SplitOn) × Accepts (terminals_of ps) bytes answer network tree
     × Appended out.taken (accepted_line answer.head.length answer.head.bound answer.head.optimal) out'.taken
     × IsLowerBound (grid_of_points ps) answer.head.bound
     × (answer.head.optimal ≡ true → IsShortest (grid_of_points ps) network)

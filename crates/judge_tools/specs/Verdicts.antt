@@ -2,13 +2,14 @@
 use Rattle.std.specs.Prelude.{ℕ, Bool, List, ◌++◌, codes, decimal}
 use Rattle.cut_cert.specs.Text.{status_word}
 use Rattle.cert_check.specs.declared.verdict.Cause.{Cause}
-use Rattle.cert_check.specs.declared.verdict.Cause.TheVariants.{NotAnswer, OffGrid, EdgeOrder, NotJoined, WrongLength, SplitLine, RootInCut, IdleCut, Overload, WrongBound, WrongStatus}
+use Rattle.cert_check.specs.declared.verdict.Cause.TheVariants.{NotAnswer, OffGrid, EdgeOrder, NotJoined, WrongLength, Decided, TooDeep, RootInCut, IdleCut, Overload, WrongBound, WrongStatus}
 use Rattle.cert_check.specs.declared.verdict.Verdict.{Verdict}
-use Rattle.cert_check.specs.declared.verdict.Verdict.TheVariants.{Accepted, Refused}
+use Rattle.cert_check.specs.declared.verdict.Verdict.TheVariants as verdict
 use Rattle.frame.specs.declared.status.AnswerStatus.{AnswerStatus}
 use Rattle.frame.specs.declared.status.AnswerStatus.TheVariants as ends
 use Rattle.frame.specs.Ends.{Print}
 use Rattle.judge_tools.specs.declared.verdict_line.VerdictLine.{VerdictLine}
+use Rattle.judge_tools.specs.declared.verdict_line.VerdictLine.TheVariants.{Accepted, Refused}
 
 -- what is said of a line
 abbrev pub about_line : ℕ → List ℕ → List ℕ
@@ -22,6 +23,10 @@ about_point point = codes "point " ++ decimal point ++ codes " is not joined"
 abbrev pub about_number : List ℕ → ℕ → ℕ → List ℕ
 about_number name printed found = name ++ codes " says " ++ decimal printed ++ codes ", found " ++ decimal found
 
+-- what is said of a line that decides an edge which a split above it decides
+abbrev pub about_decided : ℕ → ℕ → List ℕ
+about_decided line edge = about_line line (codes " decides edge ") ++ decimal edge ++ codes " again"
+
 -- what is said of a line whose cut loads an edge above its room
 abbrev pub about_load : ℕ → ℕ → ℕ → ℕ → List ℕ
 about_load line edge load room = about_line line (codes " loads edge ") ++ decimal edge ++ codes " with " ++ decimal load ++ codes " of " ++ decimal room
@@ -33,7 +38,8 @@ cause_text (OffGrid line) = about_line line (codes " names no grid edge")
 cause_text (EdgeOrder line) = about_line line (codes " is out of order")
 cause_text (NotJoined point) = about_point point
 cause_text (WrongLength printed found) = about_number (codes "length") printed found
-cause_text (SplitLine line) = about_line line (codes " is a split")
+cause_text (Decided line edge) = about_decided line edge
+cause_text (TooDeep line) = about_line line (codes " is split 256")
 cause_text (RootInCut line) = about_line line (codes " has the root in its cut")
 cause_text (IdleCut line) = about_line line (codes " cuts off no required vertex")
 cause_text (Overload line edge load room) = about_load line edge load room
@@ -48,23 +54,20 @@ accepted_line length bound optimal = codes "accepted length " ++ decimal length 
 abbrev pub refused_line : Cause → List ℕ
 refused_line cause = codes "refused " ++ cause_text cause ++ codes "\n"
 
--- the line that tells a verdict
-abbrev pub verdict_text : Verdict → List ℕ
-verdict_text (Accepted length bound optimal) = accepted_line length bound optimal
-verdict_text (Refused cause) = refused_line cause
+-- the verdict that a line tells
+abbrev pub verdict_told : VerdictLine → Verdict
+verdict_told (Accepted length bound optimal) = verdict.Accepted length bound optimal
+verdict_told (Refused cause) = verdict.Refused cause
 
--- the status of a verdict
-abbrev pub status_of_verdict : Verdict → AnswerStatus
-status_of_verdict (Accepted length bound optimal) = ends.Done
-status_of_verdict (Refused cause) = ends.Refused
-
--- what is printed of a verdict
-abbrev pub verdict_print : Verdict → Print
-verdict_print verdict = record { text = verdict_text verdict; status = status_of_verdict verdict }
-
--- the text and the status of a line
+-- the text of a line, and the status that the tool ends with
 abbrev pub line_text : VerdictLine → List ℕ
-line_text line = verdict_text line.verdict
+line_text (Accepted length bound optimal) = accepted_line length bound optimal
+line_text (Refused cause) = refused_line cause
 
 abbrev pub line_status : VerdictLine → AnswerStatus
-line_status line = status_of_verdict line.verdict
+line_status (Accepted length bound optimal) = ends.Done
+line_status (Refused cause) = ends.Refused
+
+-- what is printed of a line
+abbrev pub line_print : VerdictLine → Print
+line_print line = record { text = line_text line; status = line_status line }

@@ -1,30 +1,29 @@
 //! The tool `check`: the points of a file and an answer come in, the verdict on the answer goes out.
 
-ghost use Rattle.std.specs.Prelude.{◌≡◌, IfOk};
+ghost use Rattle.std.specs.Prelude.{◌≡◌, IfOk, OnErr};
 ghost use Rattle.frame.specs.Outside.{readable, outside};
 ghost use Rattle.frame.specs.Ends.{print_of};
 ghost use Rattle.frame.specs.Leaves.{LeavesFiles};
 ghost use Rattle.judge_tools.specs.Verdicts.{line_text, line_status};
 ghost use Rattle.judge_tools.specs.Check.{Checks, EndsCheck, check_fault_text, check_fault_status};
 
+use crate::judging::judge_input;
 use crate::verdict_line::VerdictLine;
-use cert_check::check_whole;
-use frame::{
-    Fault, FaultStatus, InputFault, PointsFault, TEXT_LIMIT, conclude, read_points_file, take_input,
-};
+use frame::{Fault, FaultStatus, InputFault, PointsFault, TEXT_LIMIT, conclude, read_points_file};
 use rst_outside::{Shelf, Sink, Source};
 use std::alloc::{AllocError, Global};
+use std::marker::Brand;
 use text_out::Block;
 
 /// The greatest number of bytes of an answer that is judged.
-pub const ANSWER_LIMIT: u64 = 1 << 26;
+pub const ANSWER_LIMIT: u64 = (1 << 32) - 1;
 
 /// Why `check` refuses.
 #[derive(Clone, Copy, Debug, PartialEq, Eq)]
 pub enum CheckFault {
     /// The points' file gives no grid.
     Points(PointsFault),
-    /// The answer isn't taken whole.
+    /// The answer isn't read to its end.
     Input(InputFault),
 }
 
@@ -48,8 +47,8 @@ impl Fault for CheckFault {
     }
 }
 
-/// Runs `check`: reads the points of a file, then an answer from the input, judges it and prints the line of the
-/// verdict. Gives the status that the program ends with.
+/// Runs `check`: reads the points of a file, then judges an answer as it comes from the input, and prints the line of
+/// the verdict. Gives the status that the program ends with. Memory is taken before the input is touched alone.
 pub fn check<I: Source, O: Sink, R: Sink, S: Shelf>(
     alloc: Global,
     points_name: &str,
@@ -67,7 +66,7 @@ pub fn check<I: Source, O: Sink, R: Sink, S: Shelf>(
 }
 
 // The line of the verdict on the input as an answer for the points of a file. A fault has the cause that it names. An
-// `Err` is want of memory.
+// `Err` is want of memory, before the input is touched.
 fn judge<I: Source, S: Shelf>(
     alloc: Global,
     points_name: &str,
@@ -77,6 +76,7 @@ fn judge<I: Source, S: Shelf>(
     ensures finds { IfOk result (λ found. Checks points_name.now
         (readable (I.state input.old) (S.state shelf.old)) (readable (I.state input.new) (S.state shelf.new))
         (print_of line_text line_status found)) }
+    ensures unread { OnErr result (I.state input.new ≡ I.state input.old) }
     ensures leaves { LeavesFiles
         (readable (I.state input.old) (S.state shelf.old)) (readable (I.state input.new) (S.state shelf.new)) }
 {
@@ -84,12 +84,8 @@ fn judge<I: Source, S: Shelf>(
         Ok(grid) => grid,
         Err(fault) => return Ok(Err(CheckFault::Points(fault))),
     };
-    let bytes = match take_input(alloc, input, ANSWER_LIMIT)? {
-        Ok(bytes) => bytes,
-        Err(fault) => return Ok(Err(CheckFault::Input(fault))),
-    };
-    let finished = check_whole(alloc, &grid, bytes.as_slice())?;
-    Ok(Ok(VerdictLine {
-        verdict: finished.verdict,
-    }))
+    match judge_input::<Brand, I>(alloc, &grid, input)? {
+        Ok(line) => Ok(Ok(line)),
+        Err(fault) => Ok(Err(CheckFault::Input(fault))),
+    }
 }

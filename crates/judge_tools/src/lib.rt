@@ -2,6 +2,7 @@
 #![tactic(auto)]
 
 mod judge;
+mod judging;
 mod verdict_line;
 
 pub use judge::{ANSWER_LIMIT, CheckFault, check};

@@ -1,20 +1,49 @@
 //! The line that tells a verdict.
 
-ghost use Rattle.std.specs.Prelude.{◌≡◌};
+ghost use Rattle.std.specs.Prelude.{◌≡◌, IfSome, IfNone};
 ghost use Rattle.rst_outside.specs.Sink.{Writes};
 ghost use Rattle.text_out.specs.Gathers.{Gathers};
 ghost use Rattle.cut_cert.specs.Text.{status_word};
-ghost use Rattle.judge_tools.specs.Verdicts.{verdict_text, accepted_line, cause_text, refused_line, about_line, about_point, about_number, about_load, line_text, line_status};
+ghost use Rattle.judge_tools.specs.Verdicts.{accepted_line, cause_text, refused_line, about_line, about_point, about_number, about_decided, about_load, verdict_told, line_text, line_status};
 
 use cert_check::{Cause, Verdict};
 use frame::{Answer, AnswerStatus};
 use rst_outside::{PutFault, Sink};
 use text_out::{Block, finish, literal, number};
 
-/// The line of a verdict.
+/// The line of a verdict, where the answer isn't too long.
 #[derive(Clone, Copy, Debug, PartialEq, Eq)]
-pub struct VerdictLine {
-    pub verdict: Verdict,
+pub enum VerdictLine {
+    /// The answer is accepted, and says this length, this bound and whether it is optimal.
+    Accepted {
+        length: u64,
+        bound: u64,
+        optimal: bool,
+    },
+    /// It is refused.
+    Refused(Cause),
+}
+
+impl VerdictLine {
+    /// The line that tells a verdict. None where the answer is too long.
+    pub(crate) fn of(verdict: Verdict) -> Option<VerdictLine>
+        ensures line { IfSome result (λ line. verdict ≡ verdict_told line) }
+        ensures none { IfNone result (verdict ≡ Verdict.TooLong) }
+    {
+        match verdict {
+            Verdict::Accepted {
+                length,
+                bound,
+                optimal,
+            } => Some(VerdictLine::Accepted {
+                length,
+                bound,
+                optimal,
+            }),
+            Verdict::Refused(cause) => Some(VerdictLine::Refused(cause)),
+            Verdict::TooLong => None,
+        }
+    }
 }
 
 impl Answer for VerdictLine {
@@ -27,38 +56,38 @@ impl Answer for VerdictLine {
     ghost told = { λ _. Unit {0} };
 
     fn status(&self) -> AnswerStatus {
-        match self.verdict {
-            Verdict::Accepted { .. } => AnswerStatus::Done,
-            Verdict::Refused(_) => AnswerStatus::Refused,
+        match self {
+            VerdictLine::Accepted { .. } => AnswerStatus::Done,
+            VerdictLine::Refused(_) => AnswerStatus::Refused,
         }
     }
 
     fn write<O: Sink>(&self, out: &mut O) -> Result<(), PutFault> {
-        write_verdict(out, self.verdict)
+        write_whole(out, *self)
     }
 }
 
-// Writes the line that tells a verdict. An `Err` says that the sink failed, and that the line was cut short.
+// Writes the line. An `Err` says that the sink failed, and that the line was cut short.
 #[tactic(auto, using(text_out::specs::GatherLaws::pieces))]
-fn write_verdict<O: Sink>(out: &mut O, verdict: Verdict) -> Result<(), PutFault>
-    ensures { Writes (O.state out.old) (verdict_text verdict) (O.state out.new) result }
+fn write_whole<O: Sink>(out: &mut O, line: VerdictLine) -> Result<(), PutFault>
+    ensures { Writes (O.state out.old) (line_text line) (O.state out.new) result }
 {
     let mut block = Block::new();
-    write_line(&mut block, out, verdict);
+    write_line(&mut block, out, line);
     finish(block, out)
 }
 
-// That line, of which the last bytes wait in the block.
-fn write_line<O: Sink>(block: &mut Block, out: &mut O, verdict: Verdict)
-    ensures { Gathers (O.state out.old) block.old (verdict_text verdict) (O.state out.new) block.new }
+// The line, of which the last bytes wait in the block.
+fn write_line<O: Sink>(block: &mut Block, out: &mut O, line: VerdictLine)
+    ensures { Gathers (O.state out.old) block.old (line_text line) (O.state out.new) block.new }
 {
-    match verdict {
-        Verdict::Accepted {
+    match line {
+        VerdictLine::Accepted {
             length,
             bound,
             optimal,
         } => write_accepted(block, out, length, bound, optimal),
-        Verdict::Refused(cause) => write_refused(block, out, cause),
+        VerdictLine::Refused(cause) => write_refused(block, out, cause),
     }
 }
 
@@ -105,7 +134,8 @@ fn write_cause<O: Sink>(block: &mut Block, out: &mut O, cause: Cause)
         Cause::WrongLength { printed, found } => {
             write_about_number(block, out, b"length", printed, found)
         }
-        Cause::SplitLine(line) => write_about_line(block, out, line, b" is a split"),
+        Cause::Decided { line, edge } => write_about_decided(block, out, line, edge),
+        Cause::TooDeep(line) => write_about_line(block, out, line, b" is split 256"),
         Cause::RootInCut(line) => write_about_line(block, out, line, b" has the root in its cut"),
         Cause::IdleCut(line) => {
             write_about_line(block, out, line, b" cuts off no required vertex")
@@ -159,6 +189,16 @@ fn write_about_number<O: Sink>(
     number(block, out, printed);
     literal(block, out, b", found ");
     number(block, out, found);
+}
+
+// What is said of a line that decides an edge which a split above it decides.
+#[tactic(auto, using(text_out::specs::GatherLaws::pieces))]
+fn write_about_decided<O: Sink>(block: &mut Block, out: &mut O, line: u64, edge: u32)
+    ensures { Gathers (O.state out.old) block.old (about_decided line edge) (O.state out.new) block.new }
+{
+    write_about_line(block, out, line, b" decides edge ");
+    number(block, out, edge);
+    literal(block, out, b" again");
 }
 
 // What is said of a line whose cut loads an edge above its room.

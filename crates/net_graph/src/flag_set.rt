@@ -1,7 +1,8 @@
 //! Sets of numbers below a size.
 
-ghost use Rattle.std.specs.Prelude.{◌≡◌, ◌<◌, true, false, length, replicate, slice_get, slice_set, IfOk};
-ghost use Rattle.net_graph.specs.Flags.{has};
+ghost use Rattle.std.specs.Prelude.{◌≡◌, ℕ, ◌+◌, ◌*◌, ◌/◌, ◌%◌, ◌==◌, ◌<◌, ◌||◌, ◌&&◌, true, false, length, replicate, slice_get, slice_set, IfOk};
+ghost use Rattle.std.specs.Int.{bit_at};
+ghost use Rattle.net_graph.specs.Flags.{has, flag_of_four};
 
 use std::alloc::{AllocError, Global};
 use std::marker::Model;
@@ -57,6 +58,27 @@ impl FlagSet {
         self.words[(n / 64) as usize] |= 1 << (n % 64);
     }
 
+    /// Puts those of the four numbers from `4 * place` on into the set that the bits 8, 4, 2 and 1 of the value tell.
+    pub fn add_four(&mut self, place: u32, value: u8)
+        requires value { value < 16 }
+        requires within { 4 * place < length self.old }
+        requires told { (r : ℕ) → r < 4 → flag_of_four value r ≡ true → 4 * place + r < length self.old }
+        ensures size { length self.new ≡ length self.old }
+        ensures flags { (n : ℕ) →
+            has self.new n ≡ (has self.old n || (n / 4 == place && flag_of_four value (n % 4))) }
+    {
+        self.words[(place / 16) as usize] |= mirrored(value) << (place % 16 * 4);
+    }
+
+    /// The word of the flags from `64 * place` on, the first at its lowest bit.
+    pub fn word(&self, place: u32) -> u64
+        requires { 64 * place < length self.now }
+        ensures { (r : ℕ) → r < 64 → 64 * place + r < length self.now →
+            has self.now (64 * place + r) ≡ (bit_at result r == 1) }
+    {
+        self.words[place as usize]
+    }
+
     /// Takes `n` out of the set.
     pub fn remove(&mut self, n: u32)
         requires { n < length self.old }
@@ -82,4 +104,16 @@ impl FlagSet {
             size: self.size,
         })
     }
+}
+
+// The values of four bits with the bits turned round.
+const MIRRORED: [u64; 16] = [0, 8, 4, 12, 2, 10, 6, 14, 1, 9, 5, 13, 3, 11, 7, 15];
+
+// The four flags that a value tells, the first at the lowest bit.
+fn mirrored(value: u8) -> u64
+    requires { value < 16 }
+    ensures small { result < 16 }
+    ensures flags { (r : ℕ) → r < 4 → (bit_at result r == 1) ≡ flag_of_four value r }
+{
+    MIRRORED[value as usize]
 }

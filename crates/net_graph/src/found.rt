@@ -85,7 +85,6 @@ impl Found {
     /// The set of the vertices that were found.
     pub fn into_set(self) -> VertexSet
         ensures size { length result ≡ self.size }
-        ensures count { count_by (λ flag. flag) result ≡ length self.order }
         ensures flags { (v : ℕ) → (has result v ≡ true) ↔ Contains self.order v }
     {
         let Found { marks, order: _ } = self;

@@ -2,7 +2,6 @@
 #![tactic(auto)]
 
 mod arcs;
-mod counted;
 mod decision;
 mod edge;
 mod feasibility;
@@ -11,6 +10,7 @@ mod found;
 mod graph;
 mod growth;
 mod lengths;
+mod lent_room;
 mod network;
 mod packing;
 mod rooted;
@@ -21,7 +21,6 @@ mod state;
 mod tests;
 
 pub use arcs::{Arc, partner};
-pub use counted::{CountedSet, counted_leading_to};
 pub use decision::{Decision, required, vertex_undecided};
 pub use edge::{Edge, EdgeList, VertexList};
 pub use feasibility::feasible;
@@ -29,9 +28,9 @@ pub use found::Found;
 pub use graph::{GraphFault, NetGraph};
 pub use growth::{found_leading_to, grow_leading_to};
 pub use lengths::length;
-pub use network::{first_apart, joins, reached};
+pub use network::{first_apart, first_apart_within, joins, reached};
 pub use packing::{Cut, Packing, value};
 pub use rooted::root_part;
-pub use search::{Passage, leading_to, reached_from};
+pub use search::{Passage, reached_from};
 pub use sets::{EdgeSet, VertexSet};
 pub use state::{EdgeState, VertexState};

@@ -6,6 +6,7 @@ ghost use Rattle.net_graph.specs.Network.{Reaches, IsNetwork, IsFirstApart};
 ghost use Rattle.net_graph.specs.Joins.{opens_edges};
 
 use crate::graph::NetGraph;
+use crate::lent_room::mark_reached;
 use crate::search::{Passage, reached_from};
 use crate::sets::{EdgeSet, VertexSet};
 use std::alloc::{AllocError, Global};
@@ -45,6 +46,33 @@ pub fn first_apart(alloc: Global, g: &NetGraph, set: &EdgeSet) -> Result<Option<
         }
     }
     Ok(None)
+}
+
+/// The first terminal that the set doesn't join to the root, as `first_apart` tells it. It takes no memory: it searches
+/// in room that is lent, of at least a number for each vertex in both slices. What stands there doesn't matter, and
+/// other numbers stand there afterwards.
+pub fn first_apart_within(
+    g: &NetGraph,
+    set: &EdgeSet,
+    marks: &mut [u64],
+    queue: &mut [u64],
+) -> Option<u8>
+    requires size { length set.now ≡ length g.now.edges }
+    requires few { length g.now.terminals ≤ 255 }
+    requires marks { g.now.vertices ≤ length marks.old }
+    requires queue { g.now.vertices ≤ length queue.old }
+    ensures none { IfNone result (IsNetwork g.now set.now) }
+    ensures first { IfSome result (IsFirstApart g.now set.now) }
+{
+    let size = g.vertex_count() as usize;
+    let marks = &mut marks[..size];
+    mark_reached(g, g.root(), set, marks, &mut queue[..size]);
+    for (place, terminal) in g.terminals().iter().enumerate() {
+        if marks[*terminal as usize] != 1 {
+            return Some(place as u8);
+        }
+    }
+    None
 }
 
 /// The vertices that the set's edges join to the root, with the root. An `Err` is want of memory.

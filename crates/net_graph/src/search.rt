@@ -81,21 +81,6 @@ pub(crate) fn search_on<P: Passage>(
     }
 }
 
-/// The vertices that walks over open arcs lead to `end` from, which is one of them. An `Err` is want of memory.
-pub fn leading_to<P: Passage>(
-    alloc: Global,
-    graph: &NetGraph,
-    end: u32,
-    passage: &P,
-) -> Result<VertexSet, AllocError>
-    requires end { end < graph.now.vertices }
-    requires edges { P.edges passage.now ≡ length graph.now.edges }
-    ensures size { IfOk result (λ marks. length marks ≡ graph.now.vertices) }
-    ensures leading { IfOk result (λ marks. (v : ℕ) → (has marks v ≡ true) ↔ Leads (OpenStep graph.now.edges (P.opens passage.now)) v end) }
-{
-    reached_from(alloc, graph, end, &Backward { passage })
-}
-
 // Each arc may be walked where the other arc of its edge may, so that a search goes against the arcs' direction.
 #[derive(Drop)]
 pub(crate) struct Backward<'a, P> {

@@ -1,7 +1,8 @@
 //! Sets of a graph's edges and of its vertices.
 
-ghost use Rattle.std.specs.Prelude.{◌≡◌, ◌<◌, true, false, length, replicate, slice_get, slice_set, IfOk};
-ghost use Rattle.net_graph.specs.Flags.{has};
+ghost use Rattle.std.specs.Prelude.{◌≡◌, ℕ, ◌+◌, ◌*◌, ◌/◌, ◌%◌, ◌==◌, ◌<◌, ◌||◌, ◌&&◌, true, false, length, replicate, slice_get, slice_set, IfOk};
+ghost use Rattle.std.specs.Int.{bit_at};
+ghost use Rattle.net_graph.specs.Flags.{has, flag_of_four};
 
 use crate::flag_set::FlagSet;
 use std::alloc::{AllocError, Global};
@@ -123,6 +124,29 @@ impl VertexSet {
         ensures { self.new ≡ slice_set self.old n true }
     {
         self.flags.add(n);
+    }
+
+    /// Puts those of the four vertices from `4 * place` on into the set that the value tells: its bits 8, 4, 2 and 1
+    /// stand for the first to the fourth.
+    pub fn add_four(&mut self, place: u32, value: u8)
+        requires value { value < 16 }
+        requires within { 4 * place < length self.old }
+        requires told { (r : ℕ) → r < 4 → flag_of_four value r ≡ true → 4 * place + r < length self.old }
+        ensures size { length self.new ≡ length self.old }
+        ensures flags { (n : ℕ) →
+            has self.new n ≡ (has self.old n || (n / 4 == place && flag_of_four value (n % 4))) }
+    {
+        self.flags.add_four(place, value);
+    }
+
+    /// The word of the flags of the 64 vertices from `64 * place` on, the first at its lowest bit. What stands in it
+    /// past the size tells nothing.
+    pub fn word(&self, place: u32) -> u64
+        requires { 64 * place < length self.now }
+        ensures { (r : ℕ) → r < 64 → 64 * place + r < length self.now →
+            has self.now (64 * place + r) ≡ (bit_at result r == 1) }
+    {
+        self.flags.word(place)
     }
 
     /// Takes the vertex `n` out of the set.

@@ -3,16 +3,16 @@
 ghost use Rattle.std.specs.Prelude.{◌≡◌, ◌*◌, ◌<◌, ◌≤◌, ◌%◌, ◌==◌, length, All, IfOk};
 ghost use Rattle.net_graph.specs.Decision.{IsDecisionFor};
 
-use crate::counted::counted_leading_to;
 use crate::decision::{Decision, required, vertex_undecided};
 use crate::edge::Edge;
 use crate::feasibility::feasible;
 use crate::graph::{GraphFault, NetGraph};
+use crate::growth::found_leading_to;
 use crate::lengths::length;
-use crate::network::{first_apart, joins};
+use crate::network::{first_apart, first_apart_within, joins};
 use crate::packing::{Cut, Packing, value};
 use crate::rooted::root_part;
-use crate::search::{Passage, leading_to, reached_from};
+use crate::search::{Passage, reached_from};
 use crate::sets::{EdgeSet, VertexSet};
 use crate::state::EdgeState;
 use item_list::ItemList;
@@ -85,18 +85,25 @@ fn triangle(alloc: Global) -> Result<NetGraph, AllocError>
     }
 }
 
-// Whether the set is a network, the first terminal apart, and its length.
-fn told(alloc: Global, g: &NetGraph, set: &EdgeSet) -> Result<(bool, Option<u8>, u64), AllocError>
+// What is told of a set: whether it is a network, the first terminal apart, the same by a search in lent room, and its
+// length.
+type Told = (bool, Option<u8>, Option<u8>, u64);
+
+// What is told of the set.
+fn told(alloc: Global, g: &NetGraph, set: &EdgeSet) -> Result<Told, AllocError>
     requires size { length set.now ≡ length g.now.edges }
     requires few { length g.now.terminals ≤ 255 }
+    requires vertices { g.now.vertices ≡ 5 }
 {
     let joined = joins(alloc, g, set)?;
     let apart = first_apart(alloc, g, set)?;
-    Ok((joined, apart, length(g, set)))
+    let (mut marks, mut queue) = ([1; 6], [9; 6]);
+    let within = first_apart_within(g, set, &mut marks, &mut queue);
+    Ok((joined, apart, within, length(g, set)))
 }
 
 // What is told of the edges 0 and 3, and of these with the edge 2.
-fn told_of_two(alloc: Global) -> Result<[(bool, Option<u8>, u64); 2], AllocError> {
+fn told_of_two(alloc: Global) -> Result<[Told; 2], AllocError> {
     let g = triangle(alloc)?;
     let mut set = EdgeSet::empty(alloc, 4)?;
     set.add(0);
@@ -108,7 +115,7 @@ fn told_of_two(alloc: Global) -> Result<[(bool, Option<u8>, u64); 2], AllocError
 
 #[test]
 fn joins_a_triangle(rt: HostRuntime) -> Result<(), AllocError> {
-    let wanted = [(false, Some(2), 9), (true, None, 14)];
+    let wanted = [(false, Some(2), Some(2), 9), (true, None, None, 14)];
     assert_eq!(rt; told_of_two(rt.alloc())?, wanted);
     Ok(())
 }
@@ -153,14 +160,8 @@ fn first_three(set: &VertexSet) -> [bool; 3]
 fn ways(alloc: Global) -> Result<[[bool; 3]; 2], AllocError> {
     let g = triangle(alloc)?;
     let along = first_three(&reached_from(alloc, &g, 2, &OneWay)?);
-    let against = leading_to(alloc, &g, 2, &OneWay)?;
-    Ok([along, first_three(&against)])
-}
-
-// From how many vertices 2 is reached.
-fn ways_to_two(alloc: Global) -> Result<usize, AllocError> {
-    let g = triangle(alloc)?;
-    Ok(counted_leading_to(alloc, &g, 2, &OneWay)?.count)
+    let against = found_leading_to(alloc, &g, 2, &OneWay)?;
+    Ok([along, first_three(against.set())])
 }
 
 #[test]
@@ -169,7 +170,6 @@ fn searches_along_and_against(rt: HostRuntime) -> Result<(), AllocError> {
         ways(rt.alloc())?,
         [[false, true, true], [true, false, true]]
     );
-    assert_eq!(rt; ways_to_two(rt.alloc())?, 2);
     Ok(())
 }
 
@@ -188,6 +188,22 @@ fn round_a_word(alloc: Global) -> Result<[bool; 4], AllocError> {
 fn edges_round_the_end_of_a_word(rt: HostRuntime) -> Result<(), AllocError> {
     let held = round_a_word(rt.alloc())?;
     assert!(rt; held == [false, false, true, false], "{held:?}");
+    Ok(())
+}
+
+// The words of a set of vertices that are put into it four by four.
+fn put_by_fours(alloc: Global) -> Result<[u64; 2], AllocError> {
+    let mut set = VertexSet::empty(alloc, 68)?;
+    set.add_four(15, 0b1101);
+    set.add_four(16, 0b0010);
+    Ok([set.word(0), set.word(1)])
+}
+
+#[test]
+fn vertices_four_by_four(rt: HostRuntime) -> Result<(), AllocError> {
+    let words = put_by_fours(rt.alloc())?;
+    let last = u64::MAX - (u64::MAX >> 1);
+    assert!(rt; words == [last + (last >> 2) + (last >> 3), 4], "{words:?}");
     Ok(())
 }
 

@@ -8,3 +8,5 @@ pub mod Memory
 pub mod Shelf
 pub mod ShelfLaws
 pub mod Untold
+pub mod Fed
+pub mod FedLaws

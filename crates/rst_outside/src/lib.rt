@@ -2,6 +2,7 @@
 #![tactic(auto)]
 
 mod adapters;
+mod consumer;
 mod faults;
 mod memory;
 mod shelf;
@@ -12,8 +13,9 @@ mod take;
 mod tests;
 
 pub use adapters::{DirShelf, StdSink, StdSource};
+pub use consumer::Consumer;
 pub use memory::{MemShelf, MemSink, MemSource, ShelfFile, SureSink, SureSource};
 pub use shelf::Shelf;
 pub use sink::{PutFault, Sink, put_all};
 pub use source::{Failed, Source};
-pub use take::{TakeFault, take_all, take_named};
+pub use take::{FeedFault, TakeFault, feed_all, take_all, take_named};

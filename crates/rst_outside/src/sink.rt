@@ -28,8 +28,8 @@ pub trait Sink {
         ensures no_room { OnErr result (((state self.old).sure ≡ 0) × ((state self.new).sure ≡ 0)) };
 }
 
-/// Writes all the bytes. A write that fails is not tried again: it ends the call with `PutFault`, and the
-/// bytes before it stay written. It takes no memory.
+/// Writes all the bytes. After `PutFault`, which comes only where a write failed, the bytes before it stay
+/// written. It takes no memory.
 pub fn put_all<S: Sink>(sink: &mut S, bytes: &[u8]) -> Result<(), PutFault>
     ensures { Writes (S.state sink.old) bytes.now (S.state sink.new) result }
 {

@@ -1,8 +1,10 @@
 //! Whole sources and files, read to their end.
 
+mod feed;
 mod shelf;
 mod source;
 
+pub use feed::{FeedFault, feed_all};
 pub use shelf::take_named;
 pub use source::take_all;
 use std::alloc::AllocError;

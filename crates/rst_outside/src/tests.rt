@@ -32,6 +32,38 @@ fn failed_read_leaves_the_rest(rt: HostRuntime) -> Result<(), Fail> {
     Ok(())
 }
 
+/// A consumer that keeps the bytes in a sink, and tells contracts nothing of them.
+#[derive(Drop)]
+struct Gathering(MemSink);
+
+impl Consumer for Gathering {
+    ghost stands = { λ _ _. Unit {0} };
+
+    fn feed(&mut self, piece: &[u8]) {
+        let _ = put_all(&mut self.0, piece);
+    }
+}
+
+#[test]
+fn feeds_piece_by_piece(rt: HostRuntime) -> Result<(), Fail> {
+    let alloc = rt.alloc();
+    let rows: [(&[u64], u64, Result<(), FeedFault>, &[u8]); 4] = [
+        (&[], 7, Ok(()), b"steiner"),
+        (&[], 6, Err(FeedFault::TooLong), b"steiner"),
+        (&[], 3, Err(FeedFault::TooLong), b"stei"),
+        (&[1], 7, Err(FeedFault::Failed), b"st"),
+    ];
+    for (failing, limit, wanted, fed) in rows {
+        let failing = Vec::from_slice(alloc, failing)?;
+        let mut source = MemSource::new(b"steiner".to_vec(alloc)?, 3, failing);
+        let mut consumer = Gathering(MemSink::with_room(alloc, 10, 4, Vec::new(alloc))?);
+        let outcome = feed_all(&mut source, &mut [0u8; 2], &mut consumer, limit);
+        assert_eq!(rt; outcome, wanted);
+        assert_eq!(rt; consumer.0.bytes(), fed);
+    }
+    Ok(())
+}
+
 /// A shelf with two files of one name, which fails at the calls of these numbers.
 fn two_trees(alloc: Global, failing: &[u64]) -> Result<MemShelf, Fail> {
     let mut files = Vec::new(alloc);

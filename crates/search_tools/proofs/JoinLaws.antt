@@ -1,8 +1,8 @@
 -- The trees that were generated for points, and trees that are no worse, join all points.
-use Rattle.std.proofs.Common.{ℕ, ◌≡◌, ◌<◌, Bool, true, List, length, replicate, get_or, slice_get, Some, refl, ap, ◌∙◌, arith, zero, suc}
+use Rattle.std.proofs.Common.{ℕ, true, List, length, Some, ap, ◌∙◌, arith, zero, suc}
 use Rattle.std.proofs.lemmas.List.{get_or-replicate, length-replicate}
 use Rattle.std.proofs.lemmas.Option.{slice_get-get_or}
-use Rattle.net_graph.specs.Search.{StepWalk, Leads}
+use Rattle.net_graph.specs.Search.{StepWalk}
 use Rattle.full_tree.specs.declared.code.Tree.{Tree}
 use Rattle.concatenation.specs.Concatenation.{SharesTree, IsConcatenation, all_of}
 use Rattle.concatenation.specs.SetLaws.{AllJoin}

@@ -1,4 +1,5 @@
-pub mod LeafLaws
+pub mod TreeLaws
+pub mod SearchedLaws
 pub mod SearchLaws
 pub mod JoinLaws
 pub mod NetworkLaws

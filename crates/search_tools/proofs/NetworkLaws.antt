@@ -1,5 +1,5 @@
 -- The network of the trees of a concatenation, and what is told of it.
-use Rattle.std.proofs.Common.{ℕ, ◌≡◌, ◌≤◌, ◌<◌, ◌^◌, Bool, List, length, All, subst, ap, ◌∙◌, sym, arith, refl}
+use Rattle.std.proofs.Common.{ℕ, ◌≡◌, ◌≤◌, ◌<◌, Bool, List, length, All, arith}
 use Rattle.std.specs.Prelude.{slice_index_or}
 use Rattle.std.proofs.lemmas.List.Elements.{All-from_recursion}
 use Rattle.points_in.specs.declared.point.Point.{Point}
@@ -10,19 +10,13 @@ use Rattle.full_tree.specs.declared.code.Tree.{Tree}
 use Rattle.full_tree.specs.Pieces.{code_length}
 use Rattle.full_tree.specs.Form.{IsInForm}
 use Rattle.concatenation.specs.Concatenation.{IsConcatenation, total_of}
-use Rattle.cut_cert.specs.declared.answer.Answer.{Answer}
-use Rattle.cut_cert.specs.declared.head.ConcatNote.{ConcatNote}
-use Rattle.cut_cert.specs.Text.{answer_text}
-use Rattle.cut_cert.specs.Answers.{value_of}
 use Rattle.fst_file.specs.Value.{AreTreesOf, IsTreeOf}
 use Rattle.fst_concat.specs.declared.chosen.ChosenKind.{ChosenKind}
 use Rattle.fst_concat.specs.declared.chosen.ChosenKind.TheVariants.{Least, Spent}
 use Rattle.fst_concat.specs.Chosen.{HasMembersBelow, IsChosen, IsUpToPairs, KindHolds}
 use Rattle.tree_network.specs.NamedLaws.{places-below}
-use Rattle.search_tools.specs.declared.network.Found.{Found}
-use Rattle.search_tools.specs.Solution.{IsLeafFor, solution}
-use Rattle.search_tools.specs.Steps.{IsFor, IsMadeOf, Tells, is_least}
-use Rattle.search_tools.specs.Permitted.{IsConcatNote, most_splits}
+use Rattle.search_tools.specs.Steps.{IsMadeOf, is_least}
+use Rattle.search_tools.specs.Permitted.{IsConcatNote}
 
 -- All trees of a file have members enough, all of them among its points.
 pub have_members : ((ps : List Point) (tree : Tree) → IsInForm ps tree.code → HasMembersBelow (length ps) tree) →
@@ -43,39 +37,21 @@ chosen_below n trees places total chosen = places-below trees places chosen.set 
 
 -- what the kind says, as what the note tells
 least_told : (n : ℕ) (trees : List Tree) (allowed total : ℕ) (kind : ChosenKind) (set : List Bool) → IsConcatenation n trees set → total ≡ total_of trees set →
-    IsUpToPairs n trees total → KindHolds n trees most_splits total kind → IsConcatNote n trees (record { least = is_least kind; total = total })
+    IsUpToPairs n trees total → KindHolds n trees allowed total kind → IsConcatNote allowed n trees (record { least = is_least kind; total = total })
 least_told n trees allowed total Least set joins sum pairs holds =
     record { set = set; joins = joins; total = sum; pairs = pairs; least = λ is. holds; spent = λ is. absurd cc }
 least_told n trees allowed total (Spent trail) set joins sum pairs holds =
     record { set = set; joins = joins; total = sum; pairs = pairs; least = λ is. absurd cc; spent = λ is. (trail, holds.0, holds.1) }
 
 -- The network of what was chosen is made of the trees.
-pub made_of : (ps : List Point) (trees : List Tree) (kind : ChosenKind) (places : List ℕ) (total : ℕ) (network : List Bool) →
-    IsChosen (length ps) trees places total → IsUpToPairs (length ps) trees total → KindHolds (length ps) trees most_splits total kind →
+pub made_of : (allowed : ℕ) (ps : List Point) (trees : List Tree) (kind : ChosenKind) (places : List ℕ) (total : ℕ) (network : List Bool) →
+    IsChosen (length ps) trees places total → IsUpToPairs (length ps) trees total → KindHolds (length ps) trees allowed total kind →
     length network ≡ length (hanan_grid_of ps).edges →
     ((set : List Bool) → places ≡ numbers_of set → IsConcatenation (length ps) trees set → IsNetwork (hanan_grid_of ps) network) →
     ((set : List Bool) → places ≡ numbers_of set → length_of (hanan_grid_of ps) network ≤ total_of trees set) →
-    IsMadeOf ps trees (record { network = network; note = record { least = is_least kind; total = total } })
-made_of ps trees kind places total network chosen pairs holds size joins short = record {
+    IsMadeOf allowed ps trees (record { network = network; note = record { least = is_least kind; total = total } })
+made_of allowed ps trees kind places total network chosen pairs holds size joins short = record {
   network = record { size = size; joins = joins chosen.set chosen.is chosen.joins };
-  concat = least_told (length ps) trees most_splits total kind chosen.set chosen.joins chosen.sum pairs holds;
+  concat = least_told (length ps) trees allowed total kind chosen.set chosen.joins chosen.sum pairs holds;
   short = let least = short chosen.set chosen.is in let sum = chosen.sum in omega (arith, least, sum);
-}
-
--- An answer that tells the network is one for the points and the trees.
-pub is_for : (ps : List Point) (trees : List Tree) (found : Found) (answer : Answer) → IsMadeOf ps trees found → Tells ps found answer →
-    length (answer_text (value_of ps answer)) < 2 ^ 32 → IsFor ps trees (record { grid = ps; answer = answer })
-is_for ps trees found answer made tells few = record {
-  packing = tells.packing;
-  grid = refl;
-  made =
-      subst (λ (note : ConcatNote). IsMadeOf ps trees (record { network = answer.network; note = note })) (sym tells.note)
-      (subst (λ (set : List Bool). IsMadeOf ps trees (record { network = set; note = found.note })) (sym tells.network) made);
-  leaf = subst (λ (set : List Bool). IsLeafFor (hanan_grid_of ps) set tells.packing) (sym tells.network) tells.leaf;
-  told =
-      tells.told
-      ∙ ap (λ (set : List Bool). solution ps set tells.packing found.note) (sym tells.network)
-      ∙ ap (λ (note : ConcatNote). solution ps answer.network tells.packing note) (sym tells.note);
-  fits = tells.fits;
-  few_bytes = few;
 }

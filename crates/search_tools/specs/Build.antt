@@ -1,11 +1,12 @@
 -- What `bb` finds, by what it read.
 use Rattle.std.specs.Prelude.{ℕ, ◌≡◌, ◌++◌, Bool, List, length, codes, decimal, Result, Ok, Err}
-use Rattle.net_graph.specs.declared.packing.Cut.{Cut}
 use Rattle.fst_file.specs.Value.{FstValue}
 use Rattle.fst_file.specs.Text.{SpellsFstFile}
 use Rattle.concatenation.specs.Concatenation.{all_of}
 use Rattle.fst_concat.specs.Chosen.{IsFirstApart}
 use Rattle.cut_cert.specs.declared.head.ConcatNote.{ConcatNote}
+use Rattle.cert_tree.specs.declared.split.SplitOn.{SplitOn}
+use Rattle.cert_tree.specs.Tree.{Tree}
 use Rattle.frame.specs.declared.status.FaultStatus.{FaultStatus}
 use Rattle.frame.specs.declared.status.FaultStatus.TheVariants.{Malformed}
 use Rattle.frame.specs.declared.take.TheConstants.{TEXT_LIMIT}
@@ -16,6 +17,7 @@ use Rattle.frame.specs.FromText.{FromText}
 use Rattle.frame.specs.Leaves.{LeavesShelf}
 use Rattle.tree_inputs.specs.FstFaults.{fst_fault_text, fst_fault_status}
 use Rattle.tree_inputs.specs.Files.{ReadsFst}
+use Rattle.search_tools.specs.declared.options.SearchOptions.{SearchOptions}
 use Rattle.search_tools.specs.declared.build_fault.BuildFault.{BuildFault}
 use Rattle.search_tools.specs.declared.build_fault.BuildFault.TheVariants.{InFile, Apart}
 use Rattle.search_tools.specs.Permitted.{IsPermitted, search_print}
@@ -32,15 +34,15 @@ build_fault_status (Apart place) = Malformed
 
 -- What `bb` finds in a text: an answer for the points and the trees of the file that it spells; or why it spells none; or
 -- the first point that all trees together don't join to the first one.
-abbrev pub Builds : List ℕ → Result Print BuildFault → Type 0
-Builds bytes (Ok print) = (file : FstValue) × (network : List Bool) × (packing : List Cut) × (note : ConcatNote)
-    × SpellsFstFile bytes file × IsPermitted file.points file.trees network packing note
-    × (print ≡ search_print file.points network packing note)
-Builds bytes (Err (InFile fault)) = ReadsFst bytes (Err fault)
-Builds bytes (Err (Apart place)) = (file : FstValue) × SpellsFstFile bytes file × IsFirstApart (length file.points) file.trees (all_of file.trees) place
+abbrev pub Builds : SearchOptions → List ℕ → Result Print BuildFault → Type 0
+Builds options bytes (Ok print) = (file : FstValue) × (network : List Bool) × (tree : Tree SplitOn) × (note : ConcatNote)
+    × SpellsFstFile bytes file × IsPermitted options file.points file.trees network tree note
+    × (print ≡ search_print options.openings file.points network tree note)
+Builds options bytes (Err (InFile fault)) = ReadsFst bytes (Err fault)
+Builds options bytes (Err (Apart place)) = (file : FstValue) × SpellsFstFile bytes file × IsFirstApart (length file.points) file.trees (all_of file.trees) place
 
--- A run of `bb`.
-abbrev pub EndsBb : Outside → Outside → ℕ → Type 0
-EndsBb before after status =
+-- A run of `bb` under these options.
+abbrev pub EndsBb : SearchOptions → Outside → Outside → ℕ → Type 0
+EndsBb options before after status =
     Ends (text_fault_status build_fault_status) (text_fault_text build_fault_text) (codes "bb")
-    (FromText TEXT_LIMIT Builds) LeavesShelf before after status
+    (FromText TEXT_LIMIT (Builds options)) LeavesShelf before after status

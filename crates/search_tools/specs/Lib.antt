@@ -1,3 +1,4 @@
+pub mod Options
 pub mod Solution
 pub mod Permitted
 pub mod Solve

@@ -13,9 +13,6 @@ use network_search::shortened;
 use std::alloc::{AllocError, Global};
 use tree_network::network_of;
 
-/// How many splits the search for a least concatenation may make.
-const MOST_SPLITS: u32 = 4000;
-
 /// How many descents the search for a shorter network may make: about what gains nearly all at 50 points.
 const DESCENTS: u32 = 100;
 
@@ -27,20 +24,21 @@ pub struct Found {
     pub note: ConcatNote,
 }
 
-/// The union of the trees of a concatenation, of a least one where the search comes to its end, without what no terminal
-/// needs, and made shorter where a local search finds how; or the place of the first terminal that all trees together leave
+/// The union of the trees of a concatenation, of a least one where the search for it comes to its end within the allowed
+/// splits, without what no terminal needs, and made shorter where a local search finds how; or the place of the first terminal that all trees together leave
 /// apart. An outer `Err` is want of memory.
 pub fn network_on(
     alloc: Global,
     grid: &Grid,
     trees: &TreeList,
+    allowed: u32,
 ) -> Result<Result<Found, u8>, AllocError>
     requires { AreTreesOf grid.now trees.now }
-    ensures { IfOk result (FindsNetwork grid.now trees.now) }
+    ensures { IfOk result (FindsNetwork allowed grid.now trees.now) }
 {
     trees_in_form_have_members();
     let points = grid.points().len() as u8;
-    let chosen = match concat(alloc, points, trees, MOST_SPLITS) {
+    let chosen = match concat(alloc, points, trees, allowed) {
         Ok(chosen) => chosen,
         Err(ConcatFault::Unspanned { place }) => return Ok(Err(place)),
         Err(ConcatFault::Memory(error)) => return Err(error),

@@ -1,35 +1,38 @@
 -- From the code's request to the one that the words make.
-use Rattle.std.proofs.Common.{ℕ, ◌≡◌, List, Option, Some, sym, subst, ap, ◌∙◌}
+use Rattle.std.proofs.Common.{ℕ, ◌≡◌, Bool, List, Option, Some, sym, subst, ap, ◌∙◌, None, inl, inr, arith}
 use Rattle.std.specs.Prelude.{option_map}
 use Rattle.frame.specs.Outside.{Outside}
 use Rattle.judge_tools.specs.Check.{EndsCheck}
 use Rattle.search_tools.specs.Build.{EndsBb}
 use Rattle.search_tools.specs.Solve.{EndsSolve}
 use Rattle.tree_inputs.specs.Files.{SpelledHasNoFault, OneReading}
+use Rattle.point_tools.specs.Points.{EndsPoints}
+use Rattle.point_tools.specs.StpPoints.{LocatedHasNoFault, EndsStp2points}
 use Rattle.tree_tools.specs.Dump.{EndsDumpfst}
+use Rattle.tree_tools.specs.Graph.{EndsFst2graph}
 use Rattle.tree_tools.specs.Generation.{EndsRfst}
 use Rattle.tree_tools.specs.Pruning.{EndsPrunefst}
-use Rattle.suite.specs.declared.request.Request.{Request as Asked}
-use Rattle.suite.specs.Requests.{Request, meaning}
-use Rattle.suite.specs.Requests.Request.{Rfst, Prunefst, Bb, Solve, Check, Dumpfst}
-use Rattle.suite.specs.Headlines.{CheckHeadline}
+use Rattle.requests.specs.declared.request.Request.{Request as Asked}
+use Rattle.requests.specs.declared.request.SearchRequest.{SearchRequest}
+use Rattle.requests.specs.Requests.{Request, meaning}
+use Rattle.requests.specs.declared.request.Drawing.{Drawing}
+use Rattle.requests.specs.Requests.Request.{Points, Stp2points, Rfst, Prunefst, Bb, Solve, Check, Dumpfst, Fst2graph}
+use Rattle.suite.specs.Options.{options_of}
+use Rattle.suite.specs.Run.{IsShort, EndsAsAsked, IsRun}
+use Rattle.suite.specs.Headlines.{BuildHeadline, CheckHeadline, Headline}
 use Rattle.suite.specs.Complete.{Completes}
-use Rattle.suite.proofs.Heads.{check_headline}
-use Rattle.suite.proofs.Completeness.{solve_completes, bb_completes, check_completes, dump_completes, rfst_completes, prune_completes}
-
--- what the words ask for
-pub asked_is : (result : Option Asked) (request : Option Request) (found asked : Asked) → option_map meaning result ≡ request → result ≡ Some found → found ≡ asked →
-    request ≡ Some (meaning asked)
-asked_is result request found asked tells is same = sym tells ∙ ap (option_map meaning) (is ∙ ap Some same)
+use Rattle.suite.proofs.Heads.{solve_headline, bb_headline, check_headline}
+use Rattle.suite.proofs.Completeness.{solve_completes, bb_completes, check_completes, dump_completes, rfst_completes, prune_completes, graph_completes, points_completes, stp_completes}
 
 -- `solve` ends with an answer where nothing troubles it
-pub solve_asked_completes : (request : Option Request) (before after : Outside) (status : ℕ) → request ≡ Some Solve → EndsSolve before after status → Completes request before after status
-solve_asked_completes request before after status is ends = subst (λ r. Completes r before after status) (sym is) (solve_completes before after status ends)
+pub solve_asked_completes : (request : Option Request) (size : ℕ) (search : SearchRequest) (before after : Outside) (status : ℕ) → request ≡ Some (Solve size search) →
+    EndsSolve (options_of search) size before after status → Completes request before after status
+solve_asked_completes request size search before after status is ends = subst (λ r. Completes r before after status) (sym is) (solve_completes size search before after status ends)
 
 -- so does `bb`
-pub bb_asked_completes : SpelledHasNoFault → OneReading → (request : Option Request) (before after : Outside) (status : ℕ) → request ≡ Some Bb → EndsBb before after status →
-    Completes request before after status
-bb_asked_completes law one request before after status is ends = subst (λ r. Completes r before after status) (sym is) (bb_completes law one before after status ends)
+pub bb_asked_completes : SpelledHasNoFault → OneReading → (request : Option Request) (search : SearchRequest) (before after : Outside) (status : ℕ) → request ≡ Some (Bb search) →
+    EndsBb (options_of search) before after status → Completes request before after status
+bb_asked_completes law one request search before after status is ends = subst (λ r. Completes r before after status) (sym is) (bb_completes law one search before after status ends)
 
 -- so does `check`
 pub check_asked_completes : (request : Option Request) (name : List ℕ) (before after : Outside) (status : ℕ) → request ≡ Some (Check name) → EndsCheck name before after status →
@@ -37,18 +40,54 @@ pub check_asked_completes : (request : Option Request) (name : List ℕ) (before
 check_asked_completes request name before after status is ends = subst (λ r. Completes r before after status) (sym is) (check_completes name before after status ends)
 
 -- so does `dumpfst`
-pub dump_asked_completes : SpelledHasNoFault → (request : Option Request) (before after : Outside) (status : ℕ) → request ≡ Some Dumpfst → EndsDumpfst before after status →
-    Completes request before after status
-dump_asked_completes law request before after status is ends = subst (λ r. Completes r before after status) (sym is) (dump_completes law before after status ends)
+pub dump_asked_completes : SpelledHasNoFault → (request : Option Request) (pieces : Bool) (before after : Outside) (status : ℕ) → request ≡ Some (Dumpfst pieces) →
+    EndsDumpfst pieces before after status → Completes request before after status
+dump_asked_completes law request pieces before after status is ends = subst (λ r. Completes r before after status) (sym is) (dump_completes law pieces before after status ends)
 
 -- so does `rfst`
-pub rfst_asked_completes : (request : Option Request) (before after : Outside) (status : ℕ) → request ≡ Some Rfst → EndsRfst before after status → Completes request before after status
-rfst_asked_completes request before after status is ends = subst (λ r. Completes r before after status) (sym is) (rfst_completes before after status ends)
+pub rfst_asked_completes : (request : Option Request) (size : ℕ) (before after : Outside) (status : ℕ) → request ≡ Some (Rfst size) → EndsRfst size before after status →
+    Completes request before after status
+rfst_asked_completes request size before after status is ends = subst (λ r. Completes r before after status) (sym is) (rfst_completes size before after status ends)
 
 -- so does `prunefst`
 pub prune_asked_completes : SpelledHasNoFault → (request : Option Request) (before after : Outside) (status : ℕ) → request ≡ Some Prunefst → EndsPrunefst before after status →
     Completes request before after status
 prune_asked_completes law request before after status is ends = subst (λ r. Completes r before after status) (sym is) (prune_completes law before after status ends)
+
+-- so does `fst2graph`
+pub graph_asked_completes : SpelledHasNoFault → (request : Option Request) (before after : Outside) (status : ℕ) → request ≡ Some Fst2graph → EndsFst2graph before after status →
+    Completes request before after status
+graph_asked_completes law request before after status is ends = subst (λ r. Completes r before after status) (sym is) (graph_completes law before after status ends)
+
+-- so does `points`
+pub points_asked_completes : (request : Option Request) (drawing : Drawing) (before after : Outside) (status : ℕ) → request ≡ Some (Points drawing) →
+    EndsPoints drawing.count drawing.seed before after status → Completes request before after status
+points_asked_completes request drawing before after status is ends = subst (λ r. Completes r before after status) (sym is) (points_completes drawing before after status ends)
+
+-- so does `stp2points`
+pub stp_asked_completes : LocatedHasNoFault → (request : Option Request) (before after : Outside) (status : ℕ) → request ≡ Some Stp2points → EndsStp2points before after status →
+    Completes request before after status
+stp_asked_completes law request before after status is ends = subst (λ r. Completes r before after status) (sym is) (stp_completes law before after status ends)
+
+-- a run of `solve` is the one that the words ask for
+pub solve_asked_runs : (request : Option Request) (size : ℕ) (search : SearchRequest) (before after : Outside) (status : ℕ) → request ≡ Some (Solve size search) →
+    EndsSolve (options_of search) size before after status → IsRun request before after status
+solve_asked_runs request size search before after status is ends = inr (subst (λ r. EndsAsAsked r before after status) (sym is) ends)
+
+-- so is one of `bb`
+pub bb_asked_runs : (request : Option Request) (search : SearchRequest) (before after : Outside) (status : ℕ) → request ≡ Some (Bb search) →
+    EndsBb (options_of search) before after status → IsRun request before after status
+bb_asked_runs request search before after status is ends = inr (subst (λ r. EndsAsAsked r before after status) (sym is) ends)
+
+-- what `solve` printed with the options that the words give is true
+pub solve_asked_headline : (request : Option Request) (size : ℕ) (search : SearchRequest) (before after : Outside) (status : ℕ) → request ≡ Some (Solve size search) →
+    EndsSolve (options_of search) size before after status → Headline request before after status
+solve_asked_headline request size search before after status is ends = subst (λ r. Headline r before after status) (sym is) (solve_headline size search before after status ends)
+
+-- so is what `bb` printed
+pub bb_asked_headline : (request : Option Request) (search : SearchRequest) (before after : Outside) (status : ℕ) → request ≡ Some (Bb search) →
+    EndsBb (options_of search) before after status → BuildHeadline request before after status
+bb_asked_headline request search before after status is ends = subst (λ r. BuildHeadline r before after status) (sym is) (bb_headline search before after status ends)
 
 -- what `check` told under the name that the words give is true
 pub check_asked_headline : (request : Option Request) (name : List ℕ) (before after : Outside) (status : ℕ) → request ≡ Some (Check name) → EndsCheck name before after status →
@@ -56,3 +95,34 @@ pub check_asked_headline : (request : Option Request) (name : List ℕ) (before 
 check_asked_headline request name before after status is ends = λ other asks ended.
     let same : name ≡ other = cc in
     check_headline other before after status (subst (λ n. EndsCheck n before after status) same ends) ended
+
+-- Where memory is wanting while the words are read, nothing is claimed that a run would owe.
+module _ (request : Option Request) (before after : Outside) (status : ℕ) (short : IsShort before after status) where
+  pub short_headline : Headline request before after status
+  short_headline size search is (inl zero) = absurd (omega (arith, short.ends))
+  short_headline size search is (inr three) = absurd (omega (arith, short.ends))
+
+  pub short_build_headline : BuildHeadline request before after status
+  short_build_headline search is (inl zero) = absurd (omega (arith, short.ends))
+  short_build_headline search is (inr three) = absurd (omega (arith, short.ends))
+
+  pub short_check_headline : CheckHeadline request before after status
+  short_check_headline name is (inl zero) = absurd (omega (arith, short.ends))
+  short_check_headline name is (inr one) = absurd (omega (arith, short.ends))
+
+  short_of : (r : Option Request) → Completes r before after status
+  short_of None = inr short.ends
+  short_of (Some (Points drawing)) = λ writes. inr short.ends
+  short_of (Some Stp2points) = λ bytes ps has located writes. inr short.ends
+  short_of (Some (Rfst size)) = λ bytes ps has lists few writes. inr short.ends
+  short_of (Some Prunefst) = λ bytes file has spells writes. inr short.ends
+  short_of (Some (Bb search)) = λ bytes file has spells joins writes. inr short.ends
+  short_of (Some (Solve size search)) = λ bytes ps has lists few writes. inr short.ends
+  short_of (Some (Check points)) = λ points bytes ps file lists has writes. inr short.ends
+  short_of (Some (Dumpfst pieces)) = λ bytes file has spells writes. inr short.ends
+  short_of (Some Fst2graph) = λ bytes file has spells writes. inr short.ends
+  short_of (Some (Request.Plot points)) = inr short.ends
+  short_of (Some (Request.Trial drawing)) = inr short.ends
+
+  pub short_completes : Completes request before after status
+  short_completes = short_of request

@@ -1,5 +1,5 @@
 -- A run that nothing troubles ends with an answer, or memory was wanting.
-use Rattle.std.proofs.Common.{ℕ, ◌≡◌, List, length, codes, Some, Err, ◌⊎◌, inl, inr, subst, ap, ◌∙◌, false}
+use Rattle.std.proofs.Common.{ℕ, ◌≡◌, List, length, codes, Some, Ok, Err, ◌⊎◌, inl, inr, subst, ap, ◌∙◌, Bool}
 use Rattle.std.proofs.lemmas.Bool.Decides.{eqb_tells}
 use Rattle.points_in.specs.declared.point.Point.{Point}
 use Rattle.net_graph.specs.Network.{length_of}
@@ -7,8 +7,6 @@ use Rattle.hanan_grid.specs.Grid.{hanan_grid_of}
 use Rattle.full_tree.specs.declared.code.Tree.{Tree}
 use Rattle.concatenation.specs.Concatenation.{IsConcatenation, all_of}
 use Rattle.fst_concat.specs.Chosen.{IsFirstApart}
-use Rattle.cert_check.specs.declared.verdict.Verdict.{Verdict}
-use Rattle.cert_check.specs.declared.verdict.Verdict.TheVariants as said
 use Rattle.frame.specs.declared.take.TheConstants.{TEXT_LIMIT}
 use Rattle.frame.specs.declared.text_fault.TextFault.{TextFault}
 use Rattle.frame.specs.declared.text_fault.TextFault.TheVariants as text_fault
@@ -18,7 +16,7 @@ use Rattle.frame.specs.Ends.{Print}
 use Rattle.frame.specs.EndLaws.{complete_ends}
 use Rattle.frame.specs.FaultTexts.{text_fault_text, text_fault_status}
 use Rattle.frame.specs.FromText.{FromText}
-use Rattle.frame.specs.Leaves.{LeavesShelf, LeavesFiles}
+use Rattle.frame.specs.Leaves.{LeavesShelf, LeavesFiles, LeavesAll}
 use Rattle.frame.specs.Complete.{HasInput, HasFile}
 use Rattle.frame.specs.Points.{ListsPoints, IsListFault}
 use Rattle.frame.specs.TakingLaws.{input_is_taken, whole_input_is, lists_points_faultless, file_faultless}
@@ -31,14 +29,22 @@ use Rattle.search_tools.specs.Solve.{Solves, EndsSolve}
 use Rattle.judge_tools.specs.declared.judge.TheConstants.{ANSWER_LIMIT}
 use Rattle.judge_tools.specs.declared.judge.CheckFault.{CheckFault}
 use Rattle.judge_tools.specs.declared.judge.CheckFault.TheVariants as check_fault
-use Rattle.judge_tools.specs.Verdicts.{status_of_verdict}
+use Rattle.judge_tools.specs.declared.verdict_line.VerdictLine.{VerdictLine}
+use Rattle.judge_tools.specs.declared.verdict_line.VerdictLine.TheVariants as said
+use Rattle.judge_tools.specs.Verdicts.{line_status}
 use Rattle.judge_tools.specs.Check.{Checks, EndsCheck, check_fault_text, check_fault_status}
 use Rattle.fst_file.specs.Value.{FstValue}
 use Rattle.fst_file.specs.Text.{SpellsFstFile}
 use Rattle.tree_inputs.specs.declared.fst_fault.FstFault.{FstFault}
 use Rattle.tree_inputs.specs.FstFaults.{fst_fault_text, fst_fault_status}
 use Rattle.tree_inputs.specs.Files.{ReadsFst, SpelledHasNoFault, OneReading}
+use Rattle.point_tools.specs.declared.stp_points_fault.StpPointsFault.{StpPointsFault}
+use Rattle.point_tools.specs.NoFaults.{no_fault_text, no_fault_status}
+use Rattle.point_tools.specs.Points.{PrintsDrawn, EndsPoints}
+use Rattle.point_tools.specs.StpPointsFaults.{stp_points_fault_text, stp_points_fault_status}
+use Rattle.point_tools.specs.StpPoints.{LocatesPoints, PrintsLocated, LocatedHasNoFault, EndsStp2points}
 use Rattle.tree_tools.specs.Dump.{Dumps, EndsDumpfst}
+use Rattle.tree_tools.specs.Graph.{GraphsFile, EndsFst2graph}
 use Rattle.tree_tools.specs.Pruning.{PrunesFile, EndsPrunefst}
 use Rattle.points_in.specs.FaultLaws.{one_list}
 use Rattle.points_in.specs.Terminals.{terminals_of}
@@ -46,9 +52,11 @@ use Rattle.fst_gen.specs.Trees.{HasMoreSets}
 use Rattle.tree_inputs.specs.declared.generation_fault.GenerationFault.{GenerationFault}
 use Rattle.tree_inputs.specs.declared.generation_fault.GenerationFault.TheVariants as generation_fault
 use Rattle.tree_inputs.specs.GenerationFaults.{generation_fault_text, generation_fault_status}
-use Rattle.tree_inputs.specs.Generation.{most_members}
 use Rattle.tree_tools.specs.Generation.{GeneratesFile, EndsRfst}
-use Rattle.suite.specs.Requests.Request.{Rfst, Prunefst, Bb, Solve, Check, Dumpfst}
+use Rattle.requests.specs.declared.request.SearchRequest.{SearchRequest}
+use Rattle.requests.specs.declared.request.Drawing.{Drawing}
+use Rattle.requests.specs.Requests.Request.{Points, Stp2points, Rfst, Prunefst, Bb, Solve, Check, Dumpfst, Fst2graph}
+use Rattle.suite.specs.Options.{options_of}
 use Rattle.suite.specs.Complete.{Completes}
 
 -- the status of an answer is 0 or 3
@@ -66,31 +74,31 @@ check_faultless name before after points bytes ps file lists has (check_fault.Po
 check_faultless name before after points bytes ps file lists has (check_fault.Input fault) (grid, is) =
     input_is_taken ANSWER_LIMIT before.input after.input bytes fault has is
 
--- the status of a verdict is 0 or 1
-zero_or_one : (v : Verdict) (status : ℕ) → status ≡ answer_code (status_of_verdict v) → (status ≡ 0) ⊎ (status ≡ 1)
+-- the status of a line is 0 or 1
+zero_or_one : (line : VerdictLine) (status : ℕ) → status ≡ answer_code (line_status line) → (status ≡ 0) ⊎ (status ≡ 1)
 zero_or_one (said.Accepted length bound optimal) status is = inl is
 zero_or_one (said.Refused cause) status is = inr is
 
 pub check_completes : (name : List ℕ) (before after : Outside) (status : ℕ) → EndsCheck name before after status → Completes (Some (Check name)) before after status
 check_completes name before after status ends = λ points bytes ps file lists has writes.
     elim (complete_ends check_fault_status check_fault_text (codes "check") (Checks name) LeavesFiles before after status
-    (check_faultless name before.read after.read points bytes ps file lists has) writes ends) [
+    (check_faultless name before.read after.read points bytes ps file lists has) writes ends.ends) [
       | inl seven ↦ inr seven
-      | inr (print, (qs, taken, f, checked, of_verdict), answers) ↦
-          inl (zero_or_one f.verdict status (answers ∙ ap (λ (p : Print). answer_code p.status) of_verdict))
+      | inr (print, (qs, taken, f, line, checked, tells, of_line), answers) ↦
+          inl (zero_or_one line status (answers ∙ ap (λ (p : Print). answer_code p.status) of_line))
     ]
 
 -- an input that spells a file of full trees has no fault
-dump_faultless : SpelledHasNoFault → (before after : Readable) (bytes : List ℕ) (file : FstValue) → HasInput TEXT_LIMIT before.input after.input bytes → SpellsFstFile bytes file →
-    (fault : TextFault FstFault) → FromText TEXT_LIMIT (Dumps false) before after (Err fault) → ⊥
-dump_faultless law before after bytes file has spells (text_fault.Input fault) is = input_is_taken TEXT_LIMIT before.input after.input bytes fault has is
-dump_faultless law before after bytes file has spells (text_fault.Text fault) (taken, whole, is) =
+dump_faultless : SpelledHasNoFault → (pieces : Bool) (before after : Readable) (bytes : List ℕ) (file : FstValue) → HasInput TEXT_LIMIT before.input after.input bytes → SpellsFstFile bytes file →
+    (fault : TextFault FstFault) → FromText TEXT_LIMIT (Dumps pieces) before after (Err fault) → ⊥
+dump_faultless law pieces before after bytes file has spells (text_fault.Input fault) is = input_is_taken TEXT_LIMIT before.input after.input bytes fault has is
+dump_faultless law pieces before after bytes file has spells (text_fault.Text fault) (taken, whole, is) =
     law bytes file fault spells (subst (λ b. ReadsFst b (Err fault)) (whole_input_is TEXT_LIMIT before.input after.input bytes taken has whole) is)
 
-pub dump_completes : SpelledHasNoFault → (before after : Outside) (status : ℕ) → EndsDumpfst before after status → Completes (Some Dumpfst) before after status
-dump_completes law before after status ends = λ bytes file has spells writes.
-    elim (complete_ends (text_fault_status fst_fault_status) (text_fault_text fst_fault_text) (codes "dumpfst") (FromText TEXT_LIMIT (Dumps false)) LeavesShelf before after status
-    (dump_faultless law before.read after.read bytes file has spells) writes ends) [
+pub dump_completes : SpelledHasNoFault → (pieces : Bool) (before after : Outside) (status : ℕ) → EndsDumpfst pieces before after status → Completes (Some (Dumpfst pieces)) before after status
+dump_completes law pieces before after status ends = λ bytes file has spells writes.
+    elim (complete_ends (text_fault_status fst_fault_status) (text_fault_text fst_fault_text) (codes "dumpfst") (FromText TEXT_LIMIT (Dumps pieces)) LeavesShelf before after status
+    (dump_faultless law pieces before.read after.read bytes file has spells) writes ends) [
       | inl seven ↦ inr seven
       | inr (print, (taken, whole, (other, spelled, of_file)), answers) ↦ inl (answers ∙ ap (λ (p : Print). answer_code p.status) of_file)
     ]
@@ -110,49 +118,49 @@ prune_completes law before after status ends = λ bytes file has spells writes.
     ]
 
 -- bytes that list points with no more trees than a file holds have no fault
-file_has_no_fault : (bytes : List ℕ) (ps : List Point) → ListsPoints bytes ps → ¬ HasMoreSets (terminals_of ps) most_members 20000 →
-    (fault : GenerationFault) → GeneratesFile most_members bytes (Err fault) → ⊥
-file_has_no_fault bytes ps lists few (generation_fault.List fault) is = lists_points_faultless bytes ps fault lists is
-file_has_no_fault bytes ps lists few generation_fault.TooManyTrees (qs, other, more) =
-    few (subst (λ rs. HasMoreSets (terminals_of rs) most_members 20000) (one_list bytes qs ps other.text lists.text) more)
+file_has_no_fault : (k : ℕ) (bytes : List ℕ) (ps : List Point) → ListsPoints bytes ps → ¬ HasMoreSets (terminals_of ps) k 20000 →
+    (fault : GenerationFault) → GeneratesFile k bytes (Err fault) → ⊥
+file_has_no_fault k bytes ps lists few (generation_fault.List fault) is = lists_points_faultless bytes ps fault lists is
+file_has_no_fault k bytes ps lists few generation_fault.TooManyTrees (qs, other, more) =
+    few (subst (λ rs. HasMoreSets (terminals_of rs) k 20000) (one_list bytes qs ps other.text lists.text) more)
 
 -- an input of such bytes has none
-rfst_faultless : (before after : Readable) (bytes : List ℕ) (ps : List Point) → HasInput TEXT_LIMIT before.input after.input bytes → ListsPoints bytes ps →
-    ¬ HasMoreSets (terminals_of ps) most_members 20000 →
-    (fault : TextFault GenerationFault) → FromText TEXT_LIMIT (GeneratesFile most_members) before after (Err fault) → ⊥
-rfst_faultless before after bytes ps has lists few (text_fault.Input fault) is = input_is_taken TEXT_LIMIT before.input after.input bytes fault has is
-rfst_faultless before after bytes ps has lists few (text_fault.Text fault) (taken, whole, is) =
-    file_has_no_fault bytes ps lists few fault
-    (subst (λ b. GeneratesFile most_members b (Err fault)) (whole_input_is TEXT_LIMIT before.input after.input bytes taken has whole) is)
+rfst_faultless : (k : ℕ) (before after : Readable) (bytes : List ℕ) (ps : List Point) → HasInput TEXT_LIMIT before.input after.input bytes → ListsPoints bytes ps →
+    ¬ HasMoreSets (terminals_of ps) k 20000 →
+    (fault : TextFault GenerationFault) → FromText TEXT_LIMIT (GeneratesFile k) before after (Err fault) → ⊥
+rfst_faultless k before after bytes ps has lists few (text_fault.Input fault) is = input_is_taken TEXT_LIMIT before.input after.input bytes fault has is
+rfst_faultless k before after bytes ps has lists few (text_fault.Text fault) (taken, whole, is) =
+    file_has_no_fault k bytes ps lists few fault
+    (subst (λ b. GeneratesFile k b (Err fault)) (whole_input_is TEXT_LIMIT before.input after.input bytes taken has whole) is)
 
-pub rfst_completes : (before after : Outside) (status : ℕ) → EndsRfst before after status → Completes (Some Rfst) before after status
-rfst_completes before after status ends = λ bytes ps has lists few writes.
+pub rfst_completes : (k : ℕ) (before after : Outside) (status : ℕ) → EndsRfst k before after status → Completes (Some (Rfst k)) before after status
+rfst_completes k before after status ends = λ bytes ps has lists few writes.
     elim (complete_ends (text_fault_status generation_fault_status) (text_fault_text generation_fault_text) (codes "rfst")
-    (FromText TEXT_LIMIT (GeneratesFile most_members)) LeavesShelf before after status
-    (rfst_faultless before.read after.read bytes ps has lists few) writes ends) [
+    (FromText TEXT_LIMIT (GeneratesFile k)) LeavesShelf before after status
+    (rfst_faultless k before.read after.read bytes ps has lists few) writes ends) [
       | inl seven ↦ inr seven
       | inr (print, (taken, whole, (qs, trees, listed, are, of_file)), answers) ↦ inl (answers ∙ ap (λ (p : Print). answer_code p.status) of_file)
     ]
 
 -- points with no more trees than a file holds give a file
-generation_faultless : (before after : Readable) (bytes : List ℕ) (ps : List Point) → HasInput TEXT_LIMIT before.input after.input bytes → ListsPoints bytes ps →
-    ¬ HasMoreSets (terminals_of ps) most_members 20000 →
-    (fault : TextFault GenerationFault) → FromText TEXT_LIMIT Solves before after (Err fault) → ⊥
-generation_faultless before after bytes ps has lists few (text_fault.Input fault) is = input_is_taken TEXT_LIMIT before.input after.input bytes fault has is
-generation_faultless before after bytes ps has lists few (text_fault.Text (generation_fault.List fault)) (taken, whole, is) =
+generation_faultless : (search : SearchRequest) (k : ℕ) (before after : Readable) (bytes : List ℕ) (ps : List Point) → HasInput TEXT_LIMIT before.input after.input bytes → ListsPoints bytes ps →
+    ¬ HasMoreSets (terminals_of ps) k 20000 →
+    (fault : TextFault GenerationFault) → FromText TEXT_LIMIT (Solves (options_of search) k) before after (Err fault) → ⊥
+generation_faultless search k before after bytes ps has lists few (text_fault.Input fault) is = input_is_taken TEXT_LIMIT before.input after.input bytes fault has is
+generation_faultless search k before after bytes ps has lists few (text_fault.Text (generation_fault.List fault)) (taken, whole, is) =
     lists_points_faultless bytes ps fault lists
     (subst (λ b. IsListFault b fault) (whole_input_is TEXT_LIMIT before.input after.input bytes taken has whole) is)
-generation_faultless before after bytes ps has lists few (text_fault.Text generation_fault.TooManyTrees) (taken, whole, is) =
-    file_has_no_fault bytes ps lists few generation_fault.TooManyTrees
-    (subst (λ b. GeneratesFile most_members b (Err generation_fault.TooManyTrees)) (whole_input_is TEXT_LIMIT before.input after.input bytes taken has whole) is)
+generation_faultless search k before after bytes ps has lists few (text_fault.Text generation_fault.TooManyTrees) (taken, whole, is) =
+    file_has_no_fault k bytes ps lists few generation_fault.TooManyTrees
+    (subst (λ b. GeneratesFile k b (Err generation_fault.TooManyTrees)) (whole_input_is TEXT_LIMIT before.input after.input bytes taken has whole) is)
 
-pub solve_completes : (before after : Outside) (status : ℕ) → EndsSolve before after status → Completes (Some Solve) before after status
-solve_completes before after status ends = λ bytes ps has lists few writes.
-    elim (complete_ends (text_fault_status generation_fault_status) (text_fault_text generation_fault_text) (codes "solve") (FromText TEXT_LIMIT Solves) LeavesShelf before after status
-    (generation_faultless before.read after.read bytes ps has lists few) writes ends) [
+pub solve_completes : (size : ℕ) (search : SearchRequest) (before after : Outside) (status : ℕ) → EndsSolve (options_of search) size before after status → Completes (Some (Solve size search)) before after status
+solve_completes size search before after status ends = λ bytes ps has lists few writes.
+    elim (complete_ends (text_fault_status generation_fault_status) (text_fault_text generation_fault_text) (codes "solve") (FromText TEXT_LIMIT (Solves (options_of search) size)) LeavesShelf before after status
+    (generation_faultless search size before.read after.read bytes ps has lists few) writes ends) [
       | inl seven ↦ inr seven
-      | inr (print, (taken, whole, (qs, network, packing, note, solved, of_points)), answers) ↦
-          inl (zero_or_three (bound_of (hanan_grid_of (terminals_of qs)) network packing) (length_of (hanan_grid_of (terminals_of qs)) network) status (answers ∙ ap (λ (p : Print). answer_code p.status) of_points))
+      | inr (print, (taken, whole, (qs, network, tree, note, solved, of_points)), answers) ↦
+          inl (zero_or_three (bound_of (hanan_grid_of (terminals_of qs)) network tree) (length_of (hanan_grid_of (terminals_of qs)) network) status (answers ∙ ap (λ (p : Print). answer_code p.status) of_points))
     ]
 
 -- where all trees join the terminals none is apart
@@ -160,27 +168,66 @@ none_apart : (n : ℕ) (trees : List Tree) (place : ℕ) → IsConcatenation n t
 none_apart n trees place joins is = is.apart (joins.joins place is.within)
 
 -- bytes that spell a file whose trees join its points have no fault
-build_faultless : SpelledHasNoFault → OneReading → (bytes : List ℕ) (file : FstValue) → SpellsFstFile bytes file → IsConcatenation (length file.points) file.trees (all_of file.trees) →
-    (fault : BuildFault) → Builds bytes (Err fault) → ⊥
-build_faultless law one bytes file spells joins (build_fault.InFile fault) is = law bytes file fault spells is
-build_faultless law one bytes file spells joins (build_fault.Apart place) (other, spelled, apart) =
+build_faultless : SpelledHasNoFault → OneReading → (search : SearchRequest) (bytes : List ℕ) (file : FstValue) → SpellsFstFile bytes file → IsConcatenation (length file.points) file.trees (all_of file.trees) →
+    (fault : BuildFault) → Builds (options_of search) bytes (Err fault) → ⊥
+build_faultless law one search bytes file spells joins (build_fault.InFile fault) is = law bytes file fault spells is
+build_faultless law one search bytes file spells joins (build_fault.Apart place) (other, spelled, apart) =
     let same = one bytes other file spelled spells in
     none_apart (length file.points) file.trees place joins
     (subst (λ (f : FstValue). IsFirstApart (length f.points) f.trees (all_of f.trees) place) same apart)
 
-bb_faultless : SpelledHasNoFault → OneReading → (before after : Readable) (bytes : List ℕ) (file : FstValue) → HasInput TEXT_LIMIT before.input after.input bytes → SpellsFstFile bytes file →
+bb_faultless : SpelledHasNoFault → OneReading → (search : SearchRequest) (before after : Readable) (bytes : List ℕ) (file : FstValue) → HasInput TEXT_LIMIT before.input after.input bytes → SpellsFstFile bytes file →
     IsConcatenation (length file.points) file.trees (all_of file.trees) →
-    (fault : TextFault BuildFault) → FromText TEXT_LIMIT Builds before after (Err fault) → ⊥
-bb_faultless law one before after bytes file has spells joins (text_fault.Input fault) is = input_is_taken TEXT_LIMIT before.input after.input bytes fault has is
-bb_faultless law one before after bytes file has spells joins (text_fault.Text fault) (taken, whole, is) =
-    build_faultless law one bytes file spells joins fault
-    (subst (λ b. Builds b (Err fault)) (whole_input_is TEXT_LIMIT before.input after.input bytes taken has whole) is)
+    (fault : TextFault BuildFault) → FromText TEXT_LIMIT (Builds (options_of search)) before after (Err fault) → ⊥
+bb_faultless law one search before after bytes file has spells joins (text_fault.Input fault) is = input_is_taken TEXT_LIMIT before.input after.input bytes fault has is
+bb_faultless law one search before after bytes file has spells joins (text_fault.Text fault) (taken, whole, is) =
+    build_faultless law one search bytes file spells joins fault
+    (subst (λ b. Builds (options_of search) b (Err fault)) (whole_input_is TEXT_LIMIT before.input after.input bytes taken has whole) is)
 
-pub bb_completes : SpelledHasNoFault → OneReading → (before after : Outside) (status : ℕ) → EndsBb before after status → Completes (Some Bb) before after status
-bb_completes law one before after status ends = λ bytes file has spells joins writes.
-    elim (complete_ends (text_fault_status build_fault_status) (text_fault_text build_fault_text) (codes "bb") (FromText TEXT_LIMIT Builds) LeavesShelf before after status
-    (bb_faultless law one before.read after.read bytes file has spells joins) writes ends) [
+pub bb_completes : SpelledHasNoFault → OneReading → (search : SearchRequest) (before after : Outside) (status : ℕ) → EndsBb (options_of search) before after status → Completes (Some (Bb search)) before after status
+bb_completes law one search before after status ends = λ bytes file has spells joins writes.
+    elim (complete_ends (text_fault_status build_fault_status) (text_fault_text build_fault_text) (codes "bb") (FromText TEXT_LIMIT (Builds (options_of search))) LeavesShelf before after status
+    (bb_faultless law one search before.read after.read bytes file has spells joins) writes ends) [
       | inl seven ↦ inr seven
-      | inr (print, (taken, whole, (other, network, packing, note, spelled, permitted, of_file)), answers) ↦
-          inl (zero_or_three (bound_of (hanan_grid_of other.points) network packing) (length_of (hanan_grid_of other.points) network) status (answers ∙ ap (λ (p : Print). answer_code p.status) of_file))
+      | inr (print, (taken, whole, (other, network, tree, note, spelled, permitted, of_file)), answers) ↦
+          inl (zero_or_three (bound_of (hanan_grid_of other.points) network tree) (length_of (hanan_grid_of other.points) network) status (answers ∙ ap (λ (p : Print). answer_code p.status) of_file))
+    ]
+
+graph_faultless : SpelledHasNoFault → (before after : Readable) (bytes : List ℕ) (file : FstValue) → HasInput TEXT_LIMIT before.input after.input bytes → SpellsFstFile bytes file →
+    (fault : TextFault FstFault) → FromText TEXT_LIMIT GraphsFile before after (Err fault) → ⊥
+graph_faultless law before after bytes file has spells (text_fault.Input fault) is = input_is_taken TEXT_LIMIT before.input after.input bytes fault has is
+graph_faultless law before after bytes file has spells (text_fault.Text fault) (taken, whole, is) =
+    law bytes file fault spells (subst (λ b. ReadsFst b (Err fault)) (whole_input_is TEXT_LIMIT before.input after.input bytes taken has whole) is)
+
+pub graph_completes : SpelledHasNoFault → (before after : Outside) (status : ℕ) → EndsFst2graph before after status → Completes (Some Fst2graph) before after status
+graph_completes law before after status ends = λ bytes file has spells writes.
+    elim (complete_ends (text_fault_status fst_fault_status) (text_fault_text fst_fault_text) (codes "fst2graph") (FromText TEXT_LIMIT GraphsFile) LeavesShelf before after status
+    (graph_faultless law before.read after.read bytes file has spells) writes ends) [
+      | inl seven ↦ inr seven
+      | inr (print, (taken, whole, (other, spelled, of_file)), answers) ↦ inl (answers ∙ ap (λ (p : Print). answer_code p.status) of_file)
+    ]
+
+-- drawing has no fault
+pub points_completes : (drawing : Drawing) (before after : Outside) (status : ℕ) → EndsPoints drawing.count drawing.seed before after status →
+    Completes (Some (Points drawing)) before after status
+points_completes drawing before after status ends = λ writes.
+    elim (complete_ends no_fault_status no_fault_text (codes "points") (λ _ _. PrintsDrawn drawing.count drawing.seed) LeavesAll before after status
+    (λ fault none. none) writes ends) [
+      | inl seven ↦ inr seven
+      | inr (print, of_points, answers) ↦ inl (answers ∙ ap (λ (p : Print). answer_code p.status) of_points)
+    ]
+
+-- an input that is an STP file with points for its terminals has no fault
+stp_faultless : LocatedHasNoFault → (before after : Readable) (bytes : List ℕ) (ps : List Point) → HasInput TEXT_LIMIT before.input after.input bytes → LocatesPoints bytes (Ok ps) →
+    (fault : TextFault StpPointsFault) → FromText TEXT_LIMIT PrintsLocated before after (Err fault) → ⊥
+stp_faultless law before after bytes ps has located (text_fault.Input fault) is = input_is_taken TEXT_LIMIT before.input after.input bytes fault has is
+stp_faultless law before after bytes ps has located (text_fault.Text fault) (taken, whole, is) =
+    law bytes ps fault located (subst (λ b. LocatesPoints b (Err fault)) (whole_input_is TEXT_LIMIT before.input after.input bytes taken has whole) is)
+
+pub stp_completes : LocatedHasNoFault → (before after : Outside) (status : ℕ) → EndsStp2points before after status → Completes (Some Stp2points) before after status
+stp_completes law before after status ends = λ bytes ps has located writes.
+    elim (complete_ends (text_fault_status stp_points_fault_status) (text_fault_text stp_points_fault_text) (codes "stp2points") (FromText TEXT_LIMIT PrintsLocated) LeavesShelf before after status
+    (stp_faultless law before.read after.read bytes ps has located) writes ends) [
+      | inl seven ↦ inr seven
+      | inr (print, (taken, whole, (other, found, of_points)), answers) ↦ inl (answers ∙ ap (λ (p : Print). answer_code p.status) of_points)
     ]

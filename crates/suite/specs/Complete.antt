@@ -1,5 +1,5 @@
 -- How a run ends that nothing troubles.
-use Rattle.std.specs.Prelude.{ℕ, ◌≡◌, List, length, Option, Some, None, ◌⊎◌}
+use Rattle.std.specs.Prelude.{ℕ, ◌≡◌, List, length, Option, Some, None, Ok, ◌⊎◌}
 use Rattle.rst_outside.specs.Counts.{Rose}
 use Rattle.points_in.specs.declared.point.Point.{Point}
 use Rattle.frame.specs.declared.status.TheConstants.{MISUSED, NO_MEMORY}
@@ -11,11 +11,11 @@ use Rattle.judge_tools.specs.declared.judge.TheConstants.{ANSWER_LIMIT}
 use Rattle.points_in.specs.Terminals.{terminals_of}
 use Rattle.concatenation.specs.Concatenation.{IsConcatenation, all_of}
 use Rattle.fst_gen.specs.Trees.{HasMoreSets}
-use Rattle.tree_inputs.specs.Generation.{most_members}
+use Rattle.point_tools.specs.StpPoints.{LocatesPoints}
 use Rattle.fst_file.specs.Value.{FstValue}
 use Rattle.fst_file.specs.Text.{SpellsFstFile}
-use Rattle.suite.specs.Requests.{Request}
-use Rattle.suite.specs.Requests.Request.{Rfst, Prunefst, Bb, Solve, Check, Dumpfst}
+use Rattle.requests.specs.Requests.{Request}
+use Rattle.requests.specs.Requests.Request.{Points, Stp2points, Rfst, Prunefst, Bb, Solve, Check, Dumpfst, Fst2graph}
 
 -- no write to `out` fails
 abbrev pub IsWritable : Outside → Outside → Type 0
@@ -24,23 +24,30 @@ IsWritable before after = Rose before.written.out.faults after.written.out.fault
 -- Where what a tool reads is told, within its limits and without fault, and no read or write fails, the status is one that the
 -- tool answers with, or memory was wanting.
 abbrev pub Completes : Option Request → Outside → Outside → ℕ → Type 0
-Completes None before after status = status ≡ MISUSED
-Completes (Some Rfst) before after status =
+Completes (Some (Points drawing)) before after status = IsWritable before after → (status ≡ 0) ⊎ (status ≡ NO_MEMORY)
+Completes (Some Stp2points) before after status =
+    (bytes : List ℕ) (ps : List Point) → HasInput TEXT_LIMIT before.read.input after.read.input bytes → LocatesPoints bytes (Ok ps) →
+    IsWritable before after → (status ≡ 0) ⊎ (status ≡ NO_MEMORY)
+Completes (Some (Rfst size)) before after status =
     (bytes : List ℕ) (ps : List Point) → HasInput TEXT_LIMIT before.read.input after.read.input bytes → ListsPoints bytes ps →
-    ¬ HasMoreSets (terminals_of ps) most_members 20000 → IsWritable before after → (status ≡ 0) ⊎ (status ≡ NO_MEMORY)
+    ¬ HasMoreSets (terminals_of ps) size 20000 → IsWritable before after → (status ≡ 0) ⊎ (status ≡ NO_MEMORY)
 Completes (Some Prunefst) before after status =
     (bytes : List ℕ) (file : FstValue) → HasInput TEXT_LIMIT before.read.input after.read.input bytes → SpellsFstFile bytes file →
     IsWritable before after → (status ≡ 0) ⊎ (status ≡ NO_MEMORY)
-Completes (Some Solve) before after status =
+Completes (Some (Solve size search)) before after status =
     (bytes : List ℕ) (ps : List Point) → HasInput TEXT_LIMIT before.read.input after.read.input bytes → ListsPoints bytes ps →
-    ¬ HasMoreSets (terminals_of ps) most_members 20000 → IsWritable before after → ((status ≡ 0) ⊎ (status ≡ 3)) ⊎ (status ≡ NO_MEMORY)
-Completes (Some Bb) before after status =
+    ¬ HasMoreSets (terminals_of ps) size 20000 → IsWritable before after → ((status ≡ 0) ⊎ (status ≡ 3)) ⊎ (status ≡ NO_MEMORY)
+Completes (Some (Bb search)) before after status =
     (bytes : List ℕ) (file : FstValue) → HasInput TEXT_LIMIT before.read.input after.read.input bytes → SpellsFstFile bytes file →
     IsConcatenation (length file.points) file.trees (all_of file.trees) → IsWritable before after → ((status ≡ 0) ⊎ (status ≡ 3)) ⊎ (status ≡ NO_MEMORY)
 Completes (Some (Check name)) before after status =
     (points bytes : List ℕ) (ps : List Point) → HasFile TEXT_LIMIT before.read.shelf after.read.shelf name points → ListsPoints points ps →
     HasInput ANSWER_LIMIT before.read.input after.read.input bytes →
     IsWritable before after → ((status ≡ 0) ⊎ (status ≡ 1)) ⊎ (status ≡ NO_MEMORY)
-Completes (Some Dumpfst) before after status =
+Completes (Some (Dumpfst pieces)) before after status =
     (bytes : List ℕ) (file : FstValue) → HasInput TEXT_LIMIT before.read.input after.read.input bytes → SpellsFstFile bytes file →
     IsWritable before after → (status ≡ 0) ⊎ (status ≡ NO_MEMORY)
+Completes (Some Fst2graph) before after status =
+    (bytes : List ℕ) (file : FstValue) → HasInput TEXT_LIMIT before.read.input after.read.input bytes → SpellsFstFile bytes file →
+    IsWritable before after → (status ≡ 0) ⊎ (status ≡ NO_MEMORY)
+Completes _ before after status = (status ≡ MISUSED) ⊎ (status ≡ NO_MEMORY)

@@ -1,4 +1,4 @@
-pub mod Requests
+pub mod Options
 pub mod Run
 pub mod Headlines
 pub mod Complete

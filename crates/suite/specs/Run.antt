@@ -1,34 +1,52 @@
 -- A run of the program.
-use Rattle.std.specs.Prelude.{ℕ, ◌≡◌, List, codes, Option, Some, None}
-use Rattle.frame.specs.declared.status.TheConstants.{MISUSED}
+use Rattle.std.specs.Prelude.{ℕ, ◌≡◌, List, codes, Option, Some, None, ◌⊎◌}
+use Rattle.frame.specs.declared.status.TheConstants.{MISUSED, NO_MEMORY}
 use Rattle.frame.specs.Outside.{Outside}
-use Rattle.frame.specs.Ends.{Reports}
+use Rattle.frame.specs.Ends.{Reports, no_memory_line}
 use Rattle.search_tools.specs.Build.{EndsBb}
 use Rattle.search_tools.specs.Solve.{EndsSolve}
 use Rattle.judge_tools.specs.Check.{EndsCheck}
+use Rattle.point_tools.specs.Points.{EndsPoints}
+use Rattle.point_tools.specs.StpPoints.{EndsStp2points}
 use Rattle.tree_tools.specs.Dump.{EndsDumpfst}
+use Rattle.tree_tools.specs.Graph.{EndsFst2graph}
 use Rattle.tree_tools.specs.Generation.{EndsRfst}
 use Rattle.tree_tools.specs.Pruning.{EndsPrunefst}
-use Rattle.suite.specs.Requests.{Request}
-use Rattle.suite.specs.Requests.Request.{Rfst, Prunefst, Bb, Solve, Check, Dumpfst}
+use Rattle.requests.specs.Requests.{Request}
+use Rattle.requests.specs.Requests.Request.{Points, Stp2points, Rfst, Prunefst, Bb, Solve, Check, Dumpfst, Fst2graph}
+use Rattle.suite.specs.Options.{options_of}
 
 -- the text on `err` where the words ask for nothing
 abbrev pub usage_line : List ℕ
-usage_line = codes "usage: rst rfst|prunefst|bb|solve|check|dumpfst [WORDS]\n"
+usage_line = codes "usage: rst points|stp2points|rfst|prunefst|bb|solve|check|dumpfst|fst2graph [WORDS]\n"
 
--- The words ask for no tool: nothing is read or printed.
+-- Memory is wanting while the words are read: nothing is read or printed.
+pub record IsShort (before after : Outside) (status : ℕ) : Type 0 where
+  pub ends : status ≡ NO_MEMORY
+  pub read : after.read ≡ before.read
+  pub out : after.written.out ≡ before.written.out
+  pub reports : Reports before.written.err no_memory_line after.written.err
+
+-- The words ask for no tool, or for one that doesn't stand yet: nothing is read or printed.
 pub record IsMisused (before after : Outside) (status : ℕ) : Type 0 where
   pub ends : status ≡ MISUSED
   pub read : after.read ≡ before.read
   pub out : after.written.out ≡ before.written.out
   pub reports : Reports before.written.err usage_line after.written.err
 
+-- A run of the tool that the words ask for.
+abbrev pub EndsAsAsked : Option Request → Outside → Outside → ℕ → Type 0
+EndsAsAsked (Some (Points drawing)) before after status = EndsPoints drawing.count drawing.seed before after status
+EndsAsAsked (Some Stp2points) before after status = EndsStp2points before after status
+EndsAsAsked (Some (Rfst size)) before after status = EndsRfst size before after status
+EndsAsAsked (Some Prunefst) before after status = EndsPrunefst before after status
+EndsAsAsked (Some (Bb search)) before after status = EndsBb (options_of search) before after status
+EndsAsAsked (Some (Solve size search)) before after status = EndsSolve (options_of search) size before after status
+EndsAsAsked (Some (Check points)) before after status = EndsCheck points before after status
+EndsAsAsked (Some (Dumpfst pieces)) before after status = EndsDumpfst pieces before after status
+EndsAsAsked (Some Fst2graph) before after status = EndsFst2graph before after status
+EndsAsAsked _ before after status = IsMisused before after status
+
 -- A run of the program with the request that its words make.
 abbrev pub IsRun : Option Request → Outside → Outside → ℕ → Type 0
-IsRun None before after status = IsMisused before after status
-IsRun (Some Rfst) before after status = EndsRfst before after status
-IsRun (Some Prunefst) before after status = EndsPrunefst before after status
-IsRun (Some Bb) before after status = EndsBb before after status
-IsRun (Some Solve) before after status = EndsSolve before after status
-IsRun (Some (Check points)) before after status = EndsCheck points before after status
-IsRun (Some Dumpfst) before after status = EndsDumpfst before after status
+IsRun request before after status = IsShort before after status ⊎ EndsAsAsked request before after status

@@ -1,8 +1,8 @@
 //! The top call, which runs the tool that the words ask for.
 #![tactic(auto)]
 
+mod options;
 mod program;
-mod request;
 #[cfg(test)]
 mod tests;
 

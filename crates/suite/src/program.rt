@@ -1,20 +1,22 @@
 //! The top call.
 
-ghost use Rattle.std.specs.Prelude.{map, string_bytes};
+ghost use Rattle.std.specs.Prelude.{IfSome, map, option_map, string_bytes};
 ghost use Rattle.frame.specs.Outside.{outside};
-ghost use Rattle.suite.specs.Requests.{request_of};
+ghost use Rattle.requests.specs.Requests.{request_of, meaning, IsWithinLimits};
 ghost use Rattle.suite.specs.Run.{IsRun};
 ghost use Rattle.suite.specs.Headlines.{Headline, BuildHeadline, CheckHeadline};
 ghost use Rattle.suite.specs.Complete.{Completes};
 
-use crate::request::{Request, request_in};
-use frame::{MISUSED, report};
+use crate::options::options_from;
+use frame::{MISUSED, NO_MEMORY, report};
 use judge_tools::check;
+use point_tools::{located_has_no_fault, points, stp2points};
+use requests::{Request, request_in};
 use rst_outside::{Shelf, Sink, Source};
 use search_tools::{bb, solve};
-use std::alloc::Global;
+use std::alloc::{AllocError, Global};
 use tree_inputs::spelled_has_no_fault;
-use tree_tools::{dumpfst, prunefst, rfst};
+use tree_tools::{dumpfst, fst2graph, prunefst, rfst};
 
 /// Runs the tool that the words after the program's name ask for, and gives the status that the program ends with.
 ///
@@ -44,26 +46,72 @@ pub fn run<I: Source, O: Sink, R: Sink, S: Shelf>(
         (outside (I.state input.old) (O.state out.old) (R.state err.old) (S.state shelf.old))
         (outside (I.state input.new) (O.state out.new) (R.state err.new) (S.state shelf.new)) result }
 {
-    match request_in(words) {
-        Some(Request::Rfst) => rfst(alloc, input, out, err),
+    match request_in(alloc, words) {
+        Ok(request) => answer(alloc, request, input, out, err, shelf),
+        Err(AllocError) => {
+            report(err, b"rst: out of memory\n");
+            NO_MEMORY
+        }
+    }
+}
+
+// Runs the tool of a request, and says how the program is used where there is none or its tool doesn't stand yet.
+fn answer<I: Source, O: Sink, R: Sink, S: Shelf>(
+    alloc: Global,
+    request: Option<Request<'_>>,
+    input: &mut I,
+    out: &mut O,
+    err: &mut R,
+    shelf: &mut S,
+) -> u8
+    requires limits { IfSome request (λ asked. IsWithinLimits (meaning asked)) }
+    ensures run { IsRun (option_map meaning request.entry)
+        (outside (I.state input.old) (O.state out.old) (R.state err.old) (S.state shelf.old))
+        (outside (I.state input.new) (O.state out.new) (R.state err.new) (S.state shelf.new)) result }
+    ensures headline { Headline (option_map meaning request.entry)
+        (outside (I.state input.old) (O.state out.old) (R.state err.old) (S.state shelf.old))
+        (outside (I.state input.new) (O.state out.new) (R.state err.new) (S.state shelf.new)) result }
+    ensures built { BuildHeadline (option_map meaning request.entry)
+        (outside (I.state input.old) (O.state out.old) (R.state err.old) (S.state shelf.old))
+        (outside (I.state input.new) (O.state out.new) (R.state err.new) (S.state shelf.new)) result }
+    ensures checked { CheckHeadline (option_map meaning request.entry)
+        (outside (I.state input.old) (O.state out.old) (R.state err.old) (S.state shelf.old))
+        (outside (I.state input.new) (O.state out.new) (R.state err.new) (S.state shelf.new)) result }
+    ensures complete { Completes (option_map meaning request.entry)
+        (outside (I.state input.old) (O.state out.old) (R.state err.old) (S.state shelf.old))
+        (outside (I.state input.new) (O.state out.new) (R.state err.new) (S.state shelf.new)) result }
+{
+    match request {
+        Some(Request::Points(drawing)) => points(alloc, drawing.count, drawing.seed, out, err),
+        Some(Request::Stp2points) => {
+            located_has_no_fault();
+            stp2points(alloc, input, out, err)
+        }
+        Some(Request::Rfst { size }) => rfst(alloc, size, input, out, err),
         Some(Request::Prunefst) => {
             spelled_has_no_fault();
             prunefst(alloc, input, out, err)
         }
-        Some(Request::Bb) => {
+        Some(Request::Bb(search)) => {
             spelled_has_no_fault();
-            bb(alloc, input, out, err)
+            bb(alloc, options_from(search), input, out, err)
         }
-        Some(Request::Solve) => solve(alloc, input, out, err),
+        Some(Request::Solve { size, search }) => {
+            solve(alloc, options_from(search), size, input, out, err)
+        }
         Some(Request::Check { points }) => check(alloc, points, input, out, err, shelf),
-        Some(Request::Dumpfst) => {
+        Some(Request::Dumpfst { pieces }) => {
             spelled_has_no_fault();
-            dumpfst(alloc, input, out, err)
+            dumpfst(alloc, pieces, input, out, err)
         }
-        None => {
+        Some(Request::Fst2graph) => {
+            spelled_has_no_fault();
+            fst2graph(alloc, input, out, err)
+        }
+        Some(Request::Plot { .. } | Request::Trial(_)) | None => {
             report(
                 err,
-                b"usage: rst rfst|prunefst|bb|solve|check|dumpfst [WORDS]\n",
+                b"usage: rst points|stp2points|rfst|prunefst|bb|solve|check|dumpfst|fst2graph [WORDS]\n",
             );
             MISUSED
         }

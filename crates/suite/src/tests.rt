@@ -58,7 +58,7 @@ fn ran(rt: &HostRuntime, words: &[&str], input: &[u8]) -> Result<Outcome, Fail> 
 
 #[test]
 fn runs_each_tool(rt: HostRuntime) -> Result<(), Fail> {
-    let rows: [(&[&str], &[u8], u8, &[u8], &[u8]); 7] = [
+    let rows: [(&[&str], &[u8], u8, &[u8], &[u8]); 9] = [
         (&["solve"], POINTS, 0, ANSWER, b""),
         (
             &["check", "P"],
@@ -78,11 +78,19 @@ fn runs_each_tool(rt: HostRuntime) -> Result<(), Fail> {
         (&["prunefst"], FILE, 0, FILE, b""),
         (&["dumpfst"], FILE, 0, b"0 1 length 2\n", b""),
         (
+            &["dumpfst", "--pieces"],
+            FILE,
+            0,
+            b"0 1 length 2\n  0 0 2 0\n",
+            b"",
+        ),
+        (&["rfst", "--size", "2"], b"0 0\n2 0\n", 0, FILE, b""),
+        (
             &["fly"],
             b"",
             2,
             b"",
-            b"usage: rst rfst|prunefst|bb|solve|check|dumpfst [WORDS]\n",
+            b"usage: rst points|stp2points|rfst|prunefst|bb|solve|check|dumpfst|fst2graph [WORDS]\n",
         ),
     ];
     for (words, input, status, out, err) in rows {

@@ -1,3 +1,4 @@
 mod DumpLaws
 mod GenerationLaws
+mod GraphLaws
 mod PruningLaws

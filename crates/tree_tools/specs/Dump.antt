@@ -1,5 +1,5 @@
 -- What `dumpfst` finds, by what it read.
-use Rattle.std.specs.Prelude.{ℕ, ◌≡◌, Bool, false, List, codes, Result, Ok, Err}
+use Rattle.std.specs.Prelude.{ℕ, ◌≡◌, Bool, List, codes, Result, Ok, Err}
 use Rattle.fst_file.specs.Value.{FstValue}
 use Rattle.fst_file.specs.Text.{SpellsFstFile}
 use Rattle.dump_plot.specs.Trees.{tree_list_text}
@@ -23,7 +23,7 @@ abbrev pub Dumps : Bool → List ℕ → Result Print FstFault → Type 0
 Dumps pieces bytes (Ok print) = (file : FstValue) × SpellsFstFile bytes file × (print ≡ dump_print pieces file)
 Dumps pieces bytes (Err fault) = ReadsFst bytes (Err fault)
 
--- A run of `dumpfst`, which prints no pieces.
-abbrev pub EndsDumpfst : Outside → Outside → ℕ → Type 0
-EndsDumpfst before after status =
-    Ends (text_fault_status fst_fault_status) (text_fault_text fst_fault_text) (codes "dumpfst") (FromText TEXT_LIMIT (Dumps false)) LeavesShelf before after status
+-- A run of `dumpfst`, with or without pieces.
+abbrev pub EndsDumpfst : Bool → Outside → Outside → ℕ → Type 0
+EndsDumpfst pieces before after status =
+    Ends (text_fault_status fst_fault_status) (text_fault_text fst_fault_text) (codes "dumpfst") (FromText TEXT_LIMIT (Dumps pieces)) LeavesShelf before after status

@@ -16,7 +16,7 @@ use Rattle.frame.specs.Points.{ListsPoints, IsListFault}
 use Rattle.tree_inputs.specs.declared.generation_fault.GenerationFault.{GenerationFault}
 use Rattle.tree_inputs.specs.declared.generation_fault.GenerationFault.TheVariants.{List as InList, TooManyTrees}
 use Rattle.tree_inputs.specs.GenerationFaults.{generation_fault_text, generation_fault_status}
-use Rattle.tree_inputs.specs.Generation.{IsTreeList, most_members}
+use Rattle.tree_inputs.specs.Generation.{IsTreeList}
 
 -- what is printed of points and their trees: the file that holds them
 abbrev pub fst_print : List Point → List Tree → Print
@@ -30,8 +30,8 @@ GeneratesFile k bytes (Ok print) = (ps : List Point) × (trees : List Tree) × L
 GeneratesFile k bytes (Err (InList fault)) = IsListFault bytes fault
 GeneratesFile k bytes (Err TooManyTrees) = (ps : List Point) × ListsPoints bytes ps × HasMoreSets (terminals_of ps) k 20000
 
--- A run of `rfst`.
-abbrev pub EndsRfst : Outside → Outside → ℕ → Type 0
-EndsRfst before after status =
+-- A run of `rfst` for trees of up to k members.
+abbrev pub EndsRfst : ℕ → Outside → Outside → ℕ → Type 0
+EndsRfst k before after status =
     Ends (text_fault_status generation_fault_status) (text_fault_text generation_fault_text) (codes "rfst")
-    (FromText TEXT_LIMIT (GeneratesFile most_members)) LeavesShelf before after status
+    (FromText TEXT_LIMIT (GeneratesFile k)) LeavesShelf before after status

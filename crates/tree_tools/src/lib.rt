@@ -4,6 +4,8 @@
 mod dump;
 mod file_answer;
 mod generation;
+mod graph;
+mod graph_answer;
 mod listing;
 mod pruning;
 #[cfg(test)]
@@ -11,4 +13,5 @@ mod tests;
 
 pub use dump::dumpfst;
 pub use generation::rfst;
+pub use graph::fst2graph;
 pub use pruning::prunefst;

@@ -1,4 +1,4 @@
-//! The list of a file's trees with their pieces, which no word asks for yet.
+//! The list of a file's trees with their pieces.
 
 use crate::listing::Listing;
 use frame::Answer;

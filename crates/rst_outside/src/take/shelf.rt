@@ -8,8 +8,8 @@ use super::{BLOCK, TakeFault};
 use crate::shelf::Shelf;
 use std::alloc::Global;
 
-/// Reads the file `name` to its end, and gives all its bytes, `limit` at most. It stops at the first read that
-/// fails, as where no file has the name, and as soon as more bytes came than are allowed.
+/// Reads the file `name` to its end, and gives all its bytes, `limit` at most. Where no file has the name the
+/// first read fails.
 pub fn take_named<S: Shelf>(
     alloc: Global,
     shelf: &mut S,

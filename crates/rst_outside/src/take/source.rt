@@ -8,8 +8,7 @@ use super::{BLOCK, TakeFault};
 use crate::source::Source;
 use std::alloc::Global;
 
-/// Reads to the end, and gives all the bytes that came, `limit` at most. It stops at the first read that
-/// fails, and as soon as more bytes came than are allowed.
+/// Reads to the end, and gives all the bytes that came, `limit` at most.
 pub fn take_all<S: Source>(alloc: Global, source: &mut S, limit: u64) -> Result<Vec<u8>, TakeFault>
     ensures all { IfOk result
         (λ bytes. CameToTheEnd (S.state source.old).rest bytes.items (S.state source.new).rest) }

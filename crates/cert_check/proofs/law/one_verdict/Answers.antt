@@ -1,5 +1,5 @@
 -- The law that bytes have one verdict, since they are read in one way.
-use Rattle.cert_check.proofs.OneVerdict.{one_verdict_lem}
+use Rattle.cert_check.proofs.lemmas.OneVerdict.{one_verdict_lem}
 use Rattle.cert_check.proofs.law.one_verdict.Goals as goal
 
 pub returns : goal.returns

@@ -7,8 +7,8 @@ returns-in-OffGrid g c = rw c.in-OffGrid.is c.write_about_line-in-OffGrid.ensure
 pub returns-in-WrongLength : goal.returns-in-WrongLength
 returns-in-WrongLength g c = rw c.in-WrongLength.is c.write_about_number.ensures
 
-pub returns-in-SplitLine : goal.returns-in-SplitLine
-returns-in-SplitLine g c = rw c.in-SplitLine.is c.write_about_line-in-SplitLine.ensures
+pub returns-in-TooDeep : goal.returns-in-TooDeep
+returns-in-TooDeep g c = rw c.in-TooDeep.is c.write_about_line-in-TooDeep.ensures
 
 pub returns-in-WrongBound : goal.returns-in-WrongBound
 returns-in-WrongBound g c = rw c.in-WrongBound.is c.write_about_number-in-WrongBound.ensures

@@ -14,8 +14,8 @@ pub returns-in-Err-clause-finds : goal.returns-in-Err-clause-finds
 returns-in-Err-clause-finds g c = λ shelf.
     let before = readable (g.I.Source.state c.args.input.now) shelf in
     let after = readable (g.I.Source.state c.take_fst.new.input) shelf in
-    subst (λ fault. FromText {V = Solution} TEXT_LIMIT FindsBuilt before after (Err fault)) (sym c.fault_of_file.ensures)
-    (file_fault_found before after c.in-Err.fault
+    subst (λ fault. FromText {V = Solution} TEXT_LIMIT (FindsBuilt c.args.options) before after (Err fault)) (sym c.fault_of_file.ensures)
+    (file_fault_found c.args.options before after c.in-Err.fault
     (subst (λ found. FromText {V = FstValue} TEXT_LIMIT ReadsFst before after found) c.in-Err.is (c.in_ok-file.ensures.reads shelf)))
 
 pub returns-in-Ok-2-clause-finds : goal.returns-in-Ok-2-clause-finds
@@ -23,11 +23,11 @@ returns-in-Ok-2-clause-finds g c = λ shelf.
     let before = readable (g.I.Source.state c.args.input.now) shelf in
     let after = readable (g.I.Source.state c.take_fst.new.input) shelf in
     let (bytes, whole, spells) = subst (λ found. FromText {V = FstValue} TEXT_LIMIT ReadsFst before after found) c.in-Ok.is (c.in_ok-file.ensures.reads shelf) in
-    (bytes, whole, (c.in-Ok.file, spells, subst (SolvesFile c.in-Ok.file) c.in-Ok-2.is c.in_ok-solution.ensures))
+    (bytes, whole, (c.in-Ok.file, spells, subst (SolvesFile c.args.options c.in-Ok.file) c.in-Ok-2.is c.in_ok-solution.ensures))
 
 pub returns-in-Err-2-clause-finds : goal.returns-in-Err-2-clause-finds
 returns-in-Err-2-clause-finds g c = λ shelf.
     let before = readable (g.I.Source.state c.args.input.now) shelf in
     let after = readable (g.I.Source.state c.take_fst.new.input) shelf in
     let (bytes, whole, spells) = subst (λ found. FromText {V = FstValue} TEXT_LIMIT ReadsFst before after found) c.in-Ok.is (c.in_ok-file.ensures.reads shelf) in
-    (bytes, whole, (c.in-Ok.file, spells, subst (SolvesFile c.in-Ok.file) c.in-Err-2.is c.in_ok-solution.ensures))
+    (bytes, whole, (c.in-Ok.file, spells, subst (SolvesFile c.args.options c.in-Ok.file) c.in-Err-2.is c.in_ok-solution.ensures))

@@ -4,7 +4,6 @@ use Rattle.net_graph.specs.Graph.{Graph}
 use Rattle.net_graph.specs.Network.{IsNetwork, length_of}
 use Rattle.concatenation.specs.Concatenation.{IsConcatenation}
 use Rattle.fst_concat.specs.Chosen.{HasMembersBelow, IsChosen, IsUpToPairs, KindHolds}
-use Rattle.search_tools.specs.Permitted.{most_splits}
 use Rattle.search_tools.specs.Steps.{IsMadeOf}
 use Rattle.search_tools.proofs.NetworkLaws.{have_members, chosen_below, made_of}
 use Rattle.search_tools.proofs.network.network_on.Goals as goal
@@ -29,12 +28,12 @@ pub returns : goal.returns
 returns c =
     let same = c.len-points.ensures.value ∙ ap length c.points.ensures in
     let shorter = subst (λ (g : Graph). length_of g c.in_ok-network.network ≤ length_of g c.in_ok-union.union) c.graph.ensures.graph c.in_ok-network.ensures.length in
-    subst (λ least. IsMadeOf c.args.grid.now c.args.trees.now (record { network = c.in_ok-network.network; note = record { least = least; total = c.in-Ok.chosen.total } }))
+    subst (λ least. IsMadeOf c.args.allowed c.args.grid.now c.args.trees.now (record { network = c.in_ok-network.network; note = record { least = least; total = c.in-Ok.chosen.total } }))
     (sym c.is_least.ensures)
-    (made_of c.args.grid.now c.args.trees.now c.in-Ok.chosen.kind c.in-Ok.chosen.places c.in-Ok.chosen.total c.in_ok-network.network
+    (made_of c.args.allowed c.args.grid.now c.args.trees.now c.in-Ok.chosen.kind c.in-Ok.chosen.places c.in-Ok.chosen.total c.in_ok-network.network
     (subst (λ n. IsChosen n c.args.trees.now c.in-Ok.chosen.places c.in-Ok.chosen.total) same c.in-Ok.ensures.joins)
     (subst (λ n. IsUpToPairs n c.args.trees.now c.in-Ok.chosen.total) same c.in-Ok.ensures.pairs)
-    (subst (λ n. KindHolds n c.args.trees.now most_splits c.in-Ok.chosen.total c.in-Ok.chosen.kind) same c.in-Ok.ensures.kind)
+    (subst (λ n. KindHolds n c.args.trees.now c.args.allowed c.in-Ok.chosen.total c.in-Ok.chosen.kind) same c.in-Ok.ensures.kind)
     (c.in_ok-network.ensures.size ∙ ap (λ (g : Graph). length g.edges) c.graph.ensures.graph)
     (λ set is joins. subst (λ (g : Graph). IsNetwork g c.in_ok-network.network) c.graph.ensures.graph c.in_ok-network.ensures.network)
     (λ set is. let union = c.in_ok-union.ensures.length set (c.as_slice.ensures ∙ is) in omega (arith, shorter, union)))

@@ -1,4 +1,4 @@
-use Rattle.std.proofs.Common.{false, refl, codes}
+use Rattle.std.proofs.Common.{refl, codes}
 use Rattle.frame.specs.declared.take.TheConstants.{TEXT_LIMIT}
 use Rattle.frame.specs.Outside.{outside, readable}
 use Rattle.frame.specs.EndLaws.{ends_with}
@@ -13,10 +13,10 @@ use Rattle.tree_tools.proofs.dump.dumpfst.Goals as goal
 
 pub returns : goal.returns
 returns g c = λ shelf.
-    ends_with listing_text listing_status (text_fault_status fst_fault_status) (text_fault_text fst_fault_text) (codes "dumpfst") (FromText TEXT_LIMIT (Dumps false)) LeavesShelf
+    ends_with listing_text listing_status (text_fault_status fst_fault_status) (text_fault_text fst_fault_text) (codes "dumpfst") (FromText TEXT_LIMIT (Dumps c.args.pieces)) LeavesShelf
     (outside (g.I.Source.state c.args.input.now) (g.O.Sink.state c.args.out.now) (g.R.Sink.state c.args.err.now) shelf)
     (outside (g.I.Source.state c.find-found.new.input) (g.O.Sink.state c.conclude.new.out) (g.R.Sink.state c.conclude.new.err) shelf)
     c.conclude.result c.find-found.result
-    (found_or_not false (readable (g.I.Source.state c.args.input.now) shelf) (readable (g.I.Source.state c.find-found.new.input) shelf) c.find-found.result (c.find-found.ensures.finds shelf))
+    (found_or_not c.args.pieces (readable (g.I.Source.state c.args.input.now) shelf) (readable (g.I.Source.state c.find-found.new.input) shelf) c.find-found.result (c.find-found.ensures.finds shelf))
     (record { input = c.find-found.ensures.takes; shelf = refl })
     c.conclude.ensures.concludes

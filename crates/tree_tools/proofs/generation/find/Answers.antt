@@ -3,7 +3,7 @@ use Rattle.std.proofs.Common.{subst}
 use Rattle.frame.specs.declared.take.TheConstants.{TEXT_LIMIT}
 use Rattle.frame.specs.Outside.{readable}
 use Rattle.frame.specs.FromText.{FromText}
-use Rattle.tree_inputs.specs.Generation.{GeneratesFst, most_members}
+use Rattle.tree_inputs.specs.Generation.{GeneratesFst}
 use Rattle.tree_tools.proofs.GenerationLaws.{fault_found}
 use Rattle.tree_tools.proofs.generation.find.Goals as goal
 
@@ -11,11 +11,11 @@ pub returns-in-Ok-clause-finds : goal.returns-in-Ok-clause-finds
 returns-in-Ok-clause-finds g c = λ shelf.
     let before = readable (g.I.Source.state c.args.input.now) shelf in
     let after = readable (g.I.Source.state c.take_generated.new.input) shelf in
-    subst (λ found. FromText TEXT_LIMIT (GeneratesFst most_members) before after found) c.in-Ok.is (c.in_ok-file.ensures.generates shelf)
+    subst (λ found. FromText TEXT_LIMIT (GeneratesFst c.args.size) before after found) c.in-Ok.is (c.in_ok-file.ensures.generates shelf)
 
 pub returns-in-Err-clause-finds : goal.returns-in-Err-clause-finds
 returns-in-Err-clause-finds g c = λ shelf.
     let before = readable (g.I.Source.state c.args.input.now) shelf in
     let after = readable (g.I.Source.state c.take_generated.new.input) shelf in
-    fault_found most_members before after c.in-Err.fault
-    (subst (λ found. FromText TEXT_LIMIT (GeneratesFst most_members) before after found) c.in-Err.is (c.in_ok-file.ensures.generates shelf))
+    fault_found c.args.size before after c.in-Err.fault
+    (subst (λ found. FromText TEXT_LIMIT (GeneratesFst c.args.size) before after found) c.in-Err.is (c.in_ok-file.ensures.generates shelf))

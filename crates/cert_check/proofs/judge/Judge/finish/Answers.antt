@@ -1,12 +1,12 @@
-use Rattle.std.proofs.Common.{◌∙◌}
-use Rattle.hanan_grid.specs.Grid.{hanan_grid_of}
+use Rattle.std.proofs.Common.{◌-◌, ◌^◌, ◌≤◌, min, ap, ◌∙◌, subst, arith}
 use Rattle.cert_check.specs.Ends.{EndsWith}
-use Rattle.cert_check.specs.Judged.{value_so_far}
-use Rattle.cert_check.proofs.ValueLemmas.{weight_kept-value}
+use Rattle.cert_check.specs.Judged.{least_with}
+use Rattle.cert_check.proofs.lemmas.Values.{least_with-lesser}
 use Rattle.cert_check.proofs.judge.Judge.finish.Goals as goal
 
 pub returns : goal.returns
 returns c ps s stands =
-    let weight = c.weight.ensures (hanan_grid_of ps) s.cuts stands.leaf ∙ weight_kept-value (hanan_grid_of ps) s.cuts in
-    let ends : EndsWith s.head (value_so_far ps s) c.end_verdict.result = rw stands.head at (c.end_verdict.ensures (value_so_far ps s) weight) in
-    rw c.in_default.is (ends, c.into_network.ensures ∙ stands.network)
+    let fits : c.args.self.head.length ≤ 2 ^ 64 - 1 = omega arith in
+    let found = c.min-found.ensures ∙ ap (λ n. min n c.args.self.head.length) stands.least ∙ least_with-lesser (2 ^ 64 - 1) c.args.self.head.length s.values fits in
+    let ends = subst (λ n. EndsWith c.args.self.head n c.end_verdict.result) found c.end_verdict.ensures in
+    (subst (λ h. EndsWith h (least_with h.length s.values) c.end_verdict.result) stands.head ends, c.into_network.ensures ∙ stands.network)

@@ -1,31 +1,56 @@
-use Rattle.std.proofs.Common.{[], refl}
-use Rattle.cert_check.proofs.JudgeLemmas.{none_gives, some_gives, count_passes, count_fails}
+use Rattle.std.proofs.Common.{Some, refl}
+use Rattle.cert_check.proofs.lemmas.JudgeSteps.{none_gives, some_gives, count_passes, count_fails, stands_edges}
 use Rattle.cert_check.proofs.judge.Judge.judge.Goals as goal
 
 pub returns-in-Head-clause-passes : goal.returns-in-Head-clause-passes
 returns-in-Head-clause-passes c s stands =
-    rw c.in-Head.is (record s { head = c.in-Head.head }, refl, record { head = refl; due = stands.due; network = stands.network; leaf = stands.leaf })
+    rw c.in-Head.is (
+      record s { head = c.in-Head.head },
+      refl,
+      stands_edges c.args.grid.now c.args.self.now _ s (record s { head = c.in-Head.head })
+          (record { splits = refl; cuts_due = refl; room = refl; weight = refl; least = refl }) refl stands.edges_due stands.network refl refl refl refl refl stands,
+    )
 
 pub returns-in-EdgeCount-clause-passes : goal.returns-in-EdgeCount-clause-passes
 returns-in-EdgeCount-clause-passes c =
-    rw c.in-EdgeCount.is (none_gives c.judge_network.result _ _
-    (λ right. count_passes c.args.grid.now c.in-EdgeCount.count c.args.self.now _ (record { due = refl; head = refl; edges = refl; leaf = refl }) right c.args.told.now.members)
+    rw c.in-EdgeCount.is
+    (none_gives c.judge_network.result _ _
+    (λ right. count_passes c.args.grid.now c.in-EdgeCount.count c.args.self.now _ c.judge_network.new.self
+    (record {
+      edges_due = refl;
+      head = refl;
+      edges = refl;
+      tree = record { splits = refl; cuts_due = refl; room = refl; weight = refl; least = refl };
+    })
+    c.judge_network.ensures.same right (Some c.args.members.now))
     c.judge_network.ensures.passes)
 
 pub returns-in-EdgeCount-clause-fault : goal.returns-in-EdgeCount-clause-fault
 returns-in-EdgeCount-clause-fault c =
-    rw c.in-EdgeCount.is (some_gives c.judge_network.result _ _
-    (λ cause wrong. count_fails c.args.grid.now c.in-EdgeCount.count c.args.told.now.line c.args.self.now _ cause (record { due = refl; head = refl; edges = refl; leaf = refl }) wrong c.args.told.now.members)
+    rw c.in-EdgeCount.is
+    (some_gives c.judge_network.result _ _
+    (λ cause wrong. count_fails c.args.grid.now c.in-EdgeCount.count c.args.line c.args.self.now _ c.judge_network.new.self cause
+    (record {
+      edges_due = refl;
+      head = refl;
+      edges = refl;
+      tree = record { splits = refl; cuts_due = refl; room = refl; weight = refl; least = refl };
+    })
+    c.judge_network.ensures.same wrong (Some c.args.members.now))
     c.judge_network.ensures.fault)
 
 pub returns-in-Edge-clause-passes : goal.returns-in-Edge-clause-passes
 returns-in-Edge-clause-passes c =
-    rw c.in-Edge.is (none_gives c.judge_edge.result _ _ (λ passes s stands. passes s c.args.told.now.members stands) c.judge_edge.ensures.passes)
+    rw c.in-Edge.is (none_gives c.judge_edge.result _ _ (λ passes s stands. passes s (Some c.args.members.now) stands) c.judge_edge.ensures.passes)
 
 pub returns-in-Edge-clause-fault : goal.returns-in-Edge-clause-fault
 returns-in-Edge-clause-fault c =
-    rw c.in-Edge.is (some_gives c.judge_edge.result _ _ (λ cause fails s stands. fails s c.args.told.now.members stands) c.judge_edge.ensures.fault)
+    rw c.in-Edge.is (some_gives c.judge_edge.result _ _ (λ cause fails s stands. fails s (Some c.args.members.now) stands) c.judge_edge.ensures.fault)
 
-pub returns-in-Leaf-clause-passes : goal.returns-in-Leaf-clause-passes
-returns-in-Leaf-clause-passes c s stands =
-    rw c.in-Leaf.is (record s { cuts = [] }, refl, record { head = stands.head; due = stands.due; network = stands.network; leaf = rw c.graph.ensures.graph at c.clear.ensures.leaf })
+pub returns-in-Split-clause-passes : goal.returns-in-Split-clause-passes
+returns-in-Split-clause-passes c =
+    rw c.in-Split.is (none_gives c.judge_split.result _ _ (λ passes s stands. passes s (Some c.args.members.now) stands) c.judge_split.ensures.passes)
+
+pub returns-in-Split-clause-fault : goal.returns-in-Split-clause-fault
+returns-in-Split-clause-fault c =
+    rw c.in-Split.is (some_gives c.judge_split.result _ _ (λ cause fails s stands. fails s (Some c.args.members.now) stands) c.judge_split.ensures.fault)

@@ -1,0 +1,20 @@
+-- Where the new leaf's value is greater it stands in place of the only one.
+use Rattle.std.proofs.Common.{◌<◌, length, rules, subst, arith}
+use Rattle.net_graph.specs.Decision.{Decided}
+use Rattle.branch.specs.Leaves.{leaf_under}
+use Rattle.branch.specs.Notes.{IsNoteOf}
+use Rattle.branch.proofs.RaisedLemmas.{some_note, raised}
+use Rattle.branch.proofs.search.Search.raise.Goals as goal
+
+pub index-first-requires : goal.index-first-requires
+index-first-requires _ c =
+    let some : 0 < length c.self.inside.kept.notes.items = some_note _ _ c.self.invariant in search rules
+
+pub returns-in_ok-self-inside-clause-ok : goal.returns-in_ok-self-inside-clause-ok
+returns-in_ok-self-inside-clause-ok _ c =
+    let of_note =
+    subst (λ (d : Decided). IsNoteOf c.self.inside.graph.now (leaf_under d c.in_ok-leaf.leaf.packing) c.in_ok-leaf.leaf.note)
+    c.in_ok-decision.ensures.value c.in_ok-leaf.ensures.note in
+    raised c.self.inside.graph.now c.self.inside.kept c.in_ok-self-inside.field-0 c.args.self.now c.index-first.result.now
+    c.in_ok-leaf.leaf.note c.in_ok-leaf.leaf.packing c.self.invariant c.self.view_is c.requires.leaf c.index-first.ensures
+    c.in_ok-self-inside.ensures.first c.in_ok-self-inside.ensures.leaf of_note (omega arith)

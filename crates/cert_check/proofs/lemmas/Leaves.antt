@@ -1,0 +1,109 @@
+-- The cuts of a leaf: what one more of them makes of the loads that are kept.
+use Rattle.std.proofs.Common.{ℕ, ◌≡◌, ◌≢◌, ◌+◌, ◌<◌, ◌≤◌, List, [], ◌∷◌, ◌++◌, length, get_or, slice_get, Some, sym, ap, ◌∙◌, subst, inl, inr, arith}
+use Rattle.std.proofs.lemmas.Bool.{cases_eq}
+use Rattle.std.proofs.lemmas.Option.{same_Some, slice_get_within, slice_get-get_or}
+use Rattle.net_graph.specs.declared.edge.Edge.{Edge}
+use Rattle.net_graph.specs.declared.state.EdgeState.{EdgeState}
+use Rattle.net_graph.specs.declared.state.EdgeState.TheVariants.{Undecided}
+use Rattle.net_graph.specs.declared.packing.Cut.{Cut}
+use Rattle.net_graph.specs.Graph.{Graph}
+use Rattle.net_graph.specs.Decision.{Decided, states_of}
+use Rattle.net_graph.specs.Packing.{IsCut}
+use Rattle.net_graph.specs.Feasible.{KeepsRoom}
+use Rattle.cert_check.specs.declared.leaf.Excess.{Excess}
+use Rattle.cert_check.specs.Cuts.{IsFirstOverload, PacksCut}
+use Rattle.cert_check.specs.Room.{Kept}
+use Rattle.cert_check.specs.Loads.{HasRows, IsLeafOf, IsOverload, KeepsDecision, KeepsEdge, KeepsLoads, LoadsOnly, SameWay}
+use Rattle.cert_check.proofs.lemmas.Loading.{within_room}
+use Rattle.cert_check.proofs.lemmas.States.{states_kept}
+
+-- the first edges are loaded with one more cut, and the others are not yet
+pub record LoadsBelow (g : Graph) (cuts : List Cut) (c : Cut) (n : ℕ) (kept : Kept) : Type 0 where
+  pub passed : (k : ℕ) → k < n → KeepsEdge g (cuts ++ c ∷ []) kept k
+  pub ahead : (k : ℕ) → n ≤ k → KeepsEdge g cuts kept k
+
+-- the loads of another edge stay
+KeepsEdge-elsewhere : (g : Graph) (cuts : List Cut) (n k : ℕ) (old new : Kept) → LoadsOnly n old new → k ≢ n → KeepsEdge g cuts old k → KeepsEdge g cuts new k
+KeepsEdge-elsewhere g cuts n k old new only apart keeps e state at state_at =
+    let before = keeps e state at (sym (ap (λ xs. slice_get xs k) only.way.states) ∙ state_at) in
+    subst (λ n. KeepsLoads state e cuts n (get_or new.back k 0)) (sym (only.there k apart))
+    (subst (λ n. KeepsLoads state e cuts (get_or old.there k 0) n) (sym (only.back k apart)) before)
+
+-- one edge more
+pub LoadsBelow-more : (g : Graph) (cuts : List Cut) (c : Cut) (n : ℕ) (e : Edge) (old new : Kept) → LoadsOnly n old new → slice_get g.edges n ≡ Some e →
+    ((state : EdgeState) → slice_get old.states n ≡ Some state → KeepsLoads state e cuts (get_or old.there n 0) (get_or old.back n 0) →
+    KeepsLoads state e (cuts ++ c ∷ []) (get_or new.there n 0) (get_or new.back n 0)) → LoadsBelow g cuts c n old → LoadsBelow g cuts c (n + 1) new
+LoadsBelow-more g cuts c n e old new only at passes below = record {
+  passed = λ k lt. elim (cases_eq k n) [
+    | inl is ↦ subst (KeepsEdge g (cuts ++ c ∷ []) new) (sym is) here
+    | inr apart ↦ KeepsEdge-elsewhere g (cuts ++ c ∷ []) n k old new only apart (below.passed k (omega arith))
+  ];
+  ahead = λ k le. let apart : k ≢ n = λ is. omega arith in KeepsEdge-elsewhere g cuts n k old new only apart (below.ahead k (omega arith));
+}
+  where
+    here : KeepsEdge g (cuts ++ c ∷ []) new n
+    here x state at_x state_at =
+        let same : e ≡ x = same_Some e x (sym at ∙ at_x) in
+        let before : slice_get old.states n ≡ Some state = sym (ap (λ xs. slice_get xs n) only.way.states) ∙ state_at in
+        subst (λ (y : Edge). KeepsLoads state y (cuts ++ c ∷ []) (get_or new.there n 0) (get_or new.back n 0)) same
+        (passes state before (below.ahead n (omega arith) e state at before))
+
+-- all edges
+pub IsLeafOf-below : (g : Graph) (cuts : List Cut) (c : Cut) (n : ℕ) (kept : Kept) → length g.edges ≤ n → LoadsBelow g cuts c n kept → IsLeafOf g (cuts ++ c ∷ []) kept
+IsLeafOf-below g cuts c n kept all below k e state at state_at = below.passed k (omega (arith, slice_get_within g.edges k e at)) e state at state_at
+
+-- the rows keep their lengths
+pub HasRows-only : (g : Graph) (n : ℕ) (old new : Kept) → LoadsOnly n old new → HasRows g old → HasRows g new
+HasRows-only g n old new only rows = record {
+  there = only.there_size ∙ rows.there;
+  back = only.back_size ∙ rows.back;
+  states = ap length only.way.states ∙ rows.states;
+  vertices = only.way.vertices ∙ rows.vertices;
+}
+
+-- the way stays twice
+pub SameWay-then : (old mid new : Kept) → SameWay old mid → SameWay mid new → SameWay old new
+SameWay-then old mid new first second = record {
+  states = second.states ∙ first.states;
+  path = second.path ∙ first.path;
+  vertices = second.vertices ∙ first.vertices;
+}
+
+-- an edge whose loads are kept keeps its room
+KeepsRoom-kept : (g : Graph) (d : Decided) (packing : List Cut) (kept : Kept) (n : ℕ) → states_of g d ≡ kept.states → KeepsEdge g packing kept n → KeepsRoom g d packing n
+KeepsRoom-kept g d packing kept n same keeps e state at state_at =
+    let loads = keeps e state at (sym (ap (λ xs. slice_get xs n) same) ∙ state_at) in
+    (within_room state e _ _ loads.forward, within_room state e _ _ loads.backward)
+
+-- the decision stands in a room whose way is the same
+pub KeepsDecision-same : (g : Graph) (d : Decided) (old new : Kept) → SameWay old new → KeepsDecision g d old → KeepsDecision g d new
+KeepsDecision-same g d old new way keeps = record { edges = way.states ∙ keeps.edges; vertices = keeps.vertices }
+
+-- a cut with which no arc is loaded above its room may stand there
+pub PacksCut-kept : (g : Graph) (d : Decided) (cuts : List Cut) (c : Cut) (kept : Kept) → HasRows g kept → KeepsDecision g d kept → IsCut g d c.members →
+    IsLeafOf g (cuts ++ c ∷ []) kept → PacksCut g d cuts c
+PacksCut-kept g d cuts c kept rows keeps cut leaf = record {
+  cut = cut;
+  room = λ n. KeepsRoom-kept g d (cuts ++ c ∷ []) kept n (states_kept g d kept rows keeps) (leaf n);
+}
+
+-- the next edge is the first of which an arc is loaded above its room
+pub IsFirstOverload-kept : (g : Graph) (d : Decided) (cuts : List Cut) (c : Cut) (n : ℕ) (e : Edge) (over : Excess) (kept : Kept) → HasRows g kept → KeepsDecision g d kept →
+    slice_get g.edges n ≡ Some e → LoadsBelow g cuts c n kept →
+    ((state : EdgeState) → slice_get kept.states n ≡ Some state → KeepsLoads state e cuts (get_or kept.there n 0) (get_or kept.back n 0) → IsOverload state e (cuts ++ c ∷ []) c.members over) →
+    IsFirstOverload g d (cuts ++ c ∷ []) c.members n over.load over.room
+IsFirstOverload-kept g d cuts c n e over kept rows keeps at below overloads =
+    let same = states_kept g d kept rows keeps in
+    let state = get_or kept.states n Undecided in
+    let state_at : slice_get kept.states n ≡ Some state = slice_get-get_or kept.states n Undecided (omega (arith, rows.states, slice_get_within g.edges n e at)) in
+    let is = overloads state state_at (below.ahead n (omega arith) e state at state_at) in
+    record {
+      is = e;
+      state = state;
+      at = at;
+      state_is = ap (λ xs. slice_get xs n) same ∙ state_at;
+      room_is = is.room;
+      entered = is.entered;
+      above = is.above;
+      first = λ m lt. KeepsRoom-kept g d (cuts ++ c ∷ []) kept m same (below.passed m lt);
+    }

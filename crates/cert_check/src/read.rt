@@ -1,0 +1,40 @@
+//! Reads an answer byte by byte, and judges its lines as they end.
+
+ghost use Rattle.std.specs.Prelude.{◌≡◌, ◌+◌, ◌-◌, ◌^◌, ◌<◌, ℕ, List, [], ◌∷◌, ◌++◌, None, IfNone};
+ghost use Rattle.hanan_grid.specs.Grid.{hanan_grid_of};
+ghost use Rattle.cut_cert.specs.Reader.{bytes_fed};
+ghost use Rattle.cert_check.specs.Standing.{IsJudgeOn};
+ghost use Rattle.cert_check.specs.Underway.{Follows, IsReading};
+
+use crate::judge::Judge;
+use crate::verdict::Cause;
+use cut_cert::{EventReader, reads_beginnings};
+use hanan_grid::Grid;
+
+/// Reads one more byte, and judges the line that it ends. Gives why the answer is refused, if it is from here on.
+pub(crate) fn read_byte(
+    grid: &Grid,
+    reader: &mut EventReader,
+    judge: &mut Judge,
+    byte: u8,
+) -> Option<Cause>
+    requires sizes { IsJudgeOn grid.now judge.old }
+    requires few { bytes_fed reader.old < 2 ^ 32 - 1 }
+    requires reads { IsReading (hanan_grid_of grid.now).vertices reader.old }
+    ensures sizes { IsJudgeOn grid.now judge.new }
+    ensures fed { bytes_fed reader.new ≡ bytes_fed reader.old + 1 }
+    ensures reads { IfNone result (IsReading (hanan_grid_of grid.now).vertices reader.new) }
+    ensures follows { (bytes : List ℕ) → Follows grid.now bytes reader.old judge.old None
+        → Follows grid.now (bytes ++ byte ∷ []) reader.new judge.new result }
+{
+    reads_beginnings();
+    let line = reader.line();
+    let told = match reader.feed(byte) {
+        Ok(told) => told,
+        Err(fault) => return Some(Cause::NotAnswer(fault.line)),
+    };
+    let Some(event) = told else {
+        return None;
+    };
+    judge.judge(grid, line, &event, reader.members())
+}

@@ -1,0 +1,221 @@
+//! The room in which an answer is checked.
+
+ghost use Rattle.std.specs.Prelude.{◌≡◌, ℕ, ◌+◌, ◌*◌, ◌<◌, ◌≤◌, ◌↔◌, List, [], ◌∷◌, length, drop, replicate, slice_get, slice_index, slice_set, Some, IsTrue, IfSome, IfNone};
+ghost use Rattle.net_graph.specs.Network.{IsNetwork, IsFirstApart};
+ghost use Rattle.cert_check.specs.Room.{nothing_kept, path_start, state_of};
+ghost use Rattle.cert_check.specs.declared.turn.Turn.{Turn};
+
+use crate::turn::Turn;
+use cut_cert::Row;
+use net_graph::{EdgeSet, EdgeState, NetGraph, first_apart_within};
+use std::marker::Model;
+
+/// A row of numbers in which an answer on a graph is checked. It has the load of each arc, the state of each edge, room
+/// for a search and for a state of each vertex, and the way of splits to the node that is read.
+#[derive(Debug, Drop)]
+pub(crate) struct Room {
+    row: Row,
+    edges: u32,
+    vertices: u32,
+    /// How many splits are on the way.
+    depth: u32,
+}
+
+impl Model for Room {
+    ghost use Rattle.cert_check.specs.Room.{Kept, kept_in, IsRoom};
+
+    ghost Value = { Kept };
+
+    ghost view = { λ r. kept_in r.row r.edges r.vertices r.depth };
+
+    ghost invariant = { λ r. IsRoom r.row r.edges r.vertices r.depth };
+}
+
+impl Room {
+    /// A room in which nothing is loaded or decided, whatever numbers stood in the row.
+    pub(crate) fn begin(row: Row, edges: u32, vertices: u32) -> Room
+        requires few_edges { edges ≤ 4900 }
+        requires few_vertices { vertices ≤ 2500 }
+        requires length { length row ≡ 3 * edges + 3 * vertices + 512 }
+        ensures { result ≡ nothing_kept edges vertices }
+    {
+        let mut row = row;
+        clear_numbers(&mut row, 3 * edges);
+        Room {
+            row,
+            edges,
+            vertices,
+            depth: 0,
+        }
+    }
+
+    /// The load of the arc of an edge from its end a to its end b.
+    pub(crate) fn there(&self, n: u32) -> u64
+        requires { n < length self.now.there }
+        ensures { result ≡ slice_index self.now.there n }
+    {
+        self.row.get(n)
+    }
+
+    /// Writes the load of that arc.
+    pub(crate) fn set_there(&mut self, n: u32, load: u64)
+        requires { n < length self.old.there }
+        ensures { self.new ≡ record self.old { there = slice_set self.old.there n load } }
+    {
+        self.row.set(n, load);
+    }
+
+    /// The load of the arc of an edge from its end b to its end a.
+    pub(crate) fn back(&self, n: u32) -> u64
+        requires { n < length self.now.back }
+        ensures { result ≡ slice_index self.now.back n }
+    {
+        self.row.get(self.edges + n)
+    }
+
+    /// Writes the load of that arc.
+    pub(crate) fn set_back(&mut self, n: u32, load: u64)
+        requires { n < length self.old.back }
+        ensures { self.new ≡ record self.old { back = slice_set self.old.back n load } }
+    {
+        self.row.set(self.edges + n, load);
+    }
+
+    /// Forgets all loads.
+    pub(crate) fn clear_loads(&mut self)
+        ensures { self.new ≡ record self.old {
+          there = replicate (length self.old.there) 0;
+          back = replicate (length self.old.back) 0;
+        } }
+    {
+        clear_numbers(&mut self.row, 2 * self.edges);
+    }
+
+    /// The state of an edge.
+    pub(crate) fn state(&self, n: u32) -> EdgeState
+        requires { n < length self.now.states }
+        ensures { slice_get self.now.states n ≡ Some result }
+    {
+        state_from(self.row.get(2 * self.edges + n))
+    }
+
+    /// Whether an edge is inside.
+    pub(crate) fn is_inside(&self, n: u32) -> bool
+        requires { n < length self.now.states }
+        ensures { IsTrue result ↔ (slice_get self.now.states n ≡ Some EdgeState.Inside) }
+    {
+        matches!(self.state(n), EdgeState::Inside)
+    }
+
+    /// Whether an edge is undecided.
+    pub(crate) fn is_undecided(&self, n: u32) -> bool
+        requires { n < length self.now.states }
+        ensures { IsTrue result ↔ (slice_get self.now.states n ≡ Some EdgeState.Undecided) }
+    {
+        matches!(self.state(n), EdgeState::Undecided)
+    }
+
+    /// Writes the state of an edge.
+    pub(crate) fn set_state(&mut self, n: u32, state: EdgeState)
+        requires { n < length self.old.states }
+        ensures { self.new ≡ record self.old { states = slice_set self.old.states n state } }
+    {
+        self.row.set(2 * self.edges + n, number_from(state));
+    }
+
+    /// The lowest split on the way, if there is one.
+    pub(crate) fn lowest(&self) -> Option<Turn>
+        ensures none { IfNone result (self.now.path ≡ []) }
+        ensures some { IfSome result (λ t. (above : List Turn) × (self.now.path ≡ t ∷ above)) }
+    {
+        if self.depth == 0 {
+            return None;
+        }
+        let place = path_place(self.edges, self.vertices, self.depth - 1);
+        Some(Turn {
+            edge: self.row.get(place),
+            inside: self.row.get(place + 1) == 1,
+        })
+    }
+
+    /// Goes down by one more split.
+    pub(crate) fn push(&mut self, turn: Turn)
+        requires { length self.old.path < 255 }
+        ensures { self.new ≡ record self.old { path = turn ∷ self.old.path } }
+    {
+        let place = path_place(self.edges, self.vertices, self.depth);
+        self.row.set(place, turn.edge);
+        self.row.set(place + 1, u64::from(turn.inside));
+        self.depth += 1;
+    }
+
+    /// The first terminal that the set doesn't join to the root, by its place in the list of terminals: None where it
+    /// joins all of them.
+    pub(crate) fn first_apart(&mut self, g: &NetGraph, set: &EdgeSet) -> Option<u8>
+        requires size { length set.now ≡ length g.now.edges }
+        requires few { length g.now.terminals ≤ 255 }
+        requires vertices { self.old.vertices ≡ g.now.vertices }
+        ensures none { IfNone result (IsNetwork g.now set.now) }
+        ensures first { IfSome result (IsFirstApart g.now set.now) }
+        ensures kept { self.new ≡ self.old }
+    {
+        let edges = self.edges as usize;
+        let vertices = self.vertices as usize;
+        let (_, room) = self.row.numbers_mut().split_at_mut(3 * edges);
+        let (marks, room) = room.split_at_mut(vertices);
+        let (queue, _) = room.split_at_mut(vertices);
+        first_apart_within(g, set, marks, queue)
+    }
+
+    /// Goes up by one split.
+    pub(crate) fn pop(&mut self)
+        requires { 0 < length self.old.path }
+        ensures { self.new ≡ record self.old { path = drop 1 self.old.path } }
+    {
+        self.depth -= 1;
+    }
+}
+
+// Writes 0 in place of the first numbers.
+fn clear_numbers(row: &mut Row, count: u32)
+    requires { count ≤ length row.old }
+    ensures length { length row.new ≡ length row.old }
+    ensures zero { (k : ℕ) → k < count → slice_index row.new k ≡ 0 }
+    ensures kept { (k : ℕ) → count ≤ k → slice_index row.new k ≡ slice_index row.old k }
+{
+    for n in 0..count {
+        row.set(n, 0);
+    }
+}
+
+// Where a split of the way stands in the row.
+fn path_place(edges: u32, vertices: u32, depth: u32) -> u32
+    requires few_edges { edges ≤ 4900 }
+    requires few_vertices { vertices ≤ 2500 }
+    requires depth { depth ≤ 255 }
+    ensures { result ≡ path_start edges vertices + 2 * depth }
+{
+    3 * edges + 3 * vertices + 2 * depth
+}
+
+// The state that a number stands for.
+fn state_from(number: u64) -> EdgeState
+    ensures { result ≡ state_of number }
+{
+    match number {
+        0 => EdgeState::Undecided,
+        1 => EdgeState::Inside,
+        _ => EdgeState::Outside,
+    }
+}
+
+// The number that stands for a state.
+fn number_from(state: EdgeState) -> u64
+    ensures { state_of result ≡ state }
+{
+    match state {
+        EdgeState::Undecided => 0,
+        EdgeState::Inside => 1,
+        EdgeState::Outside => 2,
+    }
+}

@@ -1,0 +1,205 @@
+-- What is due before a line that was due, and behind it.
+use Rattle.std.proofs.Common.{ℕ, suc, zero, ◌≡◌, refl, Some}
+use Rattle.net_graph.specs.declared.packing.Cut.{Cut}
+use Rattle.hanan_grid.specs.declared.name.EdgeName.{EdgeName}
+use Rattle.cut_cert.specs.declared.head.ConcatNote.{ConcatNote}
+use Rattle.std.specs.Prelude.{Bool}
+use Rattle.cut_cert.specs.LineKinds as line
+use Rattle.cut_cert.specs.declared.line.Stage.{Stage}
+use Rattle.cut_cert.specs.declared.line.Stage.TheVariants as stage
+use Rattle.cut_cert.specs.Lines.{step}
+
+pub step-title : (s s' : Stage) → step s line.Title ≡ Some s' → stage.Length ≡ s'
+step-title stage.Title s' e = cc
+step-title stage.Length s' e = absurd cc
+step-title stage.Bound s' e = absurd cc
+step-title stage.Status s' e = absurd cc
+step-title stage.Openings s' e = absurd cc
+step-title stage.Concat s' e = absurd cc
+step-title stage.Count s' e = absurd cc
+step-title (stage.Edges zero) s' e = absurd cc
+step-title (stage.Edges (suc k)) s' e = absurd cc
+step-title (stage.Body zero zero) s' e = absurd cc
+step-title (stage.Body zero (suc m)) s' e = absurd cc
+step-title (stage.Body (suc k) m) s' e = absurd cc
+step-title stage.Done s' e = absurd cc
+
+pub step-length : (s s' : Stage) (n : ℕ) → step s (line.Length n) ≡ Some s' → stage.Bound ≡ s'
+step-length stage.Length s' n e = cc
+step-length stage.Title s' n e = absurd cc
+step-length stage.Bound s' n e = absurd cc
+step-length stage.Status s' n e = absurd cc
+step-length stage.Openings s' n e = absurd cc
+step-length stage.Concat s' n e = absurd cc
+step-length stage.Count s' n e = absurd cc
+step-length (stage.Edges zero) s' n e = absurd cc
+step-length (stage.Edges (suc k)) s' n e = absurd cc
+step-length (stage.Body zero zero) s' n e = absurd cc
+step-length (stage.Body zero (suc m)) s' n e = absurd cc
+step-length (stage.Body (suc k) m) s' n e = absurd cc
+step-length stage.Done s' n e = absurd cc
+
+pub step-bound : (s s' : Stage) (n : ℕ) → step s (line.Bound n) ≡ Some s' → stage.Status ≡ s'
+step-bound stage.Bound s' n e = cc
+step-bound stage.Title s' n e = absurd cc
+step-bound stage.Length s' n e = absurd cc
+step-bound stage.Status s' n e = absurd cc
+step-bound stage.Openings s' n e = absurd cc
+step-bound stage.Concat s' n e = absurd cc
+step-bound stage.Count s' n e = absurd cc
+step-bound (stage.Edges zero) s' n e = absurd cc
+step-bound (stage.Edges (suc k)) s' n e = absurd cc
+step-bound (stage.Body zero zero) s' n e = absurd cc
+step-bound (stage.Body zero (suc m)) s' n e = absurd cc
+step-bound (stage.Body (suc k) m) s' n e = absurd cc
+step-bound stage.Done s' n e = absurd cc
+
+pub step-status : (s s' : Stage) (optimal : Bool) → step s (line.Status optimal) ≡ Some s' → stage.Openings ≡ s'
+step-status stage.Status s' optimal e = cc
+step-status stage.Title s' optimal e = absurd cc
+step-status stage.Length s' optimal e = absurd cc
+step-status stage.Bound s' optimal e = absurd cc
+step-status stage.Openings s' optimal e = absurd cc
+step-status stage.Concat s' optimal e = absurd cc
+step-status stage.Count s' optimal e = absurd cc
+step-status (stage.Edges zero) s' optimal e = absurd cc
+step-status (stage.Edges (suc k)) s' optimal e = absurd cc
+step-status (stage.Body zero zero) s' optimal e = absurd cc
+step-status (stage.Body zero (suc m)) s' optimal e = absurd cc
+step-status (stage.Body (suc k) m) s' optimal e = absurd cc
+step-status stage.Done s' optimal e = absurd cc
+
+pub step-openings : (s s' : Stage) (n : ℕ) → step s (line.Openings n) ≡ Some s' → stage.Concat ≡ s'
+step-openings stage.Openings s' n e = cc
+step-openings stage.Title s' n e = absurd cc
+step-openings stage.Length s' n e = absurd cc
+step-openings stage.Bound s' n e = absurd cc
+step-openings stage.Status s' n e = absurd cc
+step-openings stage.Concat s' n e = absurd cc
+step-openings stage.Count s' n e = absurd cc
+step-openings (stage.Edges zero) s' n e = absurd cc
+step-openings (stage.Edges (suc k)) s' n e = absurd cc
+step-openings (stage.Body zero zero) s' n e = absurd cc
+step-openings (stage.Body zero (suc m)) s' n e = absurd cc
+step-openings (stage.Body (suc k) m) s' n e = absurd cc
+step-openings stage.Done s' n e = absurd cc
+
+pub step-concat : (s s' : Stage) (c : ConcatNote) → step s (line.Concat c) ≡ Some s' → stage.Count ≡ s'
+step-concat stage.Concat s' c e = cc
+step-concat stage.Title s' c e = absurd cc
+step-concat stage.Length s' c e = absurd cc
+step-concat stage.Bound s' c e = absurd cc
+step-concat stage.Status s' c e = absurd cc
+step-concat stage.Openings s' c e = absurd cc
+step-concat stage.Count s' c e = absurd cc
+step-concat (stage.Edges zero) s' c e = absurd cc
+step-concat (stage.Edges (suc k)) s' c e = absurd cc
+step-concat (stage.Body zero zero) s' c e = absurd cc
+step-concat (stage.Body zero (suc m)) s' c e = absurd cc
+step-concat (stage.Body (suc k) m) s' c e = absurd cc
+step-concat stage.Done s' c e = absurd cc
+
+pub step-count : (s s' : Stage) (n : ℕ) → step s (line.Count n) ≡ Some s' → stage.Edges n ≡ s'
+step-count stage.Count s' n e = cc
+step-count stage.Title s' n e = absurd cc
+step-count stage.Length s' n e = absurd cc
+step-count stage.Bound s' n e = absurd cc
+step-count stage.Status s' n e = absurd cc
+step-count stage.Openings s' n e = absurd cc
+step-count stage.Concat s' n e = absurd cc
+step-count (stage.Edges zero) s' n e = absurd cc
+step-count (stage.Edges (suc k)) s' n e = absurd cc
+step-count (stage.Body zero zero) s' n e = absurd cc
+step-count (stage.Body zero (suc m)) s' n e = absurd cc
+step-count (stage.Body (suc k) m) s' n e = absurd cc
+step-count stage.Done s' n e = absurd cc
+
+pub step-tree : (s s' : Stage) → step s line.Tree ≡ Some s' → stage.Body 0 1 ≡ s'
+step-tree (stage.Edges zero) s' e = cc
+step-tree stage.Title s' e = absurd cc
+step-tree stage.Length s' e = absurd cc
+step-tree stage.Bound s' e = absurd cc
+step-tree stage.Status s' e = absurd cc
+step-tree stage.Openings s' e = absurd cc
+step-tree stage.Concat s' e = absurd cc
+step-tree stage.Count s' e = absurd cc
+step-tree (stage.Edges (suc k)) s' e = absurd cc
+step-tree (stage.Body zero zero) s' e = absurd cc
+step-tree (stage.Body zero (suc m)) s' e = absurd cc
+step-tree (stage.Body (suc k) m) s' e = absurd cc
+step-tree stage.Done s' e = absurd cc
+
+pub step-end : (s s' : Stage) → step s line.End ≡ Some s' → stage.Done ≡ s'
+step-end (stage.Body zero zero) s' e = cc
+step-end stage.Title s' e = absurd cc
+step-end stage.Length s' e = absurd cc
+step-end stage.Bound s' e = absurd cc
+step-end stage.Status s' e = absurd cc
+step-end stage.Openings s' e = absurd cc
+step-end stage.Concat s' e = absurd cc
+step-end stage.Count s' e = absurd cc
+step-end (stage.Edges zero) s' e = absurd cc
+step-end (stage.Edges (suc k)) s' e = absurd cc
+step-end (stage.Body zero (suc m)) s' e = absurd cc
+step-end (stage.Body (suc k) m) s' e = absurd cc
+step-end stage.Done s' e = absurd cc
+
+pub step-leaf : (s s' : Stage) (n : ℕ) → step s (line.Leaf n) ≡ Some s' → (nodes : ℕ) × (s ≡ stage.Body 0 (suc nodes)) × (stage.Body n nodes ≡ s')
+step-leaf (stage.Body zero (suc nodes)) s' n e = (nodes, refl, cc)
+step-leaf stage.Title s' n e = absurd cc
+step-leaf stage.Length s' n e = absurd cc
+step-leaf stage.Bound s' n e = absurd cc
+step-leaf stage.Status s' n e = absurd cc
+step-leaf stage.Openings s' n e = absurd cc
+step-leaf stage.Concat s' n e = absurd cc
+step-leaf stage.Count s' n e = absurd cc
+step-leaf (stage.Edges zero) s' n e = absurd cc
+step-leaf (stage.Edges (suc k)) s' n e = absurd cc
+step-leaf (stage.Body zero zero) s' n e = absurd cc
+step-leaf (stage.Body (suc k) m) s' n e = absurd cc
+step-leaf stage.Done s' n e = absurd cc
+
+pub step-edge : (s s' : Stage) (d : EdgeName) → step s (line.Edge d) ≡ Some s' → (edges : ℕ) × (s ≡ stage.Edges (suc edges)) × (stage.Edges edges ≡ s')
+step-edge (stage.Edges (suc edges)) s' d e = (edges, refl, cc)
+step-edge stage.Title s' d e = absurd cc
+step-edge stage.Length s' d e = absurd cc
+step-edge stage.Bound s' d e = absurd cc
+step-edge stage.Status s' d e = absurd cc
+step-edge stage.Openings s' d e = absurd cc
+step-edge stage.Concat s' d e = absurd cc
+step-edge stage.Count s' d e = absurd cc
+step-edge (stage.Edges zero) s' d e = absurd cc
+step-edge (stage.Body zero zero) s' d e = absurd cc
+step-edge (stage.Body zero (suc m)) s' d e = absurd cc
+step-edge (stage.Body (suc k) m) s' d e = absurd cc
+step-edge stage.Done s' d e = absurd cc
+
+pub step-split : (s s' : Stage) (d : EdgeName) → step s (line.Split d) ≡ Some s' → (nodes : ℕ) × (s ≡ stage.Body 0 (suc nodes)) × (stage.Body 0 (suc (suc nodes)) ≡ s')
+step-split (stage.Body zero (suc nodes)) s' d e = (nodes, refl, cc)
+step-split stage.Title s' d e = absurd cc
+step-split stage.Length s' d e = absurd cc
+step-split stage.Bound s' d e = absurd cc
+step-split stage.Status s' d e = absurd cc
+step-split stage.Openings s' d e = absurd cc
+step-split stage.Concat s' d e = absurd cc
+step-split stage.Count s' d e = absurd cc
+step-split (stage.Edges zero) s' d e = absurd cc
+step-split (stage.Edges (suc k)) s' d e = absurd cc
+step-split (stage.Body zero zero) s' d e = absurd cc
+step-split (stage.Body (suc k) m) s' d e = absurd cc
+step-split stage.Done s' d e = absurd cc
+
+pub step-cut : (s s' : Stage) (c : Cut) → step s (line.Cut c) ≡ Some s' → (cuts : ℕ) × (nodes : ℕ) × (s ≡ stage.Body (suc cuts) nodes) × (stage.Body cuts nodes ≡ s')
+step-cut (stage.Body (suc cuts) nodes) s' c e = (cuts, nodes, refl, cc)
+step-cut stage.Title s' c e = absurd cc
+step-cut stage.Length s' c e = absurd cc
+step-cut stage.Bound s' c e = absurd cc
+step-cut stage.Status s' c e = absurd cc
+step-cut stage.Openings s' c e = absurd cc
+step-cut stage.Concat s' c e = absurd cc
+step-cut stage.Count s' c e = absurd cc
+step-cut (stage.Edges zero) s' c e = absurd cc
+step-cut (stage.Edges (suc k)) s' c e = absurd cc
+step-cut (stage.Body zero zero) s' c e = absurd cc
+step-cut (stage.Body zero (suc m)) s' c e = absurd cc
+step-cut stage.Done s' c e = absurd cc

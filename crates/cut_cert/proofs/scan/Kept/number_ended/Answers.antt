@@ -1,0 +1,21 @@
+use Rattle.std.proofs.Common.{◌^◌, refl}
+use Rattle.cut_cert.proofs.WordLemmas.{none_then}
+use Rattle.cut_cert.proofs.ScanClose.{same_small, next-weight, dead-y2, dead-other}
+use Rattle.cut_cert.proofs.scan.Kept.number_ended.Goals as goal
+
+pub returns-in_ok-self-in-Weight-clause-next : goal.returns-in_ok-self-in-Weight-clause-next
+returns-in_ok-self-in-Weight-clause-next c = λ inside name.
+    next-weight c.args.self.now c.args.field c.args.value c.in_ok-self-in-Weight.field-0 c.clear.new.self c.in-Weight.is
+    (same_small c.try_from.result (2 ^ 64) c.args.value c.in_ok-self-in-Weight.field-0 c.ok.result c.try_from.ensures c.ok.ensures.value c.in_ok-self-in-Weight.was) c.clear.ensures inside name
+
+pub returns-in_ok-with_sign-in-Coordinate-clause-dead : goal.returns-in_ok-with_sign-in-Coordinate-clause-dead
+returns-in_ok-with_sign-in-Coordinate-clause-dead c =
+    none_then c.coordinate_ended.result c.coordinate_ended.ensures.none
+    (λ last inside. dead-y2 c.args.self.now c.args.field c.in-Coordinate.corner c.in-Coordinate.minus c.args.value c.in-Coordinate.is last inside)
+
+pub returns-in_default : goal.returns-in_default
+returns-in_default c = record {
+  next = tt;
+  dead = dead-other c.args.self.now c.args.field c.args.value c.in_default.not-Weight c.in_default.not-Coordinate;
+  stage = refl;
+}

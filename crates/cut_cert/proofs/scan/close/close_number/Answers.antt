@@ -1,0 +1,29 @@
+use Rattle.std.proofs.Common.{◌^◌}
+use Rattle.cut_cert.proofs.ScanClose.{same_small, no_line-weight, closes-length, closes-bound, closes-openings, closes-total, closes-count}
+use Rattle.cut_cert.proofs.scan.close.close_number.Goals as goal
+
+pub returns-in_ok-head-in-Length-clause-closes : goal.returns-in_ok-head-in-Length-clause-closes
+returns-in_ok-head-in-Length-clause-closes c = λ inside name.
+    closes-length c.args.kept.now c.args.head.now c.args.field c.args.value c.in_ok-head-in-Length.field-0 c.in-Length.is
+    (same_small c.try_from.result (2 ^ 64) c.args.value c.in_ok-head-in-Length.field-0 c.ok.result c.try_from.ensures c.ok.ensures.value c.in_ok-head-in-Length.was) inside name
+
+pub returns-in_ok-head-in-Bound-clause-closes : goal.returns-in_ok-head-in-Bound-clause-closes
+returns-in_ok-head-in-Bound-clause-closes c = λ inside name.
+    closes-bound c.args.kept.now c.args.head.now c.args.field c.args.value c.in_ok-head-in-Bound.field-0 c.in-Bound.is
+    (same_small c.try_from-in-Bound.result (2 ^ 64) c.args.value c.in_ok-head-in-Bound.field-0 c.ok-in-Bound.result c.try_from-in-Bound.ensures c.ok-in-Bound.ensures.value c.in_ok-head-in-Bound.was) inside name
+
+pub returns-in_ok-head-in-Openings-clause-closes : goal.returns-in_ok-head-in-Openings-clause-closes
+returns-in_ok-head-in-Openings-clause-closes c = λ inside name.
+    closes-openings c.args.kept.now c.args.head.now c.args.field c.args.value c.in_ok-head-in-Openings.field-0 c.in-Openings.is
+    (same_small c.try_from-in-Openings.result (2 ^ 8) c.args.value c.in_ok-head-in-Openings.field-0 c.ok-in-Openings.result c.try_from-in-Openings.ensures c.ok-in-Openings.ensures.value c.in_ok-head-in-Openings.was) inside name
+
+pub returns-in-Total-clause-closes : goal.returns-in-Total-clause-closes
+returns-in-Total-clause-closes c = λ inside name. closes-total c.args.kept.now c.args.head.now c.args.field c.args.value c.in-Total.least c.in-Total.is inside name
+
+pub returns-in_ok-edges-in-Count-clause-closes : goal.returns-in_ok-edges-in-Count-clause-closes
+returns-in_ok-edges-in-Count-clause-closes c = λ inside name.
+    closes-count c.args.kept.now c.args.head.now c.args.field c.args.value c.in_ok-edges-in-Count.edges c.in-Count.is
+    (same_small c.try_from-in-Count.result (2 ^ 32) c.args.value c.in_ok-edges-in-Count.edges c.ok-in-Count.result c.try_from-in-Count.ensures c.ok-in-Count.ensures.value c.in_ok-edges-in-Count.was) inside name
+
+pub returns-in-Weight-clause-none : goal.returns-in-Weight-clause-none
+returns-in-Weight-clause-none c = no_line-weight c.args.kept.now c.args.field c.args.value c.in-Weight.is

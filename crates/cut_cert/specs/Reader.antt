@@ -1,0 +1,58 @@
+-- Which bytes a reader stands for.
+use Rattle.std.specs.Prelude.{ℕ, ◌≡◌, ◌-◌, Bool, List, [], ◌∷◌, ◌++◌, length, take}
+use Rattle.spelled.specs.Words.{Lacks}
+use Rattle.cut_cert.specs.AnswerLine.{Line}
+use Rattle.cut_cert.specs.declared.line.Stage.{Stage}
+use Rattle.cut_cert.specs.declared.line.Stage.TheVariants as stage
+use Rattle.cut_cert.specs.declared.event.AnswerEvent.{AnswerEvent}
+use Rattle.cut_cert.specs.declared.scan.Scan.TheVariants as scan
+use Rattle.cut_cert.specs.declared.reader.EventReader.{EventReader}
+use Rattle.cut_cert.specs.Value.{WrittenAnswer}
+use Rattle.cut_cert.specs.Spelling.{SpellsAnswer, FitsName}
+use Rattle.cut_cert.specs.Lines.{IsLineRead}
+use Rattle.cut_cert.specs.Events.{events_of}
+use Rattle.cut_cert.specs.Reading.{BeginsAnswer, line_feeds, StopsAt}
+use Rattle.cut_cert.specs.LinesRead.{ReadSoFar}
+use Rattle.cut_cert.specs.Scanning.{Left, IsSound}
+
+-- how many bytes were fed, the line of the next byte, and the set of the cut that was just read
+abbrev pub bytes_fed : EventReader → ℕ
+bytes_fed reader = reader.fed
+
+abbrev pub line_due : EventReader → ℕ
+line_due reader = reader.line
+
+abbrev pub set_read : EventReader → List Bool
+set_read reader = reader.kept.members
+
+-- The reader stands for these bytes, of whose whole lines these are the events: their last line, which is not whole,
+-- is what was read of it, and what may follow makes it a line that is due.
+pub record Reads (V : ℕ) (bytes : List ℕ) (events : List AnswerEvent) (reader : EventReader) : Type 0 where
+  pub begun : List ℕ
+  pub lines : ReadSoFar V bytes begun reader.kept.stage reader.head reader.line events
+  pub unended : Lacks begun 10
+  pub due : (rest : List ℕ) (l : Line) → Left reader.kept reader.scan rest l
+      → (s' : Stage) × IsLineRead V reader.kept.stage (begun ++ rest) l s'
+  pub left : (rest : List ℕ) (l : Line) (s' : Stage) → IsLineRead V reader.kept.stage (begun ++ rest) l s'
+      → Left reader.kept reader.scan rest l
+  pub sound : IsSound reader.kept reader.scan
+  pub name : FitsName reader.kept.name
+  pub at_end : reader.scan ≡ scan.Ended → (reader.kept.stage ≡ stage.Done) × (begun ≡ [])
+  pub count : reader.fed ≡ length bytes
+  pub vertices : length reader.kept.members ≡ V
+
+-- the reader refuses each further byte, with this line
+pub record Refuses (reader : EventReader) (n : ℕ) : Type 0 where
+  pub line : reader.line ≡ n
+  pub refused : reader.scan ≡ scan.Refused
+
+-- the bytes begin an answer, and in each answer that begins with them these events are its first
+pub record BeginsWith (V : ℕ) (bytes : List ℕ) (events : List AnswerEvent) : Type 0 where
+  pub begins : BeginsAnswer V bytes
+  pub told : (rest : List ℕ) (answer : WrittenAnswer) → SpellsAnswer V (bytes ++ rest) answer
+      → events ≡ take (line_feeds bytes - 5) (events_of answer)
+
+-- with this byte the bytes cease to begin an answer, in the line n: whatever follows, they stop there
+pub record CeasesAt (V : ℕ) (bytes : List ℕ) (byte n : ℕ) (events : List AnswerEvent) : Type 0 where
+  pub ceased : BeginsAnswer V (bytes ++ byte ∷ []) → ⊥
+  pub stops : (rest : List ℕ) → StopsAt V (bytes ++ byte ∷ rest) n events

@@ -1,0 +1,268 @@
+-- What is still due of a line: the bytes that may follow those that were read of it, and the line that they make.
+use Rattle.std.specs.Prelude.{ℕ, suc, zero, ◌≡◌, ◌<◌, ◌≤◌, ◌+◌, ◌*◌, ◌/◌, ◌^◌, ◌⊎◌, ℤ, pos, negsuc, Bool, true, false, List, [], ◌∷◌, ◌++◌, length, drop, codes, Option, Some}
+use Rattle.std.specs.Fmt.{decimal, signed_decimal}
+use Rattle.net_graph.specs.Flags.{has}
+use Rattle.hanan_grid.specs.declared.name.EdgeName.{EdgeName}
+use Rattle.cut_cert.specs.AnswerLine.{Line}
+use Rattle.cut_cert.specs.LineKinds as line
+use Rattle.cut_cert.specs.declared.line.Stage.{Stage}
+use Rattle.cut_cert.specs.declared.line.Stage.TheVariants as stage
+use Rattle.cut_cert.specs.declared.scan.Kept.{Kept}
+use Rattle.cut_cert.specs.declared.scan.Scan.{Scan}
+use Rattle.cut_cert.specs.declared.scan.Scan.TheVariants as scan
+use Rattle.cut_cert.specs.declared.scan.Word.{Word}
+use Rattle.cut_cert.specs.declared.scan.Word.TheVariants as word
+use Rattle.cut_cert.specs.declared.scan.Field.{Field}
+use Rattle.cut_cert.specs.declared.scan.Field.TheVariants as field
+use Rattle.cut_cert.specs.declared.scan.Corner.{Corner}
+use Rattle.cut_cert.specs.declared.scan.Corner.TheVariants as corner
+use Rattle.cut_cert.specs.declared.scan.Closed.{Closed}
+use Rattle.cut_cert.specs.declared.scan.Closed.TheVariants as closed
+use Rattle.cut_cert.specs.Text.{set_text}
+use Rattle.cut_cert.specs.Spelling.{FitsName}
+use Rattle.cut_cert.specs.Lines.{step}
+use Rattle.cut_cert.specs.Events.{head_with, line_told, event_at}
+use Rattle.cut_cert.specs.Given.{given}
+use Rattle.cut_cert.specs.declared.head.AnswerHead.{AnswerHead}
+use Rattle.cut_cert.specs.declared.event.Event.{Event}
+
+-- the bytes of a word
+abbrev pub word_bytes : Word → List ℕ
+word_bytes word.Title = codes "rst answer 1"
+word_bytes word.Length = codes "length "
+word_bytes word.Bound = codes "bound "
+word_bytes word.Status = codes "status "
+word_bytes word.Optimal = codes "optimal"
+word_bytes word.Stopped = codes "stopped"
+word_bytes word.Openings = codes "openings "
+word_bytes word.Concat = codes "concat "
+word_bytes word.Least = codes "least "
+word_bytes word.Spent = codes "spent "
+word_bytes word.Edges = codes "edges "
+word_bytes word.Tree = codes "tree"
+word_bytes word.Split = codes "split "
+word_bytes word.Leaf = codes "leaf "
+word_bytes word.Cut = codes "cut "
+word_bytes word.End = codes "end"
+
+-- what is due behind a word
+abbrev pub behind_word : Word → Scan
+behind_word word.Title = scan.LineEnd closed.Title
+behind_word word.Length = scan.Due field.Length
+behind_word word.Bound = scan.Due field.Bound
+behind_word word.Status = scan.Status
+behind_word word.Optimal = scan.LineEnd (closed.Status true)
+behind_word word.Stopped = scan.LineEnd (closed.Status false)
+behind_word word.Openings = scan.Due field.Openings
+behind_word word.Concat = scan.Kind
+behind_word word.Least = scan.Due (field.Total true)
+behind_word word.Spent = scan.Due (field.Total false)
+behind_word word.Edges = scan.Due field.Count
+behind_word word.Tree = scan.LineEnd closed.Tree
+behind_word word.Split = scan.Coordinate corner.X1
+behind_word word.Leaf = scan.Due field.Leaf
+behind_word word.Cut = scan.Due field.Weight
+behind_word word.End = scan.LineEnd closed.End
+
+-- the line that a last word makes
+abbrev pub closed_line : Closed → Line
+closed_line closed.Title = line.Title
+closed_line (closed.Status optimal) = line.Status optimal
+closed_line closed.Tree = line.Tree
+closed_line closed.End = line.End
+
+-- the numbers that may stand in a field: from the first to below the second
+abbrev pub least_of : Field → ℕ
+least_of field.Weight = 1
+least_of (field.Coordinate c true) = 1
+least_of f = 0
+
+abbrev pub limit_of : Field → ℕ
+limit_of field.Length = 2 ^ 64
+limit_of field.Bound = 2 ^ 64
+limit_of field.Openings = 2 ^ 8
+limit_of (field.Total least) = 2 ^ 128
+limit_of field.Count = 2 ^ 32
+limit_of field.Leaf = 2 ^ 32
+limit_of field.Weight = 2 ^ 64
+limit_of (field.Coordinate c false) = 2 ^ 63
+limit_of (field.Coordinate c true) = 2 ^ 63 + 1
+
+pub record IsInField (f : Field) (n : ℕ) : Type 0 where
+  pub least : least_of f ≤ n
+  pub limit : n < limit_of f
+
+-- a number with its sign
+abbrev pub signed : Bool → ℕ → ℤ
+signed false n = pos n
+signed true zero = pos 0
+signed true (suc n) = negsuc n
+
+-- a name's line, where such a line is due
+abbrev pub name_line : Stage → EdgeName → Line
+name_line (stage.Edges edges) e = line.Edge e
+name_line s e = line.Split e
+
+-- what stands behind the first coordinate of a name, and behind the first two
+abbrev pub behind_x1 : EdgeName → List ℕ
+behind_x1 e = signed_decimal e.y1 ++ 32 ∷ (signed_decimal e.x2 ++ 32 ∷ signed_decimal e.y2)
+
+abbrev pub behind_y1 : EdgeName → List ℕ
+behind_y1 e = signed_decimal e.x2 ++ 32 ∷ signed_decimal e.y2
+
+-- the name agrees with what was read of it: this coordinate and those before it
+abbrev pub IsNameWith : EdgeName → Corner → ℤ → EdgeName → Type 0
+IsNameWith kept corner.X1 z e = e.x1 ≡ z
+IsNameWith kept corner.Y1 z e = (e.x1 ≡ kept.x1) × (e.y1 ≡ z)
+IsNameWith kept corner.X2 z e = (e.x1 ≡ kept.x1) × (e.y1 ≡ kept.y1) × (e.x2 ≡ z)
+IsNameWith kept corner.Y2 z e = (e.x1 ≡ kept.x1) × (e.y1 ≡ kept.y1) × (e.x2 ≡ kept.x2) × (e.y2 ≡ z)
+
+-- what stands behind a coordinate
+abbrev pub behind_corner : Corner → EdgeName → List ℕ
+behind_corner corner.X1 e = 32 ∷ behind_x1 e
+behind_corner corner.Y1 e = 32 ∷ behind_y1 e
+behind_corner corner.X2 e = 32 ∷ signed_decimal e.y2
+behind_corner corner.Y2 e = []
+
+pub record BehindCoordinate (k : Kept) (c : Corner) (z : ℤ) (rest : List ℕ) (l : Line) : Type 0 where
+  pub name : EdgeName
+  pub fits : FitsName name
+  pub same : IsNameWith k.name c z name
+  pub text : rest ≡ behind_corner c name
+  pub line : l ≡ name_line k.stage name
+
+-- behind the weight of a cut stand the digits of a set
+pub record BehindWeight (k : Kept) (n : ℕ) (rest : List ℕ) (l : Line) : Type 0 where
+  pub set : List Bool
+  pub size : length set ≡ length k.members
+  pub text : rest ≡ 32 ∷ set_text set
+  pub line : l ≡ line.Cut (record { weight = n; members = set })
+
+-- what stands behind a number, and the line that they make
+abbrev pub BehindNumber : Kept → Field → ℕ → List ℕ → Line → Type 0
+BehindNumber k field.Length n rest l = (rest ≡ []) × (l ≡ line.Length n)
+BehindNumber k field.Bound n rest l = (rest ≡ []) × (l ≡ line.Bound n)
+BehindNumber k field.Openings n rest l = (rest ≡ []) × (l ≡ line.Openings n)
+BehindNumber k (field.Total least) n rest l = (rest ≡ []) × (l ≡ line.Concat (record { least = least; total = n }))
+BehindNumber k field.Count n rest l = (rest ≡ []) × (l ≡ line.Count n)
+BehindNumber k field.Leaf n rest l = (rest ≡ []) × (l ≡ line.Leaf n)
+BehindNumber k field.Weight n rest l = BehindWeight k n rest l
+BehindNumber k (field.Coordinate c minus) n rest l = BehindCoordinate k c (signed minus n) rest l
+
+-- a number whose digits are these and those before them, and what stands behind it
+pub record NumberLeft (k : Kept) (f : Field) (digits rest : List ℕ) (l : Line) : Type 0 where
+  pub number : ℕ
+  pub more : List ℕ
+  pub behind : List ℕ
+  pub parts : rest ≡ more ++ behind
+  pub spelled : decimal number ≡ digits ++ more
+  pub inside : IsInField f number
+  pub follows : BehindNumber k f number behind l
+
+-- the digits of a set from a place on, where the flags before it are those that were read
+pub record SetLeft (k : Kept) (place : ℕ) (rest : List ℕ) (l : Line) : Type 0 where
+  pub set : List Bool
+  pub size : length set ≡ length k.members
+  pub same : (v : ℕ) → v < 4 * place → has set v ≡ has k.members v
+  pub text : rest ≡ drop place (set_text set)
+  pub line : l ≡ line.Cut (record { weight = k.weight; members = set })
+  pub weight : (0 < k.weight) × (k.weight < 2 ^ 64)
+
+-- what is due where neither a word nor one of two is
+abbrev pub ValueLeft : Kept → Scan → List ℕ → Line → Type 0
+ValueLeft k (scan.Due f) rest l = NumberLeft k f [] rest l
+ValueLeft k (scan.Coordinate c) rest l =
+    NumberLeft k (field.Coordinate c false) [] rest l
+    ⊎ ((digits : List ℕ) × (rest ≡ 45 ∷ digits) × NumberLeft k (field.Coordinate c true) [] digits l)
+ValueLeft k (scan.Number f n) rest l = NumberLeft k f (decimal n) rest l
+ValueLeft k (scan.Set place) rest l = SetLeft k place rest l
+ValueLeft k (scan.LineEnd c) rest l = (rest ≡ []) × (l ≡ closed_line c)
+ValueLeft k s rest l = ⊥
+
+-- a word from a place on, and what is due behind it
+abbrev pub WordLeft : Kept → Word → ℕ → List ℕ → Line → Type 0
+WordLeft k w place rest l =
+    (behind : List ℕ) × (rest ≡ drop place (word_bytes w) ++ behind) × ValueLeft k (behind_word w) behind l
+
+-- one of two words
+abbrev pub ForkLeft : Kept → Scan → List ℕ → Line → Type 0
+ForkLeft k scan.Status rest l = WordLeft k word.Optimal 0 rest l ⊎ WordLeft k word.Stopped 0 rest l
+ForkLeft k scan.Kind rest l = WordLeft k word.Least 0 rest l ⊎ WordLeft k word.Spent 0 rest l
+ForkLeft k scan.Node rest l = WordLeft k word.Split 0 rest l ⊎ WordLeft k word.Leaf 0 rest l
+ForkLeft k s rest l = ValueLeft k s rest l
+
+-- With these bytes behind those that were read, the line is l.
+abbrev pub Left : Kept → Scan → List ℕ → Line → Type 0
+Left k (scan.Word w place) rest l =
+    (behind : List ℕ) × (rest ≡ drop place (word_bytes w) ++ behind) × ForkLeft k (behind_word w) behind l
+Left k s rest l = ForkLeft k s rest l
+
+-- what is due at a line's beginning
+abbrev pub first_scan : Stage → Scan
+first_scan stage.Title = scan.Word word.Title 0
+first_scan stage.Length = scan.Word word.Length 0
+first_scan stage.Bound = scan.Word word.Bound 0
+first_scan stage.Status = scan.Word word.Status 0
+first_scan stage.Openings = scan.Word word.Openings 0
+first_scan stage.Concat = scan.Word word.Concat 0
+first_scan stage.Count = scan.Word word.Edges 0
+first_scan (stage.Edges zero) = scan.Word word.Tree 0
+first_scan (stage.Edges (suc edges)) = scan.Coordinate corner.X1
+first_scan (stage.Body zero zero) = scan.Word word.End 0
+first_scan (stage.Body zero (suc nodes)) = scan.Node
+first_scan (stage.Body (suc cuts) nodes) = scan.Word word.Cut 0
+first_scan stage.Done = scan.Ended
+
+-- More of the line is due, and what is kept agrees with that: a word's byte is due, a number is within its field, the
+-- weight of a cut fits, no later flag is set.
+abbrev pub IsUnderway : Kept → Scan → Type 0
+IsUnderway k (scan.Word w place) = place < length (word_bytes w)
+IsUnderway k (scan.Number f n) = IsInField f n
+IsUnderway k (scan.Set place) = (0 < k.weight) × (k.weight < 2 ^ 64) × (place ≤ (length k.members + 3) / 4)
+    × ((v : ℕ) → 4 * place ≤ v → has k.members v ≡ false)
+IsUnderway k scan.Ended = ⊥
+IsUnderway k scan.Refused = ⊥
+IsUnderway k s = Unit {0}
+
+-- that, or the text is at its end
+abbrev pub IsSound : Kept → Scan → Type 0
+IsSound k scan.Ended = Unit {0}
+IsSound k s = IsUnderway k s
+
+-- a byte leads from one state to another: what may follow the byte is what may follow the other
+pub record LeadsTo (k : Kept) (s : Scan) (byte : ℕ) (k' : Kept) (s' : Scan) : Type 0 where
+  pub on : (rest : List ℕ) (l : Line) → Left k s (byte ∷ rest) l → Left k' s' rest l
+  pub back : (rest : List ℕ) (l : Line) → Left k' s' rest l → Left k s (byte ∷ rest) l
+
+-- one of two words is due
+abbrev pub IsFork : Scan → Type 0
+IsFork scan.Status = Unit {0}
+IsFork scan.Kind = Unit {0}
+IsFork scan.Node = Unit {0}
+IsFork s = ⊥
+
+-- no line goes on with the byte
+abbrev pub IsDead : Kept → Scan → ℕ → Type 0
+IsDead k s byte = (rest : List ℕ) (l : Line) → Left k s (byte ∷ rest) l → ⊥
+
+-- where a state is kept to, a byte leads to the next, which is kept to as well, and nothing else of what is kept changes
+pub record IsNext (k : Kept) (s : Scan) (byte : ℕ) (k' : Kept) (s' : Scan) : Type 0 where
+  pub leads : LeadsTo k s byte k' s'
+  pub sound : IsUnderway k' s'
+  pub name : FitsName k'.name
+  pub stage : k'.stage ≡ k.stage
+  pub size : length k'.members ≡ length k.members
+
+-- The end of a line makes this line of what was read, and its event is the one that is told.
+pub record Closes (k : Kept) (s : Scan) (h : AnswerHead) (k' : Kept) (h' : AnswerHead) (told : Option Event) : Type 0 where
+  pub line : Line
+  pub left : Left k s [] line
+  pub stage : (s' : Stage) → step k.stage line ≡ Some s' → k'.stage ≡ s'
+  pub head : h' ≡ head_with h line
+  pub event : (n : ℕ) → event_at n (line_told h' line) ≡ given n told k'.members
+  pub members : k'.members ≡ k.members
+  pub name : FitsName k'.name
+
+-- what was read is no line that is due
+abbrev pub IsNoLineLeft : Kept → Scan → Type 0
+IsNoLineLeft k s = (l : Line) (s' : Stage) → Left k s [] l → step k.stage l ≡ Some s' → ⊥

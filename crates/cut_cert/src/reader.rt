@@ -1,0 +1,171 @@
+//! Reads the text of an answer that is fed byte by byte, and keeps no bytes.
+
+ghost use Rattle.std.specs.Prelude.{◌≤◌, ◌+◌};
+ghost use Rattle.cut_cert.specs.Lines.{nodes_due};
+
+use crate::event::Event;
+use crate::head::{AnswerHead, empty_head};
+use crate::line::Stage;
+use crate::scan::byte::scan_byte;
+use crate::scan::close::{close_line, first_scan};
+use crate::scan::{Kept, Scan, Word};
+use hanan_grid::EdgeName;
+use net_graph::VertexSet;
+
+/// The text ceased to begin an answer's.
+#[derive(Clone, Copy, Debug, PartialEq, Eq)]
+pub struct Spelling {
+    /// The line in which it ceased, counted from 1.
+    pub line: u64,
+}
+
+/// A reader of an answer's text that is fed byte by byte. It keeps no bytes and takes no memory.
+#[derive(Drop)]
+pub struct EventReader {
+    kept: Kept,
+    scan: Scan,
+    head: AnswerHead,
+    line: u64,
+    fed: u64,
+    ghost counted: { line ≤ fed + 1 },
+    ghost few: { nodes_due kept.stage ≤ fed },
+}
+
+impl EventReader {
+    ghost use Rattle.std.specs.Prelude.{◌≡◌, ℕ, ◌+◌, ◌-◌, ◌<◌, ◌^◌, ◌≢◌, ◌∷◌, ◌++◌, [], List, length, replicate, false, MatchBool, Err, IfOk, IfErr, None, IfSome, IfNone};
+    ghost use Rattle.cut_cert.specs.declared.event.AnswerEvent.{AnswerEvent};
+    ghost use Rattle.cut_cert.specs.Reading.{IsReadWhole, StopsAt, line_feeds};
+    ghost use Rattle.cut_cert.specs.Given.{given};
+    ghost use Rattle.cut_cert.specs.Reader.{Reads, Refuses, CeasesAt, bytes_fed, line_due, set_read};
+
+    /// A reader that was fed no byte, for cuts that are sets of so many vertices. It keeps the set of a cut in the one
+    /// that it is handed.
+    pub fn begin(vertices: u32, members: VertexSet) -> EventReader
+        requires { members ≡ replicate vertices false }
+        ensures { Reads vertices [] [] result }
+    {
+        prove!(members.len() == vertices);
+        let _ = vertices;
+        EventReader {
+            kept: Kept {
+                stage: Stage::Title,
+                name: EdgeName {
+                    x1: 0,
+                    y1: 0,
+                    x2: 0,
+                    y2: 0,
+                },
+                weight: 0,
+                members,
+            },
+            scan: Scan::Word(Word::Title, 0),
+            head: empty_head(),
+            line: 1,
+            fed: 0,
+        }
+    }
+
+    /// Reads one more byte, and tells the event that it ends: an event ends with the line feed of its line, and that
+    /// of the head with the sixth. An `Err` comes at the first byte with which no answer's text begins, and for good
+    /// from then on, with the same line.
+    pub fn feed(&mut self, byte: u8) -> Result<Option<Event>, Spelling>
+        requires { bytes_fed self.old < 2 ^ 32 - 1 }
+        ensures fed { bytes_fed self.new ≡ bytes_fed self.old + 1 }
+        ensures reads { (V : ℕ) (bytes : List ℕ) (events : List AnswerEvent) → Reads V bytes events self.old →
+            IfOk result (λ told. Reads V (bytes ++ byte ∷ [])
+            (events ++ given (line_due self.old) told (set_read self.new)) self.new) }
+        ensures ceases { (V : ℕ) (bytes : List ℕ) (events : List AnswerEvent) → Reads V bytes events self.old →
+            IfErr result (λ fault. CeasesAt V bytes byte fault.line events) }
+        ensures refuses { IfErr result (λ fault. Refuses self.new fault.line) }
+        ensures refused { (n : ℕ) → Refuses self.old n → result ≡ Err (record { line = n }) }
+    {
+        let told = if byte == b'\n' {
+            self.end_line()
+        } else {
+            self.go_on(byte)
+        };
+        let Some(event) = told else {
+            self.scan = Scan::Refused;
+            return Err(Spelling { line: self.line });
+        };
+        Ok(event)
+    }
+
+    // Reads a line feed, and tells the event of the line, if it is one. None where the line can't end here.
+    fn end_line(&mut self) -> Option<Option<Event>>
+        requires { bytes_fed self.old < 2 ^ 32 - 1 }
+        ensures fed { bytes_fed self.new ≡ bytes_fed self.old + 1 }
+        ensures reads { IfSome result (λ told. (V : ℕ) (bytes : List ℕ) (events : List AnswerEvent) →
+            Reads V bytes events self.old →
+            Reads V (bytes ++ 10 ∷ []) (events ++ given (line_due self.old) told (set_read self.new)) self.new) }
+        ensures ceases { IfNone result ((V : ℕ) (bytes : List ℕ) (events : List AnswerEvent) →
+            Reads V bytes events self.old → CeasesAt V bytes 10 (line_due self.old) events) }
+        ensures kept { IfNone result (line_due self.new ≡ line_due self.old) }
+        ensures refused { (n : ℕ) → Refuses self.old n → result ≡ None }
+    {
+        self.fed += 1;
+        let event = close_line(&mut self.kept, &mut self.head, self.scan)?;
+        self.scan = first_scan(self.kept.stage);
+        self.line += 1;
+        Some(event)
+    }
+
+    // Reads a byte within a line, where no event is told. None where no line that is due goes on with it.
+    fn go_on(&mut self, byte: u8) -> Option<Option<Event>>
+        requires room { bytes_fed self.old < 2 ^ 32 - 1 }
+        requires inside { byte ≢ 10 }
+        ensures fed { bytes_fed self.new ≡ bytes_fed self.old + 1 }
+        ensures reads { IfSome result (λ told. (V : ℕ) (bytes : List ℕ) (events : List AnswerEvent) →
+            Reads V bytes events self.old →
+            Reads V (bytes ++ byte ∷ []) (events ++ given (line_due self.old) told (set_read self.new)) self.new) }
+        ensures ceases { IfNone result ((V : ℕ) (bytes : List ℕ) (events : List AnswerEvent) →
+            Reads V bytes events self.old → CeasesAt V bytes byte (line_due self.old) events) }
+        ensures kept { line_due self.new ≡ line_due self.old }
+        ensures refused { (n : ℕ) → Refuses self.old n → result ≡ None }
+    {
+        self.fed += 1;
+        self.scan = scan_byte(&mut self.kept, self.scan, byte)?;
+        Some(None)
+    }
+
+    /// The set of the cut that was just read.
+    pub fn members(&self) -> &VertexSet
+        ensures { result.now ≡ set_read self.now }
+    {
+        &self.kept.members
+    }
+
+    /// The reader's set, whatever it holds.
+    pub fn into_members(self) -> VertexSet
+        ensures { result ≡ set_read self }
+    {
+        self.kept.members
+    }
+
+    /// The line of the next byte, counted from 1.
+    pub fn line(&self) -> u64
+        ensures line { result ≡ line_due self.now }
+        ensures feeds { (V : ℕ) (bytes : List ℕ) (events : List AnswerEvent) → Reads V bytes events self.now →
+            result ≡ line_feeds bytes + 1 }
+    {
+        self.line
+    }
+
+    /// How many bytes were fed.
+    pub fn fed(&self) -> u64
+        ensures fed { result ≡ bytes_fed self.now }
+        ensures length { (V : ℕ) (bytes : List ℕ) (events : List AnswerEvent) → Reads V bytes events self.now →
+            result ≡ length bytes }
+    {
+        self.fed
+    }
+
+    /// Whether the end was told and nothing came after it.
+    pub fn ended(&self) -> bool
+        ensures reads { (V : ℕ) (bytes : List ℕ) (events : List AnswerEvent) → Reads V bytes events self.now →
+            MatchBool result (IsReadWhole V bytes events) (StopsAt V bytes (line_due self.now) events) }
+        ensures refused { (n : ℕ) → Refuses self.now n → result ≡ false }
+    {
+        matches!(self.scan, Scan::Ended)
+    }
+}

@@ -1,0 +1,100 @@
+//! Where a reader stands within a line, and the byte that comes next.
+
+pub(crate) mod byte;
+pub(crate) mod close;
+pub(crate) mod number;
+pub(crate) mod set;
+pub(crate) mod words;
+
+use crate::line::Stage;
+use hanan_grid::EdgeName;
+use net_graph::VertexSet;
+
+// What is kept of the line that is being read, and the line that was due when it began.
+#[derive(Drop)]
+pub(crate) struct Kept {
+    pub stage: Stage,
+    // The coordinates that were read of a name.
+    pub name: EdgeName,
+    // The weight and the members that were read of a cut.
+    pub weight: u64,
+    pub members: VertexSet,
+}
+
+// What is due of the line that is being read.
+#[derive(Clone, Copy)]
+pub(crate) enum Scan {
+    // The byte of this place of a word.
+    Word(Word, u8),
+    // The first byte of one of two words: of a status, of what a total is, or of a node.
+    Status,
+    Kind,
+    Node,
+    // A number's first digit.
+    Due(Field),
+    // A coordinate's first digit, or the minus before it.
+    Coordinate(Corner),
+    // A number of which digits of this value were read.
+    Number(Field, u128),
+    // A set of which so many digits were read.
+    Set(u32),
+    // The end of the line.
+    LineEnd(Closed),
+    // No byte: the answer's text is at its end, or the text ceased to begin one.
+    Ended,
+    Refused,
+}
+
+// The words of the format.
+#[derive(Clone, Copy)]
+pub(crate) enum Word {
+    Title,
+    Length,
+    Bound,
+    Status,
+    Optimal,
+    Stopped,
+    Openings,
+    Concat,
+    Least,
+    Spent,
+    Edges,
+    Tree,
+    Split,
+    Leaf,
+    Cut,
+    End,
+}
+
+// What a number is.
+#[derive(Clone, Copy)]
+pub(crate) enum Field {
+    Length,
+    Bound,
+    Openings,
+    // The total of a concatenation, and whether it is the least.
+    Total(bool),
+    Count,
+    Leaf,
+    Weight,
+    // A coordinate without its sign, and whether a minus stood before it.
+    Coordinate(Corner, bool),
+}
+
+// The coordinates of a name.
+#[derive(Clone, Copy)]
+pub(crate) enum Corner {
+    X1,
+    Y1,
+    X2,
+    Y2,
+}
+
+// Lines whose last word was read whole.
+#[derive(Clone, Copy)]
+pub(crate) enum Closed {
+    Title,
+    Status(bool),
+    Tree,
+    End,
+}

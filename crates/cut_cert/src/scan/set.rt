@@ -1,0 +1,55 @@
+//! The digits of sets, one by one.
+
+ghost use Rattle.std.specs.Prelude.{◌≡◌, ℕ, ◌<◌, false, true, IfSome, IfNone, IsTrue, ◌↔◌};
+ghost use Rattle.std.specs.Fmt.{digit_glyph};
+ghost use Rattle.net_graph.specs.Flags.{flag_of_four};
+ghost use Rattle.cut_cert.specs.declared.scan.Scan.TheVariants as scan;
+ghost use Rattle.cut_cert.specs.Scanning.{IsNext, IsSound, IsDead};
+ghost use Rattle.cut_cert.specs.Spelling.{FitsName};
+
+use crate::scan::{Kept, Scan};
+
+impl Kept {
+    // What is due behind a digit of a set; None where no set of so many vertices has the byte there.
+    pub(crate) fn set_digit(&mut self, place: u32, byte: u8) -> Option<Scan>
+        ensures next { IfSome result (λ next. IsSound self.old (scan.Set place) → FitsName self.old.name →
+            IsNext self.old (scan.Set place) byte self.new next) }
+        ensures dead { IfNone result (IsSound self.old (scan.Set place) → IsDead self.old (scan.Set place) byte) }
+        ensures stage { self.new.stage ≡ self.old.stage }
+    {
+        let value = hex_digit(byte)?;
+        let size = self.members.len() as u64;
+        let first = 4 * place as u64;
+        if first >= size || !is_told(value, size - first) {
+            return None;
+        }
+        self.members.add_four(place, value);
+        Some(Scan::Set(place + 1))
+    }
+}
+
+// Whether the four flags that a value tells are absent from this many on.
+fn is_told(value: u8, vertices: u64) -> bool
+    requires { value < 16 }
+    ensures { IsTrue result ↔ ((r : ℕ) → r < 4 → flag_of_four value r ≡ true → r < vertices) }
+{
+    match vertices {
+        0 => value == 0,
+        1 => value % 8 == 0,
+        2 => value % 4 == 0,
+        3 => value % 2 == 0,
+        _ => true,
+    }
+}
+
+// The value of a digit of a set, from 0 to 15; None for another byte.
+fn hex_digit(byte: u8) -> Option<u8>
+    ensures digit { IfSome result (λ value. (value < 16) × (byte ≡ digit_glyph false value)) }
+    ensures none { IfNone result ((value : ℕ) → value < 16 → byte ≡ digit_glyph false value → ⊥) }
+{
+    match byte {
+        b'0'..=b'9' => Some(byte - b'0'),
+        b'a'..=b'f' => Some(byte - b'a' + 10),
+        _ => None,
+    }
+}

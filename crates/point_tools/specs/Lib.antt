@@ -1,0 +1,6 @@
+pub mod NoFaults
+pub mod DrawnList
+pub mod Points
+pub mod StpPointsFaults
+pub mod DistinctList
+pub mod StpPoints

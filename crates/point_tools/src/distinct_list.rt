@@ -1,0 +1,32 @@
+//! Distinct points, as an answer of a tool.
+
+ghost use Rattle.point_tools.specs.DistinctList.{distinct_text, distinct_status, IsWritable};
+
+use dump_plot::dump_distinct;
+use frame::{Answer, AnswerStatus};
+use points_in::Points;
+use rst_outside::{PutFault, Sink};
+
+/// Distinct points that a tool prints.
+#[derive(Debug, Drop)]
+pub struct DistinctList {
+    pub points: Points,
+}
+
+impl Answer for DistinctList {
+    ghost text = { distinct_text };
+
+    ghost status = { distinct_status };
+
+    ghost fits = { IsWritable };
+
+    ghost told = { IsWritable };
+
+    fn status(&self) -> AnswerStatus {
+        AnswerStatus::Done
+    }
+
+    fn write<O: Sink>(&self, out: &mut O) -> Result<(), PutFault> {
+        dump_distinct(out, &self.points)
+    }
+}

@@ -1,0 +1,39 @@
+//! The tool `points`: nothing comes in, drawn points go out.
+
+ghost use Rattle.std.specs.Prelude.{◌<◌, ◌≤◌, IfOk};
+ghost use Rattle.rst_outside.specs.Source.{SourceState};
+ghost use Rattle.rst_outside.specs.Shelf.{ShelfState};
+ghost use Rattle.frame.specs.Outside.{outside};
+ghost use Rattle.frame.specs.Ends.{print_of};
+ghost use Rattle.point_tools.specs.DrawnList.{drawn_text, drawn_status};
+ghost use Rattle.point_tools.specs.Points.{PrintsDrawn, EndsPoints};
+
+use crate::drawn_list::DrawnList;
+use crate::no_fault::NoFault;
+use drawn_points::draw_points;
+use frame::conclude;
+use rst_outside::Sink;
+use std::alloc::{AllocError, Global};
+
+/// Runs `points`: prints the `n` points, 1 to 50, that are drawn from a seed, one a line and repeats among them. Gives the
+/// status that the program ends with.
+pub fn points<O: Sink, R: Sink>(alloc: Global, n: u8, seed: u64, out: &mut O, err: &mut R) -> u8
+    requires some { 0 < n }
+    requires few { n ≤ 50 }
+    ensures { (input : SourceState) (shelf : ShelfState) → EndsPoints n seed
+        (outside input (O.state out.old) (R.state err.old) shelf)
+        (outside input (O.state out.new) (R.state err.new) shelf) result }
+{
+    let found = draw(alloc, n, seed);
+    conclude(out, err, b"points", found)
+}
+
+// The drawn points. An `Err` is want of memory.
+fn draw(alloc: Global, n: u8, seed: u64) -> Result<Result<DrawnList, NoFault>, AllocError>
+    requires some { 0 < n }
+    requires few { n ≤ 50 }
+    ensures { IfOk result (λ found. PrintsDrawn n seed (print_of drawn_text drawn_status found)) }
+{
+    let drawn = draw_points(alloc, n, seed)?;
+    Ok(Ok(DrawnList { drawn }))
+}

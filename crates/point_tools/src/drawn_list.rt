@@ -1,0 +1,32 @@
+//! Drawn points, as an answer of a tool.
+
+ghost use Rattle.point_tools.specs.DrawnList.{drawn_text, drawn_status, IsAnything};
+
+use drawn_points::Drawn;
+use dump_plot::dump_points;
+use frame::{Answer, AnswerStatus};
+use rst_outside::{PutFault, Sink};
+
+/// Drawn points that a tool prints.
+#[derive(Debug, Drop)]
+pub struct DrawnList {
+    pub drawn: Drawn,
+}
+
+impl Answer for DrawnList {
+    ghost text = { drawn_text };
+
+    ghost status = { drawn_status };
+
+    ghost fits = { IsAnything };
+
+    ghost told = { IsAnything };
+
+    fn status(&self) -> AnswerStatus {
+        AnswerStatus::Done
+    }
+
+    fn write<O: Sink>(&self, out: &mut O) -> Result<(), PutFault> {
+        dump_points(out, &self.drawn)
+    }
+}

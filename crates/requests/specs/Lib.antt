@@ -1,0 +1,4 @@
+pub mod Names
+pub mod Commands
+pub mod Values
+pub mod Requests

@@ -1,0 +1,16 @@
+//! What the words after the program's name ask for. The first word names the tool; `clap` reads the words after it as
+//! that tool's simple command.
+#![tactic(auto)]
+
+mod command;
+mod request;
+mod rules;
+#[cfg(test)]
+mod tests;
+mod tool;
+mod value;
+mod words;
+
+pub use request::{Drawing, Request, SearchRequest};
+pub use rules::{AscentRule, SplitRule, UnknownRule};
+pub use words::request_in;

@@ -1,0 +1,53 @@
+//! Requests.
+
+use crate::rules::{AscentRule, SplitRule};
+
+/// A tool of the program, with what its words tell it.
+#[derive(Clone, Copy, Debug, PartialEq, Eq)]
+pub enum Request<'a> {
+    /// Prints drawn points.
+    Points(Drawing),
+    /// Reads an STP file and prints the points of its terminals.
+    Stp2points,
+    /// Reads points and prints the file of their full trees of up to `size` members, 2 to 8.
+    Rfst { size: u8 },
+    /// Reads a file of full trees and prints the file of those that pruning keeps.
+    Prunefst,
+    /// Reads a file of full trees and prints a network that is made of them.
+    Bb(SearchRequest),
+    /// Reads points and prints a network that joins them, made of full trees of up to `size` members, 2 to 8.
+    Solve { size: u8, search: SearchRequest },
+    /// Judges an answer for the points of the file of this name.
+    Check { points: &'a str },
+    /// Reads a file of full trees and prints a line for each of them, and behind it the tree's straight pieces where
+    /// `pieces` says so.
+    Dumpfst { pieces: bool },
+    /// Reads a file of full trees and prints the grid of its points as an STP file.
+    Fst2graph,
+    /// Plots the network of an answer for the points of the file of this name.
+    Plot { points: &'a str },
+    /// Solves drawn points and checks the answer.
+    Trial(Drawing),
+}
+
+/// Points to draw.
+#[derive(Clone, Copy, Debug, PartialEq, Eq)]
+pub struct Drawing {
+    /// How many, 1 to 50.
+    pub count: u8,
+    /// What the generator starts from.
+    pub seed: u64,
+}
+
+/// How a network is searched for.
+#[derive(Clone, Copy, Debug, PartialEq, Eq)]
+pub struct SearchRequest {
+    /// The most splits of the certificate tree.
+    pub openings: u8,
+    /// The most splits of a concatenation, up to 20,000.
+    pub concat: u32,
+    /// The rule of the ascents.
+    pub ascent: AscentRule,
+    /// The rule of the splits.
+    pub split: SplitRule,
+}

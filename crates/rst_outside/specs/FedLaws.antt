@@ -1,0 +1,15 @@
+-- How the pieces that a consumer is fed add up.
+use Rattle.std.specs.Prelude.{ℕ, ◌≡◌, List, [], ◌++◌}
+use Rattle.std.proofs.Common.{append_assoc}
+use Rattle.std.proofs.lemmas.List.{append-nil}
+use Rattle.rst_outside.specs.Fed.{Fed}
+
+-- A consumer that stayed as it was was fed no bytes.
+pub fed_nothing : {T : Type 0} (stands : T → List ℕ → Type 0) (before after : T) → after ≡ before → Fed stands before [] after
+fed_nothing stands before after same front stood = rw (same, append-nil) stood
+
+-- What was fed first and what was fed next was fed.
+pub fed_more : {T : Type 0} (stands : T → List ℕ → Type 0) (before : T) (first : List ℕ) (mid : T) (next : List ℕ) (after : T) →
+    Fed stands before first mid → Fed stands mid next after → Fed stands before (first ++ next) after
+fed_more stands before first mid next after one two front stood =
+    rw (← append_assoc front first next) (two (front ++ first) (one front stood))

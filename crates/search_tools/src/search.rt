@@ -1,0 +1,126 @@
+//! The search that begins with a network.
+
+ghost use Rattle.std.specs.Prelude.{◌≡◌, ◌<◌, length, IfOk, IfSome};
+ghost use Rattle.net_graph.specs.Network.{length_of};
+ghost use Rattle.hanan_grid.specs.Grid.{hanan_grid_of};
+ghost use Rattle.cert_tree.specs.Preorder.{split_count};
+ghost use Rattle.dual_ascent.specs.Choosing.{IsCallableOnSome, AnswersAPlace};
+ghost use Rattle.tight_packing.specs.Bound.{IsBoundOf};
+ghost use Rattle.branch.specs.States.{IsNetworkOf};
+ghost use Rattle.search_tools.specs.Steps.{IsTold};
+
+use crate::options::{SearchOptions, ascent_place, split_place};
+use branch::{Search, Solved};
+use dual_ascent::{Candidate, Chooser, Rule};
+use hanan_grid::Grid;
+use net_graph::{EdgeSet, Packing};
+use std::alloc::{AllocError, Global};
+use tight_packing::{Bound, Budget, Exchanged, Outcome, exchange};
+
+/// What a search finds that begins with a network of a grid. Its first leaf is that of an ascent from no cut. Where this
+/// stays below the network's length, it is the better one of it and of an ascent that begins with what an exchange finds.
+/// An `Err` is want of memory.
+pub fn searched(
+    alloc: Global,
+    grid: &Grid,
+    first: EdgeSet,
+    options: SearchOptions,
+) -> Result<Solved, AllocError>
+    requires { IsNetworkOf (hanan_grid_of grid.now) first }
+    ensures { IfOk result (IsTold (hanan_grid_of grid.now) options.openings
+        (length_of (hanan_grid_of grid.now) first)) }
+{
+    let SearchOptions {
+        openings,
+        concat: _,
+        ascent,
+        split,
+    } = options;
+    searched_by(
+        alloc,
+        grid,
+        first,
+        openings,
+        |list: &[Candidate]| -> usize
+            requires { 0 < length list.now }
+            ensures { result < length list.now }
+        { ascent_place(ascent, list) },
+        |list: &[Candidate]| -> usize
+            requires { 0 < length list.now }
+            ensures { result < length list.now }
+        { split_place(split, list) },
+    )
+}
+
+// The same by any rules.
+fn searched_by<F: Rule, G: Rule>(
+    alloc: Global,
+    grid: &Grid,
+    first: EdgeSet,
+    openings: u8,
+    ascent: F,
+    split: G,
+) -> Result<Solved, AllocError>
+    requires network { IsNetworkOf (hanan_grid_of grid.now) first }
+    requires ascent_callable { IsCallableOnSome (F.may_choose ascent) }
+    requires ascent_place { AnswersAPlace (F.chooses ascent) }
+    requires split_callable { IsCallableOnSome (G.may_choose split) }
+    requires split_place { AnswersAPlace (G.chooses split) }
+    ensures { IfOk result (IsTold (hanan_grid_of grid.now) openings
+        (length_of (hanan_grid_of grid.now) first)) }
+{
+    let search = begun(
+        alloc,
+        grid,
+        first,
+        Chooser::new(ascent),
+        Chooser::new(split),
+    )?;
+    search.solve(openings)
+}
+
+// The search with its first leaf. An `Err` is want of memory.
+fn begun<'a, F: Rule, G: Rule>(
+    alloc: Global,
+    grid: &'a Grid,
+    first: EdgeSet,
+    ascent: Chooser<F>,
+    split: Chooser<G>,
+) -> Result<Search<'a, F, G>, AllocError>
+    requires { IsNetworkOf (hanan_grid_of grid.now) first }
+    ensures graph { IfOk result (λ s. s.graph ≡ hanan_grid_of grid.now) }
+    ensures first { IfOk result (λ s. s.first_length ≡ length_of (hanan_grid_of grid.now) first) }
+    ensures leaf { IfOk result (λ s. split_count s.tree ≡ 0) }
+{
+    let mut search = Search::start(alloc, grid.graph(), first, ascent, split)?;
+    if search.is_settled() {
+        return Ok(search);
+    }
+    let Some(bound) = exchanged(alloc, grid, search.network(), search.tree().packing(0))? else {
+        return Ok(search);
+    };
+    search.raise(bound.packing)?;
+    Ok(search)
+}
+
+// The packing that an exchange comes to, if one is at hand. An `Err` is want of memory.
+fn exchanged(
+    alloc: Global,
+    grid: &Grid,
+    network: &EdgeSet,
+    start: &Packing,
+) -> Result<Option<Bound>, AllocError>
+    requires { length network.now ≡ length (hanan_grid_of grid.now).edges }
+    ensures { IfOk result (λ found. IfSome found (IsBoundOf (hanan_grid_of grid.now))) }
+{
+    let Exchanged {
+        outcome,
+        shorter: _,
+    } = exchange(alloc, grid, network, start, Budget::USUAL)?;
+    Ok(match outcome {
+        Outcome::Tight(bound) => Some(bound),
+        Outcome::Impossible(bound) => bound,
+        Outcome::Exhausted(bound) => bound,
+        Outcome::TooLong => None,
+    })
+}

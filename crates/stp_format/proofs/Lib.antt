@@ -1,0 +1,7 @@
+mod Steps
+mod LineWords
+mod SectionLines
+mod Spelled
+mod Split
+mod Located
+mod Ends

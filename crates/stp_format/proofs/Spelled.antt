@@ -1,0 +1,181 @@
+-- What std's `parse` gives is the number that a word spells.
+use Rattle.std.specs.Prelude.{ℕ, zero, suc, ℤ, pos, negsuc, neg_ℤ, ◌<◌, ◌≤◌, ◌^◌, ◌≡◌, ◌≢◌, ◌==◌, ◌&&◌, true, false, not, nat_lt, List, [], ◌∷◌, length, Option, Some, None, Result, Ok, Err, option_and_then, FitsSigned}
+use Rattle.std.specs.Bool.{Decides}
+use Rattle.std.specs.Int.{w64}
+use Rattle.std.specs.Result.{result_ok}
+use Rattle.std.specs.Str.{all_ascii_digits, IsAscii, IsUtf8}
+use Rattle.std.specs.Str.Parse.{IsNumeral, AllDigits, digits_value, starts_with_minus, without_leading_plus, without_leading_sign, signed_digits_value, ParsesSigned}
+use Rattle.std.proofs.Common.{arith, refl, sym, ap, subst, ◌∙◌, inl, inr}
+use Rattle.std.proofs.lemmas.Bool.{cases_Bool, cases_lt, ltb-false, le-ltb, eqb-true, ne_eqb}
+use Rattle.std.proofs.lemmas.Bool.Decides.{Decides-ltb, Decides-and, Decides-not, Decides-eqb, Decides-like}
+use Rattle.std.proofs.lemmas.List.{get_or_past}
+use Rattle.std.proofs.lemmas.Str.{IsUtf8-from_ascii}
+use Rattle.std.proofs.lemmas.Str.Ascii.{IsAscii-nil, IsAscii-cons}
+use Rattle.std.proofs.lemmas.Str.Parse.{IsNumeralModel, numerals_by_value, tells_all_ascii_digits, digit_at}
+use Rattle.stp_format.specs.Numbers.{spelled_number, coordinate_of, weight_of, count_of}
+
+-- the test of digits
+digits_model : IsNumeralModel (λ ds. all_ascii_digits ds ≡ true) (digits_value 10)
+digits_model = numerals_by_value (λ ds. all_ascii_digits ds ≡ true) tells_all_ascii_digits
+
+numeral_decides : (ds : List ℕ) → Decides (not (length ds == 0) && all_ascii_digits ds) (IsNumeral 10 ds)
+numeral_decides ds =
+    let both = Decides-and _ _ (Decides-not _ (Decides-eqb (length ds) 0)) (λ h. h, λ h. h) in
+    Decides-like (not (length ds == 0) && all_ascii_digits ds) (λ h. (omega (arith, h.0), digits_model.to ds h.1)) (λ h. (λ none. omega (arith, h.0, none), digits_model.from ds h.1)) both
+
+-- the number of 64 bits with a sign
+pub coordinate_some : (z : ℤ) → FitsSigned w64 z → coordinate_of z ≡ Some z
+coordinate_some (pos n) fits = let small = fits.sfits in let is : nat_lt n (2 ^ 63) ≡ true = (Decides-ltb n (2 ^ 63)).1 (omega arith) in rw is refl
+coordinate_some (negsuc n) fits = let small = fits.sfits in let is : nat_lt n (2 ^ 63) ≡ true = (Decides-ltb n (2 ^ 63)).1 (omega arith) in rw is refl
+
+pub coordinate_none : (z : ℤ) → ¬ FitsSigned w64 z → coordinate_of z ≡ None
+coordinate_none (pos n) large = elim (cases_lt n (2 ^ 63)) [
+  | inl small ↦ absurd (large (record { sfits = small }))
+  | inr big ↦ let is : nat_lt n (2 ^ 63) ≡ false = le-ltb n (2 ^ 63) big in rw is refl
+]
+coordinate_none (negsuc n) large = elim (cases_lt n (2 ^ 63)) [
+  | inl small ↦ absurd (large (record { sfits = small }))
+  | inr big ↦ let is : nat_lt n (2 ^ 63) ≡ false = le-ltb n (2 ^ 63) big in rw is refl
+]
+
+-- what `parse` gives at 64 bits with a sign
+pub signed_parsed : {E : Type 0} (word : List ℕ) (r : Result ℤ E) → ParsesSigned w64 10 word r → result_ok r ≡ option_and_then coordinate_of (spelled_number word)
+signed_parsed word (Ok x) h =
+    let is : (not (length (without_leading_sign word) == 0) && all_ascii_digits (without_leading_sign word)) ≡ true = (numeral_decides (without_leading_sign word)).1 h.0.0 in
+    ap Some h.1 ∙ rw is (sym (coordinate_some (signed_digits_value 10 word) h.0.1))
+signed_parsed word (Err e) h =
+    elim (cases_Bool (not (length (without_leading_sign word) == 0) && all_ascii_digits (without_leading_sign word))) [
+      | inl is ↦ rw is (sym (coordinate_none (signed_digits_value 10 word) (λ fits. h ((numeral_decides (without_leading_sign word)).0 is, fits))))
+      | inr none ↦ rw none refl
+    ]
+
+-- a word that isn't text spells no number
+digits_ascii : (ds : List ℕ) → AllDigits 10 ds → IsAscii ds
+digits_ascii ds digits i = elim (cases_lt i (length ds)) [
+  | inl inside ↦ let digit = digit_at ds i digits inside in omega arith
+  | inr past ↦ rw (get_or_past ds i 0 past) (omega arith)
+]
+
+signed_ascii : (word : List ℕ) → IsNumeral 10 (without_leading_sign word) → IsAscii word
+signed_ascii [] numeral = IsAscii-nil
+signed_ascii (b ∷ word) numeral = elim (cases_Bool (b == 45)) [
+  | inl minus ↦
+      let rest : without_leading_sign (b ∷ word) ≡ word = rw minus refl in
+      IsAscii-cons b word (omega (arith, eqb-true b 45 minus)) (digits_ascii word (subst (AllDigits 10) rest numeral.1))
+  | inr no_minus ↦ elim (cases_Bool (b == 43)) [
+    | inl plus ↦
+        let rest : without_leading_sign (b ∷ word) ≡ word = rw (no_minus, plus) refl in
+        IsAscii-cons b word (omega (arith, eqb-true b 43 plus)) (digits_ascii word (subst (AllDigits 10) rest numeral.1))
+    | inr no_plus ↦
+        let rest : without_leading_sign (b ∷ word) ≡ b ∷ word = rw (no_minus, no_plus) refl in
+        digits_ascii (b ∷ word) (subst (AllDigits 10) rest numeral.1)
+  ]
+]
+
+pub no_text_no_number : (word : List ℕ) → ¬ IsUtf8 word → spelled_number word ≡ None
+no_text_no_number word other = elim (cases_Bool (not (length (without_leading_sign word) == 0) && all_ascii_digits (without_leading_sign word))) [
+  | inl is ↦ absurd (other (IsUtf8-from_ascii word (signed_ascii word ((numeral_decides (without_leading_sign word)).0 is))))
+  | inr none ↦ rw none refl
+]
+
+-- a numeral has no minus before it
+numeral_no_minus : (word : List ℕ) → IsNumeral 10 (without_leading_plus word) → starts_with_minus word ≡ false
+numeral_no_minus [] numeral = refl
+numeral_no_minus (b ∷ word) numeral = elim (cases_Bool (b == 45)) [
+  | inl minus ↦
+      let no_plus : (b == 43) ≡ false = ne_eqb b 43 (λ e. omega (arith, eqb-true b 45 minus)) in
+      let bare : without_leading_plus (b ∷ word) ≡ b ∷ word = rw no_plus refl in
+      let digit = digit_at (b ∷ word) 0 (subst (AllDigits 10) bare numeral.1) (omega arith) in
+      absurd (omega (arith, digit, eqb-true b 45 minus))
+  | inr no_minus ↦ no_minus
+]
+
+-- what is spelled without a minus
+spelled_plain : (word : List ℕ) → starts_with_minus word ≡ false → IsNumeral 10 (without_leading_plus word)
+    → spelled_number word ≡ Some (pos (digits_value 10 (without_leading_plus word)))
+spelled_plain word plain numeral =
+    let bare : without_leading_sign word ≡ without_leading_plus word = rw plain refl in
+    let is : (not (length (without_leading_sign word) == 0) && all_ascii_digits (without_leading_sign word)) ≡ true = (numeral_decides (without_leading_sign word)).1 (subst (IsNumeral 10) (sym bare) numeral) in
+    rw (is, plain) refl
+
+weight_some : (n : ℕ) → n < 2 ^ 64 → weight_of (pos n) ≡ Some n
+weight_some n small = let is : nat_lt n (2 ^ 64) ≡ true = (Decides-ltb n (2 ^ 64)).1 small in rw is refl
+
+weight_large : (n : ℕ) → 2 ^ 64 ≤ n → weight_of (pos n) ≡ None
+weight_large n big = let is : nat_lt n (2 ^ 64) ≡ false = le-ltb n (2 ^ 64) big in rw is refl
+
+-- what `parse` gives at 64 bits without a sign
+pub unsigned_parsed : (word : List ℕ) (n : ℕ) → IsNumeral 10 (without_leading_plus word) × (digits_value 10 (without_leading_plus word) < 2 ^ 64)
+    → n ≡ digits_value 10 (without_leading_plus word) → Some n ≡ option_and_then weight_of (spelled_number word)
+unsigned_parsed word n fits is =
+    ap Some is ∙ sym (ap (option_and_then weight_of) (spelled_plain word (numeral_no_minus word fits.0) fits.0) ∙ weight_some (digits_value 10 (without_leading_plus word)) fits.1)
+
+-- a spelled 0
+pub zero_spelled : (o : Option ℤ) → option_and_then coordinate_of o ≡ Some (pos 0) → option_and_then weight_of o ≡ Some 0
+zero_spelled None e = absurd cc
+zero_spelled (Some (pos n)) e = elim (cases_Bool (nat_lt n (2 ^ 63))) [
+  | inl small ↦ let same : Some (pos n) ≡ Some (pos 0) = (let h : coordinate_of (pos n) ≡ Some (pos n) = rw small refl in sym h ∙ e) in let none : n ≡ 0 = cc in rw none refl
+  | inr big ↦ absurd (let h : coordinate_of (pos n) ≡ None = rw big refl in let f : None ≡ Some (pos 0) = sym h ∙ e in cc)
+]
+zero_spelled (Some (negsuc n)) e = elim (cases_Bool (nat_lt n (2 ^ 63))) [
+  | inl small ↦ absurd (let h : coordinate_of (negsuc n) ≡ Some (negsuc n) = rw small refl in let f : Some (negsuc n) ≡ Some (pos 0) = sym h ∙ e in cc)
+  | inr big ↦ absurd (let h : coordinate_of (negsuc n) ≡ None = rw big refl in let f : None ≡ Some (pos 0) = sym h ∙ e in cc)
+]
+
+-- a negative number is none without a sign
+negative_none : (n : ℕ) → option_and_then coordinate_of (Some (neg_ℤ (pos n))) ≢ Some (pos 0) → weight_of (neg_ℤ (pos n)) ≡ None
+negative_none zero other = absurd (other refl)
+negative_none (suc n) other = refl
+
+-- and nothing else is one that `parse` refuses
+pub other_spelled : (word : List ℕ) → ¬ (IsNumeral 10 (without_leading_plus word) × (digits_value 10 (without_leading_plus word) < 2 ^ 64))
+    → option_and_then coordinate_of (spelled_number word) ≢ Some (pos 0) → option_and_then weight_of (spelled_number word) ≡ None
+other_spelled word refused other = elim (cases_Bool (not (length (without_leading_sign word) == 0) && all_ascii_digits (without_leading_sign word))) [
+  | inr none ↦ rw none refl
+  | inl is ↦ elim (cases_Bool (starts_with_minus word)) [
+    | inr plain ↦
+        let bare : without_leading_sign word ≡ without_leading_plus word = rw plain refl in
+        let numeral = subst (IsNumeral 10) bare ((numeral_decides (without_leading_sign word)).0 is) in
+        ap (option_and_then weight_of) (spelled_plain word plain numeral) ∙ elim (cases_lt (digits_value 10 (without_leading_plus word)) (2 ^ 64)) [
+          | inl small ↦ absurd (refused (numeral, small))
+          | inr big ↦ weight_large (digits_value 10 (without_leading_plus word)) big
+        ]
+    | inl minus ↦
+        let spelled : spelled_number word ≡ Some (neg_ℤ (pos (digits_value 10 (without_leading_sign word)))) = rw (is, minus) refl in
+        ap (option_and_then weight_of) spelled
+        ∙ negative_none (digits_value 10 (without_leading_sign word)) (λ e. other (ap (option_and_then coordinate_of) spelled ∙ e))
+  ]
+]
+
+-- numbers of 32 bits among those of 64
+pub count_some : (o : Option ℤ) (n : ℕ) → option_and_then weight_of o ≡ Some n → n < 2 ^ 32 → option_and_then count_of o ≡ Some n
+count_some None n e small = absurd cc
+count_some (Some (pos k)) n e small = elim (cases_Bool (nat_lt k (2 ^ 64))) [
+  | inl fits ↦
+      let h : weight_of (pos k) ≡ Some k = rw fits refl in
+      let f : Some k ≡ Some n = sym h ∙ e in
+      let same : k ≡ n = cc in
+      let is : nat_lt k (2 ^ 32) ≡ true = (Decides-ltb k (2 ^ 32)).1 (omega arith) in rw is f
+  | inr big ↦ absurd (let h : weight_of (pos k) ≡ None = rw big refl in let f : None ≡ Some n = sym h ∙ e in cc)
+]
+count_some (Some (negsuc k)) n e small = absurd cc
+
+pub count_large : (o : Option ℤ) (n : ℕ) → option_and_then weight_of o ≡ Some n → 2 ^ 32 ≤ n → option_and_then count_of o ≡ None
+count_large None n e large = absurd cc
+count_large (Some (pos k)) n e large = elim (cases_Bool (nat_lt k (2 ^ 64))) [
+  | inl fits ↦
+      let h : weight_of (pos k) ≡ Some k = rw fits refl in
+      let f : Some k ≡ Some n = sym h ∙ e in
+      let same : k ≡ n = cc in
+      let is : nat_lt k (2 ^ 32) ≡ false = le-ltb k (2 ^ 32) (omega arith) in rw is refl
+  | inr big ↦ absurd (let h : weight_of (pos k) ≡ None = rw big refl in let f : None ≡ Some n = sym h ∙ e in cc)
+]
+count_large (Some (negsuc k)) n e large = absurd cc
+
+pub count_none : (o : Option ℤ) → option_and_then weight_of o ≡ None → option_and_then count_of o ≡ None
+count_none None e = refl
+count_none (Some (pos k)) e = elim (cases_Bool (nat_lt k (2 ^ 64))) [
+  | inl fits ↦ absurd (let h : weight_of (pos k) ≡ Some k = rw fits refl in let f : Some k ≡ None = sym h ∙ e in cc)
+  | inr big ↦ let is : nat_lt k (2 ^ 32) ≡ false = le-ltb k (2 ^ 32) (omega (arith, ltb-false k (2 ^ 64) big)) in rw is refl
+]
+count_none (Some (negsuc k)) e = refl

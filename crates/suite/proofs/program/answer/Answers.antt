@@ -1,0 +1,166 @@
+-- What the tool printed is true, and a run that nothing troubles ends with an answer.
+use Rattle.std.proofs.Common.{rules, option_map, subst}
+use Rattle.frame.specs.Outside.{outside}
+use Rattle.requests.specs.Requests.{meaning}
+use Rattle.search_tools.specs.Build.{EndsBb}
+use Rattle.search_tools.specs.Solve.{EndsSolve}
+use Rattle.suite.proofs.Asked.{solve_asked_completes, bb_asked_completes, check_asked_completes, dump_asked_completes, rfst_asked_completes, prune_asked_completes, graph_asked_completes, points_asked_completes, stp_asked_completes, solve_asked_runs, bb_asked_runs, solve_asked_headline, bb_asked_headline, check_asked_headline}
+use Rattle.suite.proofs.program.answer.Goals as goal
+
+pub returns-in-Some-Solve-clause-run : goal.returns-in-Some-Solve-clause-run
+returns-in-Some-Solve-clause-run g c =
+    let request = option_map meaning c.args.request in
+    solve_asked_runs request c.in-Some-Solve.size c.in-Some-Solve.search
+    (outside (g.I.Source.state c.args.input.now) (g.O.Sink.state c.args.out.now) (g.R.Sink.state c.args.err.now) (g.S.Shelf.state c.args.shelf.now))
+    (outside (g.I.Source.state c.solve.new.input) (g.O.Sink.state c.solve.new.out) (g.R.Sink.state c.solve.new.err) (g.S.Shelf.state c.args.shelf.now))
+    c.solve.result
+    (search rules)
+    (subst (λ options. EndsSolve options c.in-Some-Solve.size
+    (outside (g.I.Source.state c.args.input.now) (g.O.Sink.state c.args.out.now) (g.R.Sink.state c.args.err.now) (g.S.Shelf.state c.args.shelf.now))
+    (outside (g.I.Source.state c.solve.new.input) (g.O.Sink.state c.solve.new.out) (g.R.Sink.state c.solve.new.err) (g.S.Shelf.state c.args.shelf.now))
+    c.solve.result) c.options_from-in-Some-Solve.ensures (c.solve.ensures (g.S.Shelf.state c.args.shelf.now)))
+
+pub returns-in-Some-Solve-clause-headline : goal.returns-in-Some-Solve-clause-headline
+returns-in-Some-Solve-clause-headline g c =
+    let request = option_map meaning c.args.request in
+    solve_asked_headline request c.in-Some-Solve.size c.in-Some-Solve.search
+    (outside (g.I.Source.state c.args.input.now) (g.O.Sink.state c.args.out.now) (g.R.Sink.state c.args.err.now) (g.S.Shelf.state c.args.shelf.now))
+    (outside (g.I.Source.state c.solve.new.input) (g.O.Sink.state c.solve.new.out) (g.R.Sink.state c.solve.new.err) (g.S.Shelf.state c.args.shelf.now))
+    c.solve.result
+    (search rules)
+    (subst (λ options. EndsSolve options c.in-Some-Solve.size
+    (outside (g.I.Source.state c.args.input.now) (g.O.Sink.state c.args.out.now) (g.R.Sink.state c.args.err.now) (g.S.Shelf.state c.args.shelf.now))
+    (outside (g.I.Source.state c.solve.new.input) (g.O.Sink.state c.solve.new.out) (g.R.Sink.state c.solve.new.err) (g.S.Shelf.state c.args.shelf.now))
+    c.solve.result) c.options_from-in-Some-Solve.ensures (c.solve.ensures (g.S.Shelf.state c.args.shelf.now)))
+
+pub returns-in-Some-Solve-clause-complete : goal.returns-in-Some-Solve-clause-complete
+returns-in-Some-Solve-clause-complete g c =
+    let request = option_map meaning c.args.request in
+    solve_asked_completes request c.in-Some-Solve.size c.in-Some-Solve.search
+    (outside (g.I.Source.state c.args.input.now) (g.O.Sink.state c.args.out.now) (g.R.Sink.state c.args.err.now) (g.S.Shelf.state c.args.shelf.now))
+    (outside (g.I.Source.state c.solve.new.input) (g.O.Sink.state c.solve.new.out) (g.R.Sink.state c.solve.new.err) (g.S.Shelf.state c.args.shelf.now))
+    c.solve.result
+    (search rules)
+    (subst (λ options. EndsSolve options c.in-Some-Solve.size
+    (outside (g.I.Source.state c.args.input.now) (g.O.Sink.state c.args.out.now) (g.R.Sink.state c.args.err.now) (g.S.Shelf.state c.args.shelf.now))
+    (outside (g.I.Source.state c.solve.new.input) (g.O.Sink.state c.solve.new.out) (g.R.Sink.state c.solve.new.err) (g.S.Shelf.state c.args.shelf.now))
+    c.solve.result) c.options_from-in-Some-Solve.ensures (c.solve.ensures (g.S.Shelf.state c.args.shelf.now)))
+
+pub returns-in-Some-Check-clause-checked : goal.returns-in-Some-Check-clause-checked
+returns-in-Some-Check-clause-checked g c =
+    let request = option_map meaning c.args.request in
+    check_asked_headline request c.in-Some-Check.points.now
+    (outside (g.I.Source.state c.args.input.now) (g.O.Sink.state c.args.out.now) (g.R.Sink.state c.args.err.now) (g.S.Shelf.state c.args.shelf.now))
+    (outside (g.I.Source.state c.check.new.input) (g.O.Sink.state c.check.new.out) (g.R.Sink.state c.check.new.err) (g.S.Shelf.state c.check.new.shelf))
+    c.check.result
+    (search rules)
+    c.check.ensures
+
+pub returns-in-Some-Check-clause-complete : goal.returns-in-Some-Check-clause-complete
+returns-in-Some-Check-clause-complete g c =
+    let request = option_map meaning c.args.request in
+    check_asked_completes request c.in-Some-Check.points.now
+    (outside (g.I.Source.state c.args.input.now) (g.O.Sink.state c.args.out.now) (g.R.Sink.state c.args.err.now) (g.S.Shelf.state c.args.shelf.now))
+    (outside (g.I.Source.state c.check.new.input) (g.O.Sink.state c.check.new.out) (g.R.Sink.state c.check.new.err) (g.S.Shelf.state c.check.new.shelf))
+    c.check.result
+    (search rules)
+    c.check.ensures
+
+pub returns-in-Some-Dumpfst-clause-complete : goal.returns-in-Some-Dumpfst-clause-complete
+returns-in-Some-Dumpfst-clause-complete g c =
+    let request = option_map meaning c.args.request in
+    dump_asked_completes c.spelled_has_no_fault-in-Some-Dumpfst.ensures.no_fault request c.in-Some-Dumpfst.pieces
+    (outside (g.I.Source.state c.args.input.now) (g.O.Sink.state c.args.out.now) (g.R.Sink.state c.args.err.now) (g.S.Shelf.state c.args.shelf.now))
+    (outside (g.I.Source.state c.dumpfst.new.input) (g.O.Sink.state c.dumpfst.new.out) (g.R.Sink.state c.dumpfst.new.err) (g.S.Shelf.state c.args.shelf.now))
+    c.dumpfst.result
+    (search rules)
+    (c.dumpfst.ensures (g.S.Shelf.state c.args.shelf.now))
+
+pub returns-in-Some-Prunefst-clause-complete : goal.returns-in-Some-Prunefst-clause-complete
+returns-in-Some-Prunefst-clause-complete g c =
+    let request = option_map meaning c.args.request in
+    prune_asked_completes c.spelled_has_no_fault.ensures.no_fault request
+    (outside (g.I.Source.state c.args.input.now) (g.O.Sink.state c.args.out.now) (g.R.Sink.state c.args.err.now) (g.S.Shelf.state c.args.shelf.now))
+    (outside (g.I.Source.state c.prunefst.new.input) (g.O.Sink.state c.prunefst.new.out) (g.R.Sink.state c.prunefst.new.err) (g.S.Shelf.state c.args.shelf.now))
+    c.prunefst.result
+    (search rules)
+    (c.prunefst.ensures (g.S.Shelf.state c.args.shelf.now))
+
+pub returns-in-Some-Rfst-clause-complete : goal.returns-in-Some-Rfst-clause-complete
+returns-in-Some-Rfst-clause-complete g c =
+    let request = option_map meaning c.args.request in
+    rfst_asked_completes request c.in-Some-Rfst.size
+    (outside (g.I.Source.state c.args.input.now) (g.O.Sink.state c.args.out.now) (g.R.Sink.state c.args.err.now) (g.S.Shelf.state c.args.shelf.now))
+    (outside (g.I.Source.state c.rfst.new.input) (g.O.Sink.state c.rfst.new.out) (g.R.Sink.state c.rfst.new.err) (g.S.Shelf.state c.args.shelf.now))
+    c.rfst.result
+    (search rules)
+    (c.rfst.ensures (g.S.Shelf.state c.args.shelf.now))
+
+pub returns-in-Some-Bb-clause-run : goal.returns-in-Some-Bb-clause-run
+returns-in-Some-Bb-clause-run g c =
+    let request = option_map meaning c.args.request in
+    bb_asked_runs request c.in-Some-Bb.search
+    (outside (g.I.Source.state c.args.input.now) (g.O.Sink.state c.args.out.now) (g.R.Sink.state c.args.err.now) (g.S.Shelf.state c.args.shelf.now))
+    (outside (g.I.Source.state c.bb.new.input) (g.O.Sink.state c.bb.new.out) (g.R.Sink.state c.bb.new.err) (g.S.Shelf.state c.args.shelf.now))
+    c.bb.result
+    (search rules)
+    (subst (λ options. EndsBb options
+    (outside (g.I.Source.state c.args.input.now) (g.O.Sink.state c.args.out.now) (g.R.Sink.state c.args.err.now) (g.S.Shelf.state c.args.shelf.now))
+    (outside (g.I.Source.state c.bb.new.input) (g.O.Sink.state c.bb.new.out) (g.R.Sink.state c.bb.new.err) (g.S.Shelf.state c.args.shelf.now))
+    c.bb.result) c.options_from.ensures (c.bb.ensures (g.S.Shelf.state c.args.shelf.now)))
+
+pub returns-in-Some-Bb-clause-built : goal.returns-in-Some-Bb-clause-built
+returns-in-Some-Bb-clause-built g c =
+    let request = option_map meaning c.args.request in
+    bb_asked_headline request c.in-Some-Bb.search
+    (outside (g.I.Source.state c.args.input.now) (g.O.Sink.state c.args.out.now) (g.R.Sink.state c.args.err.now) (g.S.Shelf.state c.args.shelf.now))
+    (outside (g.I.Source.state c.bb.new.input) (g.O.Sink.state c.bb.new.out) (g.R.Sink.state c.bb.new.err) (g.S.Shelf.state c.args.shelf.now))
+    c.bb.result
+    (search rules)
+    (subst (λ options. EndsBb options
+    (outside (g.I.Source.state c.args.input.now) (g.O.Sink.state c.args.out.now) (g.R.Sink.state c.args.err.now) (g.S.Shelf.state c.args.shelf.now))
+    (outside (g.I.Source.state c.bb.new.input) (g.O.Sink.state c.bb.new.out) (g.R.Sink.state c.bb.new.err) (g.S.Shelf.state c.args.shelf.now))
+    c.bb.result) c.options_from.ensures (c.bb.ensures (g.S.Shelf.state c.args.shelf.now)))
+
+pub returns-in-Some-Bb-clause-complete : goal.returns-in-Some-Bb-clause-complete
+returns-in-Some-Bb-clause-complete g c =
+    let request = option_map meaning c.args.request in
+    bb_asked_completes c.spelled_has_no_fault-in-Some-Bb.ensures.no_fault c.spelled_has_no_fault-in-Some-Bb.ensures.one request c.in-Some-Bb.search
+    (outside (g.I.Source.state c.args.input.now) (g.O.Sink.state c.args.out.now) (g.R.Sink.state c.args.err.now) (g.S.Shelf.state c.args.shelf.now))
+    (outside (g.I.Source.state c.bb.new.input) (g.O.Sink.state c.bb.new.out) (g.R.Sink.state c.bb.new.err) (g.S.Shelf.state c.args.shelf.now))
+    c.bb.result
+    (search rules)
+    (subst (λ options. EndsBb options
+    (outside (g.I.Source.state c.args.input.now) (g.O.Sink.state c.args.out.now) (g.R.Sink.state c.args.err.now) (g.S.Shelf.state c.args.shelf.now))
+    (outside (g.I.Source.state c.bb.new.input) (g.O.Sink.state c.bb.new.out) (g.R.Sink.state c.bb.new.err) (g.S.Shelf.state c.args.shelf.now))
+    c.bb.result) c.options_from.ensures (c.bb.ensures (g.S.Shelf.state c.args.shelf.now)))
+
+pub returns-in-Some-Points-clause-complete : goal.returns-in-Some-Points-clause-complete
+returns-in-Some-Points-clause-complete g c =
+    let request = option_map meaning c.args.request in
+    points_asked_completes request c.in-Some-Points.drawing
+    (outside (g.I.Source.state c.args.input.now) (g.O.Sink.state c.args.out.now) (g.R.Sink.state c.args.err.now) (g.S.Shelf.state c.args.shelf.now))
+    (outside (g.I.Source.state c.args.input.now) (g.O.Sink.state c.points.new.out) (g.R.Sink.state c.points.new.err) (g.S.Shelf.state c.args.shelf.now))
+    c.points.result
+    (search rules)
+    (c.points.ensures (g.I.Source.state c.args.input.now) (g.S.Shelf.state c.args.shelf.now))
+
+pub returns-in-Some-Stp2points-clause-complete : goal.returns-in-Some-Stp2points-clause-complete
+returns-in-Some-Stp2points-clause-complete g c =
+    let request = option_map meaning c.args.request in
+    stp_asked_completes c.located_has_no_fault.ensures request
+    (outside (g.I.Source.state c.args.input.now) (g.O.Sink.state c.args.out.now) (g.R.Sink.state c.args.err.now) (g.S.Shelf.state c.args.shelf.now))
+    (outside (g.I.Source.state c.stp2points.new.input) (g.O.Sink.state c.stp2points.new.out) (g.R.Sink.state c.stp2points.new.err) (g.S.Shelf.state c.args.shelf.now))
+    c.stp2points.result
+    (search rules)
+    (c.stp2points.ensures (g.S.Shelf.state c.args.shelf.now))
+
+pub returns-in-Some-Fst2graph-clause-complete : goal.returns-in-Some-Fst2graph-clause-complete
+returns-in-Some-Fst2graph-clause-complete g c =
+    let request = option_map meaning c.args.request in
+    graph_asked_completes c.spelled_has_no_fault-in-Some-Fst2graph.ensures.no_fault request
+    (outside (g.I.Source.state c.args.input.now) (g.O.Sink.state c.args.out.now) (g.R.Sink.state c.args.err.now) (g.S.Shelf.state c.args.shelf.now))
+    (outside (g.I.Source.state c.fst2graph.new.input) (g.O.Sink.state c.fst2graph.new.out) (g.R.Sink.state c.fst2graph.new.err) (g.S.Shelf.state c.args.shelf.now))
+    c.fst2graph.result
+    (search rules)
+    (c.fst2graph.ensures (g.S.Shelf.state c.args.shelf.now))

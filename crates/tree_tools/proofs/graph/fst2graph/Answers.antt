@@ -1,0 +1,22 @@
+use Rattle.std.proofs.Common.{refl, codes}
+use Rattle.frame.specs.declared.take.TheConstants.{TEXT_LIMIT}
+use Rattle.frame.specs.Outside.{outside, readable}
+use Rattle.frame.specs.EndLaws.{ends_with}
+use Rattle.frame.specs.FaultTexts.{text_fault_text, text_fault_status}
+use Rattle.frame.specs.FromText.{FromText}
+use Rattle.frame.specs.Leaves.{LeavesShelf}
+use Rattle.tree_tools.specs.Graph.{GraphsFile}
+use Rattle.tree_inputs.specs.FstFaults.{fst_fault_text, fst_fault_status}
+use Rattle.tree_tools.specs.GraphAnswer.{graph_answer_text, graph_answer_status}
+use Rattle.tree_tools.proofs.GraphLaws.{found_or_not}
+use Rattle.tree_tools.proofs.graph.fst2graph.Goals as goal
+
+pub returns : goal.returns
+returns g c = λ shelf.
+    ends_with graph_answer_text graph_answer_status (text_fault_status fst_fault_status) (text_fault_text fst_fault_text) (codes "fst2graph") (FromText TEXT_LIMIT GraphsFile) LeavesShelf
+    (outside (g.I.Source.state c.args.input.now) (g.O.Sink.state c.args.out.now) (g.R.Sink.state c.args.err.now) shelf)
+    (outside (g.I.Source.state c.find-found.new.input) (g.O.Sink.state c.conclude.new.out) (g.R.Sink.state c.conclude.new.err) shelf)
+    c.conclude.result c.find-found.result
+    (found_or_not (readable (g.I.Source.state c.args.input.now) shelf) (readable (g.I.Source.state c.find-found.new.input) shelf) c.find-found.result (c.find-found.ensures.finds shelf))
+    (record { input = c.find-found.ensures.takes; shelf = refl })
+    c.conclude.ensures.concludes

@@ -1,0 +1,32 @@
+//! The grid of a file's points, as an answer of a tool.
+
+ghost use Rattle.tree_tools.specs.GraphAnswer.{graph_answer_text, graph_answer_status, HasGrid};
+
+use dump_plot::grid_as_stp;
+use frame::{Answer, AnswerStatus};
+use fst_file::FstFile;
+use rst_outside::{PutFault, Sink};
+
+/// A file of full trees, of whose points a tool prints the grid.
+#[derive(Debug, Drop)]
+pub struct GraphAnswer {
+    pub file: FstFile,
+}
+
+impl Answer for GraphAnswer {
+    ghost text = { graph_answer_text };
+
+    ghost status = { graph_answer_status };
+
+    ghost fits = { HasGrid };
+
+    ghost told = { HasGrid };
+
+    fn status(&self) -> AnswerStatus {
+        AnswerStatus::Done
+    }
+
+    fn write<O: Sink>(&self, out: &mut O) -> Result<(), PutFault> {
+        grid_as_stp(out, &self.file.grid)
+    }
+}
