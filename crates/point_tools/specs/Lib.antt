@@ -1,4 +1,3 @@
-pub mod NoFaults
 pub mod DrawnList
 pub mod Points
 pub mod StpPointsFaults

@@ -4,22 +4,22 @@ use Rattle.points_in.specs.declared.point.Point.{Point}
 use Rattle.points_in.specs.Text.{points_text}
 use Rattle.drawn_points.specs.Drawing.{drawn_points}
 use Rattle.frame.specs.declared.status.AnswerStatus.TheVariants.{Done}
+use Rattle.frame.specs.declared.take.InputFault.{InputFault}
 use Rattle.frame.specs.Outside.{Outside}
 use Rattle.frame.specs.Ends.{Print, Ends}
+use Rattle.frame.specs.FaultTexts.{input_fault_text, input_fault_status}
 use Rattle.frame.specs.Leaves.{LeavesAll}
-use Rattle.point_tools.specs.declared.no_fault.NoFault.{NoFault}
-use Rattle.point_tools.specs.NoFaults.{no_fault_text, no_fault_status}
 
 -- what is printed of points: one line each, in their order
 abbrev pub points_print : List Point → Print
 points_print ps = record { text = points_text ps; status = Done }
 
--- The text of the n points of a seed, and no fault.
-abbrev pub PrintsDrawn : ℕ → ℕ → Result Print NoFault → Type 0
+-- The text of the n points of a seed, and no fault: nothing is read.
+abbrev pub PrintsDrawn : ℕ → ℕ → Result Print InputFault → Type 0
 PrintsDrawn n seed (Ok print) = print ≡ points_print (drawn_points n seed)
 PrintsDrawn n seed (Err fault) = ⊥
 
 -- A run of `points`.
 abbrev pub EndsPoints : ℕ → ℕ → Outside → Outside → ℕ → Type 0
 EndsPoints n seed before after status =
-    Ends no_fault_status no_fault_text (codes "points") (λ _ _. PrintsDrawn n seed) LeavesAll before after status
+    Ends input_fault_status input_fault_text (codes "points") (λ _ _. PrintsDrawn n seed) LeavesAll before after status

@@ -9,9 +9,8 @@ ghost use Rattle.point_tools.specs.DrawnList.{drawn_text, drawn_status};
 ghost use Rattle.point_tools.specs.Points.{PrintsDrawn, EndsPoints};
 
 use crate::drawn_list::DrawnList;
-use crate::no_fault::NoFault;
 use drawn_points::draw_points;
-use frame::conclude;
+use frame::{InputFault, conclude};
 use rst_outside::Sink;
 use std::alloc::{AllocError, Global};
 
@@ -28,8 +27,8 @@ pub fn points<O: Sink, R: Sink>(alloc: Global, n: u8, seed: u64, out: &mut O, er
     conclude(out, err, b"points", found)
 }
 
-// The drawn points. An `Err` is want of memory.
-fn draw(alloc: Global, n: u8, seed: u64) -> Result<Result<DrawnList, NoFault>, AllocError>
+// The drawn points. An `Err` is want of memory. There is no fault, as nothing is read.
+fn draw(alloc: Global, n: u8, seed: u64) -> Result<Result<DrawnList, InputFault>, AllocError>
     requires some { 0 < n }
     requires few { n ≤ 50 }
     ensures { IfOk result (λ found. PrintsDrawn n seed (print_of drawn_text drawn_status found)) }

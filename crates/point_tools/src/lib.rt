@@ -4,11 +4,9 @@
 mod distinct_list;
 mod drawing;
 mod drawn_list;
-mod no_fault;
 mod stp_points;
 mod stp_points_fault;
 
 pub use drawing::points;
-pub use no_fault::NoFault;
 pub use stp_points::{located_has_no_fault, stp2points};
 pub use stp_points_fault::StpPointsFault;

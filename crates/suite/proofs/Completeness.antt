@@ -14,7 +14,7 @@ use Rattle.frame.specs.Statuses.{answer_code}
 use Rattle.frame.specs.Outside.{Readable, Outside}
 use Rattle.frame.specs.Ends.{Print}
 use Rattle.frame.specs.EndLaws.{complete_ends}
-use Rattle.frame.specs.FaultTexts.{text_fault_text, text_fault_status}
+use Rattle.frame.specs.FaultTexts.{input_fault_text, input_fault_status, text_fault_text, text_fault_status}
 use Rattle.frame.specs.FromText.{FromText}
 use Rattle.frame.specs.Leaves.{LeavesShelf, LeavesFiles, LeavesAll}
 use Rattle.frame.specs.Complete.{HasInput, HasFile}
@@ -39,7 +39,6 @@ use Rattle.tree_inputs.specs.declared.fst_fault.FstFault.{FstFault}
 use Rattle.tree_inputs.specs.FstFaults.{fst_fault_text, fst_fault_status}
 use Rattle.tree_inputs.specs.Files.{ReadsFst, SpelledHasNoFault, OneReading}
 use Rattle.point_tools.specs.declared.stp_points_fault.StpPointsFault.{StpPointsFault}
-use Rattle.point_tools.specs.NoFaults.{no_fault_text, no_fault_status}
 use Rattle.point_tools.specs.Points.{PrintsDrawn, EndsPoints}
 use Rattle.point_tools.specs.StpPointsFaults.{stp_points_fault_text, stp_points_fault_status}
 use Rattle.point_tools.specs.StpPoints.{LocatesPoints, PrintsLocated, LocatedHasNoFault, EndsStp2points}
@@ -211,7 +210,7 @@ graph_completes law before after status ends = λ bytes file has spells writes.
 pub points_completes : (drawing : Drawing) (before after : Outside) (status : ℕ) → EndsPoints drawing.count drawing.seed before after status →
     Completes (Some (Points drawing)) before after status
 points_completes drawing before after status ends = λ writes.
-    elim (complete_ends no_fault_status no_fault_text (codes "points") (λ _ _. PrintsDrawn drawing.count drawing.seed) LeavesAll before after status
+    elim (complete_ends input_fault_status input_fault_text (codes "points") (λ _ _. PrintsDrawn drawing.count drawing.seed) LeavesAll before after status
     (λ fault none. none) writes ends) [
       | inl seven ↦ inr seven
       | inr (print, of_points, answers) ↦ inl (answers ∙ ap (λ (p : Print). answer_code p.status) of_points)
