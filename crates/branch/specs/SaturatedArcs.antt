@@ -1,5 +1,5 @@
 -- Saturated arcs, by the edges whose arcs they are.
-use Rattle.std.specs.Prelude.{ℕ, ◌≡◌, ◌/◌, ◌<◌, ◌⊎◌, List, slice_get, Some, Contains}
+use Rattle.std.specs.Prelude.{ℕ, ◌≡◌, ◌/◌, ◌<◌, ◌⊎◌, true, List, length, slice_get, Some, Contains}
 use Rattle.net_graph.specs.declared.arcs.Arc.{Arc}
 use Rattle.net_graph.specs.declared.edge.Edge.{Edge}
 use Rattle.net_graph.specs.declared.packing.Cut.{Cut}
@@ -7,6 +7,8 @@ use Rattle.net_graph.specs.declared.state.EdgeState.{EdgeState}
 use Rattle.net_graph.specs.Decision.{Decided, states_of}
 use Rattle.net_graph.specs.Graph.{Graph}
 use Rattle.net_graph.specs.Packing.{load, room_of}
+use Rattle.dual_ascent.specs.declared.costs.EdgeCosts.{EdgeCosts}
+use Rattle.dual_ascent.specs.Costs.{is_saturated}
 
 -- an arc of the edge is saturated: its load is its room
 abbrev pub HasSaturatedArc : Graph → Decided → List Cut → ℕ → Type 0
@@ -14,11 +16,12 @@ HasSaturatedArc g d packing n = (e : Edge) × (state : EdgeState) × (slice_get 
     (slice_get (states_of g d) n ≡ Some state) ×
     ((room_of state e ≡ Some (load packing e.a e.b)) ⊎ (room_of state e ≡ Some (load packing e.b e.a)))
 
--- the arc joins vertices, and its edge has a saturated arc
-pub record IsOfSaturated (g : Graph) (d : Decided) (packing : List Cut) (arc : Arc) : Type 0 where
+-- the arc joins vertices along an edge, and nothing is left of its room
+pub record IsOfSaturated (g : Graph) (costs : List EdgeCosts) (arc : Arc) : Type 0 where
   pub from : arc.from < g.vertices
   pub to : arc.to < g.vertices
-  pub saturated : HasSaturatedArc g d packing (arc.number / 2)
+  pub edge : arc.number / 2 < length g.edges
+  pub saturated : is_saturated costs arc.number ≡ true
 
 -- one of the arcs is of the edge of this number
 abbrev pub IsEdgeOfOne : List Arc → ℕ → Type 0

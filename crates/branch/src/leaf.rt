@@ -8,7 +8,7 @@ ghost use Rattle.branch.specs.Leaves.{leaf_under};
 ghost use Rattle.branch.specs.Notes.{IsNoteOf};
 
 use crate::note::LeafNote;
-use crate::saturated::saturated_network;
+use crate::saturated::saturated_network_by;
 use dual_ascent::{Chooser, Rule, ascend};
 use net_graph::{Decision, NetGraph, Packing, value};
 use std::alloc::{AllocError, Global};
@@ -40,7 +40,13 @@ pub(crate) fn leaf_from<F: Rule>(
     let network = if ascent.closed {
         None
     } else {
-        Some(saturated_network(alloc, g, &decision, &ascent.packing)?)
+        Some(saturated_network_by(
+            alloc,
+            g,
+            &decision,
+            &ascent.packing,
+            &ascent.costs,
+        )?)
     };
     let value = value(g, &decision, &ascent.packing);
     Ok(NewLeaf {

@@ -1,14 +1,16 @@
 //! Networks of edges with saturated arcs.
 
 ghost use Rattle.std.specs.Prelude.{ℕ, ◌≡◌, ◌/◌, ◌<◌, ◌⊎◌, true, length, slice_get, All, Contains, IfOk, OnOk, Some};
-ghost use Rattle.net_graph.specs.Decision.{IsDecisionFor};
+ghost use Rattle.net_graph.specs.Decision.{IsDecisionFor, states_of};
 ghost use Rattle.net_graph.specs.Network.{IsNetwork};
 ghost use Rattle.net_graph.specs.Packing.{IsFeasible};
 ghost use Rattle.net_graph.specs.Saturation.{IsMaximal};
+ghost use Rattle.dual_ascent.specs.Costs.{costs_of};
 ghost use Rattle.branch.specs.SaturatedArcs.{HasSaturatedArc, IsEdgeOfOne, IsOfSaturated};
 
-use crate::saturation::{is_saturated, saturated_edges};
-use net_graph::{Arc, Decision, EdgeSet, NetGraph, Packing, VertexSet, joins};
+use crate::saturation::saturated_edges;
+use dual_ascent::ReducedCosts;
+use net_graph::{Arc, Decision, EdgeSet, NetGraph, Packing, Passage, VertexSet, joins};
 use std::alloc::{AllocError, Global};
 
 /// A network whose edges each have a saturated arc under a maximal packing. A search from the root goes over saturated
@@ -29,7 +31,28 @@ pub fn saturated_network(
     ensures saturated { IfOk result
         (λ set. (n : ℕ) → slice_get set n ≡ Some true → HasSaturatedArc g.now d.now packing.now n) }
 {
-    let arcs = found_arcs(alloc, g, d, packing)?;
+    let costs = ReducedCosts::of(alloc, g, d, packing)?;
+    saturated_network_by(alloc, g, d, packing, &costs)
+}
+
+/// The same by what the packing leaves of the room of all arcs.
+pub(crate) fn saturated_network_by(
+    alloc: Global,
+    g: &NetGraph,
+    d: &Decision,
+    packing: &Packing,
+    costs: &ReducedCosts,
+) -> Result<EdgeSet, AllocError>
+    requires decision { IsDecisionFor g.now d.now }
+    requires feasible { IsFeasible g.now d.now packing.now }
+    requires maximal { IsMaximal g.now d.now packing.now }
+    requires costs { costs.now ≡ costs_of g.now.edges (states_of g.now d.now) packing.now }
+    ensures size { IfOk result (λ set. length set ≡ length g.now.edges) }
+    ensures network { IfOk result (λ set. IsNetwork g.now set) }
+    ensures saturated { IfOk result
+        (λ set. (n : ℕ) → slice_get set n ≡ Some true → HasSaturatedArc g.now d.now packing.now n) }
+{
+    let arcs = found_arcs(alloc, g, costs)?;
     let kept = edges_back(alloc, g, &arcs)?;
     // That the search finds the terminals is judged here rather than proved of it. All edges with a saturated arc are a
     // network, since the packing is maximal.
@@ -42,25 +65,19 @@ pub fn saturated_network(
 
 // The arcs by which a search from the root over saturated arcs finds vertices, in the order in which it finds them. An
 // `Err` is want of memory.
-fn found_arcs(
-    alloc: Global,
-    g: &NetGraph,
-    d: &Decision,
-    p: &Packing,
-) -> Result<Vec<Arc>, AllocError>
-    requires decision { IsDecisionFor g.now d.now }
-    requires feasible { IsFeasible g.now d.now p.now }
-    ensures { IfOk result (λ arcs. All (IsOfSaturated g.now d.now p.now) arcs.items) }
+fn found_arcs(alloc: Global, g: &NetGraph, costs: &ReducedCosts) -> Result<Vec<Arc>, AllocError>
+    requires { length costs.now ≡ length g.now.edges }
+    ensures { IfOk result (λ arcs. All (IsOfSaturated g.now costs.now) arcs.items) }
 {
     let mut found = VertexSet::empty(alloc, g.vertex_count())?;
     found.add(g.root());
     let mut arcs = Vec::new(alloc);
-    let first = saturated_from(alloc, g, d, p, g.root(), &found)?;
+    let first = saturated_from(alloc, g, costs, g.root(), &found)?;
     add_new(&first, &mut found, &mut arcs)?;
     // Each vertex but the root is found once at most.
     for place in 0..g.vertex_count() as usize {
         if place < arcs.len() {
-            let next = saturated_from(alloc, g, d, p, arcs[place].to, &found)?;
+            let next = saturated_from(alloc, g, costs, arcs[place].to, &found)?;
             add_new(&next, &mut found, &mut arcs)?;
         }
     }
@@ -72,18 +89,16 @@ fn found_arcs(
 fn saturated_from(
     alloc: Global,
     g: &NetGraph,
-    d: &Decision,
-    p: &Packing,
+    costs: &ReducedCosts,
     vertex: u32,
     found: &VertexSet,
 ) -> Result<Vec<Arc>, AllocError>
+    requires costs { length costs.now ≡ length g.now.edges }
     requires vertex { vertex < g.now.vertices }
     requires size { length found.now ≡ g.now.vertices }
-    requires decision { IsDecisionFor g.now d.now }
-    requires feasible { IsFeasible g.now d.now p.now }
-    ensures { IfOk result (λ arcs. All (IsOfSaturated g.now d.now p.now) arcs.items) }
+    ensures { IfOk result (λ arcs. All (IsOfSaturated g.now costs.now) arcs.items) }
 {
-    let mut arcs = list_saturated(alloc, g, d, p, vertex, found)?;
+    let mut arcs = list_saturated(alloc, g, costs, vertex, found)?;
     arcs.sort_unstable_by_key(|arc| (arc.to, arc.number));
     Ok(arcs)
 }
@@ -92,20 +107,18 @@ fn saturated_from(
 fn list_saturated(
     alloc: Global,
     g: &NetGraph,
-    d: &Decision,
-    p: &Packing,
+    costs: &ReducedCosts,
     vertex: u32,
     found: &VertexSet,
 ) -> Result<Vec<Arc>, AllocError>
+    requires costs { length costs.now ≡ length g.now.edges }
     requires vertex { vertex < g.now.vertices }
     requires size { length found.now ≡ g.now.vertices }
-    requires decision { IsDecisionFor g.now d.now }
-    requires feasible { IsFeasible g.now d.now p.now }
-    ensures { IfOk result (λ arcs. All (IsOfSaturated g.now d.now p.now) arcs.items) }
+    ensures { IfOk result (λ arcs. All (IsOfSaturated g.now costs.now) arcs.items) }
 {
     let mut arcs = Vec::new(alloc);
     for arc in g.arcs_from(vertex) {
-        if !found.has(arc.to) && is_saturated(g, d, p, arc.number) {
+        if !found.has(arc.to) && costs.is_open(arc.number) {
             arcs.push(*arc)?;
         }
     }

@@ -1,6 +1,6 @@
 //! Which arcs of a graph packed cuts saturate.
 
-ghost use Rattle.std.specs.Prelude.{ℕ, ◌≡◌, ◌*◌, ◌/◌, ◌<◌, ◌↔◌, true, length, slice_get, All, IsTrue, IfOk, Some};
+ghost use Rattle.std.specs.Prelude.{ℕ, ◌≡◌, ◌<◌, ◌↔◌, true, length, slice_get, All, IsTrue, IfOk, Some};
 ghost use Rattle.net_graph.specs.Decision.{IsDecisionFor};
 ghost use Rattle.net_graph.specs.Packing.{IsFeasible, room_of};
 ghost use Rattle.net_graph.specs.Packing as packing;
@@ -8,23 +8,6 @@ ghost use Rattle.branch.specs.SaturatedArcs.{HasSaturatedArc};
 
 use net_graph::{Cut, Decision, Edge, EdgeSet, EdgeState, NetGraph, Packing};
 use std::alloc::{AllocError, Global};
-
-/// Whether the arc of a number is saturated.
-pub(crate) fn is_saturated(g: &NetGraph, d: &Decision, p: &Packing, arc: u32) -> bool
-    requires arc { arc < 2 * length g.now.edges }
-    requires decision { IsDecisionFor g.now d.now }
-    requires feasible { IsFeasible g.now d.now p.now }
-    ensures { IsTrue result → HasSaturatedArc g.now d.now p.now (arc / 2) }
-{
-    let n = arc / 2;
-    let e = g.edge(n);
-    let load = if arc % 2 == 0 {
-        load(p.cuts(), e.a, e.b)
-    } else {
-        load(p.cuts(), e.b, e.a)
-    };
-    is_room(d.state(g, n), e, load)
-}
 
 /// The edges with a saturated arc. An `Err` is want of memory.
 pub(crate) fn saturated_edges(

@@ -26,8 +26,8 @@ use Rattle.dual_ascent.specs.Growing.{MayGrow, IsGrown, AreGrown, LeavesOut}
 use Rattle.dual_ascent.specs.Steps.{SaturatedLeads}
 use Rattle.dual_ascent.proofs.ArcLemmas.{IsArcOf-below}
 use Rattle.dual_ascent.proofs.EnteringLemmas.{left_after-zero, cost_of-lowered, Entering-from_arc}
-use Rattle.dual_ascent.proofs.LoadLemmas.{left_after-same, left_after-none}
-use Rattle.dual_ascent.proofs.SaturatedLemmas.{is_used_up-some}
+use Rattle.dual_ascent.proofs.LoadLemmas.{left_after-same}
+use Rattle.dual_ascent.specs.CostLaws.{left_after-none, is_used_up-some}
 
 -- an item that passes is in the filtered list
 filter_holds : (p : EnteringArc → Bool) (xs : List EnteringArc) → All (λ y. p y ≡ true → Contains (filter p xs) y) xs

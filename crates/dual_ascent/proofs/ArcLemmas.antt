@@ -7,42 +7,10 @@ use Rattle.std.proofs.lemmas.List.{length-set, length-map, get_or-set_same, get_
 use Rattle.std.proofs.lemmas.Option.{same_Some, slice_get_within, slice_get_past, slice_get-get_or, get_or_from_slice_get, slice_get-map}
 use Rattle.net_graph.specs.declared.arcs.Arc.{Arc}
 use Rattle.net_graph.specs.declared.edge.Edge.{Edge}
-use Rattle.net_graph.specs.Arcs.{forward_arc, backward_arc, partner_of, IsArcOf}
+use Rattle.net_graph.specs.Arcs.{forward_arc, backward_arc, IsArcOf}
 use Rattle.net_graph.specs.Graph.{Graph, IsGraph, HasEndsBelow}
-use Rattle.net_graph.specs.Turned.{partner_of-even, partner_of-odd}
 use Rattle.dual_ascent.specs.declared.costs.EdgeCosts.{EdgeCosts}
 use Rattle.dual_ascent.specs.Costs.{cost_in, cost_of, with_cost, edges_of}
-
--- the other arc of an arc's edge
-pub IsArcOf-partner : (edges : List Edge) (x : Arc) (v : ℕ) → IsArcOf edges x → x.from ≡ v → IsArcOf edges (record { number = partner_of x.number; from = x.to; to = v })
-IsArcOf-partner edges x v (n, e, at, way) leaves =
-    let arc : Arc = record { number = partner_of x.number; from = x.to; to = v } in
-    ⊎_elim
-    (λ (is : x ≡ forward_arc n e).
-    let number : partner_of x.number ≡ 2 * n + 1 = ap (λ (y : Arc). partner_of y.number) is ∙ partner_of-even n in
-    let from : x.to ≡ e.b = ap (λ (y : Arc). y.to) is in
-    let to : v ≡ e.a = sym leaves ∙ ap (λ (y : Arc). y.from) is in
-    let same : arc ≡ backward_arc n e = cc in
-    (n, e, at, inr same))
-    (λ (is : x ≡ backward_arc n e).
-    let number : partner_of x.number ≡ 2 * n = ap (λ (y : Arc). partner_of y.number) is ∙ partner_of-odd n in
-    let from : x.to ≡ e.a = ap (λ (y : Arc). y.to) is in
-    let to : v ≡ e.b = sym leaves ∙ ap (λ (y : Arc). y.from) is in
-    let same : arc ≡ forward_arc n e = cc in
-    (n, e, at, inl same))
-    way
-
--- the partner of an arc's partner is the arc
-pub partner_twice : (edges : List Edge) (x : Arc) → IsArcOf edges x → partner_of (partner_of x.number) ≡ x.number
-partner_twice edges x (n, e, at, way) =
-    ⊎_elim
-    (λ (is : x ≡ forward_arc n e).
-    let number : x.number ≡ 2 * n = ap (λ (y : Arc). y.number) is in
-    ap (λ k. partner_of (partner_of k)) number ∙ ap partner_of (partner_of-even n) ∙ partner_of-odd n ∙ sym number)
-    (λ (is : x ≡ backward_arc n e).
-    let number : x.number ≡ 2 * n + 1 = ap (λ (y : Arc). y.number) is in
-    ap (λ k. partner_of (partner_of k)) number ∙ ap partner_of (partner_of-odd n) ∙ partner_of-even n ∙ sym number)
-    way
 
 -- an arc's number is below twice the number of edges
 pub IsArcOf-number : (edges : List Edge) (x : Arc) → IsArcOf edges x → x.number < 2 * length edges

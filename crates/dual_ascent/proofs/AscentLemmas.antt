@@ -16,9 +16,10 @@ use Rattle.dual_ascent.specs.declared.costs.EdgeCosts.{EdgeCosts}
 use Rattle.dual_ascent.specs.Ascending.{BeginsWith, closed_with}
 use Rattle.dual_ascent.specs.Costs.{costs_of, lowered_by, is_saturated, unsaturated, Entering, IsLeastOf}
 use Rattle.dual_ascent.specs.Steps.{AreRequired, SaturatedLeads, Parts, IsNextCut}
-use Rattle.dual_ascent.proofs.LoadLemmas.{map-lowered_by, length-costs_of}
+use Rattle.dual_ascent.proofs.LoadLemmas.{map-lowered_by}
 use Rattle.dual_ascent.proofs.SaturatedLemmas.{SaturatedStep-iff_open}
 use Rattle.dual_ascent.proofs.PackLemmas.{IsFeasible-push, unsaturated-lowered_by, unsaturated-le}
+use Rattle.dual_ascent.specs.CostLaws.{length-costs_of}
 
 -- the packing is feasible, the costs are what it leaves, and each cut so far took the room of an arc
 pub record IsUnderWay (g : Graph) (decision : Decided) (start packing : List Cut) (costs : List EdgeCosts) : Type 0 where

@@ -1,140 +1,95 @@
 -- The arcs that enter a set, gathered one after another, and what a cut leaves of them.
 use Rattle.std.proofs.Common.{ℕ, ◌≡◌, ◌≢◌, ◌+◌, ◌-◌, ◌*◌, ◌<◌, ◌≤◌, Bool, true, false, not, List, [], ◌∷◌, ◌++◌, map, length, get_or, slice_get, Option, Some, None, All, Contains, ◌⊎◌, inl, inr, ⊎_elim, refl, sym, ap, subst, ◌∙◌, arith, if◌then◌else◌}
 use Rattle.std.specs.Option.{SomeIff, option_map}
-use Rattle.std.proofs.lemmas.Bool.{cases_Bool, cases_eq, cases_lt, and_parts, both_ways, not-true}
+use Rattle.std.proofs.lemmas.Bool.{cases_Bool, cases_eq, cases_lt, both_ways}
 use Rattle.std.proofs.lemmas.List.{length-map, same_lists, get_or-map}
 use Rattle.std.proofs.lemmas.List.Elements.{All-nil, All-push, All-contains, Contains-append_left, Contains-push}
 use Rattle.std.proofs.lemmas.Option.{same_Some, slice_get_within, slice_get-get_or, slice_get-map, get_or_from_slice_get}
 use Rattle.net_graph.specs.declared.arcs.Arc.{Arc}
 use Rattle.net_graph.specs.declared.edge.Edge.{Edge}
 use Rattle.net_graph.specs.declared.packing.Cut.{Cut}
-use Rattle.net_graph.specs.Arcs.{forward_arc, backward_arc, partner_of, IsArcOf, AreArcsFrom}
-use Rattle.net_graph.specs.Flags.{has}
-use Rattle.net_graph.specs.Graph.{Graph, IsGraph}
+use Rattle.net_graph.specs.Arcs.{forward_arc, backward_arc, IsArcOf}
 use Rattle.net_graph.specs.Packing.{enters}
 use Rattle.dual_ascent.specs.declared.costs.EdgeCosts.{EdgeCosts}
 use Rattle.dual_ascent.specs.declared.entering.EnteringArc.{EnteringArc}
 use Rattle.dual_ascent.specs.Costs.{left_after, weight_on, lowered_by, cost_of, edges_of, Entering, IsLeastOf}
-use Rattle.dual_ascent.specs.Entering.{EntersLeft, HasEnteringAt, AreEntering, IsLeftOfOne}
-use Rattle.dual_ascent.proofs.ArcLemmas.{IsArcOf-partner, partner_twice, IsArcOf-below, same_arc, cost_of-even, cost_of-odd, slice_get-edges_of, costs_at}
-use Rattle.dual_ascent.proofs.LoadLemmas.{left_after-le, left_after-lt}
+use Rattle.dual_ascent.specs.Entering.{EntersLeft, IsOfEdge, AreEntering, IsLeftOfOne}
+use Rattle.dual_ascent.proofs.ArcLemmas.{IsArcOf-number, same_arc, cost_of-even, cost_of-odd, slice_get-edges_of, costs_at}
+use Rattle.dual_ascent.specs.CostLaws.{left_after-le, left_after-lt}
 
--- the arc that enters where this one leaves
-abbrev pub partner_at : Arc → ℕ → Arc
-partner_at x vertex = record { number = partner_of x.number; from = x.to; to = vertex }
-
--- the first i arcs were gone over
-pub record GathersAt (costs : List EdgeCosts) (members : List Bool) (vertex : ℕ) (arcs : List Arc) (i : ℕ) (old now : List EnteringArc) : Type 0 where
-  pub each : All (EntersLeft costs members) now
-  pub kept : (e : EnteringArc) → Contains old e → Contains now e
-  pub every : (k : ℕ) (x : Arc) (left : ℕ) → k < i → slice_get arcs k ≡ Some x → has members x.to ≡ false → cost_of costs (partner_of x.number) ≡ Some left →
-      Contains now (record { arc = partner_at x vertex; left = left })
-
--- at the start
-pub GathersAt-none : (costs : List EdgeCosts) (members : List Bool) (vertex : ℕ) (arcs : List Arc) (old : List EnteringArc) → All (EntersLeft costs members) old → GathersAt costs members vertex arcs 0 old old
-GathersAt-none costs members vertex arcs old each = record { each = each; kept = λ e has. has; every = λ k x left lt at out is. absurd (omega arith) }
-
--- one more arc, whose partner doesn't enter or can't be saturated
-pub GathersAt-skip : (costs : List EdgeCosts) (members : List Bool) (vertex : ℕ) (arcs : List Arc) (i : ℕ) (old now : List EnteringArc) (x : Arc) → GathersAt costs members vertex arcs i old now →
-    slice_get arcs i ≡ Some x → (if has members x.to then None else cost_of costs (partner_of x.number)) ≡ None → GathersAt costs members vertex arcs (i + 1) old now
-GathersAt-skip costs members vertex arcs i old now x so_far at none = record {
-  each = so_far.each;
-  kept = so_far.kept;
-  every = λ k y left lt at_k out is. ⊎_elim (λ earlier. so_far.every k y left earlier at_k out is)
-      (λ later. let same : k ≡ i = omega arith in
-      let same_arc : y ≡ x = same_Some y x (sym at_k ∙ ap (slice_get arcs) same ∙ at) in
-      let outside : has members x.to ≡ false = subst (λ (z : Arc). has members z.to ≡ false) same_arc out in
-      let here : cost_of costs (partner_of x.number) ≡ Some left = subst (λ (z : Arc). cost_of costs (partner_of z.number) ≡ Some left) same_arc is in
-      let missing : cost_of costs (partner_of x.number) ≡ None = rw outside at none in
-      absurd cc) (cases_lt k i);
-}
-
--- one more arc, whose partner enters
-pub GathersAt-push : (costs : List EdgeCosts) (members : List Bool) (vertex : ℕ) (arcs : List Arc) (i : ℕ) (old now : List EnteringArc) (x : Arc) (left : ℕ) → GathersAt costs members vertex arcs i old now →
-    slice_get arcs i ≡ Some x → IsArcOf (edges_of costs) x → x.from ≡ vertex → has members vertex ≡ true →
-    Some left ≡ (if has members x.to then None else cost_of costs (partner_of x.number)) →
-    GathersAt costs members vertex arcs (i + 1) old (now ++ (record { arc = partner_at x vertex; left = left }) ∷ [])
-GathersAt-push costs members vertex arcs i old now x left so_far at is_arc leaves member is =
-    let e : EnteringArc = record { arc = partner_at x vertex; left = left } in
-    let outside : has members x.to ≡ false = ⊎_elim
-    (λ (inside : has members x.to ≡ true). let missing : Some left ≡ None = rw inside at is in absurd cc)
-    (λ (out : has members x.to ≡ false). out) (cases_Bool (has members x.to)) in
-    let here : cost_of costs (partner_of x.number) ≡ Some left = sym (rw outside at is) in
-    let entered : EntersLeft costs members e = record {
-      arc = IsArcOf-partner (edges_of costs) x vertex is_arc leaves;
-      enters = rw (member, outside) refl;
-      left = here;
-    } in
-    record {
-      each = All-push (EntersLeft costs members) now e so_far.each entered;
-      kept = λ f found. Contains-append_left now (e ∷ []) f (so_far.kept f found);
-      every = λ k y amount lt at_k out cost. ⊎_elim
-          (λ earlier. Contains-append_left now (e ∷ []) (record { arc = partner_at y vertex; left = amount }) (so_far.every k y amount earlier at_k out cost))
-          (λ later. let same : i ≡ k = omega arith in
-          let same_arc : x ≡ y = same_Some x y (sym at ∙ ap (slice_get arcs) same ∙ at_k) in
-          let same_left : left ≡ amount = same_Some left amount (sym here ∙ ap (λ (z : Arc). cost_of costs (partner_of z.number)) same_arc ∙ cost) in
-          let same_item : e ≡ record { arc = partner_at y vertex; left = amount } = ap (λ (z : Arc). record { arc = partner_at z vertex; left = left }) same_arc ∙ ap (λ n. record { arc = partner_at y vertex; left = n }) same_left in
-          subst (Contains (now ++ e ∷ [])) same_item (Contains-push now e)) (cases_lt k i);
-    }
-
--- an arc by its parts
-arc_with : (arc : Arc) (n v : ℕ) → n ≡ arc.number → v ≡ arc.to → record { number = n; from = arc.from; to = v } ≡ arc
-arc_with arc n v number to =
-    let numbered : ℕ → Arc = λ k. record { number = k; from = arc.from; to = v } in
-    let heading : ℕ → Arc = λ k. record { number = arc.number; from = arc.from; to = k } in
-    ap numbered number ∙ ap heading to
-
--- when all arcs from the vertex were gone over
-pub GathersAt-all : (costs : List EdgeCosts) (members : List Bool) (vertex : ℕ) (arcs : List Arc) (i : ℕ) (old now : List EnteringArc) (edges : List Edge) → edges_of costs ≡ edges →
-    AreArcsFrom (IsArcOf edges) vertex arcs → length arcs ≤ i → GathersAt costs members vertex arcs i old now → HasEnteringAt costs members vertex now
-GathersAt-all costs members vertex arcs i old now edges of are all so_far arc left is_arc comes out is =
-    let x : Arc = partner_at arc arc.from in
-    let other : IsArcOf edges x = subst (λ es. IsArcOf es x) of (IsArcOf-partner (edges_of costs) arc arc.from is_arc refl) in
-    let (k, lt, here) = are.every x other comes in
-    let at : slice_get arcs k ≡ Some x = slice_get-get_or arcs k x lt ∙ ap Some here in
-    let twice : partner_of x.number ≡ arc.number = partner_twice (edges_of costs) arc is_arc in
-    let found : Contains now (record { arc = partner_at x vertex; left = left }) = so_far.every k x left (omega arith) at out (ap (cost_of costs) twice ∙ is) in
-    let same : partner_at x vertex ≡ arc = arc_with arc (partner_of x.number) vertex twice (sym comes) in
-    subst (λ (z : Arc). Contains now (record { arc = z; left = left })) same found
-
--- the arcs that enter the set at vertices below a bound
+-- the arcs that enter the set and have a number below a bound
 pub record EnteringBelow (costs : List EdgeCosts) (members : List Bool) (bound : ℕ) (list : List EnteringArc) : Type 0 where
   pub each : All (EntersLeft costs members) list
-  pub every : (arc : Arc) (left : ℕ) → arc.to < bound → IsArcOf (edges_of costs) arc → enters members arc.from arc.to ≡ true →
-      cost_of costs arc.number ≡ Some left → Contains list (record { arc = arc; left = left })
+  pub every : (arc : Arc) (left : ℕ) → arc.number < bound → IsArcOf (edges_of costs) arc →
+      enters members arc.from arc.to ≡ true → cost_of costs arc.number ≡ Some left →
+      Contains list (record { arc = arc; left = left })
 
 -- at the start
 pub EnteringBelow-none : (costs : List EdgeCosts) (members : List Bool) → EnteringBelow costs members 0 []
-EnteringBelow-none costs members = record { each = All-nil (EntersLeft costs members); every = λ arc left below is_arc entered is. absurd (omega arith) }
+EnteringBelow-none costs members = record {
+  each = All-nil (EntersLeft costs members);
+  every = λ arc left below is_arc entered is. absurd (omega arith);
+}
 
--- one more vertex, which isn't in the set
-pub EnteringBelow-skip : (costs : List EdgeCosts) (members : List Bool) (v : ℕ) (list : List EnteringArc) → EnteringBelow costs members v list → has members v ≡ false → EnteringBelow costs members (v + 1) list
-EnteringBelow-skip costs members v list so_far out = record {
+-- what an edge has of the arcs that enter
+abbrev pub HasOnly : List EdgeCosts → List Bool → ℕ → Edge → Option EnteringArc → Type 0
+HasOnly costs members n e found = (arc : Arc) (left : ℕ) → IsOfEdge n e arc → enters members arc.from arc.to ≡ true →
+    cost_of costs arc.number ≡ Some left → found ≡ Some (record { arc = arc; left = left })
+
+-- an arc of the edges with a number below that of the next edge's is of an earlier edge or of this one
+earlier_or_here : (edges : List Edge) (n : ℕ) (e : Edge) (arc : Arc) → slice_get edges n ≡ Some e → IsArcOf edges arc →
+    arc.number < 2 * (n + 1) → (arc.number < 2 * n) ⊎ IsOfEdge n e arc
+earlier_or_here edges n e arc at (k, f, here, way) below =
+    ⊎_elim
+    (λ (earlier : k < n). inl (⊎_elim
+    (λ (is : arc ≡ forward_arc k f). let number : arc.number ≡ 2 * k = ap (λ (x : Arc). x.number) is in omega arith)
+    (λ (is : arc ≡ backward_arc k f). let number : arc.number ≡ 2 * k + 1 = ap (λ (x : Arc). x.number) is in omega arith)
+    way))
+    (λ (later : n ≤ k).
+    let low : 2 * k ≤ arc.number = ⊎_elim
+    (λ (is : arc ≡ forward_arc k f). let number : arc.number ≡ 2 * k = ap (λ (x : Arc). x.number) is in omega arith)
+    (λ (is : arc ≡ backward_arc k f). let number : arc.number ≡ 2 * k + 1 = ap (λ (x : Arc). x.number) is in omega arith)
+    way in
+    let same : k ≡ n = omega arith in
+    let edge : f ≡ e = same_Some f e (sym here ∙ ap (slice_get edges) same ∙ at) in
+    inr (subst (λ i. IsOfEdge i e arc) same (subst (λ x. IsOfEdge k x arc) edge way)))
+    (cases_lt k n)
+
+-- one more edge, of which no arc enters that can be saturated
+pub EnteringBelow-skip : (costs : List EdgeCosts) (members : List Bool) (n : ℕ) (e : Edge) (list : List EnteringArc) →
+    EnteringBelow costs members (2 * n) list → slice_get (edges_of costs) n ≡ Some e → HasOnly costs members n e None →
+    EnteringBelow costs members (2 * (n + 1)) list
+EnteringBelow-skip costs members n e list so_far at only = record {
   each = so_far.each;
-  every = λ arc left below is_arc entered is. ⊎_elim (λ earlier. so_far.every arc left earlier is_arc entered is)
-      (λ later. let same : arc.to ≡ v = omega arith in
-      let inside : has members arc.to ≡ true = (and_parts (has members arc.to) (not (has members arc.from)) entered).0 in
-      let outside : has members arc.to ≡ false = ap (has members) same ∙ out in absurd (both_ways (has members arc.to) outside inside)) (cases_lt arc.to v);
+  every = λ arc left below is_arc entered is. ⊎_elim
+      (λ earlier. so_far.every arc left earlier is_arc entered is)
+      (λ here. let found : None ≡ Some (record { arc = arc; left = left }) = only arc left here entered is in absurd cc)
+      (earlier_or_here (edges_of costs) n e arc at is_arc below);
 }
 
--- one more vertex of the set
-pub EnteringBelow-take : (costs : List EdgeCosts) (members : List Bool) (v : ℕ) (list now : List EnteringArc) → EnteringBelow costs members v list → All (EntersLeft costs members) now →
-    ((e : EnteringArc) → Contains list e → Contains now e) → HasEnteringAt costs members v now → EnteringBelow costs members (v + 1) now
-EnteringBelow-take costs members v list now so_far each kept here = record {
-  each = each;
-  every = λ arc left below is_arc entered is. ⊎_elim (λ earlier. kept (record { arc = arc; left = left }) (so_far.every arc left earlier is_arc entered is))
-      (λ later. let same : arc.to ≡ v = omega arith in
-      here arc left is_arc same (not-true (has members arc.from) ((and_parts (has members arc.to) (not (has members arc.from)) entered).1)) is) (cases_lt arc.to v);
+-- one more edge, of which an arc enters
+pub EnteringBelow-push : (costs : List EdgeCosts) (members : List Bool) (n : ℕ) (e : Edge) (list : List EnteringArc)
+    (one : EnteringArc) → EnteringBelow costs members (2 * n) list → slice_get (edges_of costs) n ≡ Some e →
+    EntersLeft costs members one → HasOnly costs members n e (Some one) →
+    EnteringBelow costs members (2 * (n + 1)) (list ++ one ∷ [])
+EnteringBelow-push costs members n e list one so_far at own only = record {
+  each = All-push (EntersLeft costs members) list one so_far.each own;
+  every = λ arc left below is_arc entered is. ⊎_elim
+      (λ earlier. Contains-append_left list (one ∷ []) (record { arc = arc; left = left })
+      (so_far.every arc left earlier is_arc entered is))
+      (λ here. let same : one ≡ record { arc = arc; left = left } = same_Some one (record { arc = arc; left = left })
+      (only arc left here entered is) in
+      subst (Contains (list ++ one ∷ [])) same (Contains-push list one))
+      (earlier_or_here (edges_of costs) n e arc at is_arc below);
 }
 
--- when all vertices were gone over
-pub AreEntering-all : (g : Graph) (costs : List EdgeCosts) (members : List Bool) (bound : ℕ) (list : List EnteringArc) → IsGraph g → edges_of costs ≡ g.edges → g.vertices ≤ bound →
-    EnteringBelow costs members bound list → AreEntering costs members list
-AreEntering-all g costs members bound list graph of all so_far = record {
+-- when all edges were gone over
+pub AreEntering-all : (costs : List EdgeCosts) (members : List Bool) (n : ℕ) (list : List EnteringArc) →
+    length (edges_of costs) ≤ n → EnteringBelow costs members (2 * n) list → AreEntering costs members list
+AreEntering-all costs members n list all so_far = record {
   each = so_far.each;
   every = λ arc left is_arc entered is.
-      let low = IsArcOf-below g arc graph (subst (λ es. IsArcOf es arc) of is_arc) in
-      let below : arc.to < g.vertices = low.1 in
+      let low : arc.number < 2 * length (edges_of costs) = IsArcOf-number (edges_of costs) arc is_arc in
       so_far.every arc left (omega arith) is_arc entered is;
 }
 

@@ -10,14 +10,7 @@ use Rattle.net_graph.specs.Packing.{load}
 use Rattle.net_graph.specs.Packing.{room_of}
 use Rattle.dual_ascent.specs.declared.costs.EdgeCosts.{EdgeCosts}
 use Rattle.dual_ascent.specs.Costs.{left_after, weight_on, left_of, costs_of, lowered_by}
-
--- a load within a room leaves the rest
-pub left_after-le : (room amount : ℕ) → amount ≤ room → left_after (Some room) amount ≡ Some (room - amount)
-left_after-le room amount fits = rw (le-leb amount room fits) refl
-
--- a load above a room leaves nothing that could be used up
-pub left_after-lt : (room amount : ℕ) → room < amount → left_after (Some room) amount ≡ None
-left_after-lt room amount over = rw (lt-leb amount room over) refl
+use Rattle.dual_ascent.specs.CostLaws.{left_after-le, left_after-lt}
 
 -- a load and then another one
 pub left_after-left_after : (room : Option ℕ) (m n : ℕ) → left_after (left_after room m) n ≡ left_after room (m + n)
@@ -39,16 +32,6 @@ pub left_after-same : (room : Option ℕ) (amount : ℕ) → room ≡ Some amoun
 left_after-same room amount is =
     let none : amount - amount ≡ 0 = omega arith in
     rw is (left_after-le amount amount (omega arith) ∙ ap (λ left. Some left) none)
-
--- .. and only there
-pub left_after-none : (room : Option ℕ) (amount : ℕ) → left_after room amount ≡ Some 0 → room ≡ Some amount
-left_after-none None amount none = absurd cc
-left_after-none (Some room) amount none =
-    ⊎_elim
-    (λ over. let missing : left_after (Some room) amount ≡ None = left_after-lt room amount over in absurd cc)
-    (λ fits. let rest : room - amount ≡ 0 = same_Some (room - amount) 0 (sym (left_after-le room amount fits) ∙ none) in
-    ap (λ n. Some n) (omega arith))
-    (cases_lt room amount)
 
 -- the load of one more cut
 pub load-push : (packing : List Cut) (cut : Cut) (u v : ℕ) → load (packing ++ cut ∷ []) u v ≡ load packing u v + weight_on cut u v
@@ -76,23 +59,6 @@ map-lowered_by (e ∷ edges) (state ∷ decision) packing cut =
     let here = lowered_by-left_of e state packing cut in
     let rest = map-lowered_by edges decision packing cut in
     cc
-
--- the room of an edge
-pub slice_get-costs_of : (edges : List Edge) (decision : List EdgeState) (packing : List Cut) (n : ℕ) (e : Edge) (state : EdgeState) →
-    slice_get edges n ≡ Some e → slice_get decision n ≡ Some state → slice_get (costs_of edges decision packing) n ≡ Some (left_of e state packing)
-slice_get-costs_of [] decision packing n e state at decided = absurd cc
-slice_get-costs_of (x ∷ edges) [] packing n e state at decided = absurd cc
-slice_get-costs_of (x ∷ edges) (s ∷ decision) packing zero e state at decided =
-    let same_edge : x ≡ e = same_Some x e at in
-    let same_state : s ≡ state = same_Some s state decided in
-    cc
-slice_get-costs_of (x ∷ edges) (s ∷ decision) packing (suc n) e state at decided = slice_get-costs_of edges decision packing n e state at decided
-
--- there are as many costs as edges
-pub length-costs_of : (edges : List Edge) (decision : List EdgeState) (packing : List Cut) → length decision ≡ length edges → length (costs_of edges decision packing) ≡ length edges
-length-costs_of [] decision packing size = refl
-length-costs_of (e ∷ edges) [] packing size = absurd (omega arith)
-length-costs_of (e ∷ edges) (state ∷ decision) packing size = ap suc (length-costs_of edges decision packing (omega arith))
 
 -- the costs are those of the graph's edges
 pub edges-costs_of : (edges : List Edge) (decision : List EdgeState) (packing : List Cut) → length decision ≡ length edges → map (λ (room : EdgeCosts). room.edge) (costs_of edges decision packing) ≡ edges

@@ -14,7 +14,8 @@ use Rattle.net_graph.specs.Packing.{enters, load, IsCut, IsWithinRoom, IsFeasibl
 use Rattle.net_graph.specs.Packing.{room_of}
 use Rattle.dual_ascent.specs.declared.costs.EdgeCosts.{EdgeCosts}
 use Rattle.dual_ascent.specs.Costs.{left_after, weight_on, left_of, costs_of, lowered_by, unsaturated_arc, unsaturated_of, unsaturated, EntersWith, Entering}
-use Rattle.dual_ascent.proofs.LoadLemmas.{left_after-le, left_after-lt, load-push, slice_get-costs_of}
+use Rattle.dual_ascent.proofs.LoadLemmas.{load-push}
+use Rattle.dual_ascent.specs.CostLaws.{left_after-le, left_after-lt, slice_get-costs_of}
 
 -- a weight that is no more than what is left stays within the room
 IsWithinRoom-more : (state : EdgeState) (e : Edge) (amount weight : ℕ) → 0 < weight → IsWithinRoom state e amount →

@@ -16,12 +16,8 @@ use Rattle.net_graph.specs.Packing.{room_of}
 use Rattle.net_graph.specs.Saturation.{SaturatedStep}
 use Rattle.dual_ascent.specs.declared.costs.EdgeCosts.{EdgeCosts}
 use Rattle.dual_ascent.specs.Costs.{left_of, costs_of, is_used_up, is_saturated, Entering}
-use Rattle.dual_ascent.proofs.LoadLemmas.{left_after-same, left_after-none, slice_get-costs_of}
-
--- nothing is left exactly where the amount left is 0
-pub is_used_up-some : (left : Option ℕ) → is_used_up left ≡ true → left ≡ Some 0
-is_used_up-some None holds = absurd cc
-is_used_up-some (Some left) holds = ap (λ n. Some n) (eqb-true left 0 holds)
+use Rattle.dual_ascent.proofs.LoadLemmas.{left_after-same}
+use Rattle.dual_ascent.specs.CostLaws.{left_after-none, slice_get-costs_of, is_used_up-some}
 
 -- an edge's first arc is full where nothing is left of it
 is_saturated-even : (costs : List EdgeCosts) (n : ℕ) (room : EdgeCosts) → slice_get costs n ≡ Some room → is_saturated costs (2 * n) ≡ is_used_up room.there

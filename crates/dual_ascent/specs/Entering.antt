@@ -1,8 +1,8 @@
 -- The arcs that enter a set and can be saturated, with what is left of each.
-use Rattle.std.specs.Prelude.{ℕ, ◌≡◌, Bool, true, false, List, All, Contains, Some}
+use Rattle.std.specs.Prelude.{ℕ, ◌≡◌, Bool, true, List, All, Contains, Some, ◌⊎◌}
 use Rattle.net_graph.specs.declared.arcs.Arc.{Arc}
-use Rattle.net_graph.specs.Arcs.{IsArcOf}
-use Rattle.net_graph.specs.Flags.{has}
+use Rattle.net_graph.specs.declared.edge.Edge.{Edge}
+use Rattle.net_graph.specs.Arcs.{forward_arc, backward_arc, IsArcOf}
 use Rattle.net_graph.specs.Packing.{enters}
 use Rattle.dual_ascent.specs.declared.costs.EdgeCosts.{EdgeCosts}
 use Rattle.dual_ascent.specs.declared.entering.EnteringArc.{EnteringArc}
@@ -14,10 +14,9 @@ pub record EntersLeft (costs : List EdgeCosts) (members : List Bool) (e : Enteri
   pub enters : enters members e.arc.from e.arc.to ≡ true
   pub left : cost_of costs e.arc.number ≡ Some e.left
 
--- the list has each arc that enters the set at the vertex, with what is left of it
-abbrev pub HasEnteringAt : List EdgeCosts → List Bool → ℕ → List EnteringArc → Type 0
-HasEnteringAt costs members vertex list = (arc : Arc) (left : ℕ) → IsArcOf (edges_of costs) arc → arc.to ≡ vertex →
-    has members arc.from ≡ false → cost_of costs arc.number ≡ Some left → Contains list (record { arc = arc; left = left })
+-- it is one of the two arcs of the edge of this number
+abbrev pub IsOfEdge : ℕ → Edge → Arc → Type 0
+IsOfEdge n e arc = (arc ≡ forward_arc n e) ⊎ (arc ≡ backward_arc n e)
 
 -- these are the arcs that enter the set, with what is left of each
 pub record AreEntering (costs : List EdgeCosts) (members : List Bool) (list : List EnteringArc) : Type 0 where

@@ -1,5 +1,6 @@
 pub mod Choosing
 pub mod Costs
+pub mod CostLaws
 pub mod Entering
 pub mod Steps
 pub mod Active

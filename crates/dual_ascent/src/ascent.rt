@@ -2,12 +2,14 @@
 
 ghost use Rattle.std.specs.Prelude.{◌≡◌, ◌+◌, ◌*◌, ◌≤◌, true, false, length, IfOk};
 ghost use Rattle.net_graph.specs.Graph.{total_of};
-ghost use Rattle.net_graph.specs.Decision.{IsDecisionFor, IsLowerBoundUnder};
+ghost use Rattle.net_graph.specs.Decision.{IsDecisionFor, IsLowerBoundUnder, states_of};
 ghost use Rattle.net_graph.specs.Packing.{IsFeasible, packing_value};
 ghost use Rattle.net_graph.specs.Saturation.{IsMaximal};
 ghost use Rattle.dual_ascent.specs.Ascending.{BeginsWith, closed_with};
+ghost use Rattle.dual_ascent.specs.Costs.{costs_of};
 
 use crate::chooser::{Chooser, Rule};
+use crate::costs::ReducedCosts;
 use crate::required::required_vertices;
 use crate::state::AscentState;
 use crate::step::Step;
@@ -23,6 +25,8 @@ pub struct Ascent {
     /// Whether the ascent ended at a set that only arcs of outside edges enter. Its last cut is then that set, with
     /// the sum of all edge lengths as its weight, if this isn't 0.
     pub closed: bool,
+    /// What the packing leaves of the room of all arcs, where the ascent is not closed.
+    pub costs: ReducedCosts,
 }
 
 /// Adds cuts to a packing by dual ascent (Wong 1984), at each step that of the candidate which the rule chooses. The
@@ -44,6 +48,8 @@ pub fn ascend<F: Rule>(
     ensures begins { IfOk result (λ a. BeginsWith a.packing start) }
     ensures few { IfOk result (λ a. length a.packing ≤ 4 * length g.now.edges + 1) }
     ensures maximal { IfOk result (λ a. a.closed ≡ false → IsMaximal g.now d.now a.packing) }
+    ensures costs { IfOk result (λ a. a.closed ≡ false
+        → a.costs ≡ costs_of g.now.edges (states_of g.now d.now) a.packing) }
     ensures closed { IfOk result (λ a. a.closed ≡ true → total_of g.now ≤ packing_value g.now d.now a.packing) }
     // No network that agrees with the decision is shorter than the packing's value.
     ensures bound { IfOk result
@@ -58,15 +64,21 @@ pub fn ascend<F: Rule>(
             Step::Done => return Ok(Ascent {
                 packing,
                 closed: false,
+                costs: state.costs,
             }),
             Step::Pack(cut) => packing.push(cut)?,
-            Step::Close(members) => return close(g, packing, members),
+            Step::Close(members) => return close(g, packing, members, state.costs),
         }
     }
 }
 
 // The ascent that ends at a set which only arcs of outside edges enter. An `Err` is want of memory.
-fn close(g: &NetGraph, mut packing: Packing, members: VertexSet) -> Result<Ascent, AllocError>
+fn close(
+    g: &NetGraph,
+    mut packing: Packing,
+    members: VertexSet,
+    costs: ReducedCosts,
+) -> Result<Ascent, AllocError>
     ensures packing { IfOk result (λ a. a.packing ≡ closed_with g.now members packing) }
     ensures closed { IfOk result (λ a. a.closed ≡ true) }
 {
@@ -77,5 +89,6 @@ fn close(g: &NetGraph, mut packing: Packing, members: VertexSet) -> Result<Ascen
     Ok(Ascent {
         packing,
         closed: true,
+        costs,
     })
 }

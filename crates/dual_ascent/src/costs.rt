@@ -79,9 +79,10 @@ fn whole_costs(
         .collect(alloc)
 }
 
-/// What packed cuts leave of the room of all arcs. Contracts see it by edges.
+/// What packed cuts leave of the room of all arcs, which are the arcs' reduced costs (after Wong 1984). As a passage it opens
+/// the saturated arcs, of which nothing is left. Contracts see it by edges.
 #[derive(Debug, Drop)]
-pub(crate) struct ReducedCosts {
+pub struct ReducedCosts {
     edges: Vec<EdgeCosts>,
 }
 
@@ -125,7 +126,7 @@ impl ReducedCosts {
     }
 
     /// What is left of the arc of a number.
-    pub fn cost(&self, arc: u32) -> Option<u64>
+    pub(crate) fn cost(&self, arc: u32) -> Option<u64>
         requires { arc < 2 * length self.now }
         ensures { result ≡ cost_of self.now arc }
     {
@@ -149,7 +150,7 @@ impl ReducedCosts {
     }
 
     /// Packs one more cut, which these arcs enter.
-    pub fn lower(&mut self, cut: &Cut, entering: &[EnteringArc])
+    pub(crate) fn lower(&mut self, cut: &Cut, entering: &[EnteringArc])
         requires { AreEntering self.old cut.now.members entering.now }
         ensures { self.new ≡ map (lowered_by cut.now) self.old }
     {

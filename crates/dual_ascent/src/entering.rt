@@ -1,14 +1,15 @@
 //! The arcs that enter a set of vertices.
 
-ghost use Rattle.std.specs.Prelude.{◌≡◌, ◌==◌, ◌<◌, ◌*◌, ◌&&◌, not, true, false, ℕ, List, [], ◌∷◌, ◌++◌, length, map, filter, All, Contains, OnOk, IfOk, if◌then◌else◌};
+ghost use Rattle.std.specs.Prelude.{◌≡◌, ◌==◌, ◌<◌, ◌^◌, ℕ, true, map, filter, slice_get, Some, IfSome, OnOk};
+ghost use Rattle.net_graph.specs.declared.arcs.Arc.{Arc};
 ghost use Rattle.net_graph.specs.Flags.{has};
-ghost use Rattle.net_graph.specs.Graph.{IsGraph};
+ghost use Rattle.net_graph.specs.Packing.{enters};
 ghost use Rattle.dual_ascent.specs.declared.entering.EnteringArc.{EnteringArc};
-ghost use Rattle.dual_ascent.specs.Costs.{edges_of, cost_of, IsLeastOf, lesser_of};
-ghost use Rattle.dual_ascent.specs.Entering.{EntersLeft, HasEnteringAt, AreEntering, IsLeftOfOne};
+ghost use Rattle.dual_ascent.specs.Costs.{edges_of, cost_of, IsLeastOf};
+ghost use Rattle.dual_ascent.specs.Entering.{EntersLeft, IsOfEdge, AreEntering, IsLeftOfOne};
 
 use crate::costs::{ReducedCosts, lesser};
-use net_graph::{Arc, NetGraph, VertexSet, partner};
+use net_graph::{Arc, Edge, NetGraph, VertexSet};
 use std::alloc::AllocError;
 
 /// An arc that enters a set and can be saturated, with what is left of its room.
@@ -30,52 +31,51 @@ pub(crate) fn list_entering(
     ensures { OnOk result (AreEntering costs.now members.now list.new.items) }
 {
     list.clear();
-    for v in 0..g.vertex_count() {
-        if holds(members, v) {
-            list_entering_at(g, costs, members, v, list)?;
+    for n in 0..g.edge_count() {
+        if let Some(entering) = entering_at(costs, members, n, g.edge(n)) {
+            list.push(entering)?;
         }
     }
     Ok(())
 }
 
-// Lists besides those that enter the set at one of its vertices. An `Err` is want of memory.
-fn list_entering_at(
-    g: &NetGraph,
+// That arc of the edge of a number which enters the set, with what is left of it; none where neither enters or the one
+// that does can't be saturated.
+fn entering_at(
     costs: &ReducedCosts,
     members: &VertexSet,
-    vertex: u32,
-    list: &mut Vec<EnteringArc>,
-) -> Result<(), AllocError>
-    requires edges { edges_of costs.now ≡ g.now.edges }
-    requires vertex { vertex < g.now.vertices }
-    requires member { has members.now vertex ≡ true }
-    requires each { All (EntersLeft costs.now members.now) list.old.items }
-    ensures each { OnOk result (All (EntersLeft costs.now members.now) list.new.items) }
-    ensures kept { OnOk result ((e : EnteringArc) → Contains list.old.items e → Contains list.new.items e) }
-    ensures every { OnOk result (HasEnteringAt costs.now members.now vertex list.new.items) }
+    n: u32,
+    e: Edge,
+) -> Option<EnteringArc>
+    requires edge { slice_get (edges_of costs.now) n ≡ Some e }
+    requires few { n < 2 ^ 31 }
+    ensures enters { IfSome result (EntersLeft costs.now members.now) }
+    ensures only { (arc : Arc) (left : ℕ) → IsOfEdge n e arc → enters members.now arc.from arc.to ≡ true
+        → cost_of costs.now arc.number ≡ Some left → result ≡ Some (record { arc = arc; left = left }) }
 {
-    for leaving in g.arcs_from(vertex) {
-        let arc = Arc {
-            number: partner(leaving.number),
-            from: leaving.to,
-            to: vertex,
-        };
-        if let Some(left) = left_entering(costs, members, arc) {
-            list.push(EnteringArc { arc, left })?;
-        }
-    }
-    Ok(())
+    let arc = entering_way(members, n, e)?;
+    let left = costs.cost(arc.number)?;
+    Some(EnteringArc { arc, left })
 }
 
-// What is left of an arc that doesn't lead from a member of the set.
-fn left_entering(costs: &ReducedCosts, members: &VertexSet, arc: Arc) -> Option<u64>
-    requires { arc.number < 2 * length costs.now }
-    ensures { result ≡ (if has members.now arc.from then None else cost_of costs.now arc.number) }
+// That arc of the edge of a number which enters the set, if one does.
+fn entering_way(members: &VertexSet, n: u32, e: Edge) -> Option<Arc>
+    requires { n < 2 ^ 31 }
+    ensures enters { IfSome result (λ arc. IsOfEdge n e arc × (enters members.now arc.from arc.to ≡ true)) }
+    ensures only { (arc : Arc) → IsOfEdge n e arc → enters members.now arc.from arc.to ≡ true → result ≡ Some arc }
 {
-    if holds(members, arc.from) {
-        None
-    } else {
-        costs.cost(arc.number)
+    match (holds(members, e.a), holds(members, e.b)) {
+        (false, true) => Some(Arc {
+            number: 2 * n,
+            from: e.a,
+            to: e.b,
+        }),
+        (true, false) => Some(Arc {
+            number: 2 * n + 1,
+            from: e.b,
+            to: e.a,
+        }),
+        _ => None,
     }
 }
 

@@ -19,4 +19,5 @@ pub use ascent::{Ascent, ascend};
 pub use candidate::Candidate;
 pub use carried::carry;
 pub use chooser::{Chooser, Rule};
+pub use costs::ReducedCosts;
 pub use maximality::maximal;

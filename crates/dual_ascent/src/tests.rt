@@ -155,7 +155,11 @@ fn a_packing_is_carried_to_both_children(rt: HostRuntime) -> Result<(), Fail> {
             .map_or(0, |(place, _)| place)
     };
     let none = Decision::none(rt.alloc(), &g)?;
-    let Ascent { packing, closed: _ } = ascent_by(rt.alloc(), &g, &none, rule)?;
+    let Ascent {
+        packing,
+        closed: _,
+        costs: _,
+    } = ascent_by(rt.alloc(), &g, &none, rule)?;
     assert!(rt;
         are_cuts(
             &packing,

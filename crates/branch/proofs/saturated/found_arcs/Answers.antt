@@ -8,7 +8,7 @@ use Rattle.branch.proofs.saturated.found_arcs.Goals.{then-place-len+in_ok-next+i
 
 pub loop-place-init : goal.loop-place-init
 loop-place-init c =
-    let P = IsOfSaturated c.args.g.now c.args.d.now c.args.p.now in (
+    let P = IsOfSaturated c.args.g.now c.args.costs.now in (
       c.in_ok-add_new.ensures.size ∙ ap length c.add.ensures ∙ length-set c.in_ok-found.found c.root.result true
           ∙ ap length c.in_ok-found.ensures ∙ length-replicate c.vertex_count.result false ∙ c.vertex_count.ensures.count,
       All-from_two P c.new-arcs.result.items c.deref.result.now c.add_new.new.by.items c.in_ok-add_new.ensures.among
@@ -17,7 +17,7 @@ loop-place-init c =
 
 pub loop-place-preserved : goal.loop-place-preserved
 loop-place-preserved c =
-    let P = IsOfSaturated c.args.g.now c.args.d.now c.args.p.now in
+    let P = IsOfSaturated c.args.g.now c.args.costs.now in
     elim c.if-place-len.branch [
       | then-place-len+in_ok-next+in_ok-add_new-2 w ↦ (
         ap length w.found-is ∙ w.in_ok-add_new-2.ensures.size ∙ c.loop-place.invariant.0,

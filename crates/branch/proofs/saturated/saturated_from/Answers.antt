@@ -4,5 +4,5 @@ use Rattle.branch.proofs.saturated.saturated_from.Goals as goal
 
 pub returns : goal.returns
 returns c =
-    All-permutation (IsOfSaturated c.args.g.now c.args.d.now c.args.p.now) c.in_ok-arcs.arcs.items _
+    All-permutation (IsOfSaturated c.args.g.now c.args.costs.now) c.in_ok-arcs.arcs.items _
     c.sort_unstable_by_key.ensures.permutation c.in_ok-arcs.ensures

@@ -31,6 +31,10 @@ returns-in-Done-clause-maximal g c not_closed =
     let next : IsNextStep c.args.g.now vertices c.loop-packing.state.costs Done = rw c.in-Done.is at (c.in_ok-next_step.ensures.next vertices c.loop-packing.invariant.1) in
     (IsMaximal-iff c.args.g.now c.args.d.now c.loop-packing.packing c.loop-packing.state.costs vertices c.requires.decision c.loop-packing.invariant.0.left c.in_ok-required.ensures.required).0 next
 
+pub returns-in-Done-clause-costs : goal.returns-in-Done-clause-costs
+returns-in-Done-clause-costs g c not_closed =
+    (rw c.in-Done.is at c.in_ok-next_step.ensures.costs) ∙ c.loop-packing.invariant.0.left
+
 pub returns-in-Done-clause-bound : goal.returns-in-Done-clause-bound
 returns-in-Done-clause-bound g c =
     c.weak_duality.ensures c.args.g.now c.args.d.now c.loop-packing.packing c.requires.decision c.loop-packing.invariant.0.feasible
@@ -64,6 +68,7 @@ returns-in-Close g c =
       begins = IfOk-weaker c.close.result _ _ (λ a is. is.begins) closed;
       few = IfOk-weaker c.close.result _ _ (λ a is. is.few) closed;
       maximal = IfOk-weaker c.close.result _ _ (λ a is not_closed. absurd cc) c.close.ensures.closed;
+      costs = IfOk-weaker c.close.result _ _ (λ a is not_closed. absurd cc) c.close.ensures.closed;
       closed = IfOk-weaker c.close.result _ _ (λ a is _. is.value) closed;
       bound = IfOk-weaker c.close.result _ _
           (λ a is. c.weak_duality.ensures c.args.g.now c.args.d.now a.packing c.requires.decision is.feasible) closed;

@@ -2,9 +2,9 @@ use Rattle.std.proofs.Common.{◌≡◌, ◌∙◌, ap, length, ◌↔◌, IsTru
 use Rattle.net_graph.specs.Decision.{states_of}
 use Rattle.net_graph.specs.DecisionLaws.{length-states_of}
 use Rattle.net_graph.specs.Flags.{has}
-use Rattle.dual_ascent.proofs.LoadLemmas.{length-costs_of}
 use Rattle.dual_ascent.proofs.AscentLemmas.{IsMaximal-iff_marked}
 use Rattle.dual_ascent.proofs.maximality.maximal.Goals as goal
+use Rattle.dual_ascent.specs.CostLaws.{length-costs_of}
 
 pub reached_from-requires-clause-edges : goal.reached_from-requires-clause-edges
 reached_from-requires-clause-edges c = ap length c.in_ok-costs.ensures ∙ length-costs_of c.args.g.now.edges (states_of c.args.g.now c.args.d.now) c.args.packing.now (length-states_of c.args.g.now c.args.d.now c.requires.edges)

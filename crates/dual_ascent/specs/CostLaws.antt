@@ -1,0 +1,102 @@
+-- What packed cuts leave of the room of arcs, and which arcs they saturate.
+use Rattle.std.specs.Prelude.{ℕ, zero, suc, ◌≡◌, ◌-◌, ◌*◌, ◌+◌, ◌/◌, ◌%◌, ◌<◌, ◌≤◌, true, List, [], ◌∷◌, length, slice_get, Option, Some, None, ◌⊎◌}
+use Rattle.std.proofs.Common.{get_or, inl, inr, sym, ap, ◌∙◌, ⊎_elim, eqb-true, arith, refl}
+use Rattle.std.proofs.lemmas.Bool.{cases_lt, cases_eq, le-leb, lt-leb}
+use Rattle.std.proofs.lemmas.Option.{same_Some, slice_get-get_or, slice_get_past}
+use Rattle.net_graph.specs.declared.edge.Edge.{Edge}
+use Rattle.net_graph.specs.declared.state.EdgeState.{EdgeState}
+use Rattle.net_graph.specs.declared.state.EdgeState.TheVariants.{Undecided}
+use Rattle.net_graph.specs.declared.packing.Cut.{Cut}
+use Rattle.net_graph.specs.Graph.{Graph}
+use Rattle.net_graph.specs.Decision.{Decided, IsDecisionFor, states_of}
+use Rattle.net_graph.specs.DecisionLaws.{length-states_of}
+use Rattle.net_graph.specs.Packing.{load, room_of}
+use Rattle.dual_ascent.specs.declared.costs.EdgeCosts.{EdgeCosts}
+use Rattle.dual_ascent.specs.Costs.{left_after, left_of, costs_of, is_used_up, cost_in, is_saturated}
+
+-- a load within a room leaves the rest
+pub left_after-le : (room amount : ℕ) → amount ≤ room → left_after (Some room) amount ≡ Some (room - amount)
+left_after-le room amount fits = rw (le-leb amount room fits) refl
+
+-- a load above a room leaves nothing that could be used up
+pub left_after-lt : (room amount : ℕ) → room < amount → left_after (Some room) amount ≡ None
+left_after-lt room amount over = rw (lt-leb amount room over) refl
+
+-- nothing is left only where the load is the room
+pub left_after-none : (room : Option ℕ) (amount : ℕ) → left_after room amount ≡ Some 0 → room ≡ Some amount
+left_after-none None amount none = absurd cc
+left_after-none (Some room) amount none =
+    ⊎_elim
+    (λ over. let missing : left_after (Some room) amount ≡ None = left_after-lt room amount over in absurd cc)
+    (λ fits. let rest : room - amount ≡ 0 = same_Some (room - amount) 0 (sym (left_after-le room amount fits) ∙ none) in
+    ap (λ n. Some n) (omega arith))
+    (cases_lt room amount)
+
+-- the room of an edge
+pub slice_get-costs_of : (edges : List Edge) (decision : List EdgeState) (packing : List Cut) (n : ℕ) (e : Edge) (state : EdgeState) →
+    slice_get edges n ≡ Some e → slice_get decision n ≡ Some state → slice_get (costs_of edges decision packing) n ≡ Some (left_of e state packing)
+slice_get-costs_of [] decision packing n e state at decided = absurd cc
+slice_get-costs_of (x ∷ edges) [] packing n e state at decided = absurd cc
+slice_get-costs_of (x ∷ edges) (s ∷ decision) packing zero e state at decided =
+    let same_edge : x ≡ e = same_Some x e at in
+    let same_state : s ≡ state = same_Some s state decided in
+    cc
+slice_get-costs_of (x ∷ edges) (s ∷ decision) packing (suc n) e state at decided = slice_get-costs_of edges decision packing n e state at decided
+
+-- there are as many costs as edges
+pub length-costs_of : (edges : List Edge) (decision : List EdgeState) (packing : List Cut) → length decision ≡ length edges → length (costs_of edges decision packing) ≡ length edges
+length-costs_of [] decision packing size = refl
+length-costs_of (e ∷ edges) [] packing size = absurd (omega arith)
+length-costs_of (e ∷ edges) (state ∷ decision) packing size = ap suc (length-costs_of edges decision packing (omega arith))
+
+-- nothing is left exactly where the amount left is 0
+pub is_used_up-some : (left : Option ℕ) → is_used_up left ≡ true → left ≡ Some 0
+is_used_up-some None holds = absurd cc
+is_used_up-some (Some left) holds = ap (λ n. Some n) (eqb-true left 0 holds)
+
+-- the arc of a number is saturated, of an edge that is there
+loaded_full : (g : Graph) (d : Decided) (packing : List Cut) (arc n : ℕ) (e : Edge) (state : EdgeState) → n ≡ arc / 2 →
+    slice_get g.edges n ≡ Some e → slice_get (states_of g d) n ≡ Some state →
+    is_saturated (costs_of g.edges (states_of g d) packing) arc ≡ true →
+    (room_of state e ≡ Some (load packing e.a e.b)) ⊎ (room_of state e ≡ Some (load packing e.b e.a))
+loaded_full g d packing arc n e state half at decided full =
+    let costs : List EdgeCosts = costs_of g.edges (states_of g d) packing in
+    let here : slice_get costs (arc / 2) ≡ Some (left_of e state packing) =
+    ap (slice_get costs) (sym half) ∙ slice_get-costs_of g.edges (states_of g d) packing n e state at decided in
+    let used : is_used_up (cost_in (Some (left_of e state packing)) arc) ≡ true =
+    ap (λ o. is_used_up (cost_in o arc)) (sym here) ∙ full in
+    ⊎_elim
+    (λ (even : arc % 2 ≡ 0).
+    let first : is_used_up (left_after (room_of state e) (load packing e.a e.b)) ≡ true = rw even at used in
+    inl (left_after-none (room_of state e) (load packing e.a e.b) (is_used_up-some _ first)))
+    (λ odd.
+    let one : arc % 2 ≡ 1 = omega arith in
+    let second : is_used_up (left_after (room_of state e) (load packing e.b e.a)) ≡ true = rw one at used in
+    inr (left_after-none (room_of state e) (load packing e.b e.a) (is_used_up-some _ second)))
+    (cases_eq (arc % 2) 0)
+
+-- An arc of which packed cuts leave nothing is one of an edge whose room one of its two loads fills.
+pub saturated_edge : (g : Graph) (d : Decided) (packing : List Cut) → IsDecisionFor g d → (arc : ℕ) →
+    is_saturated (costs_of g.edges (states_of g d) packing) arc ≡ true →
+    (e : Edge) × (state : EdgeState) × (slice_get g.edges (arc / 2) ≡ Some e)
+    × (slice_get (states_of g d) (arc / 2) ≡ Some state)
+    × ((room_of state e ≡ Some (load packing e.a e.b)) ⊎ (room_of state e ≡ Some (load packing e.b e.a)))
+saturated_edge g d packing size arc full =
+    let n : ℕ = arc / 2 in
+    let states : List EdgeState = states_of g d in
+    let costs : List EdgeCosts = costs_of g.edges states packing in
+    let many : length states ≡ length g.edges = length-states_of g d size.edges in
+    ⊎_elim
+    (λ (within : n < length g.edges).
+    let none : Edge = record { a = 0; b = 0; length = 0 } in
+    let e : Edge = get_or g.edges n none in
+    let state : EdgeState = get_or states n Undecided in
+    let at : slice_get g.edges n ≡ Some e = slice_get-get_or g.edges n none within in
+    let decided : slice_get states n ≡ Some state = slice_get-get_or states n Undecided (omega arith) in
+    (e, state, at, decided, loaded_full g d packing arc n e state refl at decided full))
+    (λ (past : length g.edges ≤ n).
+    let gone : slice_get costs n ≡ None =
+    slice_get_past costs n (omega (arith, length-costs_of g.edges states packing many)) in
+    let unused : is_used_up (cost_in None arc) ≡ true = ap (λ o. is_used_up (cost_in o arc)) (sym gone) ∙ full in
+    absurd cc)
+    (cases_lt n (length g.edges))
