@@ -1,6 +1,6 @@
 //! The checker of an answer that is fed in pieces.
 
-ghost use Rattle.std.specs.Prelude.{◌≡◌, ◌*◌, ◌+◌, ◌-◌, ◌^◌, ◌<◌, ◌≤◌, ◌↔◌, ◌⊎◌, ℕ, IsTrue, IsSome, List, [], ◌∷◌, ◌++◌, Bool, false, length, replicate, take};
+ghost use Rattle.std.specs.Prelude.{◌≡◌, ◌*◌, ◌+◌, ◌-◌, ◌^◌, ◌<◌, ◌≤◌, ◌↔◌, ◌⊎◌, ℕ, IsTrue, IsSome, None, List, [], ◌∷◌, ◌++◌, Bool, false, length, replicate, take};
 ghost use Rattle.points_in.specs.declared.point.Point.{Point};
 ghost use Rattle.net_graph.specs.Network.{IsLowerBound};
 ghost use Rattle.hanan_grid.specs.Grid.{hanan_grid_of};
@@ -62,20 +62,56 @@ impl<'a> Checker<'a> {
         ensures { (ps : List Point) (bytes : List ℕ) → StandsForBytes ps bytes self.old
             → StandsForBytes ps (bytes ++ piece.now) self.new }
     {
-        for byte in piece {
-            self.feed_byte(*byte);
+        let mut rest = piece;
+        while !rest.is_empty() {
+            let taken = self.feed_some(rest);
+            rest = &rest[taken..];
         }
     }
 
-    // Takes the next byte. Behind a wrong line, and behind as many bytes as an answer may have, it is counted alone.
+    // Takes the first of these bytes, or more of them, and gives how many. Behind a wrong line, and behind as many
+    // bytes as an answer may have, they are counted alone.
+    fn feed_some(&mut self, piece: &[u8]) -> usize
+        requires { 0 < length piece.now }
+        ensures some { 0 < result }
+        ensures few { result ≤ length piece.now }
+        ensures feeds { (ps : List Point) (bytes : List ℕ) → StandsForBytes ps bytes self.old
+            → StandsForBytes ps (bytes ++ take result piece.now) self.new }
+    {
+        if self.is_settled() {
+            self.fed = self.fed.saturating_add(piece.len() as u64);
+            return piece.len();
+        }
+        let digits = self.feed_digits(piece);
+        if digits > 0 {
+            return digits;
+        }
+        self.feed_byte(piece[0]);
+        1
+    }
+
+    // Takes as many of the first bytes as are digits of a cut's set, as far as an answer may reach, and gives how many.
+    fn feed_digits(&mut self, piece: &[u8]) -> usize
+        requires right { self.old.fault ≡ None }
+        requires room { self.old.fed < byte_limit }
+        ensures few { result ≤ length piece.now }
+        ensures feeds { (ps : List Point) (bytes : List ℕ) → StandsForBytes ps bytes self.old
+            → StandsForBytes ps (bytes ++ take result piece.now) self.new }
+        ensures still { (result ≡ 0) → (self.new.fault ≡ None) × (self.new.fed < byte_limit) }
+    {
+        let room = piece.len().min((BYTE_LIMIT - self.fed) as usize);
+        let taken = self.reader.feed_digits(&piece[..room]);
+        self.fed += taken as u64;
+        taken
+    }
+
+    // Takes the next byte, and judges the line that it ends.
     fn feed_byte(&mut self, byte: u8)
+        requires right { self.old.fault ≡ None }
+        requires room { self.old.fed < byte_limit }
         ensures { (ps : List Point) (bytes : List ℕ) → StandsForBytes ps bytes self.old
             → StandsForBytes ps (bytes ++ byte ∷ []) self.new }
     {
-        if self.is_settled() {
-            self.fed = self.fed.saturating_add(1);
-            return;
-        }
         self.fault = read_byte(self.grid, &mut self.reader, &mut self.judge, byte);
         self.fed += 1;
     }

@@ -17,7 +17,9 @@ pub mod ReadSoFar
 pub mod FrontNumbers
 pub mod ScanNumbers
 pub mod ScanWords
+pub mod HexTable
 pub mod ScanSets
+pub mod SetRuns
 pub mod Steps
 pub mod ScanLines
 pub mod ReaderLaws

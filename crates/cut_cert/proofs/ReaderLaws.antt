@@ -3,7 +3,7 @@ use Rattle.std.proofs.Common.{ℕ, ◌≡◌, ◌≢◌, ◌+◌, ◌-◌, ◌<�
 use Rattle.std.specs.Prelude.{All, option_and_then}
 use Rattle.std.proofs.lemmas.List.{append-nil}
 use Rattle.std.proofs.lemmas.List.Concat.{flat_map-append}
-use Rattle.std.proofs.lemmas.List.Elements.{All-nil, All-push}
+use Rattle.std.proofs.lemmas.List.Elements.{All-nil, All-push, All-append}
 use Rattle.spelled.specs.Words.{Lacks}
 use Rattle.spelled.specs.Fronts.{separator_missing}
 use Rattle.cut_cert.specs.declared.head.AnswerHead.{AnswerHead}
@@ -21,7 +21,7 @@ use Rattle.cut_cert.specs.Events.{events_of, events_from, no_head, head_with, li
 use Rattle.cut_cert.specs.Reading.{BeginsAnswer, line_feeds, IsReadWhole, StopsAt}
 use Rattle.cut_cert.specs.LinesRead.{ReadSoFar}
 use Rattle.cut_cert.specs.Given.{given}
-use Rattle.cut_cert.specs.Scanning.{Left, IsUnderway, IsSound, IsDead, IsNoLineLeft, IsNext, Closes, first_scan}
+use Rattle.cut_cert.specs.Scanning.{Left, IsUnderway, IsSound, IsDead, IsNoLineLeft, IsNext, IsRun, Closes, first_scan}
 use Rattle.cut_cert.specs.Reader.{Reads, BeginsWith, CeasesAt}
 use Rattle.cut_cert.proofs.ReadSoFar.{read_none, read_more}
 use Rattle.cut_cert.proofs.ReadLaws.{begins_answer, begun_events, read_whole, stops, stops_unended, stops_at_line, answer_front, front_cases, holds_between, first_step, due_behind, no_answer}
@@ -57,23 +57,28 @@ pub record GoesOn (old : EventReader) (byte : ℕ) (new : EventReader) : Type 0 
   pub next : IsNext old.kept old.scan byte new.kept new.scan
   pub head : new.head ≡ old.head
 
+-- bytes within a line
+pub record RunsOn (old : EventReader) (bytes : List ℕ) (new : EventReader) : Type 0 where
+  pub run : IsRun old.kept old.scan bytes new.kept new.scan
+  pub head : new.head ≡ old.head
+
 -- the byte at a line's end
 pub record EndsLine (old : EventReader) (told : Option Event) (new : EventReader) : Type 0 where
   pub closes : Closes old.kept old.scan old.head new.kept new.head told
   pub next : new.scan ≡ first_scan new.kept.stage
   pub line : new.line ≡ old.line + 1
 
--- the bytes so far and one more
-text_more : (lines begun bytes : List ℕ) (b : ℕ) → bytes ≡ lines ++ begun → bytes ++ b ∷ [] ≡ lines ++ (begun ++ b ∷ [])
-text_more lines begun bytes b text = ap (λ x. x ++ b ∷ []) text ∙ append_assoc lines begun (b ∷ [])
+-- the bytes so far and more of them
+text_more : (lines begun bytes more : List ℕ) → bytes ≡ lines ++ begun → bytes ++ more ≡ lines ++ (begun ++ more)
+text_more lines begun bytes more text = ap (λ x. x ++ more) text ∙ append_assoc lines begun more
 
-so_far_more : (V : ℕ) (bytes begun : List ℕ) (b : ℕ) (s : Stage) (h : AnswerHead) (n : ℕ) (events : List AnswerEvent) → ReadSoFar V bytes begun s h n events
-    → ReadSoFar V (bytes ++ b ∷ []) (begun ++ b ∷ []) s h n events
-so_far_more V bytes begun b s h n events r = record {
+so_far_more : (V : ℕ) (bytes begun more : List ℕ) (s : Stage) (h : AnswerHead) (n : ℕ) (events : List AnswerEvent) → ReadSoFar V bytes begun s h n events
+    → ReadSoFar V (bytes ++ more) (begun ++ more) s h n events
+so_far_more V bytes begun more s h n events r = record {
   lines = r.lines;
   fits = r.fits;
   due = r.due;
-  text = text_more (lines_text r.lines) begun bytes b r.text;
+  text = text_more (lines_text r.lines) begun bytes more r.text;
   told = r.told;
   head_told = r.head_told;
   count = r.count;
@@ -83,39 +88,53 @@ so_far_more V bytes begun b s h n events r = record {
 begun_more : (begun : List ℕ) (b : ℕ) (rest : List ℕ) → begun ++ b ∷ rest ≡ (begun ++ b ∷ []) ++ rest
 begun_more begun b rest = sym (append_assoc begun (b ∷ []) rest)
 
+-- bytes within a line
+pub reads_run : (V : ℕ) (bytes : List ℕ) (events : List AnswerEvent) (more : List ℕ) (old new : EventReader) → Reads V bytes events old → RunsOn old more new → new.line ≡ old.line → new.fed ≡ old.fed + length more
+    → Reads V (bytes ++ more) events new
+reads_run V bytes events more old new r on line fed =
+    let run = on.run in
+    let P : Stage → AnswerHead → ℕ → Type 0 = λ s h n. ReadSoFar V (bytes ++ more) (r.begun ++ more) s h n events in
+    let lines : P new.kept.stage new.head new.line =
+    subst (λ s. P s new.head new.line) (sym run.stage) (subst (λ h. P old.kept.stage h new.line) (sym on.head) (subst (λ n. P old.kept.stage old.head n) (sym line)
+    (so_far_more V bytes r.begun more old.kept.stage old.head old.line events r.lines))) in
+    record {
+      begun = r.begun ++ more;
+      lines = lines;
+      unended = All-append (λ c. c ≢ 10) r.begun more r.unended run.within;
+      due = λ rest l h.
+          let read = r.due (more ++ rest) l (run.leads.back rest l h) in
+          (read.0, subst (λ x. IsLineRead V new.kept.stage x l read.0) (sym (append_assoc r.begun more rest)) (subst (λ s. IsLineRead V s (r.begun ++ (more ++ rest)) l read.0) (sym run.stage) read.1));
+      left = λ rest l s' read.
+          run.leads.on rest l (r.left (more ++ rest) l s' (subst (λ s. IsLineRead V s (r.begun ++ (more ++ rest)) l s') run.stage (subst (λ x. IsLineRead V new.kept.stage x l s') (append_assoc r.begun more rest) read)));
+      sound = underway-sound new.kept new.scan run.sound;
+      name = run.name;
+      at_end = λ e. absurd (underway-open new.kept new.scan e run.sound);
+      count = fed ∙ ap (λ n. n + length more) r.count ∙ sym (length-append bytes more);
+      vertices = run.size ∙ r.vertices;
+    }
+
 -- a byte within a line
 pub reads_on : (V : ℕ) (bytes : List ℕ) (events : List AnswerEvent) (b : ℕ) (old new : EventReader) → Reads V bytes events old → (b ≡ 10 → ⊥) → GoesOn old b new → new.line ≡ old.line → new.fed ≡ old.fed + 1
     → Reads V (bytes ++ b ∷ []) events new
 reads_on V bytes events b old new r other on line fed =
     let next = on.next in
-    let P : Stage → AnswerHead → ℕ → Type 0 = λ s h n. ReadSoFar V (bytes ++ b ∷ []) (r.begun ++ b ∷ []) s h n events in
-    let lines : P new.kept.stage new.head new.line =
-    subst (λ s. P s new.head new.line) (sym next.stage) (subst (λ h. P old.kept.stage h new.line) (sym on.head) (subst (λ n. P old.kept.stage old.head n) (sym line)
-    (so_far_more V bytes r.begun b old.kept.stage old.head old.line events r.lines))) in
-    record {
-      begun = r.begun ++ b ∷ [];
-      lines = lines;
-      unended = All-push (λ c. c ≢ 10) r.begun b r.unended other;
-      due = λ rest l h.
-          let read = r.due (b ∷ rest) l (next.leads.back rest l h) in
-          (read.0, subst (λ x. IsLineRead V new.kept.stage x l read.0) (begun_more r.begun b rest) (subst (λ s. IsLineRead V s (r.begun ++ b ∷ rest) l read.0) (sym next.stage) read.1));
-      left = λ rest l s' read.
-          next.leads.on rest l (r.left (b ∷ rest) l s' (subst (λ s. IsLineRead V s (r.begun ++ b ∷ rest) l s') next.stage (subst (λ x. IsLineRead V new.kept.stage x l s') (sym (begun_more r.begun b rest)) read)));
-      sound = underway-sound new.kept new.scan next.sound;
+    let run : IsRun old.kept old.scan (b ∷ []) new.kept new.scan = record {
+      leads = record { on = next.leads.on; back = next.leads.back };
+      within = All-push (λ c. c ≢ 10) [] b (All-nil (λ c. c ≢ 10)) other;
+      sound = next.sound;
       name = next.name;
-      at_end = λ e. absurd (underway-open new.kept new.scan e next.sound);
-      count = fed ∙ ap (λ n. n + 1) r.count ∙ sym (length-append bytes (b ∷ []));
-      vertices = next.size ∙ r.vertices;
-    }
+      stage = next.stage;
+      size = next.size;
+    } in
+    reads_run V bytes events (b ∷ []) old new r (record { run = run; head = on.head }) line fed
 
--- the byte at a line's end
 pub reads_line : (V : ℕ) (bytes : List ℕ) (events : List AnswerEvent) (old new : EventReader) (told : Option Event) → Reads V bytes events old → EndsLine old told new → new.fed ≡ old.fed + 1
     → Reads V (bytes ++ 10 ∷ []) (events ++ given old.line told new.kept.members) new
 reads_line V bytes events old new told r ends fed =
     let closes = ends.closes in
     let due = r.due [] closes.line closes.left in
     let read : IsLineRead V old.kept.stage r.begun closes.line due.0 = subst (λ x. IsLineRead V old.kept.stage x closes.line due.0) (append-nil r.begun) due.1 in
-    let whole = read_more V (bytes ++ 10 ∷ []) (r.begun ++ 10 ∷ []) [] r.begun old.kept.stage due.0 old.head old.line events closes.line (so_far_more V bytes r.begun 10 old.kept.stage old.head old.line events r.lines) refl read in
+    let whole = read_more V (bytes ++ 10 ∷ []) (r.begun ++ 10 ∷ []) [] r.begun old.kept.stage due.0 old.head old.line events closes.line (so_far_more V bytes r.begun (10 ∷ []) old.kept.stage old.head old.line events r.lines) refl read in
     let stage_is : new.kept.stage ≡ due.0 = closes.stage due.0 read.due in
     let event_is : event_at old.line (line_told (head_with old.head closes.line) closes.line) ≡ given old.line told new.kept.members =
     ap (λ h. event_at old.line (line_told h closes.line)) (sym closes.head) ∙ closes.event old.line in

@@ -1,6 +1,7 @@
 -- What is still due of a line: the bytes that may follow those that were read of it, and the line that they make.
 use Rattle.std.specs.Prelude.{ℕ, suc, zero, ◌≡◌, ◌<◌, ◌≤◌, ◌+◌, ◌*◌, ◌/◌, ◌^◌, ◌⊎◌, ℤ, pos, negsuc, Bool, true, false, List, [], ◌∷◌, ◌++◌, length, drop, codes, Option, Some}
 use Rattle.std.specs.Fmt.{decimal, signed_decimal}
+use Rattle.spelled.specs.Words.{Lacks}
 use Rattle.net_graph.specs.Flags.{has}
 use Rattle.hanan_grid.specs.declared.name.EdgeName.{EdgeName}
 use Rattle.cut_cert.specs.AnswerLine.{Line}
@@ -248,6 +249,21 @@ IsDead k s byte = (rest : List ℕ) (l : Line) → Left k s (byte ∷ rest) l �
 -- where a state is kept to, a byte leads to the next, which is kept to as well, and nothing else of what is kept changes
 pub record IsNext (k : Kept) (s : Scan) (byte : ℕ) (k' : Kept) (s' : Scan) : Type 0 where
   pub leads : LeadsTo k s byte k' s'
+  pub sound : IsUnderway k' s'
+  pub name : FitsName k'.name
+  pub stage : k'.stage ≡ k.stage
+  pub size : length k'.members ≡ length k.members
+
+-- bytes lead from one state to another: what may follow them is what may follow the other
+pub record LeadsAlong (k : Kept) (s : Scan) (bytes : List ℕ) (k' : Kept) (s' : Scan) : Type 0 where
+  pub on : (rest : List ℕ) (l : Line) → Left k s (bytes ++ rest) l → Left k' s' rest l
+  pub back : (rest : List ℕ) (l : Line) → Left k' s' rest l → Left k s (bytes ++ rest) l
+
+-- where a state is kept to, bytes of which none ends the line lead to another, which is kept to as well, and nothing
+-- else of what is kept changes
+pub record IsRun (k : Kept) (s : Scan) (bytes : List ℕ) (k' : Kept) (s' : Scan) : Type 0 where
+  pub leads : LeadsAlong k s bytes k' s'
+  pub within : Lacks bytes 10
   pub sound : IsUnderway k' s'
   pub name : FitsName k'.name
   pub stage : k'.stage ≡ k.stage

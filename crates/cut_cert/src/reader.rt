@@ -32,7 +32,7 @@ pub struct EventReader {
 }
 
 impl EventReader {
-    ghost use Rattle.std.specs.Prelude.{◌≡◌, ℕ, ◌+◌, ◌-◌, ◌<◌, ◌^◌, ◌≢◌, ◌∷◌, ◌++◌, [], List, length, replicate, false, MatchBool, Err, IfOk, IfErr, None, IfSome, IfNone};
+    ghost use Rattle.std.specs.Prelude.{◌≡◌, ℕ, ◌+◌, ◌-◌, ◌<◌, ◌^◌, ◌≢◌, ◌∷◌, ◌++◌, [], List, length, take, replicate, false, ◌≤◌, MatchBool, Err, IfOk, IfErr, None, IfSome, IfNone};
     ghost use Rattle.cut_cert.specs.declared.event.AnswerEvent.{AnswerEvent};
     ghost use Rattle.cut_cert.specs.Reading.{IsReadWhole, StopsAt, line_feeds};
     ghost use Rattle.cut_cert.specs.Given.{given};
@@ -89,6 +89,25 @@ impl EventReader {
             return Err(Spelling { line: self.line });
         };
         Ok(event)
+    }
+
+    /// Reads bytes of which no event can come: as many of the piece's first ones as are digits of the set that is due,
+    /// short of its last digit where that stands for fewer than four vertices. Tells how many; 0 where no set is due.
+    pub fn feed_digits(&mut self, piece: &[u8]) -> usize
+        requires { bytes_fed self.old + length piece.now < 2 ^ 32 }
+        ensures few { result ≤ length piece.now }
+        ensures fed { bytes_fed self.new ≡ bytes_fed self.old + result }
+        ensures reads { (V : ℕ) (bytes : List ℕ) (events : List AnswerEvent) → Reads V bytes events self.old →
+            Reads V (bytes ++ take result piece.now) events self.new }
+        ensures refused { (n : ℕ) → Refuses self.old n → Refuses self.new n }
+    {
+        let Scan::Set(place) = self.scan else {
+            return 0;
+        };
+        let taken = self.kept.set_digits(place, piece);
+        self.scan = Scan::Set(place + taken as u32);
+        self.fed += taken as u64;
+        taken
     }
 
     // Reads a line feed, and tells the event of the line, if it is one. None where the line can't end here.

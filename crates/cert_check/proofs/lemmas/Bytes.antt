@@ -1,7 +1,8 @@
 -- What a judge and a reader make of one more byte.
-use Rattle.std.proofs.Common.{ℕ, ◌≡◌, ◌-◌, ◌^◌, ◌<◌, ◌≤◌, ◌⊎◌, min, Bool, List, [], ◌∷◌, ◌++◌, length, length-append, take, refl, sym, ◌∙◌, subst, inl, inr, arith, append_assoc}
+use Rattle.std.proofs.Common.{ℕ, ◌≡◌, ◌+◌, ◌-◌, ◌^◌, ◌<◌, ◌≤◌, ◌⊎◌, min, Bool, List, [], ◌∷◌, ◌++◌, length, length-append, take, refl, sym, ◌∙◌, subst, inl, inr, arith, append_assoc}
 use Rattle.std.specs.Prelude.{Option, Some, None, IsSome, IfNone, IfSome, ◌↔◌}
 use Rattle.std.proofs.lemmas.Bool.{cases_lt}
+use Rattle.std.proofs.Math.Seq.{take-append-add}
 use Rattle.std.proofs.lemmas.List.{append-nil, take_all, take-append-le}
 use Rattle.points_in.specs.declared.point.Point.{Point}
 use Rattle.hanan_grid.specs.Grid.{hanan_grid_of}
@@ -129,26 +130,28 @@ follows_more ps bytes more reader judge (Some cause) some follows =
 all_of_few : (bytes : List ℕ) → length bytes ≤ byte_limit → take byte_limit bytes ≡ bytes
 all_of_few bytes few = take_all byte_limit bytes few
 
--- a checker that is settled follows one more byte
-pub follows_settled : (ps : List Point) (bytes : List ℕ) (byte count : ℕ) (reader : EventReader) (judge : Judge) (fault : Option Cause) → count ≡ min (length bytes) (2 ^ 64 - 1) →
-    IsSome fault ⊎ (byte_limit ≤ count) → Follows ps (take byte_limit bytes) reader judge fault → Follows ps (take byte_limit (bytes ++ byte ∷ [])) reader judge fault
-follows_settled ps bytes byte count reader judge fault is settled follows = elim (cases_lt (length bytes) byte_limit) [
+-- a checker that is settled follows more bytes
+pub follows_settled : (ps : List Point) (bytes more : List ℕ) (count : ℕ) (reader : EventReader) (judge : Judge) (fault : Option Cause) → count ≡ min (length bytes) (2 ^ 64 - 1) →
+    IsSome fault ⊎ (byte_limit ≤ count) → Follows ps (take byte_limit bytes) reader judge fault → Follows ps (take byte_limit (bytes ++ more)) reader judge fault
+follows_settled ps bytes more count reader judge fault is settled follows = elim (cases_lt (length bytes) byte_limit) [
   | inl few ↦ elim settled [
     | inl some ↦
-        let whole : length (bytes ++ byte ∷ []) ≤ byte_limit = omega (arith, length-append bytes (byte ∷ [])) in
-        subst (λ xs. Follows ps xs reader judge fault) (sym (all_of_few (bytes ++ byte ∷ []) whole))
-        (follows_more ps bytes (byte ∷ []) reader judge fault some (subst (λ xs. Follows ps xs reader judge fault) (all_of_few bytes (omega arith)) follows))
+        let left = byte_limit - length bytes in
+        let whole : length bytes + left ≡ byte_limit = omega arith in
+        let parts : take byte_limit (bytes ++ more) ≡ bytes ++ take left more = subst (λ n. take n (bytes ++ more) ≡ bytes ++ take left more) whole (take-append-add bytes more left) in
+        subst (λ xs. Follows ps xs reader judge fault) (sym parts)
+        (follows_more ps bytes (take left more) reader judge fault some (subst (λ xs. Follows ps xs reader judge fault) (all_of_few bytes (omega arith)) follows))
     | inr many ↦ absurd (omega (arith, is, many, few))
   ]
-  | inr many ↦ subst (λ xs. Follows ps xs reader judge fault) (sym (take-append-le byte_limit bytes (byte ∷ []) many)) follows
+  | inr many ↦ subst (λ xs. Follows ps xs reader judge fault) (sym (take-append-le byte_limit bytes more many)) follows
 ]
 
--- one that isn't follows it where its reader and its judge do
-pub follows_read : (ps : List Point) (bytes : List ℕ) (byte count : ℕ) (reader : EventReader) (judge : Judge) (fault : Option Cause) → count ≡ min (length bytes) (2 ^ 64 - 1) → count < byte_limit →
-    Follows ps (bytes ++ byte ∷ []) reader judge fault → Follows ps (take byte_limit (bytes ++ byte ∷ [])) reader judge fault
-follows_read ps bytes byte count reader judge fault is few follows =
-    let whole : length (bytes ++ byte ∷ []) ≤ byte_limit = omega (arith, length-append bytes (byte ∷ []), is, few) in
-    subst (λ xs. Follows ps xs reader judge fault) (sym (all_of_few (bytes ++ byte ∷ []) whole)) follows
+-- one that isn't follows those that its reader and its judge do
+pub follows_read : (ps : List Point) (bytes more : List ℕ) (count : ℕ) (reader : EventReader) (judge : Judge) (fault : Option Cause) → count ≡ min (length bytes) (2 ^ 64 - 1) → count + length more ≤ byte_limit →
+    Follows ps (bytes ++ more) reader judge fault → Follows ps (take byte_limit (bytes ++ more)) reader judge fault
+follows_read ps bytes more count reader judge fault is few follows =
+    let whole : length (bytes ++ more) ≤ byte_limit = omega (arith, length-append bytes more, is, few) in
+    subst (λ xs. Follows ps xs reader judge fault) (sym (all_of_few (bytes ++ more) whole)) follows
 
 pub follows_before : (ps : List Point) (bytes : List ℕ) (count : ℕ) (reader : EventReader) (judge : Judge) (fault : Option Cause) → count ≡ min (length bytes) (2 ^ 64 - 1) → count < byte_limit →
     Follows ps (take byte_limit bytes) reader judge fault → Follows ps bytes reader judge fault

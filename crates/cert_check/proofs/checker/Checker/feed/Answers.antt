@@ -1,17 +1,39 @@
-use Rattle.std.proofs.Common.{◌∷◌, [], ◌++◌, get_or, take, sym, ap, ◌∙◌, subst, append_assoc}
-use Rattle.std.proofs.lemmas.List.{take_all, take_more}
+use Rattle.std.proofs.Common.{ℕ, ◌≡◌, ◌-◌, true, List, [], ◌∷◌, ◌++◌, length, take, drop, refl, sym, ap, ◌∙◌, subst, append_assoc, arith}
+use Rattle.std.specs.Prelude.{◌==◌}
+use Rattle.std.proofs.lemmas.Bool.Decides.{nat_tests}
+use Rattle.std.proofs.lemmas.List.{append-nil, take-append-drop, take_rest}
 use Rattle.cert_check.specs.Checking.{StandsForBytes}
 use Rattle.cert_check.proofs.checker.Checker.feed.Goals as goal
 
-pub loop-byte-preserved : goal.loop-byte-preserved
-loop-byte-preserved c ps bytes stands =
-    let piece = c.args.piece.now in
-    let i = c.loop-byte.byte-index in
-    subst (λ xs. StandsForBytes ps xs c.feed_byte.new.self)
-    (append_assoc bytes (take i piece) (get_or piece i 0 ∷ []) ∙ ap (λ xs. bytes ++ xs) (sym (take_more piece i 0 c.loop-byte-test.true)))
-    (c.feed_byte.ensures ps (bytes ++ take i piece) (c.loop-byte.invariant ps bytes stands))
+-- after n more bytes the parts are still the whole
+moved_on : (front rest : List ℕ) (n : ℕ) → front ++ rest ≡ (front ++ take n rest) ++ take (length rest - n) (drop n rest)
+moved_on front rest n =
+    rw take_rest (ap (λ x. front ++ x) (sym (take-append-drop n rest)) ∙ sym (append_assoc front (take n rest) (drop n rest)))
+
+pub loop-rest-init : goal.loop-rest-init
+loop-rest-init c = ([], refl, (λ ps bytes stands. subst (λ xs. StandsForBytes ps xs c.args.self.now) (sym (append-nil bytes)) stands))
+
+pub loop-rest-preserved : goal.loop-rest-preserved
+loop-rest-preserved c =
+    let (front, parts, stands) = c.loop-rest.invariant in
+    let rest = c.loop-rest.rest.now in
+    let n = c.feed_some-taken.result in
+    (
+      front ++ take n rest,
+      parts ∙ moved_on front rest n,
+      (λ ps bytes before. subst (λ xs. StandsForBytes ps xs c.feed_some-taken.new.self) (append_assoc bytes front (take n rest)) (c.feed_some-taken.ensures.feeds ps (bytes ++ front) (stands ps bytes before))),
+    )
+
+-- a list without length is empty
+empty_of : (xs : List ℕ) → length xs ≡ 0 → xs ≡ []
+empty_of [] none = refl
+empty_of (x ∷ xs) none = absurd (omega arith)
 
 pub returns : goal.returns
-returns c ps bytes stands =
-    subst (λ xs. StandsForBytes ps (bytes ++ xs) c.loop-byte.self) (take_all c.loop-byte.byte-index c.args.piece.now c.loop-byte-test.false)
-    (c.loop-byte.invariant ps bytes stands)
+returns c ps bytes before =
+    let (front, parts, stands) = c.loop-rest.invariant in
+    let rest = c.loop-rest.rest.now in
+    let test : (length rest == 0) ≡ true = sym c.is_empty.ensures ∙ c.loop-rest-test.false in
+    let none : length rest ≡ 0 = grind (arith, nat_tests) in
+    let whole = parts ∙ ap (λ xs. front ++ xs) (empty_of rest none) ∙ append-nil front in
+    subst (λ xs. StandsForBytes ps (bytes ++ xs) c.loop-rest.self) (sym whole) (stands ps bytes before)
