@@ -1,6 +1,7 @@
 pub mod Tables
 pub mod Rooms
 pub mod States
+pub mod WordBits
 pub mod Loading
 pub mod Leaves
 pub mod WaySteps

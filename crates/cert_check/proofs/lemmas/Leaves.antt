@@ -13,14 +13,9 @@ use Rattle.net_graph.specs.Feasible.{KeepsRoom}
 use Rattle.cert_check.specs.declared.leaf.Excess.{Excess}
 use Rattle.cert_check.specs.Cuts.{IsFirstOverload, PacksCut}
 use Rattle.cert_check.specs.Room.{Kept}
-use Rattle.cert_check.specs.Loads.{HasRows, IsLeafOf, IsOverload, KeepsDecision, KeepsEdge, KeepsLoads, LoadsOnly, SameWay}
+use Rattle.cert_check.specs.Loads.{HasRows, IsLeafOf, IsOverload, KeepsDecision, KeepsEdge, KeepsLoads, LoadsBelow, LoadsOnly, SameWay}
 use Rattle.cert_check.proofs.lemmas.Loading.{within_room}
 use Rattle.cert_check.proofs.lemmas.States.{states_kept}
-
--- the first edges are loaded with one more cut, and the others are not yet
-pub record LoadsBelow (g : Graph) (cuts : List Cut) (c : Cut) (n : ℕ) (kept : Kept) : Type 0 where
-  pub passed : (k : ℕ) → k < n → KeepsEdge g (cuts ++ c ∷ []) kept k
-  pub ahead : (k : ℕ) → n ≤ k → KeepsEdge g cuts kept k
 
 -- the loads of another edge stay
 KeepsEdge-elsewhere : (g : Graph) (cuts : List Cut) (n k : ℕ) (old new : Kept) → LoadsOnly n old new → k ≢ n → KeepsEdge g cuts old k → KeepsEdge g cuts new k
