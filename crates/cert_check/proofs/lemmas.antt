@@ -2,6 +2,8 @@ pub mod Tables
 pub mod Rooms
 pub mod States
 pub mod WordBits
+pub mod Layouts
+pub mod Marks
 pub mod Loading
 pub mod Leaves
 pub mod WaySteps

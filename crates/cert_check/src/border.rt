@@ -72,6 +72,7 @@ pub(crate) fn stretch_at(layout: Layout, place: u32) -> Stretch
 
 /// Which edges of a stretch have one end in the set alone, by their places there: the first at the lowest bit.
 pub(crate) fn parted_in(members: &VertexSet, stretch: Stretch) -> u64
+    requires few_vertices { length members.now ≤ 2500 }
     requires few { stretch.count ≤ 50 }
     requires within { stretch.vertex + stretch.step + stretch.count ≤ length members.now }
     ensures below { result < 2 ^ stretch.count }

@@ -102,8 +102,9 @@ fn load_stretch(
         → IsCut g.now d members.now → LoadsBelow g.now cuts (cut_of weight members.now) stretch.edge room.old
         → CutFault g.now d cuts (cut_of weight members.now) line cause) }
 {
+    prove!(g.vertex_count() <= 2500);
     let mut n = stretch.edge;
-    // The edges from n on that are still to be loaded.
+    // Which of the edges from n on are still to be loaded.
     let mut marks = parted_in(members, stretch);
     while marks != 0 {
         let gap = marks.trailing_zeros();

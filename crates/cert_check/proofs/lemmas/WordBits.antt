@@ -1,9 +1,9 @@
 -- The bits of words that were shifted, joined and compared, and the flags that they keep.
-use Rattle.std.proofs.Common.{ℕ, ◌≡◌, ◌+◌, ◌-◌, ◌*◌, ◌/◌, ◌%◌, ◌^◌, ◌<◌, ◌≤◌, Bool, List, length, bit_or, max, eqb, ap, sym, subst, ◌∙◌, ⊎_elim, arith}
+use Rattle.std.proofs.Common.{ℕ, ◌≡◌, ◌+◌, ◌-◌, ◌*◌, ◌/◌, ◌%◌, ◌^◌, ◌<◌, ◌≤◌, Bool, List, length, bit_and, bit_or, bit_xor, max, eqb, ap, sym, subst, ◌∙◌, ⊎_elim, arith}
 use Rattle.std.specs.Int.{bit_at}
 use Rattle.std.proofs.Math.Nat.{div-div-eq-div-mul}
-use Rattle.std.proofs.lemmas.Nat.{pow-add, pow_pos, div-add-mod'}
-use Rattle.std.proofs.lemmas.Nat.Bits.{bit_at-zero, bit_at_or, bit_at_above, bit_at_cat_low, bit_at_cat_high}
+use Rattle.std.proofs.lemmas.Nat.{pow-add, pow_pos, and_mask, one_shl, div-add-mod'}
+use Rattle.std.proofs.lemmas.Nat.Bits.{bit_at-lt, bit_at-zero, bit_at_or, bit_at_xor, bit_at_above, bit_at_cat_low, bit_at_cat_high}
 use Rattle.std.proofs.lemmas.Bool.{cases_lt}
 use Rattle.net_graph.specs.Flags.{has}
 
@@ -29,6 +29,19 @@ bit_at-shl_above n k i above low =
     let none : n * 2 ^ k ≡ n * 2 ^ k + 0 = omega arith in
     let some : 0 < 2 ^ k = pow_pos k in
     bit_at-mod (n * 2 ^ k) 64 i low ∙ ap (λ m. bit_at m i) none ∙ bit_at_cat_high n k 0 i some above
+
+-- ---- where two words differ
+
+-- not in a bit that is 0 among the lowest ones of their exclusive or
+pub same_bit : (a b count i : ℕ) → i < count → count < 64 → bit_at (bit_and (bit_xor a b) (1 * 2 ^ count % 2 ^ 64 - 1)) i ≡ 0 →
+    bit_at a i ≡ bit_at b i
+same_bit a b count i below few none =
+    let mask : 1 * 2 ^ count % 2 ^ 64 - 1 ≡ 2 ^ count - 1 = ap (λ m. m - 1) (one_shl count 64 few) in
+    let kept : bit_at (bit_and (bit_xor a b) (2 ^ count - 1)) i ≡ bit_at (bit_xor a b) i =
+        ap (λ m. bit_at m i) (and_mask (bit_xor a b) count) ∙ bit_at-mod (bit_xor a b) count i below in
+    let even : (bit_at a i + bit_at b i) % 2 ≡ 0 =
+        sym (bit_at_xor a b i) ∙ sym kept ∙ ap (λ m. bit_at (bit_and (bit_xor a b) m) i) (sym mask) ∙ none in
+    omega (arith, bit_at-lt a i, bit_at-lt b i)
 
 -- ---- words of flags
 
