@@ -46,7 +46,7 @@ mark_within g members marks n end is some fits =
     (λ (below : n + trailing_zeros w64 marks < end). below)
     (λ (above : end ≤ n + trailing_zeros w64 marks).
       let none = bit_at_above marks (end - n) (trailing_zeros w64 marks) is.below (omega (arith, is.within)) in
-      absurd (omega (arith, none, lowest.1.0)))
+      absurd (omega (arith, none, lowest.1)))
     (cases_lt (n + trailing_zeros w64 marks) end)
 
 -- the edges before it are whole
@@ -56,7 +56,7 @@ whole_before g members marks n end is some fits k from below =
     let lowest = bit_at-trailing_zeros w64 marks some fits in
     let at : n + (k - n) ≡ k = omega arith in
     let inside = mark_within g members marks n end is some fits in
-    subst (IsWhole g members) at (is.others (k - n) (omega arith) (lowest.1.1 (k - n) (omega arith)))
+    subst (IsWhole g members) at (is.others (k - n) (omega arith) (lowest.2 (k - n) (omega arith)))
 
 -- the marks behind it
 pub marks_behind : (g : Graph) (members : List Bool) (marks n end gap : ℕ) → MarksParted g members marks n end → n + gap < end →

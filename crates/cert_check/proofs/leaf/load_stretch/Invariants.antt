@@ -6,14 +6,14 @@ use Rattle.cert_check.specs.Stretches.{MarksParted}
 use Rattle.cert_check.proofs.leaf.load_stretch.Given as goal
 
 -- the arcs of the edges below n are loaded, and no others, and the marks tell where the next ones are
-abbrev pub invariant-loop-0 : goal.invariant-loop-0
-invariant-loop-0 l = record {
+abbrev pub invariant-loop-marks : goal.invariant-loop-marks
+invariant-loop-marks l = record {
   rows : HasRows l.g l.room;
   way : SameWay l.fn.room l.room;
-  loads : (cuts : List Cut) → LoadsBelow l.g cuts (cut_of l.weight l.members) l.stretch.edge l.fn.room →
+  loads : (cuts : List Cut) → LoadsBelow l.g cuts (cut_of l.weight l.members) l.fn.stretch.edge l.fn.room →
       LoadsBelow l.g cuts (cut_of l.weight l.members) l.n l.room;
-  marks : MarksParted l.g l.members l.marks l.n (l.stretch.edge + l.stretch.count);
+  marks : MarksParted l.g l.members l.marks l.n (l.fn.stretch.edge + l.fn.stretch.count);
 }
 
-abbrev pub decreases-loop-0 : goal.decreases-loop-0
-decreases-loop-0 l = l.marks
+abbrev pub decreases-loop-marks : goal.decreases-loop-marks
+decreases-loop-marks l = l.marks
