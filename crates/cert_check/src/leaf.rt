@@ -11,6 +11,7 @@ ghost use Rattle.net_graph.specs.Packing as packing;
 ghost use Rattle.cert_check.specs.Cuts.{PacksCut, CutFault, cut_of};
 ghost use Rattle.cert_check.specs.Loads.{HasRows, IsLeafOf, IsOverload, KeepsDecision, KeepsLoads, LoadsBelow, LoadsOnly, SameWay};
 ghost use Rattle.cert_check.specs.Stretches.{IsLaidOut, IsStretch};
+ghost use Rattle.cert_check.specs.Ways.{StandsOnWay};
 
 use crate::border::{Layout, Stretch, parted_in, stretch_at};
 use crate::room::Room;
@@ -34,7 +35,7 @@ pub(crate) fn read_cut(
     weight: u64,
     members: &VertexSet,
 ) -> Option<Cause>
-    requires rows { HasRows g.now room.old }
+    requires on_way { StandsOnWay g.now room.old }
     requires size { length members.now ≡ g.now.vertices }
     requires laid_out { IsLaidOut g.now layout }
     ensures rows { HasRows g.now room.new }
@@ -197,7 +198,7 @@ fn enters(members: &VertexSet, u: u32, v: u32) -> bool
 
 // Why the set is no cut, if it is none.
 fn set_fault(room: &Room, g: &NetGraph, line: u64, members: &VertexSet) -> Option<Cause>
-    requires rows { HasRows g.now room.now }
+    requires on_way { StandsOnWay g.now room.now }
     requires size { length members.now ≡ g.now.vertices }
     ensures passes { IfNone result ((d : Decided) → KeepsDecision g.now d room.now → IsCut g.now d members.now) }
     ensures fault { IfSome result (λ cause. (d : Decided) (cuts : List Cut) (weight : ℕ) → KeepsDecision g.now d room.now
@@ -214,7 +215,7 @@ fn set_fault(room: &Room, g: &NetGraph, line: u64, members: &VertexSet) -> Optio
 
 // Whether the set holds a terminal or an end of an inside edge: where no vertex is decided, a required vertex.
 fn holds_required(room: &Room, g: &NetGraph, members: &VertexSet) -> bool
-    requires rows { HasRows g.now room.now }
+    requires on_way { StandsOnWay g.now room.now }
     requires size { length members.now ≡ g.now.vertices }
     ensures { IsTrue result ↔ ((v : ℕ) × (Contains g.now.terminals v
         ⊎ EndsInside g.now (decided_of room.now.states []) v) × (has members.now v ≡ true)) }
@@ -230,14 +231,17 @@ fn holds_terminal(g: &NetGraph, members: &VertexSet) -> bool
     g.terminals().iter().any(|v| members.has(*v))
 }
 
-// Whether the set holds an end of an inside edge.
+// Whether the set holds an end of an inside edge. Each inside edge has its split on the way.
 fn holds_inside_end(room: &Room, g: &NetGraph, members: &VertexSet) -> bool
-    requires rows { HasRows g.now room.now }
+    requires on_way { StandsOnWay g.now room.now }
     requires size { length members.now ≡ g.now.vertices }
     ensures { IsTrue result ↔ ((v : ℕ) × EndsInside g.now (decided_of room.now.states []) v × (has members.now v ≡ true)) }
 {
-    for n in 0..g.edge_count() {
-        if room.is_inside(n) && holds_end(members, g.edge(n)) {
+    // Few edges, so their numbers are within 32 bits.
+    prove!(g.edge_count() <= 4900);
+    for place in 0..room.depth() {
+        let edge = room.turn(place).edge as u32;
+        if room.is_inside(edge) && holds_end(members, g.edge(edge)) {
             return true;
         }
     }
