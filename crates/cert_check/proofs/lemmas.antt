@@ -1,9 +1,14 @@
 pub mod Tables
 pub mod Rooms
 pub mod States
+pub mod WordBits
+pub mod Layouts
+pub mod Marks
 pub mod Loading
+pub mod Idle
 pub mod Leaves
 pub mod WaySteps
+pub mod WayTurns
 pub mod Values
 pub mod JudgeSteps
 pub mod ToldParts

@@ -1,5 +1,5 @@
 -- What is kept of a leaf's cuts, of which some were read.
-use Rattle.std.specs.Prelude.{ℕ, ◌≡◌, ◌≢◌, ◌-◌, ◌^◌, ◌<◌, ◌≤◌, Bool, List, length, min, sum_by, slice_get, slice_index, Some, IfSome, ◌⊎◌}
+use Rattle.std.specs.Prelude.{ℕ, ◌≡◌, ◌≢◌, ◌-◌, ◌^◌, ◌<◌, ◌≤◌, Bool, List, [], ◌∷◌, ◌++◌, length, min, sum_by, slice_get, slice_index, Some, IfSome, ◌⊎◌}
 use Rattle.net_graph.specs.declared.edge.Edge.{Edge}
 use Rattle.net_graph.specs.declared.state.EdgeState.{EdgeState}
 use Rattle.net_graph.specs.declared.packing.Cut.{Cut}
@@ -27,6 +27,11 @@ KeepsEdge g cuts kept n = (e : Edge) (state : EdgeState) → slice_get g.edges n
 -- these cuts were read, which load no arc above its room
 abbrev pub IsLeafOf : Graph → List Cut → Kept → Type 0
 IsLeafOf g cuts kept = (n : ℕ) → KeepsEdge g cuts kept n
+
+-- the first edges are loaded with one more cut, and the others are not yet
+pub record LoadsBelow (g : Graph) (cuts : List Cut) (c : Cut) (n : ℕ) (kept : Kept) : Type 0 where
+  pub passed : (k : ℕ) → k < n → KeepsEdge g (cuts ++ c ∷ []) kept k
+  pub ahead : (k : ℕ) → n ≤ k → KeepsEdge g cuts kept k
 
 -- the sum of the weights, or 2^64-1 where it is more
 abbrev pub weight_kept : List Cut → ℕ

@@ -8,6 +8,7 @@ ghost use Rattle.cert_check.specs.Lines.Behind.{Ended};
 ghost use Rattle.cert_check.specs.Judged.{SoFar, Passes, Fails, Judges, IsNetworkRight, IsNetworkWrong, nothing_told, with_cuts_due};
 ghost use Rattle.cert_check.specs.Standing.{StandsFor, IsJudgeOn};
 
+use crate::border::layout_of;
 use crate::edges::EdgesRead;
 use crate::end::end_verdict;
 use crate::leaf::read_cut;
@@ -175,7 +176,9 @@ impl Judge {
         ensures fault { IfSome result (λ cause. (s : SoFar) → StandsFor grid.now s self.old
             → Fails grid.now s line (Event.Cut weight) (Some members.now) cause self.new.edges) }
     {
-        if let Some(cause) = read_cut(&mut self.room, grid.graph(), line, weight, members) {
+        let layout = layout_of(grid);
+        let (room, g) = (&mut self.room, grid.graph());
+        if let Some(cause) = read_cut(room, g, layout, line, weight, members) {
             return Some(cause);
         }
         self.weight = self.weight.saturating_add(weight);

@@ -9,8 +9,11 @@ ghost use Rattle.net_graph.specs.Decision.{Decided, EndsInside, decided_of};
 ghost use Rattle.net_graph.specs.Packing.{IsCut, room_of};
 ghost use Rattle.net_graph.specs.Packing as packing;
 ghost use Rattle.cert_check.specs.Cuts.{PacksCut, CutFault, cut_of};
-ghost use Rattle.cert_check.specs.Loads.{HasRows, IsLeafOf, IsOverload, KeepsDecision, KeepsLoads, LoadsOnly, SameWay};
+ghost use Rattle.cert_check.specs.Loads.{HasRows, IsLeafOf, IsOverload, KeepsDecision, KeepsLoads, LoadsBelow, LoadsOnly, SameWay};
+ghost use Rattle.cert_check.specs.Stretches.{IsLaidOut, IsStretch};
+ghost use Rattle.cert_check.specs.Ways.{StandsOnWay};
 
+use crate::border::{Layout, Stretch, parted_in, stretch_at};
 use crate::room::Room;
 use crate::verdict::Cause;
 use net_graph::{Edge, EdgeState, NetGraph, VertexSet};
@@ -27,12 +30,14 @@ pub(crate) struct Excess {
 pub(crate) fn read_cut(
     room: &mut Room,
     g: &NetGraph,
+    layout: Layout,
     line: u64,
     weight: u64,
     members: &VertexSet,
 ) -> Option<Cause>
-    requires rows { HasRows g.now room.old }
+    requires on_way { StandsOnWay g.now room.old }
     requires size { length members.now ≡ g.now.vertices }
+    requires laid_out { IsLaidOut g.now layout }
     ensures rows { HasRows g.now room.new }
     ensures way { SameWay room.old room.new }
     ensures passes { IfNone result ((d : Decided) (cuts : List Cut) → KeepsDecision g.now d room.old
@@ -44,19 +49,22 @@ pub(crate) fn read_cut(
     if let Some(cause) = set_fault(room, g, line, members) {
         return Some(cause);
     }
-    load_arcs(room, g, line, weight, members)
+    load_arcs(room, g, layout, line, weight, members)
 }
 
-// Loads the arcs that enter a cut, edge by edge, up to the first edge of which one is then loaded above its room.
+// Loads the arcs that enter a cut, edge by edge, up to the first edge of which one is then loaded above its room. Only
+// the edges at the cut's border are looked at.
 fn load_arcs(
     room: &mut Room,
     g: &NetGraph,
+    layout: Layout,
     line: u64,
     weight: u64,
     members: &VertexSet,
 ) -> Option<Cause>
     requires rows { HasRows g.now room.old }
     requires size { length members.now ≡ g.now.vertices }
+    requires laid_out { IsLaidOut g.now layout }
     ensures rows { HasRows g.now room.new }
     ensures way { SameWay room.old room.new }
     ensures leaf { IfNone result ((cuts : List Cut) → IsLeafOf g.now cuts room.old
@@ -65,7 +73,43 @@ fn load_arcs(
         → IsCut g.now d members.now → IsLeafOf g.now cuts room.old
         → CutFault g.now d cuts (cut_of weight members.now) line cause) }
 {
-    for n in 0..g.edge_count() {
+    for place in 0..2 * layout.rows - 1 {
+        let stretch = stretch_at(layout, place);
+        if let Some(cause) = load_stretch(room, g, stretch, line, weight, members) {
+            return Some(cause);
+        }
+    }
+    None
+}
+
+// The same of the edges of a stretch, where those of lower numbers are loaded.
+fn load_stretch(
+    room: &mut Room,
+    g: &NetGraph,
+    stretch: Stretch,
+    line: u64,
+    weight: u64,
+    members: &VertexSet,
+) -> Option<Cause>
+    requires rows { HasRows g.now room.old }
+    requires size { length members.now ≡ g.now.vertices }
+    requires stretch { IsStretch g.now stretch }
+    ensures rows { HasRows g.now room.new }
+    ensures way { SameWay room.old room.new }
+    ensures loads { IfNone result ((cuts : List Cut)
+        → LoadsBelow g.now cuts (cut_of weight members.now) stretch.edge room.old
+        → LoadsBelow g.now cuts (cut_of weight members.now) (stretch.edge + stretch.count) room.new) }
+    ensures fault { IfSome result (λ cause. (d : Decided) (cuts : List Cut) → KeepsDecision g.now d room.old
+        → IsCut g.now d members.now → LoadsBelow g.now cuts (cut_of weight members.now) stretch.edge room.old
+        → CutFault g.now d cuts (cut_of weight members.now) line cause) }
+{
+    prove!(g.vertex_count() <= 2500);
+    let mut n = stretch.edge;
+    // Which of the edges from n on are still to be loaded.
+    let mut marks = parted_in(members, stretch);
+    while marks != 0 {
+        let gap = marks.trailing_zeros();
+        n += gap;
         if let Err(over) = load_edge(room, n, g.edge(n), weight, members) {
             return Some(Cause::Overload {
                 line,
@@ -74,6 +118,8 @@ fn load_arcs(
                 room: over.room,
             });
         }
+        n += 1;
+        marks = marks >> gap >> 1;
     }
     None
 }
@@ -99,10 +145,6 @@ fn load_edge(
         → KeepsLoads state e cuts (slice_index room.old.there n) (slice_index room.old.back n)
         → IsOverload state e (cuts ++ cut_of weight members.now ∷ []) members.now over) }
 {
-    // Most edges have both ends inside the set, or both outside.
-    if !parts_ends(members, e) {
-        return Ok(());
-    }
     let Some(limit) = arc_room(room.state(n), &e) else {
         return Ok(());
     };
@@ -145,15 +187,6 @@ fn with_weight(load: u64, weight: u64, room: u64) -> Result<u64, Excess>
     Ok(sum as u64)
 }
 
-// Whether the set holds one end of the edge alone: where it doesn't, neither arc enters it.
-fn parts_ends(members: &VertexSet, e: Edge) -> bool
-    requires { HasEndsBelow (length members.now) e }
-    ensures there { result ≡ false → packing.enters members.now e.a e.b ≡ false }
-    ensures back { result ≡ false → packing.enters members.now e.b e.a ≡ false }
-{
-    members.has(e.a) != members.has(e.b)
-}
-
 // Whether the arc from `u` to `v` enters the set.
 fn enters(members: &VertexSet, u: u32, v: u32) -> bool
     requires from { u < length members.now }
@@ -165,7 +198,7 @@ fn enters(members: &VertexSet, u: u32, v: u32) -> bool
 
 // Why the set is no cut, if it is none.
 fn set_fault(room: &Room, g: &NetGraph, line: u64, members: &VertexSet) -> Option<Cause>
-    requires rows { HasRows g.now room.now }
+    requires on_way { StandsOnWay g.now room.now }
     requires size { length members.now ≡ g.now.vertices }
     ensures passes { IfNone result ((d : Decided) → KeepsDecision g.now d room.now → IsCut g.now d members.now) }
     ensures fault { IfSome result (λ cause. (d : Decided) (cuts : List Cut) (weight : ℕ) → KeepsDecision g.now d room.now
@@ -182,7 +215,7 @@ fn set_fault(room: &Room, g: &NetGraph, line: u64, members: &VertexSet) -> Optio
 
 // Whether the set holds a terminal or an end of an inside edge: where no vertex is decided, a required vertex.
 fn holds_required(room: &Room, g: &NetGraph, members: &VertexSet) -> bool
-    requires rows { HasRows g.now room.now }
+    requires on_way { StandsOnWay g.now room.now }
     requires size { length members.now ≡ g.now.vertices }
     ensures { IsTrue result ↔ ((v : ℕ) × (Contains g.now.terminals v
         ⊎ EndsInside g.now (decided_of room.now.states []) v) × (has members.now v ≡ true)) }
@@ -198,14 +231,17 @@ fn holds_terminal(g: &NetGraph, members: &VertexSet) -> bool
     g.terminals().iter().any(|v| members.has(*v))
 }
 
-// Whether the set holds an end of an inside edge.
+// Whether the set holds an end of an inside edge. Each inside edge has its split on the way.
 fn holds_inside_end(room: &Room, g: &NetGraph, members: &VertexSet) -> bool
-    requires rows { HasRows g.now room.now }
+    requires on_way { StandsOnWay g.now room.now }
     requires size { length members.now ≡ g.now.vertices }
     ensures { IsTrue result ↔ ((v : ℕ) × EndsInside g.now (decided_of room.now.states []) v × (has members.now v ≡ true)) }
 {
-    for n in 0..g.edge_count() {
-        if room.is_inside(n) && holds_end(members, g.edge(n)) {
+    // Few edges, so their numbers are within 32 bits.
+    prove!(g.edge_count() <= 4900);
+    for place in 0..room.depth() {
+        let edge = room.turn(place).edge as u32;
+        if room.is_inside(edge) && holds_end(members, g.edge(edge)) {
             return true;
         }
     }

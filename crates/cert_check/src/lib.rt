@@ -1,6 +1,7 @@
 //! The checker of answers: it judges points and bytes alone, and rests on nothing that proposes or bounds.
 #![tactic(auto)]
 
+mod border;
 mod checker;
 mod edges;
 mod end;

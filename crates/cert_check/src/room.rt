@@ -131,11 +131,26 @@ impl Room {
         if self.depth == 0 {
             return None;
         }
-        let place = path_place(self.edges, self.vertices, self.depth - 1);
-        Some(Turn {
-            edge: self.row.get(place),
-            inside: self.row.get(place + 1) == 1,
-        })
+        Some(self.turn(0))
+    }
+
+    /// How many splits are on the way.
+    pub(crate) fn depth(&self) -> u32
+        ensures { result ≡ length self.now.path }
+    {
+        self.depth
+    }
+
+    /// The split at a place of the way, counted from 0 and from the lowest one up.
+    pub(crate) fn turn(&self, place: u32) -> Turn
+        requires { place < length self.now.path }
+        ensures { slice_get self.now.path place ≡ Some result }
+    {
+        let at = path_place(self.edges, self.vertices, self.depth - 1 - place);
+        Turn {
+            edge: self.row.get(at),
+            inside: self.row.get(at + 1) == 1,
+        }
     }
 
     /// Goes down by one more split.

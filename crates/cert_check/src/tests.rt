@@ -1,4 +1,4 @@
-//! Right answers and wrong ones for the points (0, 0), (2, 0) and (1, 1), whole and in pieces.
+//! Right answers and wrong ones for the points (0, 0), (2, 0) and (1, 1), and for nine on a diagonal, whole and in pieces.
 
 use crate::checker::Checker;
 use crate::verdict::{Cause, Verdict};
@@ -88,16 +88,34 @@ const TREE: &[u8] = b"tree\nleaf 3\ncut 1 20\ncut 1 08\ncut 1 64\nend\n";
 
 const ONE_CUT: &[u8] = b"tree\nleaf 1\ncut 1 20\nend\n";
 
+/// The grid of the nine points (0, 0) to (8, 8), of which a row stands in two words of a set.
+fn wide_grid(alloc: Global) -> Result<Grid, Fail> {
+    let mut points = Points::begin(alloc, Point { x: 0, y: 0 })?;
+    for n in 1..9 {
+        let _ = points.add(Point { x: n, y: n })?;
+    }
+    Ok(Grid::new(alloc, &points)?)
+}
+
+const WIDE_HEAD: &[u8] =
+    b"rst answer 1\nlength 16\nbound 2\nstatus stopped\nopenings 0\nconcat least 16\n";
+
+const WIDE_EDGES: &[u8] = b"edges 16\n0 0 1 0\n1 1 2 1\n2 2 3 2\n3 3 4 3\n4 4 5 4\n5 5 6 5\n6 6 7 6\n7 7 8 7\n\
+    1 0 1 1\n2 1 2 2\n3 2 3 3\n4 3 4 4\n5 4 5 5\n6 5 6 6\n7 6 7 7\n8 7 8 8\n";
+
 /// How many of the answers, from the first on, get their verdicts in each way of feeding them.
-fn judged(rt: &HostRuntime, rows: &[([&[u8]; 3], Verdict)]) -> Result<usize, Fail> {
+fn judged(
+    rt: &HostRuntime,
+    grid: &Grid,
+    rows: &[([&[u8]; 3], Verdict)],
+) -> Result<usize, Fail> {
     let alloc = rt.alloc();
-    let grid = worked_grid(alloc)?;
     for (place, (parts, verdict)) in rows.iter().enumerate() {
         let mut bytes = Vec::new(alloc);
         for part in parts {
             bytes.extend_from_slice(part)?;
         }
-        if misjudged(alloc, &grid, bytes.as_slice(), *verdict)? != 0 {
+        if misjudged(alloc, grid, bytes.as_slice(), *verdict)? != 0 {
             return Ok(place);
         }
     }
@@ -148,7 +166,7 @@ fn judges_heads_and_edges(rt: HostRuntime) -> Result<(), Fail> {
             Verdict::Refused(Cause::WrongStatus),
         ),
     ];
-    assert_eq!(rt; judged(&rt, &rows)?, rows.len());
+    assert_eq!(rt; judged(&rt, &worked_grid(rt.alloc())?, &rows)?, rows.len());
     Ok(())
 }
 
@@ -191,6 +209,35 @@ fn judges_trees(rt: HostRuntime) -> Result<(), Fail> {
             Verdict::Refused(Cause::NotAnswer(14)),
         ),
     ];
-    assert_eq!(rt; judged(&rt, &rows)?, rows.len());
+    assert_eq!(rt; judged(&rt, &worked_grid(rt.alloc())?, &rows)?, rows.len());
+    Ok(())
+}
+
+#[test]
+fn judges_borders_that_run_over_words(rt: HostRuntime) -> Result<(), Fail> {
+    let two_rows: &[u8] =
+        b"tree\nleaf 2\ncut 1 000000000000000000ff8\ncut 1 0000000000000001ffff8\nend\n";
+    let last_row: &[u8] = b"tree\nleaf 1\ncut 2 000000000000000000ff8\n";
+    let row_of_two_words: &[u8] = b"tree\nleaf 1\ncut 2 0000000000000001ff000\n";
+    let second_word: &[u8] = b"tree\nleaf 1\ncut 2 0000000000000000ff000\n";
+    let last_vertex: &[u8] =
+        b"tree\nleaf 2\ncut 1 000000000000000000008\ncut 1 000000000000000000008\n";
+    let (length, bound, optimal) = (16, 2, false);
+    let accepted = Verdict::Accepted {
+        length,
+        bound,
+        optimal,
+    };
+    let rows = [
+        ([WIDE_HEAD, WIDE_EDGES, two_rows], accepted),
+        ([WIDE_HEAD, WIDE_EDGES, last_row], over(26, 135, 2, 1)),
+        (
+            [WIDE_HEAD, WIDE_EDGES, row_of_two_words],
+            over(26, 126, 2, 1),
+        ),
+        ([WIDE_HEAD, WIDE_EDGES, second_word], over(26, 56, 2, 1)),
+        ([WIDE_HEAD, WIDE_EDGES, last_vertex], over(27, 71, 2, 1)),
+    ];
+    assert_eq!(rt; judged(&rt, &wide_grid(rt.alloc())?, &rows)?, rows.len());
     Ok(())
 }

@@ -1,26 +1,24 @@
 -- The cuts of a leaf: what one more of them makes of the loads that are kept.
-use Rattle.std.proofs.Common.{ℕ, ◌≡◌, ◌≢◌, ◌+◌, ◌<◌, ◌≤◌, List, [], ◌∷◌, ◌++◌, length, get_or, slice_get, Some, sym, ap, ◌∙◌, subst, inl, inr, arith}
-use Rattle.std.proofs.lemmas.Bool.{cases_eq}
+use Rattle.std.proofs.Common.{ℕ, ◌≡◌, ◌≢◌, ◌+◌, ◌<◌, ◌≤◌, List, [], ◌∷◌, ◌++◌, length, get_or, slice_get, Some, sym, ap, ◌∙◌, subst, inl, inr, refl, sum_by, false, arith}
+use Rattle.std.specs.Prelude.{if◌then◌else◌}
+use Rattle.std.proofs.lemmas.Bool.{cases_eq, cases_lt}
 use Rattle.std.proofs.lemmas.Option.{same_Some, slice_get_within, slice_get-get_or}
+use Rattle.std.proofs.lemmas.List.Sums.{sum_by-append, sum_by-cons}
 use Rattle.net_graph.specs.declared.edge.Edge.{Edge}
 use Rattle.net_graph.specs.declared.state.EdgeState.{EdgeState}
 use Rattle.net_graph.specs.declared.state.EdgeState.TheVariants.{Undecided}
 use Rattle.net_graph.specs.declared.packing.Cut.{Cut}
 use Rattle.net_graph.specs.Graph.{Graph}
 use Rattle.net_graph.specs.Decision.{Decided, states_of}
-use Rattle.net_graph.specs.Packing.{IsCut}
+use Rattle.net_graph.specs.Packing.{IsCut, enters, load}
 use Rattle.net_graph.specs.Feasible.{KeepsRoom}
 use Rattle.cert_check.specs.declared.leaf.Excess.{Excess}
 use Rattle.cert_check.specs.Cuts.{IsFirstOverload, PacksCut}
 use Rattle.cert_check.specs.Room.{Kept}
-use Rattle.cert_check.specs.Loads.{HasRows, IsLeafOf, IsOverload, KeepsDecision, KeepsEdge, KeepsLoads, LoadsOnly, SameWay}
+use Rattle.cert_check.specs.Loads.{HasRows, IsLeafOf, IsOverload, IsLoadKept, KeepsDecision, KeepsEdge, KeepsLoads, LoadsBelow, LoadsOnly, SameWay}
+use Rattle.cert_check.specs.Stretches.{IsWhole}
 use Rattle.cert_check.proofs.lemmas.Loading.{within_room}
 use Rattle.cert_check.proofs.lemmas.States.{states_kept}
-
--- the first edges are loaded with one more cut, and the others are not yet
-pub record LoadsBelow (g : Graph) (cuts : List Cut) (c : Cut) (n : ℕ) (kept : Kept) : Type 0 where
-  pub passed : (k : ℕ) → k < n → KeepsEdge g (cuts ++ c ∷ []) kept k
-  pub ahead : (k : ℕ) → n ≤ k → KeepsEdge g cuts kept k
 
 -- the loads of another edge stay
 KeepsEdge-elsewhere : (g : Graph) (cuts : List Cut) (n k : ℕ) (old new : Kept) → LoadsOnly n old new → k ≢ n → KeepsEdge g cuts old k → KeepsEdge g cuts new k
@@ -47,6 +45,40 @@ LoadsBelow-more g cuts c n e old new only at passes below = record {
         let before : slice_get old.states n ≡ Some state = sym (ap (λ xs. slice_get xs n) only.way.states) ∙ state_at in
         subst (λ (y : Edge). KeepsLoads state y (cuts ++ c ∷ []) (get_or new.there n 0) (get_or new.back n 0)) same
         (passes state before (below.ahead n (omega arith) e state at before))
+
+-- a cut that an arc doesn't enter loads it no more
+load-none : (cuts : List Cut) (c : Cut) (u v : ℕ) → enters c.members u v ≡ false → load (cuts ++ c ∷ []) u v ≡ load cuts u v
+load-none cuts c u v out =
+    let amount : Cut → ℕ = λ c. if enters c.members u v then c.weight else 0 in
+    let none : amount c ≡ 0 = rw out refl in
+    let nil : sum_by amount [] ≡ 0 = refl in
+    omega (arith, sum_by-append amount cuts (c ∷ []), sum_by-cons amount c [])
+
+-- so an edge of which neither arc enters it keeps its loads
+KeepsEdge-whole : (g : Graph) (cuts : List Cut) (c : Cut) (n : ℕ) (kept : Kept) → IsWhole g c.members n →
+    KeepsEdge g cuts kept n → KeepsEdge g (cuts ++ c ∷ []) kept n
+KeepsEdge-whole g cuts c n kept whole keeps e state at state_at =
+    let loads = keeps e state at state_at in
+    let out = whole e at in
+    record {
+      forward = subst (λ m. IsLoadKept state e m (get_or kept.there n 0)) (sym (load-none cuts c e.a e.b out.0)) loads.forward;
+      backward = subst (λ m. IsLoadKept state e m (get_or kept.back n 0)) (sym (load-none cuts c e.b e.a out.1)) loads.backward;
+    }
+
+-- so such edges are passed over
+pub LoadsBelow-whole : (g : Graph) (cuts : List Cut) (c : Cut) (n m : ℕ) (kept : Kept) → n ≤ m →
+    ((k : ℕ) → n ≤ k → k < m → IsWhole g c.members k) → LoadsBelow g cuts c n kept → LoadsBelow g cuts c m kept
+LoadsBelow-whole g cuts c n m kept le whole below = record {
+  passed = λ k lt. elim (cases_lt k n) [
+    | inl before ↦ below.passed k before
+    | inr from ↦ KeepsEdge-whole g cuts c k kept (whole k from lt) (below.ahead k from)
+  ];
+  ahead = λ k from. below.ahead k (omega arith);
+}
+
+-- none yet
+pub LoadsBelow-none : (g : Graph) (cuts : List Cut) (c : Cut) (kept : Kept) → IsLeafOf g cuts kept → LoadsBelow g cuts c 0 kept
+LoadsBelow-none g cuts c kept leaf = record { passed = λ k lt. absurd (omega arith); ahead = λ k from. leaf k }
 
 -- all edges
 pub IsLeafOf-below : (g : Graph) (cuts : List Cut) (c : Cut) (n : ℕ) (kept : Kept) → length g.edges ≤ n → LoadsBelow g cuts c n kept → IsLeafOf g (cuts ++ c ∷ []) kept

@@ -200,6 +200,14 @@ pub kept_in-lowest : (row : List ℕ) (E V depth : ℕ) (old : Kept) → kept_in
     old.path ≡ turn_at row (path_start E V + 2 * (depth - 1)) ∷ turns_from row (path_start E V) (depth - 1)
 kept_in-lowest row E V depth old is some = sym (ap (λ (o : Kept). o.path) is) ∙ turns_from-more row (path_start E V) depth some
 
+-- the split at a place of the way
+pub turns_from-at : (row : List ℕ) (start depth k : ℕ) → k < depth →
+    slice_get (turns_from row start depth) k ≡ Some (turn_at row (start + 2 * (depth - 1 - k)))
+turns_from-at row start zero k lt = absurd (omega arith)
+turns_from-at row start (suc depth) zero lt = let at : suc depth - 1 - 0 ≡ depth = omega arith in rw at refl
+turns_from-at row start (suc depth) (suc k) lt =
+    let at : suc depth - 1 - suc k ≡ depth - 1 - k = omega arith in rw at (turns_from-at row start depth k (omega arith))
+
 -- ---- sizes and readings
 
 pub there_size : (row : List ℕ) (E V depth : ℕ) (old : Kept) → kept_in row E V depth ≡ old → length old.there ≡ E

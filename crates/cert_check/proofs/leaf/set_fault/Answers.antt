@@ -1,0 +1,13 @@
+use Rattle.std.proofs.Common.{refl, rules}
+use Rattle.cert_check.proofs.lemmas.Idle.{idle_without}
+use Rattle.cert_check.proofs.leaf.set_fault.Goals as goal
+
+pub returns-then-not-holds_required-clause-fault : goal.returns-then-not-holds_required-clause-fault
+returns-then-not-holds_required-clause-fault c d cuts weight keeps = (
+  refl,
+  record {
+    rootless = search rules;
+    idle = idle_without c.args.g.now d c.args.room.now c.args.members.now keeps
+        (λ some. let holds = c.holds_required.ensures.1 some in let none = c.if-not-holds_required.true in cc);
+  },
+)

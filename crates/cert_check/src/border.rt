@@ -1,0 +1,103 @@
+//! The border of a set of a grid's vertices: the edges that have one end in it alone, found by whole words of the set.
+
+ghost use Rattle.std.specs.Prelude.{◌≡◌, ℕ, ◌+◌, ◌-◌, ◌*◌, ◌^◌, ◌==◌, ◌<◌, ◌≤◌, length};
+ghost use Rattle.std.specs.Int.{bit_at};
+ghost use Rattle.net_graph.specs.Flags.{has};
+ghost use Rattle.net_graph.specs.Graph.{Graph};
+ghost use Rattle.hanan_grid.specs.Grid.{hanan_grid_of};
+ghost use Rattle.cert_check.specs.Stretches.{IsLaidOut, IsStretch, edges_before};
+
+use hanan_grid::Grid;
+use net_graph::VertexSet;
+
+/// How many columns and rows a grid has, which tells how its vertices and edges are numbered.
+#[derive(Clone, Copy, Debug, PartialEq, Eq)]
+pub(crate) struct Layout {
+    pub columns: u32,
+    pub rows: u32,
+}
+
+/// Edges of successive numbers, which join successive vertices to those that are a step further on.
+#[derive(Clone, Copy, Debug, PartialEq, Eq)]
+pub(crate) struct Stretch {
+    /// The number of the first edge.
+    pub edge: u32,
+    /// The end of the first edge with the lower number.
+    pub vertex: u32,
+    /// How much higher the number of an edge's other end is.
+    pub step: u32,
+    /// How many edges there are.
+    pub count: u32,
+}
+
+/// The layout of a grid.
+pub(crate) fn layout_of(grid: &Grid) -> Layout
+    ensures { IsLaidOut (hanan_grid_of grid.now) result }
+{
+    Layout {
+        columns: grid.columns(),
+        rows: grid.rows(),
+    }
+}
+
+/// The stretch of edges at a place, counted from 0: first the horizontal edges of each row, then the vertical ones
+/// from each row to the next.
+pub(crate) fn stretch_at(layout: Layout, place: u32) -> Stretch
+    requires some { 0 < layout.columns }
+    requires few_columns { layout.columns ≤ 50 }
+    requires few_rows { layout.rows ≤ 50 }
+    requires place { place + 1 < 2 * layout.rows }
+    ensures first { result.edge ≡ edges_before layout place }
+    ensures behind { result.edge + result.count ≡ edges_before layout (place + 1) }
+    ensures stretch { (g : Graph) → IsLaidOut g layout → IsStretch g result }
+{
+    let Layout { columns, rows } = layout;
+    if place < rows {
+        Stretch {
+            edge: place * (columns - 1),
+            vertex: place * columns,
+            step: 1,
+            count: columns - 1,
+        }
+    } else {
+        let row = place - rows;
+        Stretch {
+            edge: rows * (columns - 1) + row * columns,
+            vertex: row * columns,
+            step: columns,
+            count: columns,
+        }
+    }
+}
+
+/// Which edges of a stretch have one end in the set alone, by their places there: the first at the lowest bit.
+pub(crate) fn parted_in(members: &VertexSet, stretch: Stretch) -> u64
+    requires few_vertices { length members.now ≤ 2500 }
+    requires few { stretch.count ≤ 50 }
+    requires within { stretch.vertex + stretch.step + stretch.count ≤ length members.now }
+    ensures below { result < 2 ^ stretch.count }
+    ensures others { (i : ℕ) → i < stretch.count → bit_at result i ≡ 0
+        → has members.now (stretch.vertex + i) ≡ has members.now (stretch.vertex + stretch.step + i) }
+{
+    if stretch.count == 0 {
+        return 0;
+    }
+    let near = flags_from(members, stretch.vertex, stretch.count);
+    let far = flags_from(members, stretch.vertex + stretch.step, stretch.count);
+    (near ^ far) & ((1 << stretch.count) - 1)
+}
+
+// The flags of so many vertices from one on, the first at the lowest bit. What stands above them tells nothing.
+fn flags_from(members: &VertexSet, vertex: u32, count: u32) -> u64
+    requires some { 0 < count }
+    requires few { count ≤ 50 }
+    requires within { vertex + count ≤ length members.now }
+    ensures { (i : ℕ) → i < count → has members.now (vertex + i) ≡ (bit_at result i == 1) }
+{
+    let (place, shift) = (vertex / 64, vertex % 64);
+    let low = members.word(place) >> shift;
+    if shift + count <= 64 {
+        return low;
+    }
+    low | members.word(place + 1) << (64 - shift)
+}
