@@ -22,21 +22,24 @@ use Rattle.judge_tools.specs.Judging.{finished_of, TellsVerdict, JudgesInput, Is
 use Rattle.judge_tools.specs.Check.{Checks}
 
 -- what is found of the bytes of an input that was read to its end is found of the input
-pub judges_whole : (terminals : List Point) (before after : SourceState) (bytes : List ℕ) (result : Result Judged InputFault) →
+pub judges_whole : (terminals : List Point) (before after : SourceState) (bytes : List ℕ)
+    (result : Result Judged InputFault) →
     IsWholeInput ANSWER_LIMIT before after bytes → TellsVerdict terminals bytes result → JudgesInput terminals before after result
 judges_whole terminals before after bytes (Ok judged) whole judges = (bytes, whole, judges)
 judges_whole terminals before after bytes (Err fault) whole (is, many) = let within = whole.within in absurd (omega (arith, within, many))
 
 -- what is found of the input, for the grid of the file's points
 pub found_judgement : (name : List ℕ) (before after : Readable) (grid : List Point) (judged : Judged) →
-    ReadsPointsFile TEXT_LIMIT before.shelf after.shelf name (Ok grid) → JudgesInput grid before.input after.input (Ok judged) →
+    ReadsPointsFile TEXT_LIMIT before.shelf after.shelf name (Ok grid) →
+    JudgesInput grid before.input after.input (Ok judged) →
     FindsJudgement name before after (Ok (record { grid = grid; judged = judged }))
 found_judgement name before after grid judged (ps, lists, is) found =
     let (bytes, whole, judges) = subst (λ h. JudgesInput h before.input after.input (Ok judged)) is found in
     (ps, bytes, record { points = lists; input = whole; judges = judges }, is)
 
 -- the line of the verdict that was found
-pub found_line : (name : List ℕ) (before after : Readable) (judgement : Judgement) → FindsJudgement name before after (Ok judgement) →
+pub found_line : (name : List ℕ) (before after : Readable) (judgement : Judgement) →
+    FindsJudgement name before after (Ok judgement) →
     Checks name before after (Ok (line_print judgement.judged.line))
 found_line name before after judgement (ps, bytes, checked, is) =
     (ps, bytes, finished_of judgement.judged, judgement.judged.line, checked, refl, refl)

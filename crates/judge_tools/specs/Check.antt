@@ -14,7 +14,8 @@ use Rattle.judge_tools.specs.declared.verdict_line.VerdictLine.{VerdictLine}
 use Rattle.judge_tools.specs.Verdicts.{verdict_told, line_print}
 use Rattle.judge_tools.specs.Judging.{IsChecked, IsCheckFault}
 
--- What `check` finds under the name of a file: the line that tells the verdict, with its status; or why it judges nothing.
+-- What `check` finds under the name of a file: the line that tells the verdict, with its status; or why it judges
+-- nothing.
 abbrev pub Checks : List ℕ → Readable → Readable → Result Print CheckFault → Type 0
 Checks name before after (Ok print) =
     (ps : List Point) × (bytes : List ℕ) × (f : Finished) × (line : VerdictLine) × IsChecked name before after ps bytes f

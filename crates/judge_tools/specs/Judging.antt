@@ -22,8 +22,8 @@ use Rattle.judge_tools.specs.declared.judge.Judgement.{Judgement}
 use Rattle.judge_tools.specs.declared.judging.Judged.{Judged}
 use Rattle.judge_tools.specs.Verdicts.{verdict_told}
 
--- The verdict on bytes for terminals, with what follows of it: of bytes that aren't too many it accepts exactly those that
--- should be accepted, it says what the answer says, and no network of the grid is shorter than the bound.
+-- The verdict on bytes for terminals, with what follows of it: of bytes that aren't too many it accepts exactly those
+-- that should be accepted, it says what the answer says, and no network of the grid is shorter than the bound.
 pub record JudgesBytes (terminals : List Point) (bytes : List ℕ) (f : Finished) : Type 0 where
   pub verdict : IsVerdict terminals bytes f
   pub accepted : (length bound : ℕ) (optimal : Bool) → f.verdict ≡ Accepted length bound optimal
@@ -41,7 +41,8 @@ abbrev pub TellsVerdict : List Point → List ℕ → Result Judged InputFault �
 TellsVerdict terminals bytes (Ok judged) = JudgesBytes terminals bytes (finished_of judged)
 TellsVerdict terminals bytes (Err fault) = (fault ≡ TooLong ANSWER_LIMIT) × (ANSWER_LIMIT < length bytes)
 
--- The input was read to its end, and this is found of its bytes as an answer for the terminals; or the input is at fault.
+-- The input was read to its end, and this is found of its bytes as an answer for the terminals; or the input is at
+-- fault.
 abbrev pub JudgesInput : List Point → SourceState → SourceState → Result Judged InputFault → Type 0
 JudgesInput terminals before after (Ok judged) =
     (bytes : List ℕ) × IsWholeInput ANSWER_LIMIT before after bytes × JudgesBytes terminals bytes (finished_of judged)
@@ -49,7 +50,8 @@ JudgesInput terminals before after (Err fault) = IsInputFault ANSWER_LIMIT befor
 
 -- The file lists these points, whose grid isn't too long, the input was read to its end, and this is the verdict on its
 -- bytes as an answer for the points.
-pub record IsChecked (name : List ℕ) (before after : Readable) (ps : List Point) (bytes : List ℕ) (f : Finished) : Type 0 where
+pub record IsChecked (name : List ℕ) (before after : Readable) (ps : List Point) (bytes : List ℕ) (f : Finished)
+    : Type 0 where
   pub points : FileLists TEXT_LIMIT before.shelf name ps
   pub input : IsWholeInput ANSWER_LIMIT before.input after.input bytes
   pub judges : JudgesBytes (terminals_of ps) bytes f
@@ -58,12 +60,13 @@ pub record IsChecked (name : List ℕ) (before after : Readable) (ps : List Poin
 abbrev pub FileHasGrid : Readable → List ℕ → Type 0
 FileHasGrid before name = (ps : List Point) × FileLists TEXT_LIMIT before.shelf name ps
 
--- Why an answer isn't judged, under the name of a file: the file is at fault, and the input is as before; or the input is, and
--- the file has a grid.
+-- Why an answer isn't judged, under the name of a file: the file is at fault, and the input is as before; or the input
+-- is, and the file has a grid.
 abbrev pub IsCheckFault : List ℕ → Readable → Readable → CheckFault → Type 0
 IsCheckFault name before after (Points fault) =
     IsPointsFault TEXT_LIMIT before.shelf after.shelf name fault × (after.input ≡ before.input)
-IsCheckFault name before after (Input fault) = FileHasGrid before name × IsInputFault ANSWER_LIMIT before.input after.input fault
+IsCheckFault name before after (Input fault) =
+    FileHasGrid before name × IsInputFault ANSWER_LIMIT before.input after.input fault
 
 -- What is found of an answer under the name of a file, for the grid of the file's points; or why it isn't judged.
 abbrev pub FindsJudgement : List ℕ → Readable → Readable → Result Judgement CheckFault → Type 0

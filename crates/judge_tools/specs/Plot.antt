@@ -32,10 +32,11 @@ use Rattle.judge_tools.specs.Check.{check_fault_text, check_fault_status}
 abbrev pub plot_print : List Point → List Bool → Print
 plot_print terminals network = record { text = plot_text terminals network; status = Done }
 
--- The file lists these points, whose grid isn't too long, the input was read to its end, and its bytes are accepted as an
--- answer for the points with this network. No network of the grid is shorter than the answer's bound, and where the answer
--- says optimal its network is a shortest one.
-pub record IsPlotted (name : List ℕ) (before after : Readable) (ps : List Point) (bytes : List ℕ) (network : List Bool) : Type 0 where
+-- The file lists these points, whose grid isn't too long, the input was read to its end, and its bytes are accepted as
+-- an answer for the points with this network. No network of the grid is shorter than the answer's bound, and where the
+-- answer says optimal its network is a shortest one.
+pub record IsPlotted (name : List ℕ) (before after : Readable) (ps : List Point) (bytes : List ℕ) (network : List Bool)
+    : Type 0 where
   pub points : FileLists TEXT_LIMIT before.shelf name ps
   pub input : IsWholeInput ANSWER_LIMIT before.input after.input bytes
   pub answer : WrittenAnswer
@@ -44,14 +45,15 @@ pub record IsPlotted (name : List ℕ) (before after : Readable) (ps : List Poin
   pub bounds : IsLowerBound (grid_of_points ps) answer.head.bound
   pub shortest : answer.head.optimal ≡ true → IsShortest (grid_of_points ps) network
 
--- The file lists points, the input was read to its end, and its bytes are refused as an answer for them, with this cause.
+-- The file lists points, the input was read to its end, and its bytes are refused as an answer for them, with this
+-- cause.
 abbrev pub IsRefused : List ℕ → Readable → Readable → Cause → Type 0
 IsRefused name before after cause =
     (ps : List Point) × (bytes : List ℕ) × (f : Finished) × IsChecked name before after ps bytes f
     × (f.verdict ≡ verdict.Refused cause)
 
--- What `plot` finds under the name of a file: the plot of the network of an answer that is accepted. Or there is none that is
--- judged; or it is refused.
+-- What `plot` finds under the name of a file: the plot of the network of an answer that is accepted. Or none is judged;
+-- or it is refused.
 abbrev pub Plots : List ℕ → Readable → Readable → Result Print PlotFault → Type 0
 Plots name before after (Ok print) =
     (ps : List Point) × (bytes : List ℕ) × (network : List Bool) × IsPlotted name before after ps bytes network

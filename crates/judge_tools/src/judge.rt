@@ -1,4 +1,4 @@
-//! The judge of the tools: the points of a file and an answer come in, and what is found of the answer goes on to a tool.
+//! The judge of the tools: the points of a file and an answer come in, what is found of the answer goes on to a tool.
 
 ghost use Rattle.std.specs.Prelude.{◌≡◌, IfOk, OnErr};
 ghost use Rattle.frame.specs.Outside.{readable};
@@ -53,8 +53,8 @@ pub struct Judgement {
     pub judged: Judged,
 }
 
-/// What is found of the input as an answer for the points of a file. A fault has the cause that it names. An `Err` is want
-/// of memory, before the input is touched. Memory is taken before the input is touched alone.
+/// What is found of the input as an answer for the points of a file. A fault has the cause that it names. An `Err` is
+/// want of memory, before the input is touched. Memory is taken before the input is touched alone.
 pub(crate) fn judge<I: Source, S: Shelf>(
     alloc: Global,
     points_name: &str,

@@ -19,8 +19,8 @@ use std::marker::{Brand, PhantomData};
 /// How many bytes of an answer are asked for at once.
 const BLOCK: usize = 1 << 16;
 
-/// What is found of an answer that isn't too long: the verdict on it, and the edges whose lines came before its first wrong
-/// one. Of an answer that is accepted they are its network.
+/// What is found of an answer that isn't too long: the verdict on it, and the edges whose lines came before its first
+/// wrong one. Of an answer that is accepted they are its network.
 #[derive(Debug, Drop)]
 pub struct Judged {
     pub line: VerdictLine,

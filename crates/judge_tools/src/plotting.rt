@@ -1,5 +1,5 @@
-//! The tool `plot`: the points of a file and an answer come in, a plot of the network of an answer that is accepted goes
-//! out.
+//! The tool `plot`: the points of a file and an answer come in, a plot of the network goes out where the answer is
+//! accepted.
 
 ghost use Rattle.std.specs.Prelude.{◌≡◌, IfOk, OnErr};
 ghost use Rattle.std.specs.Result.{ForOk};
@@ -48,8 +48,8 @@ impl Fault for PlotFault {
 }
 
 /// Runs `plot`: reads the points of a file, then judges an answer as it comes from the input, and prints a plot of its
-/// network where it is accepted. Gives the status that the program ends with. Memory is taken before the input is touched
-/// alone.
+/// network where it is accepted. Gives the status that the program ends with. Memory is taken before the input is
+/// touched alone.
 pub fn plot<I: Source, O: Sink, R: Sink, S: Shelf>(
     alloc: Global,
     points_name: &str,
@@ -66,8 +66,8 @@ pub fn plot<I: Source, O: Sink, R: Sink, S: Shelf>(
     conclude(out, err, b"plot", found)
 }
 
-// The picture of the network of the input, where it is accepted as an answer for the points of a file. A fault has the cause
-// that it names. An `Err` is want of memory, before the input is touched.
+// The picture of the network of the input, where it is accepted as an answer for the points of a file. A fault has the
+// cause that it names. An `Err` is want of memory, before the input is touched.
 fn picture_of<I: Source, S: Shelf>(
     alloc: Global,
     points_name: &str,

@@ -41,9 +41,10 @@ pub check_asked_completes : (request : Option Request) (name : List ℕ) (before
 check_asked_completes request name before after status is ends = subst (λ r. Completes r before after status) (sym is) (check_completes name before after status ends)
 
 -- so does `plot`
-pub plot_asked_completes : (request : Option Request) (name : List ℕ) (before after : Outside) (status : ℕ) → request ≡ Some (Plot name) → EndsPlot name before after status →
-    Completes request before after status
-plot_asked_completes request name before after status is ends = subst (λ r. Completes r before after status) (sym is) (plot_completes name before after status ends)
+pub plot_asked_completes : (request : Option Request) (name : List ℕ) (before after : Outside) (status : ℕ) →
+    request ≡ Some (Plot name) → EndsPlot name before after status → Completes request before after status
+plot_asked_completes request name before after status is ends =
+    subst (λ r. Completes r before after status) (sym is) (plot_completes name before after status ends)
 
 -- so does `dumpfst`
 pub dump_asked_completes : SpelledHasNoFault → (request : Option Request) (pieces : Bool) (before after : Outside) (status : ℕ) → request ≡ Some (Dumpfst pieces) →

@@ -93,26 +93,34 @@ check_completes name before after status ends = λ points bytes ps file lists ha
     ]
 
 -- such a file and an input that is accepted for its points have none
-plot_faultless : (name : List ℕ) (before after : Readable) (points bytes : List ℕ) (ps : List Point) → HasFile TEXT_LIMIT before.shelf after.shelf name points →
-    ListsPoints points ps → HasInput ANSWER_LIMIT before.input after.input bytes → IsAccepted (terminals_of ps) bytes →
+plot_faultless : (name : List ℕ) (before after : Readable) (points bytes : List ℕ) (ps : List Point) →
+    HasFile TEXT_LIMIT before.shelf after.shelf name points → ListsPoints points ps →
+    HasInput ANSWER_LIMIT before.input after.input bytes → IsAccepted (terminals_of ps) bytes →
     (fault : PlotFault) → Plots name before after (Err fault) → ⊥
 plot_faultless name before after points bytes ps file lists has some (plot_fault.Unjudged fault) is =
     check_faultless name before after points bytes ps file lists has fault is
-plot_faultless name before after points bytes ps file lists has some (plot_fault.Refused cause) (qs, taken, f, checked, is) =
+plot_faultless name before after points bytes ps file lists has some (plot_fault.Refused cause)
+    (qs, taken, f, checked, is) =
     let (listed, whole, of_file) = checked.points in
-    let same_file : listed ≡ points = whole_file_is TEXT_LIMIT before.shelf after.shelf name points listed file whole in
-    let same_points : ps ≡ qs = one_list points ps qs lists.text (subst (λ b. IsPointText b qs) same_file of_file.text) in
-    let same_bytes : bytes ≡ taken = sym (whole_input_is ANSWER_LIMIT before.input after.input bytes taken has checked.input) in
-    let of_points : IsAccepted (terminals_of qs) bytes = subst (λ rs. IsAccepted (terminals_of rs) bytes) same_points some in
+    let same_file : listed ≡ points =
+    whole_file_is TEXT_LIMIT before.shelf after.shelf name points listed file whole in
+    let same_points : ps ≡ qs =
+    one_list points ps qs lists.text (subst (λ b. IsPointText b qs) same_file of_file.text) in
+    let same_bytes : bytes ≡ taken =
+    sym (whole_input_is ANSWER_LIMIT before.input after.input bytes taken has checked.input) in
+    let of_points : IsAccepted (terminals_of qs) bytes =
+    subst (λ rs. IsAccepted (terminals_of rs) bytes) same_points some in
     let accepted = subst (λ b. IsAccepted (terminals_of qs) b) same_bytes of_points in
     absurd (subst IsAccepting is (checked.judges.complete checked.input.within accepted))
 
-pub plot_completes : (name : List ℕ) (before after : Outside) (status : ℕ) → EndsPlot name before after status → Completes (Some (Plot name)) before after status
+pub plot_completes : (name : List ℕ) (before after : Outside) (status : ℕ) → EndsPlot name before after status →
+    Completes (Some (Plot name)) before after status
 plot_completes name before after status ends = λ points bytes ps file lists has some writes.
     elim (complete_ends plot_fault_status plot_fault_text (codes "plot") (Plots name) LeavesFiles before after status
     (plot_faultless name before.read after.read points bytes ps file lists has some) writes ends.ends) [
       | inl seven ↦ inr seven
-      | inr (print, (qs, taken, network, plotted, of_network), answers) ↦ inl (answers ∙ ap (λ (p : Print). answer_code p.status) of_network)
+      | inr (print, (qs, taken, network, plotted, of_network), answers) ↦
+          inl (answers ∙ ap (λ (p : Print). answer_code p.status) of_network)
     ]
 
 -- an input that spells a file of full trees has no fault

@@ -52,7 +52,8 @@ Completes (Some Fst2graph) before after status =
     (bytes : List ℕ) (file : FstValue) → HasInput TEXT_LIMIT before.read.input after.read.input bytes → SpellsFstFile bytes file →
     IsWritable before after → (status ≡ 0) ⊎ (status ≡ NO_MEMORY)
 Completes (Some (Plot name)) before after status =
-    (points bytes : List ℕ) (ps : List Point) → HasFile TEXT_LIMIT before.read.shelf after.read.shelf name points → ListsPoints points ps →
-    HasInput ANSWER_LIMIT before.read.input after.read.input bytes → IsAccepted (terminals_of ps) bytes →
+    (points bytes : List ℕ) (ps : List Point) → HasFile TEXT_LIMIT before.read.shelf after.read.shelf name points →
+    ListsPoints points ps → HasInput ANSWER_LIMIT before.read.input after.read.input bytes →
+    IsAccepted (terminals_of ps) bytes →
     IsWritable before after → (status ≡ 0) ⊎ (status ≡ NO_MEMORY)
 Completes _ before after status = (status ≡ MISUSED) ⊎ (status ≡ NO_MEMORY)

@@ -12,8 +12,8 @@ returns-in-Ok-2-clause-finds g c =
     (readable (g.I.Source.state c.judge_input.new.input) (g.S.Shelf.state c.read_points_file.new.shelf))
     c.in-Ok.grid c.in-Ok-2.judged reads found
 
-pub returns-clause-finds : goal.returns-clause-finds
-returns-clause-finds g c =
+pub returns-in-Err-2-clause-finds : goal.returns-in-Err-2-clause-finds
+returns-in-Err-2-clause-finds g c =
     let reads = rw c.in-Ok.is at c.in_ok-grid.ensures.reads in
     let found = rw c.in-Err-2.is at c.in_ok-judged.ensures.judges in
     found_fault c.args.points_name.now

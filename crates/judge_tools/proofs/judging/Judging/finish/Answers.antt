@@ -5,7 +5,8 @@ use Rattle.judge_tools.proofs.judging.Judging.finish.Goals as goal
 
 pub returns-in-Some : goal.returns-in-Some
 returns-in-Some g c = λ bytes stands.
-    subst (λ told. JudgesBytes g.K.ForTerminals.terminals bytes (record { verdict = told; network = c.finish-finished.result.network }))
+    subst (λ told. JudgesBytes g.K.ForTerminals.terminals bytes
+    (record { verdict = told; network = c.finish-finished.result.network }))
     c.in-Some.ensures.line
     (record {
       verdict = c.finish-finished.ensures.verdict g.K.ForTerminals.terminals bytes stands;
@@ -14,8 +15,8 @@ returns-in-Some g c = λ bytes stands.
       bound = c.finish-finished.ensures.bound g.K.ForTerminals.terminals bytes stands;
     })
 
-pub returns : goal.returns
-returns g c = λ bytes stands. (
+pub returns-in-None : goal.returns-in-None
+returns-in-None g c = λ bytes stands. (
   refl,
   (c.finish-finished.ensures.too_long g.K.ForTerminals.terminals bytes stands).0 c.in-None.ensures.none,
 )
