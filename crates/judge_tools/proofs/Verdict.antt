@@ -1,4 +1,4 @@
--- From the steps of `check` to what it finds, and to how it ends.
+-- From the steps of the judge to what is found, and to how a run ends.
 use Rattle.std.proofs.Common.{ℕ, ◌≡◌, List, Some, None, Result, Ok, Err, refl, subst, arith}
 use Rattle.std.specs.Prelude.{OnErr}
 use Rattle.rst_outside.specs.Source.{SourceState}
@@ -15,28 +15,39 @@ use Rattle.frame.specs.Points.{ReadsPointsFile}
 use Rattle.frame.specs.Taking.{IsWholeInput, IsInputFault}
 use Rattle.judge_tools.specs.declared.judge.TheConstants.{ANSWER_LIMIT}
 use Rattle.judge_tools.specs.declared.judge.CheckFault.TheVariants.{Input}
-use Rattle.judge_tools.specs.declared.verdict_line.VerdictLine.{VerdictLine}
+use Rattle.judge_tools.specs.declared.judge.Judgement.{Judgement}
+use Rattle.judge_tools.specs.declared.judging.Judged.{Judged}
 use Rattle.judge_tools.specs.Verdicts.{line_print}
-use Rattle.judge_tools.specs.Check.{TellsVerdict, JudgesInput, Checks}
+use Rattle.judge_tools.specs.Judging.{finished_of, TellsVerdict, JudgesInput, IsCheckFault, FindsJudgement}
+use Rattle.judge_tools.specs.Check.{Checks}
 
--- the line of the verdict on the bytes of an input that was read to its end is that of the input
-pub judges_whole : (terminals : List Point) (before after : SourceState) (bytes : List ℕ) (result : Result VerdictLine InputFault) →
+-- what is found of the bytes of an input that was read to its end is found of the input
+pub judges_whole : (terminals : List Point) (before after : SourceState) (bytes : List ℕ)
+    (result : Result Judged InputFault) →
     IsWholeInput ANSWER_LIMIT before after bytes → TellsVerdict terminals bytes result → JudgesInput terminals before after result
-judges_whole terminals before after bytes (Ok line) whole (f, judges, told) = (bytes, f, whole, judges, told)
+judges_whole terminals before after bytes (Ok judged) whole judges = (bytes, whole, judges)
 judges_whole terminals before after bytes (Err fault) whole (is, many) = let within = whole.within in absurd (omega (arith, within, many))
 
--- the line of the verdict on the input, for the grid of the file's points
-pub found_line : (name : List ℕ) (before after : Readable) (grid : List Point) (line : VerdictLine) →
-    ReadsPointsFile TEXT_LIMIT before.shelf after.shelf name (Ok grid) → JudgesInput grid before.input after.input (Ok line) →
-    Checks name before after (Ok (line_print line))
-found_line name before after grid line (ps, lists, is) judged =
-    let (bytes, f, whole, judges, told) = subst (λ h. JudgesInput h before.input after.input (Ok line)) is judged in
-    (ps, bytes, f, line, record { points = lists; input = whole; judges = judges }, told, refl)
+-- what is found of the input, for the grid of the file's points
+pub found_judgement : (name : List ℕ) (before after : Readable) (grid : List Point) (judged : Judged) →
+    ReadsPointsFile TEXT_LIMIT before.shelf after.shelf name (Ok grid) →
+    JudgesInput grid before.input after.input (Ok judged) →
+    FindsJudgement name before after (Ok (record { grid = grid; judged = judged }))
+found_judgement name before after grid judged (ps, lists, is) found =
+    let (bytes, whole, judges) = subst (λ h. JudgesInput h before.input after.input (Ok judged)) is found in
+    (ps, bytes, record { points = lists; input = whole; judges = judges }, is)
+
+-- the line of the verdict that was found
+pub found_line : (name : List ℕ) (before after : Readable) (judgement : Judgement) →
+    FindsJudgement name before after (Ok judgement) →
+    Checks name before after (Ok (line_print judgement.judged.line))
+found_line name before after judgement (ps, bytes, checked, is) =
+    (ps, bytes, finished_of judgement.judged, judgement.judged.line, checked, refl, refl)
 
 -- a fault of the input, where the file has a grid
 pub found_fault : (name : List ℕ) (before after : Readable) (grid : List Point) (fault : InputFault) →
     ReadsPointsFile TEXT_LIMIT before.shelf after.shelf name (Ok grid) → IsInputFault ANSWER_LIMIT before.input after.input fault →
-    Checks name before after (Err (Input fault))
+    IsCheckFault name before after (Input fault)
 found_fault name before after grid fault (ps, lists, is) why = ((ps, lists), why)
 
 -- what holds where the tool found nothing holds where memory was wanting

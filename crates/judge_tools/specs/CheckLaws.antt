@@ -17,11 +17,11 @@ use Rattle.frame.specs.Points.{grid_of_points}
 use Rattle.judge_tools.specs.declared.verdict_line.VerdictLine.{VerdictLine}
 use Rattle.judge_tools.specs.declared.verdict_line.VerdictLine.TheVariants as said
 use Rattle.judge_tools.specs.Verdicts.{accepted_line, verdict_told, line_text, line_status}
-use Rattle.judge_tools.specs.Check.{IsChecked}
+use Rattle.judge_tools.specs.Judging.{IsChecked}
 use Rattle.judge_tools.specs.Truth.{ChecksTruly}
 
 -- The network of an accepted answer that says optimal is a shortest one.
-shortest_where_optimal : (terminals : List Point) (bytes : List ℕ) (answer : WrittenAnswer) (network : List Bool) (tree : Tree SplitOn) → Accepts terminals bytes answer network tree →
+pub shortest_where_optimal : (terminals : List Point) (bytes : List ℕ) (answer : WrittenAnswer) (network : List Bool) (tree : Tree SplitOn) → Accepts terminals bytes answer network tree →
     IsLowerBound (hanan_grid_of terminals) answer.head.bound → answer.head.optimal ≡ true → IsShortest (hanan_grid_of terminals) network
 shortest_where_optimal terminals bytes answer network tree accepts below marked =
     let same : answer.head.bound ≡ answer.head.length = eqb-true answer.head.bound answer.head.length (sym accepts.status ∙ marked) in

@@ -1,4 +1,7 @@
 pub mod Verdicts
+pub mod Judging
 pub mod Check
 pub mod Truth
 pub mod CheckLaws
+pub mod Pictures
+pub mod Plot

@@ -50,9 +50,12 @@ cause_text WrongStatus = codes "status"
 abbrev pub accepted_line : ℕ → ℕ → Bool → List ℕ
 accepted_line length bound optimal = codes "accepted length " ++ decimal length ++ codes " bound " ++ decimal bound ++ codes " " ++ status_word optimal ++ codes "\n"
 
--- what is said of an answer that is refused
+-- what is said of an answer that is refused: without the line feed, and as a line
+abbrev pub refusal : Cause → List ℕ
+refusal cause = codes "refused " ++ cause_text cause
+
 abbrev pub refused_line : Cause → List ℕ
-refused_line cause = codes "refused " ++ cause_text cause ++ codes "\n"
+refused_line cause = refusal cause ++ codes "\n"
 
 -- the verdict that a line tells
 abbrev pub verdict_told : VerdictLine → Verdict

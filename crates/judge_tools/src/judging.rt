@@ -3,7 +3,7 @@
 ghost use Rattle.std.specs.Prelude.{◌≡◌, ℕ, List, [], IfOk, OnErr};
 ghost use Rattle.cert_check.specs.Checking.{StandsForBytes};
 ghost use Rattle.frame.specs.Taking.{TakesSome};
-ghost use Rattle.judge_tools.specs.Check.{TellsVerdict, JudgesInput};
+ghost use Rattle.judge_tools.specs.Judging.{TellsVerdict, JudgesInput};
 
 use crate::judge::ANSWER_LIMIT;
 use crate::verdict_line::VerdictLine;
@@ -18,6 +18,14 @@ use std::marker::{Brand, PhantomData};
 
 /// How many bytes of an answer are asked for at once.
 const BLOCK: usize = 1 << 16;
+
+/// What is found of an answer that isn't too long: the verdict on it, and the edges whose lines came before its first
+/// wrong one. Of an answer that is accepted they are its network.
+#[derive(Debug, Drop)]
+pub struct Judged {
+    pub line: VerdictLine,
+    pub network: EdgeSet,
+}
 
 /// The terminals for which an answer is judged.
 pub(crate) trait ForTerminals {
@@ -56,13 +64,17 @@ impl<'a, K: ForTerminals> Judging<'a, K> {
         })
     }
 
-    /// The line of the verdict on what was fed. A fault says that this is too long.
-    fn line(self) -> Result<VerdictLine, InputFault>
-        ensures { (bytes : List ℕ) → StandsForBytes K.terminals bytes self.entry.checker → TellsVerdict K.terminals bytes result }
+    /// What is found of what was fed. A fault says that this is too long.
+    fn finish(self) -> Result<Judged, InputFault>
+        ensures { (bytes : List ℕ) → StandsForBytes K.terminals bytes self.entry.checker
+            → TellsVerdict K.terminals bytes result }
     {
         let finished = self.checker.finish();
         match VerdictLine::of(finished.verdict) {
-            Some(line) => Ok(line),
+            Some(line) => Ok(Judged {
+                line,
+                network: finished.network,
+            }),
             None => Err(InputFault::TooLong {
                 limit: ANSWER_LIMIT,
             }),
@@ -80,13 +92,13 @@ impl<K: ForTerminals> Consumer for Judging<'_, K> {
     }
 }
 
-/// The line of the verdict on the input as an answer for the points of the grid. A fault is one of the input. An
-/// `Err` is want of memory, before the input is touched.
+/// What is found of the input as an answer for the points of the grid. A fault is one of the input. An `Err` is want of
+/// memory, before the input is touched.
 pub(crate) fn judge_input<K: ForTerminals, I: Source>(
     alloc: Global,
     grid: &Grid,
     input: &mut I,
-) -> Result<Result<VerdictLine, InputFault>, AllocError>
+) -> Result<Result<Judged, InputFault>, AllocError>
     requires { grid.now ≡ K.terminals }
     ensures judges { IfOk result (JudgesInput grid.now (I.state input.old) (I.state input.new)) }
     ensures unread { OnErr result (I.state input.new ≡ I.state input.old) }
@@ -95,7 +107,7 @@ pub(crate) fn judge_input<K: ForTerminals, I: Source>(
     let mut block = vec![in alloc; 0u8; BLOCK]?;
     let mut judging = Judging::<K>::begin(alloc, grid)?;
     match feed_input(input, &mut block, &mut judging, ANSWER_LIMIT) {
-        Ok(()) => Ok(judging.line()),
+        Ok(()) => Ok(judging.finish()),
         Err(fault) => Ok(Err(fault)),
     }
 }

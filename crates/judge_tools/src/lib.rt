@@ -1,8 +1,13 @@
 //! The tools that judge answers.
 #![tactic(auto)]
 
+mod checking;
 mod judge;
 mod judging;
+mod picture;
+mod plotting;
 mod verdict_line;
 
-pub use judge::{ANSWER_LIMIT, CheckFault, check};
+pub use checking::check;
+pub use judge::{ANSWER_LIMIT, CheckFault};
+pub use plotting::{PlotFault, plot};

@@ -4,7 +4,7 @@ ghost use Rattle.std.specs.Prelude.{◌≡◌, IfSome, IfNone};
 ghost use Rattle.rst_outside.specs.Sink.{Writes};
 ghost use Rattle.text_out.specs.Gathers.{Gathers};
 ghost use Rattle.cut_cert.specs.Text.{status_word};
-ghost use Rattle.judge_tools.specs.Verdicts.{accepted_line, cause_text, refused_line, about_line, about_point, about_number, about_decided, about_load, verdict_told, line_text, line_status};
+ghost use Rattle.judge_tools.specs.Verdicts.{accepted_line, cause_text, refusal, refused_line, about_line, about_point, about_number, about_decided, about_load, verdict_told, line_text, line_status};
 
 use cert_check::{Cause, Verdict};
 use frame::{Answer, AnswerStatus};
@@ -117,9 +117,17 @@ fn word_of(optimal: bool) -> &'static [u8]
 fn write_refused<O: Sink>(block: &mut Block, out: &mut O, cause: Cause)
     ensures { Gathers (O.state out.old) block.old (refused_line cause) (O.state out.new) block.new }
 {
+    write_refusal(block, out, cause);
+    literal(block, out, b"\n");
+}
+
+/// Writes what is said of an answer that is refused, without the line feed.
+#[tactic(auto, using(text_out::specs::GatherLaws::pieces))]
+pub(crate) fn write_refusal<O: Sink>(block: &mut Block, out: &mut O, cause: Cause)
+    ensures { Gathers (O.state out.old) block.old (refusal cause) (O.state out.new) block.new }
+{
     literal(block, out, b"refused ");
     write_cause(block, out, cause);
-    literal(block, out, b"\n");
 }
 
 // Why an answer is refused.

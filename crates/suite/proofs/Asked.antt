@@ -3,6 +3,7 @@ use Rattle.std.proofs.Common.{ℕ, ◌≡◌, Bool, List, Option, Some, sym, sub
 use Rattle.std.specs.Prelude.{option_map}
 use Rattle.frame.specs.Outside.{Outside}
 use Rattle.judge_tools.specs.Check.{EndsCheck}
+use Rattle.judge_tools.specs.Plot.{EndsPlot}
 use Rattle.search_tools.specs.Build.{EndsBb}
 use Rattle.search_tools.specs.Solve.{EndsSolve}
 use Rattle.tree_inputs.specs.Files.{SpelledHasNoFault, OneReading}
@@ -16,13 +17,13 @@ use Rattle.requests.specs.declared.request.Request.{Request as Asked}
 use Rattle.requests.specs.declared.request.SearchRequest.{SearchRequest}
 use Rattle.requests.specs.Requests.{Request, meaning}
 use Rattle.requests.specs.declared.request.Drawing.{Drawing}
-use Rattle.requests.specs.Requests.Request.{Points, Stp2points, Rfst, Prunefst, Bb, Solve, Check, Dumpfst, Fst2graph}
+use Rattle.requests.specs.Requests.Request.{Points, Stp2points, Rfst, Prunefst, Bb, Solve, Check, Dumpfst, Fst2graph, Plot}
 use Rattle.suite.specs.Options.{options_of}
 use Rattle.suite.specs.Run.{IsShort, EndsAsAsked, IsRun}
 use Rattle.suite.specs.Headlines.{BuildHeadline, CheckHeadline, Headline}
 use Rattle.suite.specs.Complete.{Completes}
 use Rattle.suite.proofs.Heads.{solve_headline, bb_headline, check_headline}
-use Rattle.suite.proofs.Completeness.{solve_completes, bb_completes, check_completes, dump_completes, rfst_completes, prune_completes, graph_completes, points_completes, stp_completes}
+use Rattle.suite.proofs.Completeness.{solve_completes, bb_completes, check_completes, plot_completes, dump_completes, rfst_completes, prune_completes, graph_completes, points_completes, stp_completes}
 
 -- `solve` ends with an answer where nothing troubles it
 pub solve_asked_completes : (request : Option Request) (size : ℕ) (search : SearchRequest) (before after : Outside) (status : ℕ) → request ≡ Some (Solve size search) →
@@ -38,6 +39,12 @@ bb_asked_completes law one request search before after status is ends = subst (�
 pub check_asked_completes : (request : Option Request) (name : List ℕ) (before after : Outside) (status : ℕ) → request ≡ Some (Check name) → EndsCheck name before after status →
     Completes request before after status
 check_asked_completes request name before after status is ends = subst (λ r. Completes r before after status) (sym is) (check_completes name before after status ends)
+
+-- so does `plot`
+pub plot_asked_completes : (request : Option Request) (name : List ℕ) (before after : Outside) (status : ℕ) →
+    request ≡ Some (Plot name) → EndsPlot name before after status → Completes request before after status
+plot_asked_completes request name before after status is ends =
+    subst (λ r. Completes r before after status) (sym is) (plot_completes name before after status ends)
 
 -- so does `dumpfst`
 pub dump_asked_completes : SpelledHasNoFault → (request : Option Request) (pieces : Bool) (before after : Outside) (status : ℕ) → request ≡ Some (Dumpfst pieces) →
@@ -121,7 +128,7 @@ module _ (request : Option Request) (before after : Outside) (status : ℕ) (sho
   short_of (Some (Check points)) = λ points bytes ps file lists has writes. inr short.ends
   short_of (Some (Dumpfst pieces)) = λ bytes file has spells writes. inr short.ends
   short_of (Some Fst2graph) = λ bytes file has spells writes. inr short.ends
-  short_of (Some (Request.Plot points)) = inr short.ends
+  short_of (Some (Plot name)) = λ points bytes ps file lists has some writes. inr short.ends
   short_of (Some (Request.Trial drawing)) = inr short.ends
 
   pub short_completes : Completes request before after status

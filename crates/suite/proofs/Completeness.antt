@@ -1,5 +1,5 @@
 -- A run that nothing troubles ends with an answer, or memory was wanting.
-use Rattle.std.proofs.Common.{ℕ, ◌≡◌, List, length, codes, Some, Ok, Err, ◌⊎◌, inl, inr, subst, ap, ◌∙◌, Bool}
+use Rattle.std.proofs.Common.{ℕ, ◌≡◌, List, length, codes, Some, Ok, Err, ◌⊎◌, inl, inr, sym, subst, ap, ◌∙◌, Bool}
 use Rattle.std.proofs.lemmas.Bool.Decides.{eqb_tells}
 use Rattle.points_in.specs.declared.point.Point.{Point}
 use Rattle.net_graph.specs.Network.{length_of}
@@ -19,7 +19,7 @@ use Rattle.frame.specs.FromText.{FromText}
 use Rattle.frame.specs.Leaves.{LeavesShelf, LeavesFiles, LeavesAll}
 use Rattle.frame.specs.Complete.{HasInput, HasFile}
 use Rattle.frame.specs.Points.{ListsPoints, IsListFault}
-use Rattle.frame.specs.TakingLaws.{input_is_taken, whole_input_is, lists_points_faultless, file_faultless}
+use Rattle.frame.specs.TakingLaws.{input_is_taken, whole_input_is, whole_file_is, lists_points_faultless, file_faultless}
 use Rattle.search_tools.specs.declared.build_fault.BuildFault.{BuildFault}
 use Rattle.search_tools.specs.declared.build_fault.BuildFault.TheVariants as build_fault
 use Rattle.search_tools.specs.Solution.{bound_of}
@@ -32,7 +32,12 @@ use Rattle.judge_tools.specs.declared.judge.CheckFault.TheVariants as check_faul
 use Rattle.judge_tools.specs.declared.verdict_line.VerdictLine.{VerdictLine}
 use Rattle.judge_tools.specs.declared.verdict_line.VerdictLine.TheVariants as said
 use Rattle.judge_tools.specs.Verdicts.{line_status}
+use Rattle.judge_tools.specs.declared.plotting.PlotFault.{PlotFault}
+use Rattle.judge_tools.specs.declared.plotting.PlotFault.TheVariants as plot_fault
 use Rattle.judge_tools.specs.Check.{Checks, EndsCheck, check_fault_text, check_fault_status}
+use Rattle.judge_tools.specs.Plot.{Plots, EndsPlot, plot_fault_text, plot_fault_status}
+use Rattle.cert_check.specs.Accepted.{IsAccepted, IsAccepting}
+use Rattle.points_in.specs.Text.{IsPointText}
 use Rattle.fst_file.specs.Value.{FstValue}
 use Rattle.fst_file.specs.Text.{SpellsFstFile}
 use Rattle.tree_inputs.specs.declared.fst_fault.FstFault.{FstFault}
@@ -54,7 +59,7 @@ use Rattle.tree_inputs.specs.GenerationFaults.{generation_fault_text, generation
 use Rattle.tree_tools.specs.Generation.{GeneratesFile, EndsRfst}
 use Rattle.requests.specs.declared.request.SearchRequest.{SearchRequest}
 use Rattle.requests.specs.declared.request.Drawing.{Drawing}
-use Rattle.requests.specs.Requests.Request.{Points, Stp2points, Rfst, Prunefst, Bb, Solve, Check, Dumpfst, Fst2graph}
+use Rattle.requests.specs.Requests.Request.{Points, Stp2points, Rfst, Prunefst, Bb, Solve, Check, Dumpfst, Fst2graph, Plot}
 use Rattle.suite.specs.Options.{options_of}
 use Rattle.suite.specs.Complete.{Completes}
 
@@ -85,6 +90,37 @@ check_completes name before after status ends = λ points bytes ps file lists ha
       | inl seven ↦ inr seven
       | inr (print, (qs, taken, f, line, checked, tells, of_line), answers) ↦
           inl (zero_or_one line status (answers ∙ ap (λ (p : Print). answer_code p.status) of_line))
+    ]
+
+-- such a file and an input that is accepted for its points have none
+plot_faultless : (name : List ℕ) (before after : Readable) (points bytes : List ℕ) (ps : List Point) →
+    HasFile TEXT_LIMIT before.shelf after.shelf name points → ListsPoints points ps →
+    HasInput ANSWER_LIMIT before.input after.input bytes → IsAccepted (terminals_of ps) bytes →
+    (fault : PlotFault) → Plots name before after (Err fault) → ⊥
+plot_faultless name before after points bytes ps file lists has some (plot_fault.Unjudged fault) is =
+    check_faultless name before after points bytes ps file lists has fault is
+plot_faultless name before after points bytes ps file lists has some (plot_fault.Refused cause)
+    (qs, taken, f, checked, is) =
+    let (listed, whole, of_file) = checked.points in
+    let same_file : listed ≡ points =
+    whole_file_is TEXT_LIMIT before.shelf after.shelf name points listed file whole in
+    let same_points : ps ≡ qs =
+    one_list points ps qs lists.text (subst (λ b. IsPointText b qs) same_file of_file.text) in
+    let same_bytes : bytes ≡ taken =
+    sym (whole_input_is ANSWER_LIMIT before.input after.input bytes taken has checked.input) in
+    let of_points : IsAccepted (terminals_of qs) bytes =
+    subst (λ rs. IsAccepted (terminals_of rs) bytes) same_points some in
+    let accepted = subst (λ b. IsAccepted (terminals_of qs) b) same_bytes of_points in
+    absurd (subst IsAccepting is (checked.judges.complete checked.input.within accepted))
+
+pub plot_completes : (name : List ℕ) (before after : Outside) (status : ℕ) → EndsPlot name before after status →
+    Completes (Some (Plot name)) before after status
+plot_completes name before after status ends = λ points bytes ps file lists has some writes.
+    elim (complete_ends plot_fault_status plot_fault_text (codes "plot") (Plots name) LeavesFiles before after status
+    (plot_faultless name before.read after.read points bytes ps file lists has some) writes ends.ends) [
+      | inl seven ↦ inr seven
+      | inr (print, (qs, taken, network, plotted, of_network), answers) ↦
+          inl (answers ∙ ap (λ (p : Print). answer_code p.status) of_network)
     ]
 
 -- an input that spells a file of full trees has no fault

@@ -7,6 +7,7 @@ use Rattle.frame.specs.declared.take.TheConstants.{TEXT_LIMIT}
 use Rattle.frame.specs.Outside.{Outside}
 use Rattle.frame.specs.Complete.{HasInput, HasFile}
 use Rattle.frame.specs.Points.{ListsPoints}
+use Rattle.cert_check.specs.Accepted.{IsAccepted}
 use Rattle.judge_tools.specs.declared.judge.TheConstants.{ANSWER_LIMIT}
 use Rattle.points_in.specs.Terminals.{terminals_of}
 use Rattle.concatenation.specs.Concatenation.{IsConcatenation, all_of}
@@ -15,7 +16,7 @@ use Rattle.point_tools.specs.StpPoints.{LocatesPoints}
 use Rattle.fst_file.specs.Value.{FstValue}
 use Rattle.fst_file.specs.Text.{SpellsFstFile}
 use Rattle.requests.specs.Requests.{Request}
-use Rattle.requests.specs.Requests.Request.{Points, Stp2points, Rfst, Prunefst, Bb, Solve, Check, Dumpfst, Fst2graph}
+use Rattle.requests.specs.Requests.Request.{Points, Stp2points, Rfst, Prunefst, Bb, Solve, Check, Dumpfst, Fst2graph, Plot}
 
 -- no write to `out` fails
 abbrev pub IsWritable : Outside → Outside → Type 0
@@ -49,5 +50,10 @@ Completes (Some (Dumpfst pieces)) before after status =
     IsWritable before after → (status ≡ 0) ⊎ (status ≡ NO_MEMORY)
 Completes (Some Fst2graph) before after status =
     (bytes : List ℕ) (file : FstValue) → HasInput TEXT_LIMIT before.read.input after.read.input bytes → SpellsFstFile bytes file →
+    IsWritable before after → (status ≡ 0) ⊎ (status ≡ NO_MEMORY)
+Completes (Some (Plot name)) before after status =
+    (points bytes : List ℕ) (ps : List Point) → HasFile TEXT_LIMIT before.read.shelf after.read.shelf name points →
+    ListsPoints points ps → HasInput ANSWER_LIMIT before.read.input after.read.input bytes →
+    IsAccepted (terminals_of ps) bytes →
     IsWritable before after → (status ≡ 0) ⊎ (status ≡ NO_MEMORY)
 Completes _ before after status = (status ≡ MISUSED) ⊎ (status ≡ NO_MEMORY)

@@ -6,6 +6,7 @@ use Rattle.frame.specs.Ends.{Reports, no_memory_line}
 use Rattle.search_tools.specs.Build.{EndsBb}
 use Rattle.search_tools.specs.Solve.{EndsSolve}
 use Rattle.judge_tools.specs.Check.{EndsCheck}
+use Rattle.judge_tools.specs.Plot.{EndsPlot}
 use Rattle.point_tools.specs.Points.{EndsPoints}
 use Rattle.point_tools.specs.StpPoints.{EndsStp2points}
 use Rattle.tree_tools.specs.Dump.{EndsDumpfst}
@@ -13,12 +14,12 @@ use Rattle.tree_tools.specs.Graph.{EndsFst2graph}
 use Rattle.tree_tools.specs.Generation.{EndsRfst}
 use Rattle.tree_tools.specs.Pruning.{EndsPrunefst}
 use Rattle.requests.specs.Requests.{Request}
-use Rattle.requests.specs.Requests.Request.{Points, Stp2points, Rfst, Prunefst, Bb, Solve, Check, Dumpfst, Fst2graph}
+use Rattle.requests.specs.Requests.Request.{Points, Stp2points, Rfst, Prunefst, Bb, Solve, Check, Dumpfst, Fst2graph, Plot}
 use Rattle.suite.specs.Options.{options_of}
 
 -- the text on `err` where the words ask for nothing
 abbrev pub usage_line : List ℕ
-usage_line = codes "usage: rst points|stp2points|rfst|prunefst|bb|solve|check|dumpfst|fst2graph [WORDS]\n"
+usage_line = codes "usage: rst points|stp2points|rfst|prunefst|bb|solve|check|dumpfst|fst2graph|plot [WORDS]\n"
 
 -- Memory is wanting while the words are read: nothing is read or printed.
 pub record IsShort (before after : Outside) (status : ℕ) : Type 0 where
@@ -45,6 +46,7 @@ EndsAsAsked (Some (Solve size search)) before after status = EndsSolve (options_
 EndsAsAsked (Some (Check points)) before after status = EndsCheck points before after status
 EndsAsAsked (Some (Dumpfst pieces)) before after status = EndsDumpfst pieces before after status
 EndsAsAsked (Some Fst2graph) before after status = EndsFst2graph before after status
+EndsAsAsked (Some (Plot points)) before after status = EndsPlot points before after status
 EndsAsAsked _ before after status = IsMisused before after status
 
 -- A run of the program with the request that its words make.

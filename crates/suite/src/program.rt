@@ -9,7 +9,7 @@ ghost use Rattle.suite.specs.Complete.{Completes};
 
 use crate::options::options_from;
 use frame::{MISUSED, NO_MEMORY, report};
-use judge_tools::check;
+use judge_tools::{check, plot};
 use point_tools::{located_has_no_fault, points, stp2points};
 use requests::{Request, request_in};
 use rst_outside::{Shelf, Sink, Source};
@@ -108,10 +108,11 @@ fn answer<I: Source, O: Sink, R: Sink, S: Shelf>(
             spelled_has_no_fault();
             fst2graph(alloc, input, out, err)
         }
-        Some(Request::Plot { .. } | Request::Trial(_)) | None => {
+        Some(Request::Plot { points }) => plot(alloc, points, input, out, err, shelf),
+        Some(Request::Trial(_)) | None => {
             report(
                 err,
-                b"usage: rst points|stp2points|rfst|prunefst|bb|solve|check|dumpfst|fst2graph [WORDS]\n",
+                b"usage: rst points|stp2points|rfst|prunefst|bb|solve|check|dumpfst|fst2graph|plot [WORDS]\n",
             );
             MISUSED
         }

@@ -22,6 +22,10 @@ const POINTS: &[u8] = b"0 0\n2 0\n1 1\n";
 const ANSWER: &[u8] =
     b"rst answer 1\nlength 3\nbound 3\nstatus optimal\nopenings 100\nconcat least 3\nedges 3\n0 0 1 0\n1 0 2 0\n1 0 1 1\ntree\nleaf 3\ncut 1 20\ncut 1 08\ncut 1 64\nend\n";
 
+/// Its plot.
+const PLOT: &[u8] =
+    b"%!\nnewpath\n36 36 moveto\n306 36 lineto\nstroke\nnewpath\n306 36 moveto\n576 36 lineto\nstroke\nnewpath\n306 36 moveto\n306 306 lineto\nstroke\nnewpath\n33 36 moveto\n39 36 lineto\nstroke\nnewpath\n36 33 moveto\n36 39 lineto\nstroke\nnewpath\n573 36 moveto\n579 36 lineto\nstroke\nnewpath\n576 33 moveto\n576 39 lineto\nstroke\nnewpath\n303 306 moveto\n309 306 lineto\nstroke\nnewpath\n306 303 moveto\n306 309 lineto\nstroke\nshowpage\n";
+
 /// A file of one full tree.
 const FILE: &[u8] = b"rst fst 1\npoints 2\n0 0\n2 0\ntrees 1\n2 long 0 E 1 -\nend\n";
 
@@ -58,7 +62,7 @@ fn ran(rt: &HostRuntime, words: &[&str], input: &[u8]) -> Result<Outcome, Fail> 
 
 #[test]
 fn runs_each_tool(rt: HostRuntime) -> Result<(), Fail> {
-    let rows: [(&[&str], &[u8], u8, &[u8], &[u8]); 9] = [
+    let rows: [(&[&str], &[u8], u8, &[u8], &[u8]); 10] = [
         (&["solve"], POINTS, 0, ANSWER, b""),
         (
             &["check", "P"],
@@ -67,6 +71,7 @@ fn runs_each_tool(rt: HostRuntime) -> Result<(), Fail> {
             b"accepted length 3 bound 3 optimal\n",
             b"",
         ),
+        (&["plot", "P"], ANSWER, 0, PLOT, b""),
         (
             &["solve"],
             b"1 2 3\n",
@@ -90,7 +95,7 @@ fn runs_each_tool(rt: HostRuntime) -> Result<(), Fail> {
             b"",
             2,
             b"",
-            b"usage: rst points|stp2points|rfst|prunefst|bb|solve|check|dumpfst|fst2graph [WORDS]\n",
+            b"usage: rst points|stp2points|rfst|prunefst|bb|solve|check|dumpfst|fst2graph|plot [WORDS]\n",
         ),
     ];
     for (words, input, status, out, err) in rows {

@@ -4,7 +4,7 @@ use Rattle.frame.specs.Outside.{outside}
 use Rattle.requests.specs.Requests.{meaning}
 use Rattle.search_tools.specs.Build.{EndsBb}
 use Rattle.search_tools.specs.Solve.{EndsSolve}
-use Rattle.suite.proofs.Asked.{solve_asked_completes, bb_asked_completes, check_asked_completes, dump_asked_completes, rfst_asked_completes, prune_asked_completes, graph_asked_completes, points_asked_completes, stp_asked_completes, solve_asked_runs, bb_asked_runs, solve_asked_headline, bb_asked_headline, check_asked_headline}
+use Rattle.suite.proofs.Asked.{solve_asked_completes, bb_asked_completes, check_asked_completes, plot_asked_completes, dump_asked_completes, rfst_asked_completes, prune_asked_completes, graph_asked_completes, points_asked_completes, stp_asked_completes, solve_asked_runs, bb_asked_runs, solve_asked_headline, bb_asked_headline, check_asked_headline}
 use Rattle.suite.proofs.program.answer.Goals as goal
 
 pub returns-in-Some-Solve-clause-run : goal.returns-in-Some-Solve-clause-run
@@ -65,6 +65,16 @@ returns-in-Some-Check-clause-complete g c =
     c.check.result
     (search rules)
     c.check.ensures
+
+pub returns-in-Some-Plot-clause-complete : goal.returns-in-Some-Plot-clause-complete
+returns-in-Some-Plot-clause-complete g c =
+    let request = option_map meaning c.args.request in
+    plot_asked_completes request c.in-Some-Plot.points.now
+    (outside (g.I.Source.state c.args.input.now) (g.O.Sink.state c.args.out.now) (g.R.Sink.state c.args.err.now) (g.S.Shelf.state c.args.shelf.now))
+    (outside (g.I.Source.state c.plot.new.input) (g.O.Sink.state c.plot.new.out) (g.R.Sink.state c.plot.new.err) (g.S.Shelf.state c.plot.new.shelf))
+    c.plot.result
+    (search rules)
+    c.plot.ensures
 
 pub returns-in-Some-Dumpfst-clause-complete : goal.returns-in-Some-Dumpfst-clause-complete
 returns-in-Some-Dumpfst-clause-complete g c =

@@ -6,16 +6,16 @@ use Rattle.frame.specs.EndLaws.{ends_with}
 use Rattle.judge_tools.specs.Verdicts.{line_text, line_status}
 use Rattle.judge_tools.specs.Check.{Checks, check_fault_text, check_fault_status}
 use Rattle.judge_tools.proofs.Verdict.{without_memory}
-use Rattle.judge_tools.proofs.judge.check.Goals as goal
+use Rattle.judge_tools.proofs.checking.check.Goals as goal
 
 pub returns : goal.returns
 returns g c = record {
   ends = ends_with line_text line_status check_fault_status check_fault_text (codes "check") (Checks c.args.points_name.now) LeavesFiles
       (outside (g.I.Source.state c.args.input.now) (g.O.Sink.state c.args.out.now) (g.R.Sink.state c.args.err.now) (g.S.Shelf.state c.args.shelf.now))
-      (outside (g.I.Source.state c.judge-found.new.input) (g.O.Sink.state c.conclude.new.out) (g.R.Sink.state c.conclude.new.err) (g.S.Shelf.state c.judge-found.new.shelf))
-      c.conclude.result c.judge-found.result c.judge-found.ensures.finds c.judge-found.ensures.leaves c.conclude.ensures.concludes;
+      (outside (g.I.Source.state c.verdict_on-found.new.input) (g.O.Sink.state c.conclude.new.out) (g.R.Sink.state c.conclude.new.err) (g.S.Shelf.state c.verdict_on-found.new.shelf))
+      c.conclude.result c.verdict_on-found.result c.verdict_on-found.ensures.finds c.verdict_on-found.ensures.leaves c.conclude.ensures.concludes;
   unread = without_memory line_text line_status check_fault_status check_fault_text (codes "check")
       (writable (g.O.Sink.state c.args.out.now) (g.R.Sink.state c.args.err.now)) (writable (g.O.Sink.state c.conclude.new.out) (g.R.Sink.state c.conclude.new.err))
-      c.conclude.result c.judge-found.result (g.I.Source.state c.judge-found.new.input ≡ g.I.Source.state c.args.input.now)
-      c.conclude.ensures.concludes c.judge-found.ensures.unread;
+      c.conclude.result c.verdict_on-found.result (g.I.Source.state c.verdict_on-found.new.input ≡ g.I.Source.state c.args.input.now)
+      c.conclude.ensures.concludes c.verdict_on-found.ensures.unread;
 }

@@ -1,0 +1,21 @@
+-- What was found, and how the run then ended, are a run.
+use Rattle.std.proofs.Common.{◌≡◌, codes}
+use Rattle.frame.specs.Outside.{writable, outside}
+use Rattle.frame.specs.Leaves.{LeavesFiles}
+use Rattle.frame.specs.EndLaws.{ends_with}
+use Rattle.judge_tools.specs.Pictures.{picture_text, picture_status}
+use Rattle.judge_tools.specs.Plot.{Plots, plot_fault_text, plot_fault_status}
+use Rattle.judge_tools.proofs.Verdict.{without_memory}
+use Rattle.judge_tools.proofs.plotting.plot.Goals as goal
+
+pub returns : goal.returns
+returns g c = record {
+  ends = ends_with picture_text picture_status plot_fault_status plot_fault_text (codes "plot") (Plots c.args.points_name.now) LeavesFiles
+      (outside (g.I.Source.state c.args.input.now) (g.O.Sink.state c.args.out.now) (g.R.Sink.state c.args.err.now) (g.S.Shelf.state c.args.shelf.now))
+      (outside (g.I.Source.state c.picture_of-found.new.input) (g.O.Sink.state c.conclude.new.out) (g.R.Sink.state c.conclude.new.err) (g.S.Shelf.state c.picture_of-found.new.shelf))
+      c.conclude.result c.picture_of-found.result c.picture_of-found.ensures.finds c.picture_of-found.ensures.leaves c.conclude.ensures.concludes;
+  unread = without_memory picture_text picture_status plot_fault_status plot_fault_text (codes "plot")
+      (writable (g.O.Sink.state c.args.out.now) (g.R.Sink.state c.args.err.now)) (writable (g.O.Sink.state c.conclude.new.out) (g.R.Sink.state c.conclude.new.err))
+      c.conclude.result c.picture_of-found.result (g.I.Source.state c.picture_of-found.new.input ≡ g.I.Source.state c.args.input.now)
+      c.conclude.ensures.concludes c.picture_of-found.ensures.unread;
+}

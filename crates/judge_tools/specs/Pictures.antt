@@ -1,0 +1,17 @@
+-- A plot of a network, as an answer of a tool.
+use Rattle.std.specs.Prelude.{ℕ, ◌≡◌, List, length}
+use Rattle.hanan_grid.specs.Grid.{hanan_grid_of}
+use Rattle.dump_plot.specs.Plot.{plot_text}
+use Rattle.frame.specs.declared.status.AnswerStatus.{AnswerStatus}
+use Rattle.frame.specs.declared.status.AnswerStatus.TheVariants.{Done}
+use Rattle.judge_tools.specs.declared.picture.Picture.{Picture}
+
+abbrev pub picture_text : Picture → List ℕ
+picture_text picture = plot_text picture.grid picture.network
+
+abbrev pub picture_status : Picture → AnswerStatus
+picture_status picture = Done
+
+-- the network is one of the grid's edges
+abbrev pub HasEdges : Picture → Type 0
+HasEdges picture = length picture.network ≡ length (hanan_grid_of picture.grid).edges

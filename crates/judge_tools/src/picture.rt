@@ -1,0 +1,34 @@
+//! A plot of a network, as an answer of a tool.
+
+ghost use Rattle.judge_tools.specs.Pictures.{HasEdges, picture_text, picture_status};
+
+use dump_plot::plot;
+use frame::{Answer, AnswerStatus};
+use hanan_grid::Grid;
+use net_graph::EdgeSet;
+use rst_outside::{PutFault, Sink};
+
+/// A network on the grid of points, of which a tool prints a plot.
+#[derive(Debug, Drop)]
+pub struct Picture {
+    pub grid: Grid,
+    pub network: EdgeSet,
+}
+
+impl Answer for Picture {
+    ghost text = { picture_text };
+
+    ghost status = { picture_status };
+
+    ghost fits = { HasEdges };
+
+    ghost told = { λ _. Unit {0} };
+
+    fn status(&self) -> AnswerStatus {
+        AnswerStatus::Done
+    }
+
+    fn write<O: Sink>(&self, out: &mut O) -> Result<(), PutFault> {
+        plot(out, &self.grid, &self.network)
+    }
+}

@@ -1,0 +1,96 @@
+//! The tool `plot`: the points of a file and an answer come in, a plot of the network goes out where the answer is
+//! accepted.
+
+ghost use Rattle.std.specs.Prelude.{◌≡◌, IfOk, OnErr};
+ghost use Rattle.std.specs.Result.{ForOk};
+ghost use Rattle.frame.specs.Outside.{readable, outside};
+ghost use Rattle.frame.specs.Ends.{print_of};
+ghost use Rattle.frame.specs.Leaves.{LeavesFiles};
+ghost use Rattle.judge_tools.specs.Pictures.{HasEdges, picture_text, picture_status};
+ghost use Rattle.judge_tools.specs.Plot.{Plots, EndsPlot, plot_fault_text, plot_fault_status};
+
+use crate::judge::{CheckFault, judge};
+use crate::picture::Picture;
+use crate::verdict_line::{VerdictLine, write_refusal};
+use cert_check::Cause;
+use frame::{Fault, FaultStatus, conclude};
+use rst_outside::{Shelf, Sink, Source};
+use std::alloc::{AllocError, Global};
+use text_out::Block;
+
+/// Why `plot` refuses.
+#[derive(Clone, Copy, Debug, PartialEq, Eq)]
+pub enum PlotFault {
+    /// The answer isn't judged.
+    Unjudged(CheckFault),
+    /// It is refused.
+    Refused(Cause),
+}
+
+impl Fault for PlotFault {
+    ghost text = { plot_fault_text };
+
+    ghost status = { plot_fault_status };
+
+    fn status(&self) -> FaultStatus {
+        match self {
+            PlotFault::Unjudged(fault) => fault.status(),
+            PlotFault::Refused(_) => FaultStatus::Malformed,
+        }
+    }
+
+    fn write<R: Sink>(&self, block: &mut Block, err: &mut R) {
+        match self {
+            PlotFault::Unjudged(fault) => fault.write(block, err),
+            PlotFault::Refused(cause) => write_refusal(block, err, *cause),
+        }
+    }
+}
+
+/// Runs `plot`: reads the points of a file, then judges an answer as it comes from the input, and prints a plot of its
+/// network where it is accepted. Gives the status that the program ends with. Memory is taken before the input is
+/// touched alone.
+pub fn plot<I: Source, O: Sink, R: Sink, S: Shelf>(
+    alloc: Global,
+    points_name: &str,
+    input: &mut I,
+    out: &mut O,
+    err: &mut R,
+    shelf: &mut S,
+) -> u8
+    ensures { EndsPlot points_name.now
+        (outside (I.state input.old) (O.state out.old) (R.state err.old) (S.state shelf.old))
+        (outside (I.state input.new) (O.state out.new) (R.state err.new) (S.state shelf.new)) result }
+{
+    let found = picture_of(alloc, points_name, input, shelf);
+    conclude(out, err, b"plot", found)
+}
+
+// The picture of the network of the input, where it is accepted as an answer for the points of a file. A fault has the
+// cause that it names. An `Err` is want of memory, before the input is touched.
+fn picture_of<I: Source, S: Shelf>(
+    alloc: Global,
+    points_name: &str,
+    input: &mut I,
+    shelf: &mut S,
+) -> Result<Result<Picture, PlotFault>, AllocError>
+    ensures fits { ForOk result (λ found. ForOk found HasEdges) }
+    ensures finds { IfOk result (λ found. Plots points_name.now
+        (readable (I.state input.old) (S.state shelf.old)) (readable (I.state input.new) (S.state shelf.new))
+        (print_of picture_text picture_status found)) }
+    ensures unread { OnErr result (I.state input.new ≡ I.state input.old) }
+    ensures leaves { LeavesFiles
+        (readable (I.state input.old) (S.state shelf.old)) (readable (I.state input.new) (S.state shelf.new)) }
+{
+    let judgement = match judge(alloc, points_name, input, shelf)? {
+        Ok(judgement) => judgement,
+        Err(fault) => return Ok(Err(PlotFault::Unjudged(fault))),
+    };
+    match judgement.judged.line {
+        VerdictLine::Accepted { .. } => Ok(Ok(Picture {
+            grid: judgement.grid,
+            network: judgement.judged.network,
+        })),
+        VerdictLine::Refused(cause) => Ok(Err(PlotFault::Refused(cause))),
+    }
+}
