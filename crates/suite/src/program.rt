@@ -7,7 +7,7 @@ ghost use Rattle.suite.specs.Run.{IsRun};
 ghost use Rattle.suite.specs.Headlines.{Headline, BuildHeadline, CheckHeadline, TrialHeadline};
 ghost use Rattle.suite.specs.Complete.{Completes};
 
-use crate::options::options_from;
+use crate::options::{options_from, trial_is_solve};
 use frame::{MISUSED, NO_MEMORY, report};
 use judge_tools::check;
 use point_tools::{located_has_no_fault, points, stp2points};
@@ -115,7 +115,10 @@ fn answer<I: Source, O: Sink, R: Sink, S: Shelf>(
             spelled_has_no_fault();
             fst2graph(alloc, input, out, err)
         }
-        Some(Request::Trial(drawing)) => trial(alloc, drawing.count, drawing.seed, out, err),
+        Some(Request::Trial(drawing)) => {
+            trial_is_solve();
+            trial(alloc, drawing.count, drawing.seed, out, err)
+        }
         Some(Request::Plot { .. }) | None => {
             report(
                 err,
