@@ -71,9 +71,10 @@ pub stp_asked_completes : LocatedHasNoFault → (request : Option Request) (befo
 stp_asked_completes law request before after status is ends = subst (λ r. Completes r before after status) (sym is) (stp_completes law before after status ends)
 
 -- so does `trial`
-pub trial_asked_completes : (request : Option Request) (drawing : Drawing) (before after : Outside) (status : ℕ) → request ≡ Some (Trial drawing) →
-    EndsTrial drawing.count drawing.seed before after status → Completes request before after status
-trial_asked_completes request drawing before after status is ends = subst (λ r. Completes r before after status) (sym is) (trial_completes drawing before after status ends)
+pub trial_asked_completes : (request : Option Request) (drawing : Drawing) (before after : Outside) (status : ℕ) →
+    request ≡ Some (Trial drawing) → EndsTrial drawing.count drawing.seed before after status → Completes request before after status
+trial_asked_completes request drawing before after status is ends =
+    subst (λ r. Completes r before after status) (sym is) (trial_completes drawing before after status ends)
 
 -- a run of `solve` is the one that the words ask for
 pub solve_asked_runs : (request : Option Request) (size : ℕ) (search : SearchRequest) (before after : Outside) (status : ℕ) → request ≡ Some (Solve size search) →
@@ -103,11 +104,12 @@ check_asked_headline request name before after status is ends = λ other asks en
     check_headline other before after status (subst (λ n. EndsCheck n before after status) same ends) ended
 
 -- what `trial` told of the drawing that the words ask for is true
-pub trial_asked_headline : (request : Option Request) (drawing : Drawing) (before after : Outside) (status : ℕ) → request ≡ Some (Trial drawing) →
-    EndsTrial drawing.count drawing.seed before after status → TrialHeadline request before after status
+pub trial_asked_headline : (request : Option Request) (drawing : Drawing) (before after : Outside) (status : ℕ) →
+    request ≡ Some (Trial drawing) → EndsTrial drawing.count drawing.seed before after status → TrialHeadline request before after status
 trial_asked_headline request drawing before after status is ends = λ other asks ended.
     let same : drawing ≡ other = cc in
-    trial_headline other.count other.seed before after status (subst (λ (d : Drawing). EndsTrial d.count d.seed before after status) same ends) ended
+    trial_headline other.count other.seed before after status
+    (subst (λ (d : Drawing). EndsTrial d.count d.seed before after status) same ends) ended
 
 -- Where memory is wanting while the words are read, nothing is claimed that a run would owe.
 module _ (request : Option Request) (before after : Outside) (status : ℕ) (short : IsShort before after status) where

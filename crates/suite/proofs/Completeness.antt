@@ -234,16 +234,20 @@ stp_completes law before after status ends = λ bytes ps has located writes.
     ]
 
 -- drawn points with no more trees than a file holds have no fault
-trial_faultless : (n seed : ℕ) → ¬ HasMoreSets (drawn_terminals n seed) most_members 20000 → (fault : GenerationFault) → Tries n seed (Err fault) → ⊥
+trial_faultless : (n seed : ℕ) → ¬ HasMoreSets (drawn_terminals n seed) most_members 20000 →
+    (fault : GenerationFault) → Tries n seed (Err fault) → ⊥
 trial_faultless n seed few (generation_fault.List fault) is = is
 trial_faultless n seed few generation_fault.TooManyTrees is = few is
 
-pub trial_completes : (drawing : Drawing) (before after : Outside) (status : ℕ) → EndsTrial drawing.count drawing.seed before after status →
-    Completes (Some (Trial drawing)) before after status
+pub trial_completes : (drawing : Drawing) (before after : Outside) (status : ℕ) →
+    EndsTrial drawing.count drawing.seed before after status → Completes (Some (Trial drawing)) before after status
 trial_completes drawing before after status ends = λ few writes.
-    elim (complete_ends generation_fault_status generation_fault_text (codes "trial") (λ _ _. Tries drawing.count drawing.seed) LeavesAll before after status
+    let g = drawn_grid drawing.count drawing.seed in
+    elim (complete_ends generation_fault_status generation_fault_text (codes "trial")
+    (λ _ _. Tries drawing.count drawing.seed) LeavesAll before after status
     (trial_faultless drawing.count drawing.seed few) writes ends) [
       | inl seven ↦ inr seven
       | inr (print, (network, tree, tried, of_line), answers) ↦
-          inl (zero_or_three (bound_of (drawn_grid drawing.count drawing.seed) network tree) (length_of (drawn_grid drawing.count drawing.seed) network) status (answers ∙ ap (λ (p : Print). answer_code p.status) of_line))
+          inl (zero_or_three (bound_of g network tree) (length_of g network) status
+          (answers ∙ ap (λ (p : Print). answer_code p.status) of_line))
     ]

@@ -94,16 +94,18 @@ check_headline name before after status ends (inl zero) = check_told name before
 check_headline name before after status ends (inr one) = check_told name before after status Refused one ends
 
 -- what `trial` told, with the status that it ended with
-trial_told : (n seed : ℕ) (before after : Outside) (status : ℕ) (s : AnswerStatus) → status ≡ answer_code s → EndsTrial n seed before after status →
-    TriesTruly n seed before after status
+trial_told : (n seed : ℕ) (before after : Outside) (status : ℕ) (s : AnswerStatus) → status ≡ answer_code s →
+    EndsTrial n seed before after status → TriesTruly n seed before after status
 trial_told n seed before after status s is ends =
     let (print, (network, tree, tried, of_line), printed) =
-    printed_ends generation_fault_status generation_fault_text (codes "trial") (λ _ _. Tries n seed) LeavesAll before after status s is ends in
+    printed_ends generation_fault_status generation_fault_text (codes "trial") (λ _ _. Tries n seed) LeavesAll
+    before after status s is ends in
     tries_truly n seed network tree before after status tried
     (subst (λ (p : Print). Appended before.written.out.taken p.text after.written.out.taken) of_line printed.wrote.appended)
     (printed.ends ∙ ap (λ (p : Print). answer_code p.status) of_line)
 
 -- What `trial` told is true.
-pub trial_headline : (n seed : ℕ) (before after : Outside) (status : ℕ) → EndsTrial n seed before after status → (status ≡ 0) ⊎ (status ≡ 3) → TriesTruly n seed before after status
+pub trial_headline : (n seed : ℕ) (before after : Outside) (status : ℕ) → EndsTrial n seed before after status →
+    (status ≡ 0) ⊎ (status ≡ 3) → TriesTruly n seed before after status
 trial_headline n seed before after status ends (inl zero) = trial_told n seed before after status Done zero ends
 trial_headline n seed before after status ends (inr three) = trial_told n seed before after status Stopped three ends

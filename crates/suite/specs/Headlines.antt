@@ -48,8 +48,9 @@ abbrev pub CheckHeadline : Option Request → Outside → Outside → ℕ → Ty
 CheckHeadline request before after status =
     (name : List ℕ) → request ≡ Some (Check name) → (status ≡ 0) ⊎ (status ≡ 1) → ChecksTruly name before after status
 
--- What `trial` told is true: `out` gained the line with the length and the bound of an answer that is accepted for the drawn
--- points, no network of their grid is shorter than that bound, and the status is 0 exactly where the two agree.
+-- What `trial` told is true: `out` gained the line with the length and the bound of an answer that is accepted for the
+-- drawn points, no network of their grid is shorter than that bound, and the status is 0 exactly where the two agree.
 abbrev pub TrialHeadline : Option Request → Outside → Outside → ℕ → Type 0
-TrialHeadline request before after status = (drawing : Drawing) → request ≡ Some (Trial drawing) → (status ≡ 0) ⊎ (status ≡ 3) →
+TrialHeadline request before after status =
+    (drawing : Drawing) → request ≡ Some (Trial drawing) → (status ≡ 0) ⊎ (status ≡ 3) →
     TriesTruly drawing.count drawing.seed before after status

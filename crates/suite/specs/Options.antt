@@ -33,8 +33,8 @@ options_of asked = record {
   split = split_of asked.split;
 }
 
--- The word `solve` alone asks for what `trial` does with its points: for trees of up to as many members, and for the usual
--- options.
+-- The word `solve` alone asks for what `trial` does with its points: for trees of up to as many members, and for the
+-- usual options.
 abbrev pub TrialIsSolve : Type 0
 TrialIsSolve = (search : SearchRequest) × (request_of (codes "solve" ∷ []) ≡ Some (Request.Solve most_members search))
     × (options_of search ≡ usual_options)

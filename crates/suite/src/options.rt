@@ -38,8 +38,8 @@ fn split_from(asked: SplitRule) -> search_tools::SplitRule
     }
 }
 
-/// `trial` does with its points what `solve` does where no option is given. The function does nothing: it is there for its
-/// clause.
+/// `trial` does with its points what `solve` does where no option is given. The function does nothing: it is there for
+/// its clause.
 pub fn trial_is_solve()
     ensures { TrialIsSolve }
 {

@@ -34,8 +34,8 @@ drawn_terminals n seed = terminals_of (drawn_points n seed)
 abbrev pub drawn_grid : ℕ → ℕ → Graph
 drawn_grid n seed = hanan_grid_of (drawn_terminals n seed)
 
--- A network of this grid and a tree of cuts, which an answer may tell for the points and for the kept trees of their full
--- trees, where no word asks for anything else. The text that tells it is accepted (`IsPermitted`).
+-- A network of this grid and a tree of cuts, which an answer may tell for the points and for the kept trees of their
+-- full trees, where no word asks for anything else. The text that tells it is accepted (`IsPermitted`).
 pub record IsTried (n seed : ℕ) (network : List Bool) (tree : Tree SplitOn) : Type 0 where
   pub generated : List FullTree
   pub trees : List FullTree
@@ -66,4 +66,5 @@ Tries n seed (Err TooManyTrees) = HasMoreSets (drawn_terminals n seed) most_memb
 -- A run of `trial`.
 abbrev pub EndsTrial : ℕ → ℕ → Outside → Outside → ℕ → Type 0
 EndsTrial n seed before after status =
-    Ends generation_fault_status generation_fault_text (codes "trial") (λ _ _. Tries n seed) LeavesAll before after status
+    Ends generation_fault_status generation_fault_text (codes "trial") (λ _ _. Tries n seed) LeavesAll
+    before after status

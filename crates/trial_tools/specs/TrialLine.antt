@@ -8,7 +8,8 @@ use Rattle.trial_tools.specs.declared.trial_line.TrialLine.{TrialLine}
 
 -- what was drawn: how many points, from which seed, and how many of them are distinct
 abbrev pub drawing_part : TrialLine → List ℕ
-drawing_part t = codes "trial " ++ decimal t.count ++ codes " " ++ decimal t.seed ++ codes " points " ++ decimal t.points
+drawing_part t =
+    codes "trial " ++ decimal t.count ++ codes " " ++ decimal t.seed ++ codes " points " ++ decimal t.points
 
 -- the word of the answer's status
 abbrev pub status_part : Bool → List ℕ

@@ -32,7 +32,12 @@ tries_truly n seed network tree before after status tried appended ends =
       printed = appended;
       bound = searched.bounds;
       agrees = exact;
-      shortest = λ zero. (searched.network_of.joins, λ other joins. let bounds = searched.bounds other joins in let equal = exact.0 zero in omega (arith, bounds, equal));
+      shortest = λ zero. (
+        searched.network_of.joins,
+        λ other joins.
+            let bounds = searched.bounds other joins in
+            let equal = exact.0 zero in omega (arith, bounds, equal),
+      );
       stopped = λ three.
           let all : split_count tree ≡ usual_options.openings =
           searched.stopped (value_below (value_on g tree) (length_of g network) status exact three) in

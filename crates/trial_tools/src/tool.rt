@@ -1,4 +1,5 @@
-//! The tool `trial`: nothing comes in; drawn points are solved, the answer is judged, and a line that sums it up goes out.
+//! The tool `trial`: nothing comes in; drawn points are solved, the answer is judged, and a line that sums it up goes
+//! out.
 
 ghost use Rattle.std.specs.Prelude.{◌≡◌, ◌<◌, ◌≤◌, IfOk};
 ghost use Rattle.rst_outside.specs.Source.{SourceState};
@@ -33,11 +34,7 @@ pub fn trial<O: Sink, R: Sink>(alloc: Global, n: u8, seed: u64, out: &mut O, err
 }
 
 // What is told of the answer for the drawn points, or that these have too many trees. An `Err` is want of memory.
-fn find(
-    alloc: Global,
-    n: u8,
-    seed: u64,
-) -> Result<Result<TrialLine, GenerationFault>, AllocError>
+fn find(alloc: Global, n: u8, seed: u64) -> Result<Result<TrialLine, GenerationFault>, AllocError>
     requires some { 0 < n }
     requires few { n ≤ 50 }
     ensures { IfOk result (λ found. Tries n seed (print_of trial_text trial_status found)) }

@@ -10,7 +10,9 @@ use Rattle.trial_tools.proofs.tool.trial.Goals as goal
 
 pub returns : goal.returns
 returns g c = λ input shelf.
-    ends_with trial_text trial_status generation_fault_status generation_fault_text (codes "trial") (λ _ _. Tries c.args.n c.args.seed) LeavesAll
+    ends_with trial_text trial_status generation_fault_status generation_fault_text (codes "trial")
+    (λ _ _. Tries c.args.n c.args.seed) LeavesAll
     (outside input (g.O.Sink.state c.args.out.now) (g.R.Sink.state c.args.err.now) shelf)
     (outside input (g.O.Sink.state c.conclude.new.out) (g.R.Sink.state c.conclude.new.err) shelf)
-    c.conclude.result c.find-found.result c.find-found.ensures (record { input = refl; shelf = refl }) c.conclude.ensures.concludes
+    c.conclude.result c.find-found.result c.find-found.ensures (record { input = refl; shelf = refl })
+    c.conclude.ensures.concludes
