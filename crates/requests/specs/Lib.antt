@@ -2,3 +2,4 @@ pub mod Names
 pub mod Commands
 pub mod Values
 pub mod Requests
+pub mod Defaults

@@ -3,6 +3,7 @@
 #![tactic(auto)]
 
 mod command;
+mod laws;
 mod request;
 mod rules;
 #[cfg(test)]
@@ -11,6 +12,7 @@ mod tool;
 mod value;
 mod words;
 
+pub use laws::solve_alone_asks;
 pub use request::{Drawing, Request, SearchRequest};
 pub use rules::{AscentRule, SplitRule, UnknownRule};
 pub use words::request_in;

@@ -6,3 +6,4 @@ pub mod Build
 pub mod Steps
 pub mod Truth
 pub mod TruthLaws
+pub mod SolutionLaws

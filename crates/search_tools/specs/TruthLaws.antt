@@ -21,15 +21,15 @@ use Rattle.search_tools.specs.Solution.{bound_of, value_on}
 use Rattle.search_tools.specs.Permitted.{IsPermitted, search_text, status_of_bound}
 use Rattle.search_tools.specs.Truth.{SearchesTruly}
 
--- the status is 0 exactly where the bound is the length
-zero_where_equal : (bound length status : ℕ) → status ≡ answer_code (status_of_bound bound length) → (status ≡ 0) ↔ (bound ≡ length)
+-- The status is 0 exactly where the bound is the length.
+pub zero_where_equal : (bound length status : ℕ) → status ≡ answer_code (status_of_bound bound length) → (status ≡ 0) ↔ (bound ≡ length)
 zero_where_equal bound length status is = elim (eqb_tells bound length) [
   | inl (holds, equal) ↦ let ends : status ≡ 0 = rw holds at is in (λ zero. equal, λ same. ends)
   | inr (fails, apart) ↦ let ends : status ≡ 3 = rw fails at is in (λ zero. absurd (omega arith), λ same. absurd (apart same))
 ]
 
--- where the status isn't 0 the value is below the length
-value_below : (value length status : ℕ) → (status ≡ 0) ↔ (min value length ≡ length) → status ≡ 3 → value < length
+-- Where the status is 3 the value is below the length.
+pub value_below : (value length status : ℕ) → (status ≡ 0) ↔ (min value length ≡ length) → status ≡ 3 → value < length
 value_below value length status exact three =
     ⊎_elim
     (λ (below : value < length). below)

@@ -13,4 +13,4 @@ pub use build::bb;
 pub use build_fault::BuildFault;
 pub use options::{AscentRule, SearchOptions, SplitRule};
 pub use solution::Solution;
-pub use solve_points::solve;
+pub use solve_points::{solve, solved};

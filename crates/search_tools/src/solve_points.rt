@@ -57,8 +57,9 @@ fn find<I: Source>(
     }
 }
 
-// The answer for the points of a file whose trees join them, and for the kept ones of these trees. An `Err` is want of memory.
-fn solved(alloc: Global, file: FstFile, options: SearchOptions) -> Result<Solution, AllocError>
+/// The answer for the points of a file whose trees join them, and for the kept ones of these trees. An `Err` is want of
+/// memory.
+pub fn solved(alloc: Global, file: FstFile, options: SearchOptions) -> Result<Solution, AllocError>
     requires joins { JoinsAll (length file.points) file.trees }
     ensures { IfOk result (SolvesPruned options file) }
 {

@@ -13,17 +13,18 @@ use Rattle.tree_tools.specs.Dump.{EndsDumpfst}
 use Rattle.tree_tools.specs.Graph.{EndsFst2graph}
 use Rattle.tree_tools.specs.Generation.{EndsRfst}
 use Rattle.tree_tools.specs.Pruning.{EndsPrunefst}
+use Rattle.trial_tools.specs.Trial.{EndsTrial}
 use Rattle.requests.specs.declared.request.Request.{Request as Asked}
 use Rattle.requests.specs.declared.request.SearchRequest.{SearchRequest}
 use Rattle.requests.specs.Requests.{Request, meaning}
 use Rattle.requests.specs.declared.request.Drawing.{Drawing}
-use Rattle.requests.specs.Requests.Request.{Points, Stp2points, Rfst, Prunefst, Bb, Solve, Check, Dumpfst, Fst2graph, Plot}
+use Rattle.requests.specs.Requests.Request.{Points, Stp2points, Rfst, Prunefst, Bb, Solve, Check, Dumpfst, Fst2graph, Plot, Trial}
 use Rattle.suite.specs.Options.{options_of}
 use Rattle.suite.specs.Run.{IsShort, EndsAsAsked, IsRun}
-use Rattle.suite.specs.Headlines.{BuildHeadline, CheckHeadline, Headline}
+use Rattle.suite.specs.Headlines.{BuildHeadline, CheckHeadline, Headline, TrialHeadline}
 use Rattle.suite.specs.Complete.{Completes}
-use Rattle.suite.proofs.Heads.{solve_headline, bb_headline, check_headline}
-use Rattle.suite.proofs.Completeness.{solve_completes, bb_completes, check_completes, plot_completes, dump_completes, rfst_completes, prune_completes, graph_completes, points_completes, stp_completes}
+use Rattle.suite.proofs.Heads.{solve_headline, bb_headline, check_headline, trial_headline}
+use Rattle.suite.proofs.Completeness.{solve_completes, bb_completes, check_completes, plot_completes, dump_completes, rfst_completes, prune_completes, graph_completes, points_completes, stp_completes, trial_completes}
 
 -- `solve` ends with an answer where nothing troubles it
 pub solve_asked_completes : (request : Option Request) (size : ℕ) (search : SearchRequest) (before after : Outside) (status : ℕ) → request ≡ Some (Solve size search) →
@@ -76,6 +77,12 @@ pub stp_asked_completes : LocatedHasNoFault → (request : Option Request) (befo
     Completes request before after status
 stp_asked_completes law request before after status is ends = subst (λ r. Completes r before after status) (sym is) (stp_completes law before after status ends)
 
+-- so does `trial`
+pub trial_asked_completes : (request : Option Request) (drawing : Drawing) (before after : Outside) (status : ℕ) →
+    request ≡ Some (Trial drawing) → EndsTrial drawing.count drawing.seed before after status → Completes request before after status
+trial_asked_completes request drawing before after status is ends =
+    subst (λ r. Completes r before after status) (sym is) (trial_completes drawing before after status ends)
+
 -- a run of `solve` is the one that the words ask for
 pub solve_asked_runs : (request : Option Request) (size : ℕ) (search : SearchRequest) (before after : Outside) (status : ℕ) → request ≡ Some (Solve size search) →
     EndsSolve (options_of search) size before after status → IsRun request before after status
@@ -103,6 +110,14 @@ check_asked_headline request name before after status is ends = λ other asks en
     let same : name ≡ other = cc in
     check_headline other before after status (subst (λ n. EndsCheck n before after status) same ends) ended
 
+-- what `trial` told of the drawing that the words ask for is true
+pub trial_asked_headline : (request : Option Request) (drawing : Drawing) (before after : Outside) (status : ℕ) →
+    request ≡ Some (Trial drawing) → EndsTrial drawing.count drawing.seed before after status → TrialHeadline request before after status
+trial_asked_headline request drawing before after status is ends = λ other asks ended.
+    let same : drawing ≡ other = cc in
+    trial_headline other.count other.seed before after status
+    (subst (λ (d : Drawing). EndsTrial d.count d.seed before after status) same ends) ended
+
 -- Where memory is wanting while the words are read, nothing is claimed that a run would owe.
 module _ (request : Option Request) (before after : Outside) (status : ℕ) (short : IsShort before after status) where
   pub short_headline : Headline request before after status
@@ -117,6 +132,10 @@ module _ (request : Option Request) (before after : Outside) (status : ℕ) (sho
   short_check_headline name is (inl zero) = absurd (omega (arith, short.ends))
   short_check_headline name is (inr one) = absurd (omega (arith, short.ends))
 
+  pub short_trial_headline : TrialHeadline request before after status
+  short_trial_headline drawing is (inl zero) = absurd (omega (arith, short.ends))
+  short_trial_headline drawing is (inr three) = absurd (omega (arith, short.ends))
+
   short_of : (r : Option Request) → Completes r before after status
   short_of None = inr short.ends
   short_of (Some (Points drawing)) = λ writes. inr short.ends
@@ -129,7 +148,7 @@ module _ (request : Option Request) (before after : Outside) (status : ℕ) (sho
   short_of (Some (Dumpfst pieces)) = λ bytes file has spells writes. inr short.ends
   short_of (Some Fst2graph) = λ bytes file has spells writes. inr short.ends
   short_of (Some (Plot name)) = λ points bytes ps file lists has some writes. inr short.ends
-  short_of (Some (Request.Trial drawing)) = inr short.ends
+  short_of (Some (Trial drawing)) = λ few writes. inr short.ends
 
   pub short_completes : Completes request before after status
   short_completes = short_of request

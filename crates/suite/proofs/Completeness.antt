@@ -57,9 +57,11 @@ use Rattle.tree_inputs.specs.declared.generation_fault.GenerationFault.{Generati
 use Rattle.tree_inputs.specs.declared.generation_fault.GenerationFault.TheVariants as generation_fault
 use Rattle.tree_inputs.specs.GenerationFaults.{generation_fault_text, generation_fault_status}
 use Rattle.tree_tools.specs.Generation.{GeneratesFile, EndsRfst}
+use Rattle.tree_inputs.specs.Generation.{most_members}
+use Rattle.trial_tools.specs.Trial.{EndsTrial, Tries, drawn_grid, drawn_terminals}
 use Rattle.requests.specs.declared.request.SearchRequest.{SearchRequest}
 use Rattle.requests.specs.declared.request.Drawing.{Drawing}
-use Rattle.requests.specs.Requests.Request.{Points, Stp2points, Rfst, Prunefst, Bb, Solve, Check, Dumpfst, Fst2graph, Plot}
+use Rattle.requests.specs.Requests.Request.{Points, Stp2points, Rfst, Prunefst, Bb, Solve, Check, Dumpfst, Fst2graph, Plot, Trial}
 use Rattle.suite.specs.Options.{options_of}
 use Rattle.suite.specs.Complete.{Completes}
 
@@ -265,4 +267,23 @@ stp_completes law before after status ends = λ bytes ps has located writes.
     (stp_faultless law before.read after.read bytes ps has located) writes ends) [
       | inl seven ↦ inr seven
       | inr (print, (taken, whole, (other, found, of_points)), answers) ↦ inl (answers ∙ ap (λ (p : Print). answer_code p.status) of_points)
+    ]
+
+-- drawn points with no more trees than a file holds have no fault
+trial_faultless : (n seed : ℕ) → ¬ HasMoreSets (drawn_terminals n seed) most_members 20000 →
+    (fault : GenerationFault) → Tries n seed (Err fault) → ⊥
+trial_faultless n seed few (generation_fault.List fault) is = is
+trial_faultless n seed few generation_fault.TooManyTrees is = few is
+
+pub trial_completes : (drawing : Drawing) (before after : Outside) (status : ℕ) →
+    EndsTrial drawing.count drawing.seed before after status → Completes (Some (Trial drawing)) before after status
+trial_completes drawing before after status ends = λ few writes.
+    let g = drawn_grid drawing.count drawing.seed in
+    elim (complete_ends generation_fault_status generation_fault_text (codes "trial")
+    (λ _ _. Tries drawing.count drawing.seed) LeavesAll before after status
+    (trial_faultless drawing.count drawing.seed few) writes ends) [
+      | inl seven ↦ inr seven
+      | inr (print, (network, tree, tried, of_line), answers) ↦
+          inl (zero_or_three (bound_of g network tree) (length_of g network) status
+          (answers ∙ ap (λ (p : Print). answer_code p.status) of_line))
     ]

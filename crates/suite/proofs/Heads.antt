@@ -11,7 +11,7 @@ use Rattle.frame.specs.Ends.{Print}
 use Rattle.frame.specs.EndLaws.{printed_ends}
 use Rattle.frame.specs.FaultTexts.{text_fault_text, text_fault_status}
 use Rattle.frame.specs.FromText.{FromText}
-use Rattle.frame.specs.Leaves.{LeavesShelf, LeavesFiles}
+use Rattle.frame.specs.Leaves.{LeavesShelf, LeavesFiles, LeavesAll}
 use Rattle.tree_inputs.specs.GenerationFaults.{generation_fault_text, generation_fault_status}
 use Rattle.search_tools.specs.Build.{Builds, EndsBb, build_fault_text, build_fault_status}
 use Rattle.search_tools.specs.Solve.{Solves, EndsSolve}
@@ -19,6 +19,10 @@ use Rattle.search_tools.specs.TruthLaws.{searches_truly}
 use Rattle.judge_tools.specs.Check.{Checks, EndsCheck, check_fault_text, check_fault_status}
 use Rattle.judge_tools.specs.CheckLaws.{checks_truly}
 use Rattle.judge_tools.specs.Truth.{ChecksTruly}
+use Rattle.trial_tools.specs.TrialLine.{trial_text, trial_status}
+use Rattle.trial_tools.specs.Trial.{EndsTrial, Tries, line_for}
+use Rattle.trial_tools.specs.Truth.{TriesTruly}
+use Rattle.trial_tools.specs.TruthLaws.{tries_truly}
 use Rattle.requests.specs.declared.request.SearchRequest.{SearchRequest}
 use Rattle.requests.specs.Requests.Request.{Bb, Solve}
 use Rattle.suite.specs.Options.{options_of}
@@ -88,3 +92,20 @@ check_told name before after status s is ends =
 pub check_headline : (name : List ℕ) (before after : Outside) (status : ℕ) → EndsCheck name before after status → (status ≡ 0) ⊎ (status ≡ 1) → ChecksTruly name before after status
 check_headline name before after status ends (inl zero) = check_told name before after status Done zero ends
 check_headline name before after status ends (inr one) = check_told name before after status Refused one ends
+
+-- what `trial` told, with the status that it ended with
+trial_told : (n seed : ℕ) (before after : Outside) (status : ℕ) (s : AnswerStatus) → status ≡ answer_code s →
+    EndsTrial n seed before after status → TriesTruly n seed before after status
+trial_told n seed before after status s is ends =
+    let (print, (network, tree, tried, of_line), printed) =
+    printed_ends generation_fault_status generation_fault_text (codes "trial") (λ _ _. Tries n seed) LeavesAll
+    before after status s is ends in
+    tries_truly n seed network tree before after status tried
+    (subst (λ (p : Print). Appended before.written.out.taken p.text after.written.out.taken) of_line printed.wrote.appended)
+    (printed.ends ∙ ap (λ (p : Print). answer_code p.status) of_line)
+
+-- What `trial` told is true.
+pub trial_headline : (n seed : ℕ) (before after : Outside) (status : ℕ) → EndsTrial n seed before after status →
+    (status ≡ 0) ⊎ (status ≡ 3) → TriesTruly n seed before after status
+trial_headline n seed before after status ends (inl zero) = trial_told n seed before after status Done zero ends
+trial_headline n seed before after status ends (inr three) = trial_told n seed before after status Stopped three ends

@@ -13,10 +13,12 @@ use Rattle.points_in.specs.Terminals.{terminals_of}
 use Rattle.concatenation.specs.Concatenation.{IsConcatenation, all_of}
 use Rattle.fst_gen.specs.Trees.{HasMoreSets}
 use Rattle.point_tools.specs.StpPoints.{LocatesPoints}
+use Rattle.tree_inputs.specs.Generation.{most_members}
+use Rattle.trial_tools.specs.Trial.{drawn_terminals}
 use Rattle.fst_file.specs.Value.{FstValue}
 use Rattle.fst_file.specs.Text.{SpellsFstFile}
 use Rattle.requests.specs.Requests.{Request}
-use Rattle.requests.specs.Requests.Request.{Points, Stp2points, Rfst, Prunefst, Bb, Solve, Check, Dumpfst, Fst2graph, Plot}
+use Rattle.requests.specs.Requests.Request.{Points, Stp2points, Rfst, Prunefst, Bb, Solve, Check, Dumpfst, Fst2graph, Plot, Trial}
 
 -- no write to `out` fails
 abbrev pub IsWritable : Outside → Outside → Type 0
@@ -56,4 +58,7 @@ Completes (Some (Plot name)) before after status =
     ListsPoints points ps → HasInput ANSWER_LIMIT before.read.input after.read.input bytes →
     IsAccepted (terminals_of ps) bytes →
     IsWritable before after → (status ≡ 0) ⊎ (status ≡ NO_MEMORY)
-Completes _ before after status = (status ≡ MISUSED) ⊎ (status ≡ NO_MEMORY)
+Completes (Some (Trial drawing)) before after status =
+    ¬ HasMoreSets (drawn_terminals drawing.count drawing.seed) most_members 20000 → IsWritable before after →
+    ((status ≡ 0) ⊎ (status ≡ 3)) ⊎ (status ≡ NO_MEMORY)
+Completes None before after status = (status ≡ MISUSED) ⊎ (status ≡ NO_MEMORY)

@@ -13,8 +13,10 @@ use Rattle.frame.specs.Outside.{Outside}
 use Rattle.search_tools.specs.Truth.{SearchesTruly}
 use Rattle.judge_tools.specs.Truth.{ChecksTruly}
 use Rattle.requests.specs.Requests.{Request}
+use Rattle.trial_tools.specs.Truth.{TriesTruly}
 use Rattle.requests.specs.declared.request.SearchRequest.{SearchRequest}
-use Rattle.requests.specs.Requests.Request.{Bb, Solve, Check}
+use Rattle.requests.specs.declared.request.Drawing.{Drawing}
+use Rattle.requests.specs.Requests.Request.{Bb, Solve, Check, Trial}
 use Rattle.suite.specs.Options.{options_of}
 
 -- What `solve` printed is true: the input was read to its end, it is a text of points, and the bytes that went out are an
@@ -45,3 +47,10 @@ BuildHeadline request before after status = (search : SearchRequest) → request
 abbrev pub CheckHeadline : Option Request → Outside → Outside → ℕ → Type 0
 CheckHeadline request before after status =
     (name : List ℕ) → request ≡ Some (Check name) → (status ≡ 0) ⊎ (status ≡ 1) → ChecksTruly name before after status
+
+-- What `trial` told is true: `out` gained the line with the length and the bound of an answer that is accepted for the
+-- drawn points, no network of their grid is shorter than that bound, and the status is 0 exactly where the two agree.
+abbrev pub TrialHeadline : Option Request → Outside → Outside → ℕ → Type 0
+TrialHeadline request before after status =
+    (drawing : Drawing) → request ≡ Some (Trial drawing) → (status ≡ 0) ⊎ (status ≡ 3) →
+    TriesTruly drawing.count drawing.seed before after status

@@ -1,4 +1,5 @@
 -- The choices that the words make of a search, in the search's own terms.
+use Rattle.std.specs.Prelude.{◌≡◌, [], ◌∷◌, Some, codes}
 use Rattle.requests.specs.declared.request.SearchRequest.{SearchRequest}
 use Rattle.requests.specs.declared.rules.AscentRule.{AscentRule as AskedAscent}
 use Rattle.requests.specs.declared.rules.AscentRule.TheVariants as ascent
@@ -8,7 +9,10 @@ use Rattle.search_tools.specs.declared.options.AscentRule.{AscentRule}
 use Rattle.search_tools.specs.declared.options.AscentRule.TheVariants as own_ascent
 use Rattle.search_tools.specs.declared.options.SplitRule.{SplitRule}
 use Rattle.search_tools.specs.declared.options.SplitRule.TheVariants as own_split
+use Rattle.requests.specs.Requests.{Request, request_of}
+use Rattle.tree_inputs.specs.Generation.{most_members}
 use Rattle.search_tools.specs.declared.options.SearchOptions.{SearchOptions}
+use Rattle.search_tools.specs.Options.{usual_options}
 
 -- the rule of the ascents
 abbrev pub ascent_of : AskedAscent → AscentRule
@@ -28,3 +32,9 @@ options_of asked = record {
   ascent = ascent_of asked.ascent;
   split = split_of asked.split;
 }
+
+-- The word `solve` alone asks for what `trial` does with its points: for trees of up to as many members, and for the
+-- usual options.
+abbrev pub TrialIsSolve : Type 0
+TrialIsSolve = (search : SearchRequest) × (request_of (codes "solve" ∷ []) ≡ Some (Request.Solve most_members search))
+    × (options_of search ≡ usual_options)

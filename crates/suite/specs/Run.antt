@@ -13,13 +13,14 @@ use Rattle.tree_tools.specs.Dump.{EndsDumpfst}
 use Rattle.tree_tools.specs.Graph.{EndsFst2graph}
 use Rattle.tree_tools.specs.Generation.{EndsRfst}
 use Rattle.tree_tools.specs.Pruning.{EndsPrunefst}
+use Rattle.trial_tools.specs.Trial.{EndsTrial}
 use Rattle.requests.specs.Requests.{Request}
-use Rattle.requests.specs.Requests.Request.{Points, Stp2points, Rfst, Prunefst, Bb, Solve, Check, Dumpfst, Fst2graph, Plot}
+use Rattle.requests.specs.Requests.Request.{Points, Stp2points, Rfst, Prunefst, Bb, Solve, Check, Dumpfst, Fst2graph, Plot, Trial}
 use Rattle.suite.specs.Options.{options_of}
 
 -- the text on `err` where the words ask for nothing
 abbrev pub usage_line : List ℕ
-usage_line = codes "usage: rst points|stp2points|rfst|prunefst|bb|solve|check|dumpfst|fst2graph|plot [WORDS]\n"
+usage_line = codes "usage: rst points|stp2points|rfst|prunefst|bb|solve|check|dumpfst|fst2graph|plot|trial [WORDS]\n"
 
 -- Memory is wanting while the words are read: nothing is read or printed.
 pub record IsShort (before after : Outside) (status : ℕ) : Type 0 where
@@ -28,7 +29,7 @@ pub record IsShort (before after : Outside) (status : ℕ) : Type 0 where
   pub out : after.written.out ≡ before.written.out
   pub reports : Reports before.written.err no_memory_line after.written.err
 
--- The words ask for no tool, or for one that doesn't stand yet: nothing is read or printed.
+-- The words ask for no tool: nothing is read or printed.
 pub record IsMisused (before after : Outside) (status : ℕ) : Type 0 where
   pub ends : status ≡ MISUSED
   pub read : after.read ≡ before.read
@@ -47,7 +48,8 @@ EndsAsAsked (Some (Check points)) before after status = EndsCheck points before 
 EndsAsAsked (Some (Dumpfst pieces)) before after status = EndsDumpfst pieces before after status
 EndsAsAsked (Some Fst2graph) before after status = EndsFst2graph before after status
 EndsAsAsked (Some (Plot points)) before after status = EndsPlot points before after status
-EndsAsAsked _ before after status = IsMisused before after status
+EndsAsAsked (Some (Trial drawing)) before after status = EndsTrial drawing.count drawing.seed before after status
+EndsAsAsked None before after status = IsMisused before after status
 
 -- A run of the program with the request that its words make.
 abbrev pub IsRun : Option Request → Outside → Outside → ℕ → Type 0

@@ -6,4 +6,5 @@ mod program;
 #[cfg(test)]
 mod tests;
 
+pub use options::trial_is_solve;
 pub use program::run;

@@ -1,9 +1,9 @@
 //! The choices that the words make of a search, in the search's own terms.
 
 ghost use Rattle.std.specs.Prelude.{◌≡◌};
-ghost use Rattle.suite.specs.Options.{ascent_of, split_of, options_of};
+ghost use Rattle.suite.specs.Options.{ascent_of, split_of, options_of, TrialIsSolve};
 
-use requests::{AscentRule, SearchRequest, SplitRule};
+use requests::{AscentRule, SearchRequest, SplitRule, solve_alone_asks};
 use search_tools::SearchOptions;
 
 /// The options of a search that the words ask for.
@@ -36,4 +36,12 @@ fn split_from(asked: SplitRule) -> search_tools::SplitRule
         SplitRule::Longest => search_tools::SplitRule::Longest,
         SplitRule::First => search_tools::SplitRule::First,
     }
+}
+
+/// `trial` does with its points what `solve` does where no option is given. The function does nothing: it is there for
+/// its clause.
+pub fn trial_is_solve()
+    ensures { TrialIsSolve }
+{
+    solve_alone_asks();
 }

@@ -4,10 +4,10 @@ ghost use Rattle.std.specs.Prelude.{IfSome, map, option_map, string_bytes};
 ghost use Rattle.frame.specs.Outside.{outside};
 ghost use Rattle.requests.specs.Requests.{request_of, meaning, IsWithinLimits};
 ghost use Rattle.suite.specs.Run.{IsRun};
-ghost use Rattle.suite.specs.Headlines.{Headline, BuildHeadline, CheckHeadline};
+ghost use Rattle.suite.specs.Headlines.{Headline, BuildHeadline, CheckHeadline, TrialHeadline};
 ghost use Rattle.suite.specs.Complete.{Completes};
 
-use crate::options::options_from;
+use crate::options::{options_from, trial_is_solve};
 use frame::{MISUSED, NO_MEMORY, report};
 use judge_tools::{check, plot};
 use point_tools::{located_has_no_fault, points, stp2points};
@@ -17,6 +17,7 @@ use search_tools::{bb, solve};
 use std::alloc::{AllocError, Global};
 use tree_inputs::spelled_has_no_fault;
 use tree_tools::{dumpfst, fst2graph, prunefst, rfst};
+use trial_tools::trial;
 
 /// Runs the tool that the words after the program's name ask for, and gives the status that the program ends with.
 ///
@@ -42,6 +43,9 @@ pub fn run<I: Source, O: Sink, R: Sink, S: Shelf>(
     ensures checked { CheckHeadline (request_of (map string_bytes words.now))
         (outside (I.state input.old) (O.state out.old) (R.state err.old) (S.state shelf.old))
         (outside (I.state input.new) (O.state out.new) (R.state err.new) (S.state shelf.new)) result }
+    ensures tried { TrialHeadline (request_of (map string_bytes words.now))
+        (outside (I.state input.old) (O.state out.old) (R.state err.old) (S.state shelf.old))
+        (outside (I.state input.new) (O.state out.new) (R.state err.new) (S.state shelf.new)) result }
     ensures complete { Completes (request_of (map string_bytes words.now))
         (outside (I.state input.old) (O.state out.old) (R.state err.old) (S.state shelf.old))
         (outside (I.state input.new) (O.state out.new) (R.state err.new) (S.state shelf.new)) result }
@@ -55,7 +59,7 @@ pub fn run<I: Source, O: Sink, R: Sink, S: Shelf>(
     }
 }
 
-// Runs the tool of a request, and says how the program is used where there is none or its tool doesn't stand yet.
+// Runs the tool of a request, and says how the program is used where there is none.
 fn answer<I: Source, O: Sink, R: Sink, S: Shelf>(
     alloc: Global,
     request: Option<Request<'_>>,
@@ -75,6 +79,9 @@ fn answer<I: Source, O: Sink, R: Sink, S: Shelf>(
         (outside (I.state input.old) (O.state out.old) (R.state err.old) (S.state shelf.old))
         (outside (I.state input.new) (O.state out.new) (R.state err.new) (S.state shelf.new)) result }
     ensures checked { CheckHeadline (option_map meaning request.entry)
+        (outside (I.state input.old) (O.state out.old) (R.state err.old) (S.state shelf.old))
+        (outside (I.state input.new) (O.state out.new) (R.state err.new) (S.state shelf.new)) result }
+    ensures tried { TrialHeadline (option_map meaning request.entry)
         (outside (I.state input.old) (O.state out.old) (R.state err.old) (S.state shelf.old))
         (outside (I.state input.new) (O.state out.new) (R.state err.new) (S.state shelf.new)) result }
     ensures complete { Completes (option_map meaning request.entry)
@@ -109,10 +116,14 @@ fn answer<I: Source, O: Sink, R: Sink, S: Shelf>(
             fst2graph(alloc, input, out, err)
         }
         Some(Request::Plot { points }) => plot(alloc, points, input, out, err, shelf),
-        Some(Request::Trial(_)) | None => {
+        Some(Request::Trial(drawing)) => {
+            trial_is_solve();
+            trial(alloc, drawing.count, drawing.seed, out, err)
+        }
+        None => {
             report(
                 err,
-                b"usage: rst points|stp2points|rfst|prunefst|bb|solve|check|dumpfst|fst2graph|plot [WORDS]\n",
+                b"usage: rst points|stp2points|rfst|prunefst|bb|solve|check|dumpfst|fst2graph|plot|trial [WORDS]\n",
             );
             MISUSED
         }

@@ -91,11 +91,18 @@ fn runs_each_tool(rt: HostRuntime) -> Result<(), Fail> {
         ),
         (&["rfst", "--size", "2"], b"0 0\n2 0\n", 0, FILE, b""),
         (
+            &["trial", "3", "42"],
+            b"",
+            0,
+            b"trial 3 42 points 3 length 13561 bound 13561 optimal splits 0 check accepted\n",
+            b"",
+        ),
+        (
             &["fly"],
             b"",
             2,
             b"",
-            b"usage: rst points|stp2points|rfst|prunefst|bb|solve|check|dumpfst|fst2graph|plot [WORDS]\n",
+            b"usage: rst points|stp2points|rfst|prunefst|bb|solve|check|dumpfst|fst2graph|plot|trial [WORDS]\n",
         ),
     ];
     for (words, input, status, out, err) in rows {

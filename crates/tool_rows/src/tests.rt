@@ -28,14 +28,14 @@ const TABLES: [(&[u8], &str); 18] = [
     ),
     (
         b"@row r\n@status 2\n",
-        "r: err, line 1: \"usage: rst points|stp2points|rfst|prunefst|bb|solve|check|dumpfst|fst2graph|plot [WORDS]\\n\", wanted \"\"\n",
+        "r: err, line 1: \"usage: rst points|stp2points|rfst|prunefst|bb|solve|check|dumpfst|fst2graph|plot|trial [WORDS]\\n\", wanted \"\"\n",
     ),
     (
-        b"@row r\n@err\nusage: rst points|stp2points|rfst|prunefst|bb|solve|check|dumpfst|fst2graph|plot [WORDS]\n@no_line_feed\n@status 2\n",
-        "r: err, line 1: \"usage: rst points|stp2points|rfst|prunefst|bb|solve|check|dumpfst|fst2graph|plot [WORDS]\\n\", wanted \"usage: rst points|stp2points|rfst|prunefst|bb|solve|check|dumpfst|fst2graph|plot [WORDS]\"\n",
+        b"@row r\n@err\nusage: rst points|stp2points|rfst|prunefst|bb|solve|check|dumpfst|fst2graph|plot|trial [WORDS]\n@no_line_feed\n@status 2\n",
+        "r: err, line 1: \"usage: rst points|stp2points|rfst|prunefst|bb|solve|check|dumpfst|fst2graph|plot|trial [WORDS]\\n\", wanted \"usage: rst points|stp2points|rfst|prunefst|bb|solve|check|dumpfst|fst2graph|plot|trial [WORDS]\"\n",
     ),
     (
-        b"@row r\n@err_cut_from\nusage: rst points|stp2points|rfst|prunefst|bb|solve|check|dumpfst|fst2graph|plot [WORDS]\n@status 2\n",
+        b"@row r\n@err_cut_from\nusage: rst points|stp2points|rfst|prunefst|bb|solve|check|dumpfst|fst2graph|plot|trial [WORDS]\n@status 2\n",
         "r: err: not cut short\n",
     ),
     (

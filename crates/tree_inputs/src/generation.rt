@@ -58,8 +58,9 @@ fn generated(
     }
 }
 
-// The file of the terminals of a grid and of their trees. An `Err` is want of memory.
-fn trees_of(
+/// The file of the terminals of a grid and of their trees of up to `k` members; or there are more than 20,000 of these.
+/// An `Err` is want of memory.
+pub fn trees_of(
     alloc: Global,
     grid: Grid,
     k: u8,

@@ -10,7 +10,7 @@ mod pruning;
 
 pub use fst_fault::FstFault;
 pub use fst_input::{fst_in, take_fst};
-pub use generation::{MOST_MEMBERS, take_generated};
+pub use generation::{MOST_MEMBERS, take_generated, trees_of};
 pub use generation_fault::GenerationFault;
 pub use laws::spelled_has_no_fault;
 pub use pruning::pruned;

@@ -4,7 +4,7 @@ use Rattle.frame.specs.Outside.{outside}
 use Rattle.requests.specs.Requests.{meaning}
 use Rattle.search_tools.specs.Build.{EndsBb}
 use Rattle.search_tools.specs.Solve.{EndsSolve}
-use Rattle.suite.proofs.Asked.{solve_asked_completes, bb_asked_completes, check_asked_completes, plot_asked_completes, dump_asked_completes, rfst_asked_completes, prune_asked_completes, graph_asked_completes, points_asked_completes, stp_asked_completes, solve_asked_runs, bb_asked_runs, solve_asked_headline, bb_asked_headline, check_asked_headline}
+use Rattle.suite.proofs.Asked.{solve_asked_completes, bb_asked_completes, check_asked_completes, plot_asked_completes, dump_asked_completes, rfst_asked_completes, prune_asked_completes, graph_asked_completes, points_asked_completes, stp_asked_completes, solve_asked_runs, bb_asked_runs, solve_asked_headline, bb_asked_headline, check_asked_headline, trial_asked_completes, trial_asked_headline}
 use Rattle.suite.proofs.program.answer.Goals as goal
 
 pub returns-in-Some-Solve-clause-run : goal.returns-in-Some-Solve-clause-run
@@ -174,3 +174,23 @@ returns-in-Some-Fst2graph-clause-complete g c =
     c.fst2graph.result
     (search rules)
     (c.fst2graph.ensures (g.S.Shelf.state c.args.shelf.now))
+
+pub returns-in-Some-Trial-clause-tried : goal.returns-in-Some-Trial-clause-tried
+returns-in-Some-Trial-clause-tried g c =
+    let request = option_map meaning c.args.request in
+    trial_asked_headline request c.in-Some-Trial.drawing
+    (outside (g.I.Source.state c.args.input.now) (g.O.Sink.state c.args.out.now) (g.R.Sink.state c.args.err.now) (g.S.Shelf.state c.args.shelf.now))
+    (outside (g.I.Source.state c.args.input.now) (g.O.Sink.state c.trial.new.out) (g.R.Sink.state c.trial.new.err) (g.S.Shelf.state c.args.shelf.now))
+    c.trial.result
+    (search rules)
+    (c.trial.ensures (g.I.Source.state c.args.input.now) (g.S.Shelf.state c.args.shelf.now))
+
+pub returns-in-Some-Trial-clause-complete : goal.returns-in-Some-Trial-clause-complete
+returns-in-Some-Trial-clause-complete g c =
+    let request = option_map meaning c.args.request in
+    trial_asked_completes request c.in-Some-Trial.drawing
+    (outside (g.I.Source.state c.args.input.now) (g.O.Sink.state c.args.out.now) (g.R.Sink.state c.args.err.now) (g.S.Shelf.state c.args.shelf.now))
+    (outside (g.I.Source.state c.args.input.now) (g.O.Sink.state c.trial.new.out) (g.R.Sink.state c.trial.new.err) (g.S.Shelf.state c.args.shelf.now))
+    c.trial.result
+    (search rules)
+    (c.trial.ensures (g.I.Source.state c.args.input.now) (g.S.Shelf.state c.args.shelf.now))

@@ -1,0 +1,83 @@
+-- An answer for points and trees is one that may be printed, once its text is known to spell it.
+use Rattle.std.proofs.Common.{ℕ, ◌≡◌, ◌<◌, ◌^◌, Bool, List, length, All, ◌≤◌, cond, refl, subst, ap, ◌∙◌}
+use Rattle.points_in.specs.declared.point.Point.{Point}
+use Rattle.hanan_grid.specs.Grid.{hanan_grid_of}
+use Rattle.full_tree.specs.declared.code.Tree.{Tree as FullTree}
+use Rattle.net_graph.specs.Members.{members_of}
+use Rattle.cert_tree.specs.declared.split.SplitOn.{SplitOn}
+use Rattle.cert_tree.specs.Tree.{Tree}
+use Rattle.cert_tree.specs.Preorder.{nodes_of, split_count}
+use Rattle.cut_cert.specs.declared.head.AnswerHead.{AnswerHead}
+use Rattle.cut_cert.specs.Answers.{IsAnswerOn, IsNodeOn, named, names_of, value_of}
+use Rattle.cut_cert.specs.declared.head.ConcatNote.{ConcatNote}
+use Rattle.cut_cert.specs.Value.{WrittenAnswer}
+use Rattle.cut_cert.specs.Text.{answer_text}
+use Rattle.cut_cert.specs.Spelling.{SpellsAnswer}
+use Rattle.cert_check.specs.Accepted.{IsAccepted}
+use Rattle.frame.specs.declared.status.AnswerStatus.TheVariants.{Done, Stopped}
+use Rattle.frame.specs.Ends.{Print}
+use Rattle.search_tools.specs.declared.options.SearchOptions.{SearchOptions}
+use Rattle.search_tools.specs.declared.solution.Solution.{Solution}
+use Rattle.search_tools.specs.Solution.{IsSearched, solution}
+use Rattle.search_tools.specs.Permitted.{IsPermitted, search_text, search_print}
+use Rattle.search_tools.specs.Steps.{IsFor, IsSpelled, solution_text, solution_status}
+
+-- a text that spells the answer of a network and a tree is accepted
+accepted_solution : (openings first_length : ℕ) (ps : List Point) (set : List Bool) (tree : Tree SplitOn) (note : ConcatNote) →
+    SpellsAnswer (hanan_grid_of ps).vertices (search_text openings ps set tree note) (solution openings ps set tree note) →
+    IsSearched (hanan_grid_of ps) openings first_length set tree → All (IsNodeOn (hanan_grid_of ps)) (nodes_of tree) → split_count tree ≤ 255 →
+    IsAccepted ps (search_text openings ps set tree note)
+accepted_solution openings first_length ps set tree note spells searched nodes few = (
+  solution openings ps set tree note,
+  set,
+  tree,
+  record {
+    spells = spells;
+    size = searched.network_of.size;
+    edges = refl;
+    joins = searched.network_of.joins;
+    plain_length = refl;
+    named_tree = refl;
+    splits = nodes;
+    few = few;
+    valid = searched.valid;
+    bound = refl;
+    status = refl;
+  },
+)
+
+-- what the answer for points and trees tells
+pub told_value : (options : SearchOptions) (ps : List Point) (trees : List FullTree) (s : Solution) → IsFor options ps trees s →
+    value_of s.grid s.answer ≡ solution options.openings ps s.answer.network s.answer.tree s.answer.head.concat
+told_value options ps trees s is =
+    let told : AnswerHead → WrittenAnswer =
+    λ head. record { head = head; edges = names_of ps (members_of s.answer.network); tree = named ps s.answer.tree } in
+    ap (λ (h : List Point). value_of h s.answer) is.grid ∙ ap told is.head
+
+-- The answer for points and trees is one that may be printed, where its text spells it.
+pub permitted_answer : (options : SearchOptions) (ps : List Point) (trees : List FullTree) (s : Solution) → IsFor options ps trees s → IsSpelled s →
+    IsPermitted options ps trees s.answer.network s.answer.tree s.answer.head.concat
+permitted_answer options ps trees s is spells =
+    let told = told_value options ps trees s is in
+    let note = s.answer.head.concat in
+    let text = search_text options.openings ps s.answer.network s.answer.tree note in
+    let written = solution options.openings ps s.answer.network s.answer.tree note in
+    let fits : IsAnswerOn (hanan_grid_of ps) s.answer = subst (λ (h : List Point). IsAnswerOn (hanan_grid_of h) s.answer) is.grid is.fits in record {
+      accepted =
+          accepted_solution options.openings note.total ps s.answer.network s.answer.tree note
+          (subst (λ (h : List Point). SpellsAnswer (hanan_grid_of h).vertices text written) is.grid
+          (subst (λ (w : WrittenAnswer). SpellsAnswer (hanan_grid_of s.grid).vertices (answer_text w) w) told spells))
+          is.searched fits.nodes fits.few;
+      searched = is.searched;
+      concat = is.concat;
+      short = is.short;
+      few_bytes = subst (λ (w : WrittenAnswer). length (answer_text w) < 2 ^ 32) told is.few_bytes;
+    }
+
+-- It is printed as the answer of the points.
+pub printed_answer : (options : SearchOptions) (ps : List Point) (trees : List FullTree) (s : Solution) → IsFor options ps trees s →
+    let print : Print = record { text = solution_text s; status = solution_status s } in
+    print ≡ search_print options.openings ps s.answer.network s.answer.tree s.answer.head.concat
+printed_answer options ps trees s is =
+    let of_written : WrittenAnswer → Print = λ w. record { text = answer_text w; status = cond w.head.optimal Done Stopped } in
+    ap of_written (told_value options ps trees s is)

@@ -1,0 +1,5 @@
+pub mod TrialLine
+pub mod Trial
+pub mod Steps
+pub mod Truth
+pub mod TruthLaws
