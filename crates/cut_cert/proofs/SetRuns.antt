@@ -16,7 +16,8 @@ glyph_apart : (value byte : ℕ) → value < 16 → byte ≡ digit_glyph false v
 glyph_apart value byte few is e = let high : 48 ≤ digit_glyph false value = grind (arith, nat_tests) in omega arith
 
 -- no byte is a run
-pub run_none : (k : Kept) (place next : ℕ) → next ≡ place → IsSound k (scan.Set place) → FitsName k.name → IsRun k (scan.Set place) [] k (scan.Set next)
+pub run_none : (k : Kept) (place next : ℕ) → next ≡ place → IsSound k (scan.Set place) → FitsName k.name
+    → IsRun k (scan.Set place) [] k (scan.Set next)
 run_none k place next is sound name = subst (λ n. IsRun k (scan.Set place) [] k (scan.Set n)) (sym is) (record {
   leads = record { on = λ rest l h. h; back = λ rest l h. h };
   within = All-nil (λ b. b ≢ 10);
@@ -27,14 +28,17 @@ run_none k place next is sound name = subst (λ n. IsRun k (scan.Set place) [] k
 })
 
 -- one digit more
-pub run_more : (k k' k'' : Kept) (s : Scan) (bytes : List ℕ) (place next value byte : ℕ) → IsRun k s bytes k' (scan.Set place) → TakesDigit k' k'' place value byte → next ≡ place + 1 → k''.name ≡ k'.name → k''.stage ≡ k'.stage
+pub run_more : (k k' k'' : Kept) (s : Scan) (bytes : List ℕ) (place next value byte : ℕ)
+    → IsRun k s bytes k' (scan.Set place) → TakesDigit k' k'' place value byte → next ≡ place + 1
+    → k''.name ≡ k'.name → k''.stage ≡ k'.stage
     → IsRun k s (bytes ++ byte ∷ []) k'' (scan.Set next)
 run_more k k' k'' s bytes place next value byte run takes is name stage =
     let leads = leads-set k' k'' place value byte takes in
+    let one = λ (rest : List ℕ). append_assoc bytes (byte ∷ []) rest in
     subst (λ n. IsRun k s (bytes ++ byte ∷ []) k'' (scan.Set n)) (sym is) (record {
       leads = record {
-        on = λ rest l h. leads.on rest l (run.leads.on (byte ∷ rest) l (subst (λ xs. Left k s xs l) (append_assoc bytes (byte ∷ []) rest) h));
-        back = λ rest l h. subst (λ xs. Left k s xs l) (sym (append_assoc bytes (byte ∷ []) rest)) (run.leads.back (byte ∷ rest) l (leads.back rest l h));
+        on = λ rest l h. leads.on rest l (run.leads.on (byte ∷ rest) l (subst (λ xs. Left k s xs l) (one rest) h));
+        back = λ rest l h. subst (λ xs. Left k s xs l) (sym (one rest)) (run.leads.back (byte ∷ rest) l (leads.back rest l h));
       };
       within = All-push (λ b. b ≢ 10) bytes byte run.within (glyph_apart value byte takes.few takes.digit);
       sound = set-sound k' k'' place value byte takes run.sound;

@@ -227,6 +227,40 @@ fn refuses_at_the_first_byte_with_which_no_answer_begins(rt: HostRuntime) -> Res
 }
 
 #[test]
+fn reads_the_digits_of_a_set_in_runs(rt: HostRuntime) -> Result<(), Fail> {
+    let alloc = rt.alloc();
+    let rows: [(&[u8], usize); 5] = [(b"9a0\n", 2), (b"9a", 2), (b"9A0", 1), (b"\n", 0), (b"", 0)];
+    for (piece, taken) in rows {
+        let mut reader = EventReader::begin(9, VertexSet::empty(alloc, 9)?);
+        let mut events = Vec::new(alloc);
+        assert!(rt; reader.feed_digits(piece) == 0);
+        assert_eq!(rt; feed_all(&mut reader, &mut events, BEFORE_TREE)?, None);
+        assert_eq!(rt;
+            feed_all(&mut reader, &mut events, b"leaf 1\ncut 7 ")?,
+            None
+        );
+        assert!(rt; reader.feed_digits(piece) == taken);
+    }
+    let mut reader = EventReader::begin(9, VertexSet::empty(alloc, 9)?);
+    let mut events = Vec::new(alloc);
+    assert_eq!(rt; feed_all(&mut reader, &mut events, BEFORE_TREE)?, None);
+    assert_eq!(rt;
+        feed_all(&mut reader, &mut events, b"leaf 1\ncut 7 ")?,
+        None
+    );
+    assert!(rt; reader.feed_digits(b"9a0") == 2);
+    assert_eq!(rt; feed_all(&mut reader, &mut events, b"0\n")?, None);
+    let mut members = Vec::new(alloc);
+    for v in 0..reader.members().len() {
+        if reader.members().has(v) {
+            members.push(v)?;
+        }
+    }
+    assert_eq!(rt; members.as_slice(), &[0, 3, 4, 6][..]);
+    Ok(())
+}
+
+#[test]
 fn keeps_numbers_in_a_row(rt: HostRuntime) -> Result<(), Fail> {
     let mut row = Row::zeros(rt.alloc(), 3)?;
     row.set(1, 7);

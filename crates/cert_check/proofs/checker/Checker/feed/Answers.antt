@@ -6,22 +6,30 @@ use Rattle.cert_check.specs.Checking.{StandsForBytes}
 use Rattle.cert_check.proofs.checker.Checker.feed.Goals as goal
 
 -- after n more bytes the parts are still the whole
-moved_on : (front rest : List ℕ) (n : ℕ) → front ++ rest ≡ (front ++ take n rest) ++ take (length rest - n) (drop n rest)
+moved_on : (front rest : List ℕ) (n : ℕ)
+    → front ++ rest ≡ (front ++ take n rest) ++ take (length rest - n) (drop n rest)
 moved_on front rest n =
-    rw take_rest (ap (λ x. front ++ x) (sym (take-append-drop n rest)) ∙ sym (append_assoc front (take n rest) (drop n rest)))
+    let parts = ap (λ x. front ++ x) (sym (take-append-drop n rest)) in
+    rw take_rest (parts ∙ sym (append_assoc front (take n rest) (drop n rest)))
 
 pub loop-rest-init : goal.loop-rest-init
-loop-rest-init c = ([], refl, (λ ps bytes stands. subst (λ xs. StandsForBytes ps xs c.args.self.now) (sym (append-nil bytes)) stands))
+loop-rest-init c = (
+  [],
+  refl,
+  (λ ps bytes stands. subst (λ xs. StandsForBytes ps xs c.args.self.now) (sym (append-nil bytes)) stands),
+)
 
 pub loop-rest-preserved : goal.loop-rest-preserved
 loop-rest-preserved c =
     let (front, parts, stands) = c.loop-rest.invariant in
     let rest = c.loop-rest.rest.now in
     let n = c.feed_some-taken.result in
-    (
+    let new = c.feed_some-taken.new.self in
+    let feeds = c.feed_some-taken.ensures.feeds in (
       front ++ take n rest,
       parts ∙ moved_on front rest n,
-      (λ ps bytes before. subst (λ xs. StandsForBytes ps xs c.feed_some-taken.new.self) (append_assoc bytes front (take n rest)) (c.feed_some-taken.ensures.feeds ps (bytes ++ front) (stands ps bytes before))),
+      (λ ps bytes before. subst (λ xs. StandsForBytes ps xs new) (append_assoc bytes front (take n rest))
+          (feeds ps (bytes ++ front) (stands ps bytes before))),
     )
 
 -- a list without length is empty

@@ -6,7 +6,8 @@ use Rattle.cert_check.proofs.checker.Checker.feed.Given as goal
 -- the checker stands for the bytes of the piece that are not left
 abbrev pub invariant-loop-rest : goal.invariant-loop-rest
 invariant-loop-rest l = (front : List ℕ) × (l.piece ≡ front ++ l.rest)
-    × ((ps : List Point) (bytes : List ℕ) → StandsForBytes ps bytes l.fn.self → StandsForBytes ps (bytes ++ front) l.self)
+    × ((ps : List Point) (bytes : List ℕ) → StandsForBytes ps bytes l.fn.self
+    → StandsForBytes ps (bytes ++ front) l.self)
 
 abbrev pub decreases-loop-rest : goal.decreases-loop-rest
 decreases-loop-rest l = length l.rest

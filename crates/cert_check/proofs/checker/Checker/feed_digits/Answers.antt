@@ -30,7 +30,8 @@ invariant_of-self c =
       underway = record {
         sizes = old.underway.sizes;
         few = omega (arith, old.underway.few, taken.fed);
-        reads = none_map old.fault (λ known. ∥∥₁_map known (λ r. (_, r.1, taken.reads V r.0 r.1 r.2))) old.underway.reads;
+        reads = none_map old.fault (λ known. ∥∥₁_map known (λ r. (_, r.1, taken.reads V r.0 r.1 r.2)))
+            old.underway.reads;
       };
     }
 
@@ -47,11 +48,16 @@ returns-clause-feeds c ps bytes stands =
     let few : old.fed + taken ≤ byte_limit = omega (arith, within, c.min-room.ensures, c.requires.room) in
     let count : length digits ≡ taken = length-take-le taken piece (omega (arith, within, c.min-room.ensures)) in
     let (events, s, reads, passes, judged) =
-    subst (Follows ps bytes old.reader old.judge) c.requires.right (follows_before ps bytes old.fed old.reader old.judge old.fault stands.fed c.requires.room stands.follows) in
-    let read = subst (λ xs. Reads (hanan_grid_of ps).vertices (bytes ++ xs) events new) (take_of_take taken room piece within) (c.feed_digits-taken.ensures.reads (hanan_grid_of ps).vertices bytes events reads) in
-    let after = subst (Follows ps (bytes ++ digits) new old.judge) (sym c.requires.right) (events, s, read, passes, judged) in
+    subst (Follows ps bytes old.reader old.judge) c.requires.right
+    (follows_before ps bytes old.fed old.reader old.judge old.fault stands.fed c.requires.room stands.follows) in
+    let V = (hanan_grid_of ps).vertices in
+    let read = subst (λ xs. Reads V (bytes ++ xs) events new) (take_of_take taken room piece within)
+    (c.feed_digits-taken.ensures.reads V bytes events reads) in
+    let after = subst (Follows ps (bytes ++ digits) new old.judge) (sym c.requires.right)
+    (events, s, read, passes, judged) in
     record {
       grid = stands.grid;
       fed = omega (arith, stands.fed, few, count, length-append bytes digits);
-      follows = follows_read ps bytes digits old.fed new old.judge old.fault stands.fed (omega (arith, count, few)) after;
+      follows = follows_read ps bytes digits old.fed new old.judge old.fault stands.fed (omega (arith, count, few))
+          after;
     }

@@ -12,7 +12,8 @@ returns-then-is_settled-clause-feeds c ps bytes stands =
     record {
       grid = stands.grid;
       fed = omega (arith, c.saturating_add-self.ensures, stands.fed, length-append bytes more, count);
-      follows = follows_settled ps bytes more old.fed old.reader old.judge old.fault stands.fed (c.is_settled.ensures.0 c.if-is_settled.true) stands.follows;
+      follows = follows_settled ps bytes more old.fed old.reader old.judge old.fault stands.fed
+          (c.is_settled.ensures.0 c.if-is_settled.true) stands.follows;
     }
 
 pub returns-clause-feeds : goal.returns-clause-feeds
@@ -20,6 +21,8 @@ returns-clause-feeds c ps bytes stands =
     let piece = c.args.piece.now in
     let middle = c.feed_digits-digits.new.self in
     let none : c.feed_digits-digits.result ≡ 0 = omega (arith, c.if-digits-gt0.false) in
-    let same : bytes ++ take c.feed_digits-digits.result piece ≡ bytes = ap (λ n. bytes ++ take n piece) none ∙ append-nil bytes in
+    let same : bytes ++ take c.feed_digits-digits.result piece ≡ bytes =
+    ap (λ n. bytes ++ take n piece) none ∙ append-nil bytes in
     let before = subst (λ xs. StandsForBytes ps xs middle) same (c.feed_digits-digits.ensures.feeds ps bytes stands) in
-    subst (λ xs. StandsForBytes ps (bytes ++ xs) c.feed_byte.new.self) (sym (take_more piece 0 0 c.requires)) (c.feed_byte.ensures ps bytes before)
+    subst (λ xs. StandsForBytes ps (bytes ++ xs) c.feed_byte.new.self) (sym (take_more piece 0 0 c.requires))
+    (c.feed_byte.ensures ps bytes before)

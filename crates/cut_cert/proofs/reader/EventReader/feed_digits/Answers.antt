@@ -11,6 +11,8 @@ returns-clause-reads c V bytes events reads =
     let taken = c.set_digits-taken.result in
     let digits = take taken c.args.piece.now in
     let sound = subst (IsSound old.kept) c.in-Set.is reads.sound in
-    let run = subst (λ s. IsRun old.kept s digits c.set_digits-taken.new.self (scan.Set (c.in-Set.place + taken))) (sym c.in-Set.is) (c.set_digits-taken.ensures.run sound reads.name) in
+    let kept = c.set_digits-taken.new.self in
+    let run = subst (λ s. IsRun old.kept s digits kept (scan.Set (c.in-Set.place + taken))) (sym c.in-Set.is)
+    (c.set_digits-taken.ensures.run sound reads.name) in
     let count = sym (length-take-le taken c.args.piece.now c.set_digits-taken.ensures.few) in
     reads_run V bytes events digits old _ reads (record { run = run; head = refl }) refl (ap (λ n. old.fed + n) count)

@@ -16,11 +16,13 @@ loop-taken-init c = record {
 
 pub add_four-requires-clause-within : goal.add_four-requires-clause-within
 add_four-requires-clause-within c =
-    omega (arith, c.loop-taken-test.true, c.min-most.ensures, c.saturating_sub-whole.ensures, c.len.ensures, c.loop-taken.invariant.size)
+    let most = c.min-most.ensures in
+    omega (arith, most, c.saturating_sub-whole.ensures, c.len.ensures, c.loop-taken.invariant.size)
 
 pub add_four-requires-clause-told : goal.add_four-requires-clause-told
 add_four-requires-clause-told c r below is =
-    omega (arith, c.loop-taken-test.true, c.min-most.ensures, c.saturating_sub-whole.ensures, c.len.ensures, c.loop-taken.invariant.size)
+    let most = c.min-most.ensures in
+    omega (arith, most, c.saturating_sub-whole.ensures, c.len.ensures, c.loop-taken.invariant.size)
 
 pub loop-taken-preserved : goal.loop-taken-preserved
 loop-taken-preserved c =
@@ -37,14 +39,18 @@ loop-taken-preserved c =
           let takes : TakesDigit old next place c.in-Some.value (get_or piece i 0) = record {
             few = digit.0;
             digit = digit.1;
-            inside = omega (arith, c.loop-taken-test.true, c.min-most.ensures, c.saturating_sub-whole.ensures, c.len.ensures, c.loop-taken.invariant.size);
+            inside = omega (arith, c.min-most.ensures, c.saturating_sub-whole.ensures, c.len.ensures, whole);
             size = c.add_four.ensures.size;
             flags = c.add_four.ensures.flags;
             weight = refl;
             later = run.sound.3;
           } in
-          subst (λ xs. IsRun c.args.self.now (scan.Set c.args.place) xs next (scan.Set (c.args.place + (i + 1)))) (sym (take_more piece i 0 (omega (arith, c.loop-taken-test.true, c.min-most.ensures))))
-          (run_more c.args.self.now old next (scan.Set c.args.place) (take i piece) place (c.args.place + (i + 1)) c.in-Some.value (get_or piece i 0) run takes (omega arith) refl refl);
+          let first = scan.Set c.args.place in
+          let there = c.args.place + (i + 1) in
+          let within : i < length piece = omega (arith, c.loop-taken-test.true, c.min-most.ensures) in
+          let more = run_more c.args.self.now old next first (take i piece) place there c.in-Some.value (get_or piece i 0)
+          run takes (omega arith) refl refl in
+          subst (λ xs. IsRun c.args.self.now first xs next (scan.Set there)) (sym (take_more piece i 0 within)) more;
       stage = c.loop-taken.invariant.stage;
       size = omega (arith, c.add_four.ensures.size, c.loop-taken.invariant.size);
     }
