@@ -9,7 +9,7 @@ use Rattle.net_graph.specs.Graph.{Graph}
 use Rattle.hanan_grid.specs.Grid.{xs_of, ys_of, horizontal, vertical, hanan_grid_of}
 use Rattle.hanan_grid.specs.GridLaws.{length-edges_of_lines, slice_get-horizontal, slice_get-vertical}
 use Rattle.cert_check.specs.declared.border.Layout.{Layout}
-use Rattle.cert_check.specs.Stretches.{IsLaidOut, edges_before}
+use Rattle.cert_check.specs.Strips.{IsLaidOut, edges_before}
 
 -- by row and then by column, the horizontal ones first
 pub grid_laid_out : (ps : List Point) → 0 < length (xs_of ps) → length (xs_of ps) ≤ 50 → 0 < length (ys_of ps) → length (ys_of ps) ≤ 50 →
@@ -31,9 +31,9 @@ grid_laid_out ps some_columns few_columns some_rows few_rows = record {
       (sym (ap (λ (x : Edge). x.a) is), sym (ap (λ (x : Edge). x.b) is) ∙ omega arith);
 }
 
--- all stretches have all edges
-pub all_stretches : (g : Graph) (l : Layout) (place : ℕ) → IsLaidOut g l → 2 * l.rows - 1 ≤ place → length g.edges ≤ edges_before l place
-all_stretches g l place laid all =
+-- all strips have all edges
+pub all_strips : (g : Graph) (l : Layout) (place : ℕ) → IsLaidOut g l → 2 * l.rows - 1 ≤ place → length g.edges ≤ edges_before l place
+all_strips g l place laid all =
     let rows : min place l.rows ≡ l.rows = min-eq_right (omega (arith, laid.some_rows)) in
     let above = mul-le (l.rows - 1) l.columns (place - l.rows) l.columns (omega (arith, laid.some_rows)) (omega arith) in
     rw rows (omega (arith, laid.edges, above))

@@ -16,7 +16,7 @@ use Rattle.cert_check.specs.declared.leaf.Excess.{Excess}
 use Rattle.cert_check.specs.Cuts.{IsFirstOverload, PacksCut}
 use Rattle.cert_check.specs.Room.{Kept}
 use Rattle.cert_check.specs.Loads.{HasRows, IsLeafOf, IsOverload, IsLoadKept, KeepsDecision, KeepsEdge, KeepsLoads, LoadsBelow, LoadsOnly, SameWay}
-use Rattle.cert_check.specs.Stretches.{IsWhole}
+use Rattle.cert_check.specs.Strips.{IsWhole}
 use Rattle.cert_check.proofs.lemmas.Loading.{within_room}
 use Rattle.cert_check.proofs.lemmas.States.{states_kept}
 

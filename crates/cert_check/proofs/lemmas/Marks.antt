@@ -8,11 +8,11 @@ use Rattle.std.proofs.lemmas.Bool.{cases_lt}
 use Rattle.net_graph.specs.Flags.{has}
 use Rattle.net_graph.specs.Graph.{Graph}
 use Rattle.net_graph.specs.Packing.{enters}
-use Rattle.cert_check.specs.declared.border.Stretch.{Stretch}
-use Rattle.cert_check.specs.Stretches.{IsStretch, IsWhole, MarksParted}
+use Rattle.cert_check.specs.declared.border.Strip.{Strip}
+use Rattle.cert_check.specs.Strips.{IsStrip, IsWhole, MarksParted}
 use Rattle.cert_check.proofs.lemmas.WordBits.{bit_at-shr}
 
--- ---- at the start of a stretch
+-- ---- at the start of a strip
 
 never_both : (x : Bool) → (x && not x) ≡ false
 never_both true = refl
@@ -23,21 +23,21 @@ enters_none : (members : List Bool) (u v : ℕ) → has members u ≡ has member
 enters_none members u v same = rw same (never_both (has members v))
 
 -- so the marks are those of the edges that the set parts
-pub marks_begin : (g : Graph) (members : List Bool) (s : Stretch) (marks : ℕ) → IsStretch g s → marks < 2 ^ s.count →
+pub marks_begin : (g : Graph) (members : List Bool) (s : Strip) (marks : ℕ) → IsStrip g s → marks < 2 ^ s.count →
     ((i : ℕ) → i < s.count → bit_at marks i ≡ 0 → has members (s.vertex + i) ≡ has members (s.vertex + s.step + i)) →
     MarksParted g members marks s.edge (s.edge + s.count)
-marks_begin g members s marks stretch below same = record {
+marks_begin g members s marks strip below same = record {
   within = omega arith;
   below = let count : s.edge + s.count - s.edge ≡ s.count = omega arith in rw count below;
   others = λ i inside none e at.
-      let ends = stretch.joins i (omega arith) e at in
+      let ends = strip.ends i (omega arith) e at in
       let alike : has members e.a ≡ has members e.b = rw (ends.0, ends.1) (same i (omega arith) none) in
       (enters_none members e.a e.b alike, enters_none members e.b e.a (sym alike));
 }
 
 -- ---- the next mark
 
--- it is one of an edge of the stretch
+-- it is one of an edge of the strip
 pub mark_within : (g : Graph) (members : List Bool) (marks n end : ℕ) → MarksParted g members marks n end → 0 < marks → marks < 2 ^ 64 →
     n + trailing_zeros w64 marks < end
 mark_within g members marks n end is some fits =
