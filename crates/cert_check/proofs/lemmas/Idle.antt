@@ -6,7 +6,7 @@ use Rattle.net_graph.specs.declared.state.VertexState.TheVariants as vertex
 use Rattle.net_graph.specs.EntryLaws.{slice_get-replicate}
 use Rattle.net_graph.specs.Flags.{has}
 use Rattle.net_graph.specs.Graph.{Graph}
-use Rattle.net_graph.specs.Decision.{Decided, EndsInside, IsMet, IsRequired, decided_of, nothing_decided}
+use Rattle.net_graph.specs.Decision.{Decided, EndsInside, IsMet, IsRequired, decided_of}
 use Rattle.cert_check.specs.Room.{Kept}
 use Rattle.cert_check.specs.Loads.{KeepsDecision}
 

@@ -1,5 +1,5 @@
 -- How the edges of a grid are numbered.
-use Rattle.std.proofs.Common.{ℕ, ◌≡◌, ◌+◌, ◌-◌, ◌*◌, ◌<◌, ◌≤◌, List, length, slice_get, Some, min, refl, sym, ap, ◌∙◌, arith}
+use Rattle.std.proofs.Common.{ℕ, ◌≡◌, ◌-◌, ◌*◌, ◌<◌, ◌≤◌, List, length, min, refl, sym, ap, ◌∙◌, arith}
 use Rattle.std.proofs.Math.Nat.{min-eq_right}
 use Rattle.std.proofs.lemmas.Nat.{mul-le}
 use Rattle.std.proofs.lemmas.Option.{same_Some}
@@ -23,11 +23,11 @@ grid_laid_out ps some_columns few_columns some_rows few_rows = record {
   edges = length-edges_of_lines (xs_of ps) (ys_of ps);
   right = λ row column below beside e at.
       let is : horizontal (xs_of ps) row column ≡ e =
-          same_Some (horizontal (xs_of ps) row column) e (sym (slice_get-horizontal (xs_of ps) (ys_of ps) row column below beside) ∙ at) in
+      same_Some (horizontal (xs_of ps) row column) e (sym (slice_get-horizontal (xs_of ps) (ys_of ps) row column below beside) ∙ at) in
       (sym (ap (λ (x : Edge). x.a) is), sym (ap (λ (x : Edge). x.b) is) ∙ omega arith);
   up = λ row column above below e at.
       let is : vertical (length (xs_of ps)) (ys_of ps) row column ≡ e =
-          same_Some (vertical (length (xs_of ps)) (ys_of ps) row column) e (sym (slice_get-vertical (xs_of ps) (ys_of ps) row column above below) ∙ at) in
+      same_Some (vertical (length (xs_of ps)) (ys_of ps) row column) e (sym (slice_get-vertical (xs_of ps) (ys_of ps) row column above below) ∙ at) in
       (sym (ap (λ (x : Edge). x.a) is), sym (ap (λ (x : Edge). x.b) is) ∙ omega arith);
 }
 

@@ -76,10 +76,6 @@ LoadsBelow-whole g cuts c n m kept le whole below = record {
   ahead = λ k from. below.ahead k (omega arith);
 }
 
--- none yet
-pub LoadsBelow-none : (g : Graph) (cuts : List Cut) (c : Cut) (kept : Kept) → IsLeafOf g cuts kept → LoadsBelow g cuts c 0 kept
-LoadsBelow-none g cuts c kept leaf = record { passed = λ k lt. absurd (omega arith); ahead = λ k from. leaf k }
-
 -- all edges
 pub IsLeafOf-below : (g : Graph) (cuts : List Cut) (c : Cut) (n : ℕ) (kept : Kept) → length g.edges ≤ n → LoadsBelow g cuts c n kept → IsLeafOf g (cuts ++ c ∷ []) kept
 IsLeafOf-below g cuts c n kept all below k e state at state_at = below.passed k (omega (arith, slice_get_within g.edges k e at)) e state at state_at

@@ -27,5 +27,3 @@ passes_free state e packing there back is = record {
   forward = kept_free state e (load packing e.a e.b) there is;
   backward = kept_free state e (load packing e.b e.a) back is;
 }
-
--- ---- what stays

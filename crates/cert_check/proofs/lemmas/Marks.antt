@@ -1,39 +1,13 @@
 -- The marks of the edges that a set parts: which edges lie before the next mark and behind the last one.
-use Rattle.std.proofs.Common.{ℕ, ◌≡◌, ◌+◌, ◌-◌, ◌*◌, ◌/◌, ◌^◌, ◌<◌, ◌≤◌, Bool, true, false, not, ◌&&◌, List, length, eqb, refl, ap, sym, subst, ◌∙◌, ⊎_elim, arith, w64}
+use Rattle.std.proofs.Common.{ℕ, ◌≡◌, ◌+◌, ◌-◌, ◌*◌, ◌/◌, ◌^◌, ◌<◌, ◌≤◌, Bool, List, ap, sym, subst, ◌∙◌, ⊎_elim, arith, w64}
 use Rattle.std.specs.Int.{bit_at, trailing_zeros}
 use Rattle.std.proofs.Math.Nat.{div-div-eq-div-mul}
 use Rattle.std.proofs.lemmas.Nat.{pow-add, pow_pos, div_below}
 use Rattle.std.proofs.lemmas.Nat.Bits.{bit_at-zero, bit_at_above, bit_at-trailing_zeros}
 use Rattle.std.proofs.lemmas.Bool.{cases_lt}
-use Rattle.net_graph.specs.Flags.{has}
 use Rattle.net_graph.specs.Graph.{Graph}
-use Rattle.net_graph.specs.Packing.{enters}
-use Rattle.cert_check.specs.declared.border.Strip.{Strip}
-use Rattle.cert_check.specs.Strips.{IsStrip, IsWhole, MarksParted}
+use Rattle.cert_check.specs.Strips.{IsWhole, MarksParted}
 use Rattle.cert_check.proofs.lemmas.WordBits.{bit_at-shr}
-
--- ---- at the start of a strip
-
-never_both : (x : Bool) → (x && not x) ≡ false
-never_both true = refl
-never_both false = refl
-
--- a set that holds both ends of an edge or neither is entered by none of its arcs
-enters_none : (members : List Bool) (u v : ℕ) → has members u ≡ has members v → enters members u v ≡ false
-enters_none members u v same = rw same (never_both (has members v))
-
--- so the marks are those of the edges that the set parts
-pub marks_begin : (g : Graph) (members : List Bool) (s : Strip) (marks : ℕ) → IsStrip g s → marks < 2 ^ s.count →
-    ((i : ℕ) → i < s.count → bit_at marks i ≡ 0 → has members (s.vertex + i) ≡ has members (s.vertex + s.step + i)) →
-    MarksParted g members marks s.edge (s.edge + s.count)
-marks_begin g members s marks strip below same = record {
-  within = omega arith;
-  below = let count : s.edge + s.count - s.edge ≡ s.count = omega arith in rw count below;
-  others = λ i inside none e at.
-      let ends = strip.ends i (omega arith) e at in
-      let alike : has members e.a ≡ has members e.b = rw (ends.0, ends.1) (same i (omega arith) none) in
-      (enters_none members e.a e.b alike, enters_none members e.b e.a (sym alike));
-}
 
 -- ---- the next mark
 
@@ -45,8 +19,8 @@ mark_within g members marks n end is some fits =
     ⊎_elim
     (λ (below : n + trailing_zeros w64 marks < end). below)
     (λ (above : end ≤ n + trailing_zeros w64 marks).
-      let none = bit_at_above marks (end - n) (trailing_zeros w64 marks) is.below (omega (arith, is.within)) in
-      absurd (omega (arith, none, lowest.1)))
+    let none = bit_at_above marks (end - n) (trailing_zeros w64 marks) is.below (omega (arith, is.within)) in
+    absurd (omega (arith, none, lowest.1)))
     (cases_lt (n + trailing_zeros w64 marks) end)
 
 -- the edges before it are whole
@@ -65,7 +39,7 @@ marks_behind g members marks n end gap is inside = record {
   within = omega arith;
   below =
       let once : marks / 2 ^ gap / 2 ≡ marks / 2 ^ (gap + 1) =
-          div-div-eq-div-mul marks (2 ^ gap) 2 ∙ ap (λ m. marks / m) (sym (pow-add 2 gap 1)) in
+      div-div-eq-div-mul marks (2 ^ gap) 2 ∙ ap (λ m. marks / m) (sym (pow-add 2 gap 1)) in
       let rest : end - n ≡ end - (n + gap + 1) + (gap + 1) = omega arith in
       let room : 2 ^ (end - n) ≡ 2 ^ (end - (n + gap + 1)) * 2 ^ (gap + 1) = ap (λ k. 2 ^ k) rest ∙ pow-add 2 (end - (n + gap + 1)) (gap + 1) in
       rw once (div_below marks (2 ^ (gap + 1)) (2 ^ (end - (n + gap + 1))) (pow_pos (gap + 1)) (rw (← room) is.below));

@@ -140,11 +140,6 @@ pub turns_from-less : (row : List ℕ) (start depth : ℕ) → turns_from row st
 turns_from-less row start zero = refl
 turns_from-less row start (suc depth) = let less : suc depth - 1 ≡ depth = omega arith in rw less refl
 
--- the lowest one, and those above it
-pub turns_from-more : (row : List ℕ) (start depth : ℕ) → 0 < depth → turns_from row start depth ≡ turn_at row (start + 2 * (depth - 1)) ∷ turns_from row start (depth - 1)
-turns_from-more row start zero some = absurd (omega arith)
-turns_from-more row start (suc depth) some = let less : suc depth - 1 ≡ depth = omega arith in rw less refl
-
 -- numbers before two that were written
 agree_before : (row : List ℕ) (place first second from to : ℕ) → to ≤ place → AgreeOn row (set (set row place first) (place + 1) second) from to
 agree_before row place first second from to before =
@@ -194,11 +189,6 @@ pub kept_in-pop : (row : List ℕ) (E V depth : ℕ) (old : Kept) → kept_in ro
 kept_in-pop row E V depth old is =
     subst (λ (o : Kept). kept_in row E V (depth - 1) ≡ record o { path = drop 1 o.path }) is
     (same_kept _ _ refl refl refl (turns_from-less row (path_start E V) depth) refl)
-
--- the lowest split of the way
-pub kept_in-lowest : (row : List ℕ) (E V depth : ℕ) (old : Kept) → kept_in row E V depth ≡ old → 0 < depth →
-    old.path ≡ turn_at row (path_start E V + 2 * (depth - 1)) ∷ turns_from row (path_start E V) (depth - 1)
-kept_in-lowest row E V depth old is some = sym (ap (λ (o : Kept). o.path) is) ∙ turns_from-more row (path_start E V) depth some
 
 -- the split at a place of the way
 pub turns_from-at : (row : List ℕ) (start depth k : ℕ) → k < depth →

@@ -59,11 +59,6 @@ inside_length_yes-le-sum edges decision n e below inside =
 
 -- ---- the least value
 
--- the least is no more than the number
-pub least_with-le : (top : ℕ) (ns : List ℕ) → least_with top ns ≤ top
-least_with-le top [] = omega arith
-least_with-le top (n ∷ ns) = omega (arith, least_with-le top ns)
-
 -- with a lesser number
 pub least_with-lesser : (top low : ℕ) (ns : List ℕ) → low ≤ top → min (least_with top ns) low ≡ least_with low ns
 least_with-lesser top low [] le = omega arith

@@ -1,5 +1,5 @@
 -- The splits of a way: their edges are edges of the graph, and each inside edge is that of one of them.
-use Rattle.std.proofs.Common.{ℕ, zero, suc, ◌≡◌, ◌<◌, List, [], ◌∷◌, length, set, slice_get, Some, inl, inr, refl, sym, ap, ◌∙◌, subst, arith, length-set}
+use Rattle.std.proofs.Common.{ℕ, zero, suc, ◌≡◌, ◌<◌, List, [], ◌∷◌, length, slice_get, Some, inl, inr, refl, sym, ap, ◌∙◌, subst, arith, length-set}
 use Rattle.std.specs.Prelude.{if◌then◌else◌}
 use Rattle.std.proofs.lemmas.Bool.{cases_eq}
 use Rattle.std.proofs.lemmas.Option.{same_Some, slice_get_within}
@@ -36,8 +36,13 @@ turn_along top (u ∷ above) (suc k) t way at = turn_along top above k t way.1 a
 pub turn_within : (g : Graph) (kept : Kept) (k : ℕ) (t : Turn) → StandsOnWay g kept → slice_get kept.path k ≡ Some t →
     t.edge < length g.edges
 turn_within g kept k t stands at =
-    omega (arith, turn_along (nothing_decided g) kept.path k t stands.way at, edges_along (nothing_decided g) kept.path,
-    ap length stands.states, stands.rows.states)
+    omega (
+      arith,
+      turn_along (nothing_decided g) kept.path k t stands.way at,
+      edges_along (nothing_decided g) kept.path,
+      ap length stands.states,
+      stands.rows.states,
+    )
 
 -- ---- inside edges
 

@@ -38,9 +38,9 @@ pub same_bit : (a b count i : ℕ) → i < count → count < 64 → bit_at (bit_
 same_bit a b count i below few none =
     let mask : 1 * 2 ^ count % 2 ^ 64 - 1 ≡ 2 ^ count - 1 = ap (λ m. m - 1) (one_shl count 64 few) in
     let kept : bit_at (bit_and (bit_xor a b) (2 ^ count - 1)) i ≡ bit_at (bit_xor a b) i =
-        ap (λ m. bit_at m i) (and_mask (bit_xor a b) count) ∙ bit_at-mod (bit_xor a b) count i below in
+    ap (λ m. bit_at m i) (and_mask (bit_xor a b) count) ∙ bit_at-mod (bit_xor a b) count i below in
     let even : (bit_at a i + bit_at b i) % 2 ≡ 0 =
-        sym (bit_at_xor a b i) ∙ sym kept ∙ ap (λ m. bit_at (bit_and (bit_xor a b) m) i) (sym mask) ∙ none in
+    sym (bit_at_xor a b i) ∙ sym kept ∙ ap (λ m. bit_at (bit_and (bit_xor a b) m) i) (sym mask) ∙ none in
     omega (arith, bit_at-lt a i, bit_at-lt b i)
 
 -- ---- words of flags
@@ -56,7 +56,7 @@ pub flag_in_first : (flags : List Bool) (n i word : ℕ) → HasFlags flags (n /
 flag_in_first flags n i word keeps within low =
     let at : 64 * (n / 64) + (n % 64 + i) ≡ n + i = omega arith in
     let here : has flags (n + i) ≡ eqb (bit_at word (n % 64 + i)) 1 =
-        subst (λ k. has flags k ≡ eqb (bit_at word (n % 64 + i)) 1) at (keeps (n % 64 + i) low (omega arith)) in
+    subst (λ k. has flags k ≡ eqb (bit_at word (n % 64 + i)) 1) at (keeps (n % 64 + i) low (omega arith)) in
     here ∙ ap (λ b. eqb b 1) (sym (bit_at-shr word (n % 64) i))
 
 -- those that stand in two words
@@ -67,19 +67,19 @@ flag_in_two flags n i low high first second fits within few =
     let front : ℕ = low / 2 ^ (n % 64) in
     let back : ℕ = high * 2 ^ (64 - n % 64) % 2 ^ 64 in
     let joined : bit_at (bit_or (low / 2 ^ (n % 64)) (high * 2 ^ (64 - n % 64) % 2 ^ 64)) i ≡
-        max (bit_at (low / 2 ^ (n % 64)) i) (bit_at (high * 2 ^ (64 - n % 64) % 2 ^ 64) i) =
-        bit_at_or (low / 2 ^ (n % 64)) (high * 2 ^ (64 - n % 64) % 2 ^ 64) i in
+    max (bit_at (low / 2 ^ (n % 64)) i) (bit_at (high * 2 ^ (64 - n % 64) % 2 ^ 64) i) =
+    bit_at_or (low / 2 ^ (n % 64)) (high * 2 ^ (64 - n % 64) % 2 ^ 64) i in
     ⊎_elim
     (λ (here : n % 64 + i < 64).
-      let none = bit_at-shl_below high (64 - n % 64) i (omega arith) few in
-      let bit : bit_at (bit_or (low / 2 ^ (n % 64)) (high * 2 ^ (64 - n % 64) % 2 ^ 64)) i ≡ bit_at (low / 2 ^ (n % 64)) i = omega arith in
-      flag_in_first flags n i low first within here ∙ ap (λ b. eqb b 1) (sym bit))
+    let none = bit_at-shl_below high (64 - n % 64) i (omega arith) few in
+    let bit : bit_at (bit_or (low / 2 ^ (n % 64)) (high * 2 ^ (64 - n % 64) % 2 ^ 64)) i ≡ bit_at (low / 2 ^ (n % 64)) i = omega arith in
+    flag_in_first flags n i low first within here ∙ ap (λ b. eqb b 1) (sym bit))
     (λ (there : 64 ≤ n % 64 + i).
-      let none : bit_at (low / 2 ^ (n % 64)) i ≡ 0 = bit_at-shr low (n % 64) i ∙ bit_at_above low 64 (n % 64 + i) fits there in
-      let some = bit_at-shl_above high (64 - n % 64) i (omega arith) few in
-      let bit : bit_at (bit_or (low / 2 ^ (n % 64)) (high * 2 ^ (64 - n % 64) % 2 ^ 64)) i ≡ bit_at high (i - (64 - n % 64)) = omega arith in
-      let at : 64 * (n / 64 + 1) + (i - (64 - n % 64)) ≡ n + i = omega arith in
-      let flag : has flags (n + i) ≡ eqb (bit_at high (i - (64 - n % 64))) 1 =
-          subst (λ k. has flags k ≡ eqb (bit_at high (i - (64 - n % 64))) 1) at (second (i - (64 - n % 64)) (omega arith) (omega arith)) in
-      flag ∙ ap (λ b. eqb b 1) (sym bit))
+    let none : bit_at (low / 2 ^ (n % 64)) i ≡ 0 = bit_at-shr low (n % 64) i ∙ bit_at_above low 64 (n % 64 + i) fits there in
+    let some = bit_at-shl_above high (64 - n % 64) i (omega arith) few in
+    let bit : bit_at (bit_or (low / 2 ^ (n % 64)) (high * 2 ^ (64 - n % 64) % 2 ^ 64)) i ≡ bit_at high (i - (64 - n % 64)) = omega arith in
+    let at : 64 * (n / 64 + 1) + (i - (64 - n % 64)) ≡ n + i = omega arith in
+    let flag : has flags (n + i) ≡ eqb (bit_at high (i - (64 - n % 64))) 1 =
+    subst (λ k. has flags k ≡ eqb (bit_at high (i - (64 - n % 64))) 1) at (second (i - (64 - n % 64)) (omega arith) (omega arith)) in
+    flag ∙ ap (λ b. eqb b 1) (sym bit))
     (cases_lt (n % 64 + i) 64)

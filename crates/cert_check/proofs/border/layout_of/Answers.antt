@@ -1,4 +1,4 @@
-use Rattle.std.proofs.Common.{◌≡◌, length, subst, arith}
+use Rattle.std.proofs.Common.{◌≡◌, length, arith}
 use Rattle.hanan_grid.specs.Grid.{xs_of, ys_of}
 use Rattle.cert_check.proofs.lemmas.Layouts.{grid_laid_out}
 use Rattle.cert_check.proofs.border.layout_of.Goals as goal

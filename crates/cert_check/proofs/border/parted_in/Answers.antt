@@ -1,4 +1,4 @@
-use Rattle.std.proofs.Common.{◌≡◌, eqb, ap, sym, ◌∙◌, arith}
+use Rattle.std.proofs.Common.{eqb, ap, sym, ◌∙◌, arith}
 use Rattle.cert_check.proofs.lemmas.WordBits.{same_bit}
 use Rattle.cert_check.proofs.border.parted_in.Goals as goal
 

@@ -1,4 +1,4 @@
-use Rattle.std.proofs.Common.{◌≡◌, ◌+◌, length, subst, sym, ◌∙◌, arith}
+use Rattle.std.proofs.Common.{subst, sym, arith}
 use Rattle.cert_check.specs.Cuts.{cut_of}
 use Rattle.cert_check.specs.Loads.{LoadsBelow}
 use Rattle.cert_check.specs.Strips.{edges_before}
