@@ -141,8 +141,8 @@ fn load_edge(
         → KeepsLoads state e cuts (slice_index room.old.there n) (slice_index room.old.back n)
         → KeepsLoads state e (cuts ++ cut_of weight members.now ∷ [])
         (slice_index room.new.there n) (slice_index room.new.back n)) }
-    ensures over { IfErr result (λ over. (cuts : List Cut) (state : EdgeState) → slice_get room.old.states n ≡ Some state
-        → KeepsLoads state e cuts (slice_index room.old.there n) (slice_index room.old.back n)
+    ensures over { IfErr result (λ over. (cuts : List Cut) (state : EdgeState)
+        → slice_get room.old.states n ≡ Some state → KeepsLoads state e cuts (slice_index room.old.there n) (slice_index room.old.back n)
         → IsOverload state e (cuts ++ cut_of weight members.now ∷ []) members.now over) }
 {
     let Some(limit) = arc_room(room.state(n), &e) else {
@@ -201,8 +201,8 @@ fn set_fault(room: &Room, g: &NetGraph, line: u64, members: &VertexSet) -> Optio
     requires on_way { StandsOnWay g.now room.now }
     requires size { length members.now ≡ g.now.vertices }
     ensures passes { IfNone result ((d : Decided) → KeepsDecision g.now d room.now → IsCut g.now d members.now) }
-    ensures fault { IfSome result (λ cause. (d : Decided) (cuts : List Cut) (weight : ℕ) → KeepsDecision g.now d room.now
-        → CutFault g.now d cuts (cut_of weight members.now) line cause) }
+    ensures fault { IfSome result (λ cause. (d : Decided) (cuts : List Cut) (weight : ℕ)
+        → KeepsDecision g.now d room.now → CutFault g.now d cuts (cut_of weight members.now) line cause) }
 {
     if members.has(g.root()) {
         return Some(Cause::RootInCut(line));
@@ -235,7 +235,8 @@ fn holds_terminal(g: &NetGraph, members: &VertexSet) -> bool
 fn holds_inside_end(room: &Room, g: &NetGraph, members: &VertexSet) -> bool
     requires on_way { StandsOnWay g.now room.now }
     requires size { length members.now ≡ g.now.vertices }
-    ensures { IsTrue result ↔ ((v : ℕ) × EndsInside g.now (decided_of room.now.states []) v × (has members.now v ≡ true)) }
+    ensures { IsTrue result ↔ ((v : ℕ) × EndsInside g.now (decided_of room.now.states []) v
+        × (has members.now v ≡ true)) }
 {
     // Few edges, so their numbers are within 32 bits.
     prove!(g.edge_count() <= 4900);

@@ -1,4 +1,5 @@
-//! Right answers and wrong ones for the points (0, 0), (2, 0) and (1, 1), and for nine on a diagonal, whole and in pieces.
+//! Right answers and wrong ones for the points (0, 0), (2, 0) and (1, 1), and for nine on a diagonal, whole and in
+//! pieces.
 
 use crate::checker::Checker;
 use crate::verdict::{Cause, Verdict};

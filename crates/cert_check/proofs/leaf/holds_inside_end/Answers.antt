@@ -8,12 +8,14 @@ use Rattle.cert_check.proofs.leaf.holds_inside_end.Goals as goal
 
 pub overflow_cast-edge : goal.overflow_cast-edge
 overflow_cast-edge c =
-    let within = turn_within c.args.g.now c.args.room.now c.loop-place.place c.turn-edge.result c.requires.on_way c.turn-edge.ensures in
+    let within = turn_within c.args.g.now c.args.room.now c.loop-place.place c.turn-edge.result c.requires.on_way
+    c.turn-edge.ensures in
     record { fits = omega (arith, within, c.edge_count.ensures.graph.few_edges) }
 
 pub is_inside-requires : goal.is_inside-requires
 is_inside-requires c =
-    let within = turn_within c.args.g.now c.args.room.now c.loop-place.place c.turn-edge.result c.requires.on_way c.turn-edge.ensures in
+    let within = turn_within c.args.g.now c.args.room.now c.loop-place.place c.turn-edge.result c.requires.on_way
+    c.turn-edge.ensures in
     omega (arith, within, c.requires.on_way.rows.states)
 
 pub edge-requires : goal.edge-requires

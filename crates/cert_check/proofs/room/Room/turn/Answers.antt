@@ -15,7 +15,8 @@ overflow_sub-self-inside-2 c =
 pub returns : goal.returns
 returns c =
     let start = path_start c.self.inside.edges c.self.inside.vertices in
-    let path : c.args.self.now.path ≡ turns_from c.self.inside.row start c.self.inside.depth = sym (ap (λ (o : Kept). o.path) c.self.view_is) in
+    let path : c.args.self.now.path ≡ turns_from c.self.inside.row start c.self.inside.depth =
+    sym (ap (λ (o : Kept). o.path) c.self.view_is) in
     let deep : c.args.place < c.self.inside.depth =
     omega (arith, c.requires, ap length path, length-turns_from c.self.inside.row start c.self.inside.depth) in
     ap (λ p. slice_get p c.args.place) path
