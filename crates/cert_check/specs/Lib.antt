@@ -6,7 +6,7 @@ pub mod Cuts
 pub mod Path
 pub mod Room
 pub mod Loads
-pub mod Stretches
+pub mod Strips
 pub mod Ways
 pub mod Ends
 pub mod Lines

@@ -64,7 +64,8 @@ pub record LoadsOnly (n : ℕ) (old new : Kept) : Type 0 where
   pub way : SameWay old new
 
 -- an arc of the edge enters the set, and is loaded above its room by so much
-pub record IsOverload (state : EdgeState) (e : Edge) (packing : List Cut) (members : List Bool) (over : Excess) : Type 0 where
+pub record IsOverload (state : EdgeState) (e : Edge) (packing : List Cut) (members : List Bool) (over : Excess)
+    : Type 0 where
   pub room : room_of state e ≡ Some over.room
   pub entered : IsEntered packing members e.a e.b over.load ⊎ IsEntered packing members e.b e.a over.load
   pub above : over.room < over.load

@@ -5,7 +5,7 @@ ghost use Rattle.std.specs.Int.{bit_at};
 ghost use Rattle.net_graph.specs.Flags.{has};
 ghost use Rattle.net_graph.specs.Graph.{Graph};
 ghost use Rattle.hanan_grid.specs.Grid.{hanan_grid_of};
-ghost use Rattle.cert_check.specs.Stretches.{IsLaidOut, IsStretch, edges_before};
+ghost use Rattle.cert_check.specs.Strips.{IsLaidOut, IsStrip, edges_before};
 
 use hanan_grid::Grid;
 use net_graph::VertexSet;
@@ -19,7 +19,7 @@ pub(crate) struct Layout {
 
 /// Edges of successive numbers, which join successive vertices to those that are a step further on.
 #[derive(Clone, Copy, Debug, PartialEq, Eq)]
-pub(crate) struct Stretch {
+pub(crate) struct Strip {
     /// The number of the first edge.
     pub edge: u32,
     /// The end of the first edge with the lower number.
@@ -40,20 +40,20 @@ pub(crate) fn layout_of(grid: &Grid) -> Layout
     }
 }
 
-/// The stretch of edges at a place, counted from 0: first the horizontal edges of each row, then the vertical ones
+/// The strip of edges at a place, counted from 0: first the horizontal edges of each row, then the vertical ones
 /// from each row to the next.
-pub(crate) fn stretch_at(layout: Layout, place: u32) -> Stretch
+pub(crate) fn strip_at(layout: Layout, place: u32) -> Strip
     requires some { 0 < layout.columns }
     requires few_columns { layout.columns ≤ 50 }
     requires few_rows { layout.rows ≤ 50 }
     requires place { place + 1 < 2 * layout.rows }
     ensures first { result.edge ≡ edges_before layout place }
     ensures behind { result.edge + result.count ≡ edges_before layout (place + 1) }
-    ensures stretch { (g : Graph) → IsLaidOut g layout → IsStretch g result }
+    ensures strip { (g : Graph) → IsLaidOut g layout → IsStrip g result }
 {
     let Layout { columns, rows } = layout;
     if place < rows {
-        Stretch {
+        Strip {
             edge: place * (columns - 1),
             vertex: place * columns,
             step: 1,
@@ -61,7 +61,7 @@ pub(crate) fn stretch_at(layout: Layout, place: u32) -> Stretch
         }
     } else {
         let row = place - rows;
-        Stretch {
+        Strip {
             edge: rows * (columns - 1) + row * columns,
             vertex: row * columns,
             step: columns,
@@ -70,21 +70,21 @@ pub(crate) fn stretch_at(layout: Layout, place: u32) -> Stretch
     }
 }
 
-/// Which edges of a stretch have one end in the set alone, by their places there: the first at the lowest bit.
-pub(crate) fn parted_in(members: &VertexSet, stretch: Stretch) -> u64
+/// Which edges of a strip have one end in the set alone, by their places there: the first at the lowest bit.
+pub(crate) fn parted_in(members: &VertexSet, strip: Strip) -> u64
     requires few_vertices { length members.now ≤ 2500 }
-    requires few { stretch.count ≤ 50 }
-    requires within { stretch.vertex + stretch.step + stretch.count ≤ length members.now }
-    ensures below { result < 2 ^ stretch.count }
-    ensures others { (i : ℕ) → i < stretch.count → bit_at result i ≡ 0
-        → has members.now (stretch.vertex + i) ≡ has members.now (stretch.vertex + stretch.step + i) }
+    requires few { strip.count ≤ 50 }
+    requires within { strip.vertex + strip.step + strip.count ≤ length members.now }
+    ensures below { result < 2 ^ strip.count }
+    ensures others { (i : ℕ) → i < strip.count → bit_at result i ≡ 0
+        → has members.now (strip.vertex + i) ≡ has members.now (strip.vertex + strip.step + i) }
 {
-    if stretch.count == 0 {
+    if strip.count == 0 {
         return 0;
     }
-    let near = flags_from(members, stretch.vertex, stretch.count);
-    let far = flags_from(members, stretch.vertex + stretch.step, stretch.count);
-    (near ^ far) & ((1 << stretch.count) - 1)
+    let near = flags_from(members, strip.vertex, strip.count);
+    let far = flags_from(members, strip.vertex + strip.step, strip.count);
+    (near ^ far) & ((1 << strip.count) - 1)
 }
 
 // The flags of so many vertices from one on, the first at the lowest bit. What stands above them tells nothing.

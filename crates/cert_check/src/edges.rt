@@ -54,7 +54,8 @@ impl EdgesRead {
     /// Reads the name of one more edge, which stands in a line. Gives why the line is wrong, if it is.
     pub(crate) fn read(&mut self, grid: &Grid, line: u64, name: &EdgeName) -> Option<Cause>
         requires { length self.old ≡ length (hanan_grid_of grid.now).edges }
-        ensures passes { IfNone result ((e : ℕ) × FollowsEdges grid.now self.old name.now e × (self.new ≡ slice_set self.old e true)) }
+        ensures passes { IfNone result ((e : ℕ) × FollowsEdges grid.now self.old name.now e
+            × (self.new ≡ slice_set self.old e true)) }
         ensures fault { IfSome result (EdgeFault grid.now self.old name.now line) }
         ensures kept { IfSome result (λ _. self.new ≡ self.old) }
     {

@@ -107,8 +107,8 @@ impl Judge {
         ensures sizes { IsJudgeOn grid.now self.new }
         ensures passes { IfNone result ((s : SoFar) (members : Option (List Bool)) → StandsFor grid.now s self.old
             → (s' : SoFar) × Passes grid.now s (Event.Edge name.now) members s' × StandsFor grid.now s' self.new) }
-        ensures fault { IfSome result (λ cause. (s : SoFar) (members : Option (List Bool)) → StandsFor grid.now s self.old
-            → Fails grid.now s line (Event.Edge name.now) members cause self.new.edges) }
+        ensures fault { IfSome result (λ cause. (s : SoFar) (members : Option (List Bool))
+            → StandsFor grid.now s self.old → Fails grid.now s line (Event.Edge name.now) members cause self.new.edges) }
     {
         if let Some(cause) = self.edges.read(grid, line, name) {
             return Some(cause);
@@ -122,7 +122,8 @@ impl Judge {
         requires sizes { IsJudgeOn grid.now self.old }
         ensures same { self.new ≡ self.old }
         ensures passes { IfNone result ((s : SoFar) → StandsFor grid.now s self.old → IsNetworkRight grid.now s) }
-        ensures fault { IfSome result (λ cause. (s : SoFar) → StandsFor grid.now s self.old → IsNetworkWrong grid.now s cause) }
+        ensures fault { IfSome result (λ cause. (s : SoFar) → StandsFor grid.now s self.old
+            → IsNetworkWrong grid.now s cause) }
     {
         if self.edges_due > 0 {
             return None;
@@ -143,8 +144,8 @@ impl Judge {
         ensures sizes { IsJudgeOn grid.now self.new }
         ensures passes { IfNone result ((s : SoFar) (members : Option (List Bool)) → StandsFor grid.now s self.old
             → (s' : SoFar) × Passes grid.now s (Event.Split name.now) members s' × StandsFor grid.now s' self.new) }
-        ensures fault { IfSome result (λ cause. (s : SoFar) (members : Option (List Bool)) → StandsFor grid.now s self.old
-            → Fails grid.now s line (Event.Split name.now) members cause self.new.edges) }
+        ensures fault { IfSome result (λ cause. (s : SoFar) (members : Option (List Bool))
+            → StandsFor grid.now s self.old → Fails grid.now s line (Event.Split name.now) members cause self.new.edges) }
     {
         let Some(edge) = grid.edge_named(name) else {
             return Some(Cause::OffGrid(line));

@@ -10,10 +10,10 @@ ghost use Rattle.net_graph.specs.Packing.{IsCut, room_of};
 ghost use Rattle.net_graph.specs.Packing as packing;
 ghost use Rattle.cert_check.specs.Cuts.{PacksCut, CutFault, cut_of};
 ghost use Rattle.cert_check.specs.Loads.{HasRows, IsLeafOf, IsOverload, KeepsDecision, KeepsLoads, LoadsBelow, LoadsOnly, SameWay};
-ghost use Rattle.cert_check.specs.Stretches.{IsLaidOut, IsStretch};
+ghost use Rattle.cert_check.specs.Strips.{IsLaidOut, IsStrip};
 ghost use Rattle.cert_check.specs.Ways.{StandsOnWay};
 
-use crate::border::{Layout, Stretch, parted_in, stretch_at};
+use crate::border::{Layout, Strip, parted_in, strip_at};
 use crate::room::Room;
 use crate::verdict::Cause;
 use net_graph::{Edge, EdgeState, NetGraph, VertexSet};
@@ -74,39 +74,39 @@ fn load_arcs(
         → CutFault g.now d cuts (cut_of weight members.now) line cause) }
 {
     for place in 0..2 * layout.rows - 1 {
-        let stretch = stretch_at(layout, place);
-        if let Some(cause) = load_stretch(room, g, stretch, line, weight, members) {
+        let strip = strip_at(layout, place);
+        if let Some(cause) = load_strip(room, g, strip, line, weight, members) {
             return Some(cause);
         }
     }
     None
 }
 
-// The same of the edges of a stretch, where those of lower numbers are loaded.
-fn load_stretch(
+// The same of the edges of a strip, where those of lower numbers are loaded.
+fn load_strip(
     room: &mut Room,
     g: &NetGraph,
-    stretch: Stretch,
+    strip: Strip,
     line: u64,
     weight: u64,
     members: &VertexSet,
 ) -> Option<Cause>
     requires rows { HasRows g.now room.old }
     requires size { length members.now ≡ g.now.vertices }
-    requires stretch { IsStretch g.now stretch }
+    requires strip { IsStrip g.now strip }
     ensures rows { HasRows g.now room.new }
     ensures way { SameWay room.old room.new }
     ensures loads { IfNone result ((cuts : List Cut)
-        → LoadsBelow g.now cuts (cut_of weight members.now) stretch.edge room.old
-        → LoadsBelow g.now cuts (cut_of weight members.now) (stretch.edge + stretch.count) room.new) }
+        → LoadsBelow g.now cuts (cut_of weight members.now) strip.edge room.old
+        → LoadsBelow g.now cuts (cut_of weight members.now) (strip.edge + strip.count) room.new) }
     ensures fault { IfSome result (λ cause. (d : Decided) (cuts : List Cut) → KeepsDecision g.now d room.old
-        → IsCut g.now d members.now → LoadsBelow g.now cuts (cut_of weight members.now) stretch.edge room.old
+        → IsCut g.now d members.now → LoadsBelow g.now cuts (cut_of weight members.now) strip.edge room.old
         → CutFault g.now d cuts (cut_of weight members.now) line cause) }
 {
     prove!(g.vertex_count() <= 2500);
-    let mut n = stretch.edge;
+    let mut n = strip.edge;
     // Which of the edges from n on are still to be loaded.
-    let mut marks = parted_in(members, stretch);
+    let mut marks = parted_in(members, strip);
     while marks != 0 {
         let gap = marks.trailing_zeros();
         n += gap;
@@ -141,8 +141,8 @@ fn load_edge(
         → KeepsLoads state e cuts (slice_index room.old.there n) (slice_index room.old.back n)
         → KeepsLoads state e (cuts ++ cut_of weight members.now ∷ [])
         (slice_index room.new.there n) (slice_index room.new.back n)) }
-    ensures over { IfErr result (λ over. (cuts : List Cut) (state : EdgeState) → slice_get room.old.states n ≡ Some state
-        → KeepsLoads state e cuts (slice_index room.old.there n) (slice_index room.old.back n)
+    ensures over { IfErr result (λ over. (cuts : List Cut) (state : EdgeState)
+        → slice_get room.old.states n ≡ Some state → KeepsLoads state e cuts (slice_index room.old.there n) (slice_index room.old.back n)
         → IsOverload state e (cuts ++ cut_of weight members.now ∷ []) members.now over) }
 {
     let Some(limit) = arc_room(room.state(n), &e) else {
@@ -201,8 +201,8 @@ fn set_fault(room: &Room, g: &NetGraph, line: u64, members: &VertexSet) -> Optio
     requires on_way { StandsOnWay g.now room.now }
     requires size { length members.now ≡ g.now.vertices }
     ensures passes { IfNone result ((d : Decided) → KeepsDecision g.now d room.now → IsCut g.now d members.now) }
-    ensures fault { IfSome result (λ cause. (d : Decided) (cuts : List Cut) (weight : ℕ) → KeepsDecision g.now d room.now
-        → CutFault g.now d cuts (cut_of weight members.now) line cause) }
+    ensures fault { IfSome result (λ cause. (d : Decided) (cuts : List Cut) (weight : ℕ)
+        → KeepsDecision g.now d room.now → CutFault g.now d cuts (cut_of weight members.now) line cause) }
 {
     if members.has(g.root()) {
         return Some(Cause::RootInCut(line));
@@ -235,7 +235,8 @@ fn holds_terminal(g: &NetGraph, members: &VertexSet) -> bool
 fn holds_inside_end(room: &Room, g: &NetGraph, members: &VertexSet) -> bool
     requires on_way { StandsOnWay g.now room.now }
     requires size { length members.now ≡ g.now.vertices }
-    ensures { IsTrue result ↔ ((v : ℕ) × EndsInside g.now (decided_of room.now.states []) v × (has members.now v ≡ true)) }
+    ensures { IsTrue result ↔ ((v : ℕ) × EndsInside g.now (decided_of room.now.states []) v
+        × (has members.now v ≡ true)) }
 {
     // Few edges, so their numbers are within 32 bits.
     prove!(g.edge_count() <= 4900);

@@ -1,4 +1,5 @@
-//! Right answers and wrong ones for the points (0, 0), (2, 0) and (1, 1), and for nine on a diagonal, whole and in pieces.
+//! Right answers and wrong ones for the points (0, 0), (2, 0) and (1, 1), and for nine on a diagonal, whole and in
+//! pieces.
 
 use crate::checker::Checker;
 use crate::verdict::{Cause, Verdict};
@@ -100,15 +101,12 @@ fn wide_grid(alloc: Global) -> Result<Grid, Fail> {
 const WIDE_HEAD: &[u8] =
     b"rst answer 1\nlength 16\nbound 2\nstatus stopped\nopenings 0\nconcat least 16\n";
 
-const WIDE_EDGES: &[u8] = b"edges 16\n0 0 1 0\n1 1 2 1\n2 2 3 2\n3 3 4 3\n4 4 5 4\n5 5 6 5\n6 6 7 6\n7 7 8 7\n\
+const WIDE_EDGES: &[u8] =
+    b"edges 16\n0 0 1 0\n1 1 2 1\n2 2 3 2\n3 3 4 3\n4 4 5 4\n5 5 6 5\n6 6 7 6\n7 7 8 7\n\
     1 0 1 1\n2 1 2 2\n3 2 3 3\n4 3 4 4\n5 4 5 5\n6 5 6 6\n7 6 7 7\n8 7 8 8\n";
 
 /// How many of the answers, from the first on, get their verdicts in each way of feeding them.
-fn judged(
-    rt: &HostRuntime,
-    grid: &Grid,
-    rows: &[([&[u8]; 3], Verdict)],
-) -> Result<usize, Fail> {
+fn judged(rt: &HostRuntime, grid: &Grid, rows: &[([&[u8]; 3], Verdict)]) -> Result<usize, Fail> {
     let alloc = rt.alloc();
     for (place, (parts, verdict)) in rows.iter().enumerate() {
         let mut bytes = Vec::new(alloc);

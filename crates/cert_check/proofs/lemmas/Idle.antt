@@ -6,7 +6,7 @@ use Rattle.net_graph.specs.declared.state.VertexState.TheVariants as vertex
 use Rattle.net_graph.specs.EntryLaws.{slice_get-replicate}
 use Rattle.net_graph.specs.Flags.{has}
 use Rattle.net_graph.specs.Graph.{Graph}
-use Rattle.net_graph.specs.Decision.{Decided, EndsInside, IsMet, IsRequired, decided_of, nothing_decided}
+use Rattle.net_graph.specs.Decision.{Decided, EndsInside, IsMet, IsRequired, decided_of}
 use Rattle.cert_check.specs.Room.{Kept}
 use Rattle.cert_check.specs.Loads.{KeepsDecision}
 
@@ -18,7 +18,8 @@ not_true false never = refl
 -- no vertex is met
 none_met : (g : Graph) (d : Decided) (kept : Kept) (v : ℕ) → KeepsDecision g d kept → IsMet d v → ⊥
 none_met g d kept v keeps met =
-    let same = slice_get-replicate g.vertices v vertex.Undecided vertex.Met (sym (ap (λ xs. slice_get xs v) keeps.vertices) ∙ met) in cc
+    let same = slice_get-replicate g.vertices v vertex.Undecided vertex.Met
+    (sym (ap (λ xs. slice_get xs v) keeps.vertices) ∙ met) in cc
 
 -- so a required vertex is a terminal or an end of an inside edge
 required_kept : (g : Graph) (d : Decided) (kept : Kept) (v : ℕ) → KeepsDecision g d kept → IsRequired g d v →

@@ -1,5 +1,5 @@
 -- How the edges of a grid are numbered.
-use Rattle.std.proofs.Common.{ℕ, ◌≡◌, ◌+◌, ◌-◌, ◌*◌, ◌<◌, ◌≤◌, List, length, slice_get, Some, min, refl, sym, ap, ◌∙◌, arith}
+use Rattle.std.proofs.Common.{ℕ, ◌≡◌, ◌-◌, ◌*◌, ◌<◌, ◌≤◌, List, length, min, refl, sym, ap, ◌∙◌, arith}
 use Rattle.std.proofs.Math.Nat.{min-eq_right}
 use Rattle.std.proofs.lemmas.Nat.{mul-le}
 use Rattle.std.proofs.lemmas.Option.{same_Some}
@@ -9,10 +9,11 @@ use Rattle.net_graph.specs.Graph.{Graph}
 use Rattle.hanan_grid.specs.Grid.{xs_of, ys_of, horizontal, vertical, hanan_grid_of}
 use Rattle.hanan_grid.specs.GridLaws.{length-edges_of_lines, slice_get-horizontal, slice_get-vertical}
 use Rattle.cert_check.specs.declared.border.Layout.{Layout}
-use Rattle.cert_check.specs.Stretches.{IsLaidOut, edges_before}
+use Rattle.cert_check.specs.Strips.{IsLaidOut, edges_before}
 
 -- by row and then by column, the horizontal ones first
-pub grid_laid_out : (ps : List Point) → 0 < length (xs_of ps) → length (xs_of ps) ≤ 50 → 0 < length (ys_of ps) → length (ys_of ps) ≤ 50 →
+pub grid_laid_out : (ps : List Point) → 0 < length (xs_of ps) → length (xs_of ps) ≤ 50 → 0 < length (ys_of ps) →
+    length (ys_of ps) ≤ 50 →
     IsLaidOut (hanan_grid_of ps) record { columns = length (xs_of ps); rows = length (ys_of ps) }
 grid_laid_out ps some_columns few_columns some_rows few_rows = record {
   some_columns = some_columns;
@@ -23,17 +24,21 @@ grid_laid_out ps some_columns few_columns some_rows few_rows = record {
   edges = length-edges_of_lines (xs_of ps) (ys_of ps);
   right = λ row column below beside e at.
       let is : horizontal (xs_of ps) row column ≡ e =
-          same_Some (horizontal (xs_of ps) row column) e (sym (slice_get-horizontal (xs_of ps) (ys_of ps) row column below beside) ∙ at) in
+      same_Some (horizontal (xs_of ps) row column) e
+      (sym (slice_get-horizontal (xs_of ps) (ys_of ps) row column below beside) ∙ at) in
       (sym (ap (λ (x : Edge). x.a) is), sym (ap (λ (x : Edge). x.b) is) ∙ omega arith);
   up = λ row column above below e at.
       let is : vertical (length (xs_of ps)) (ys_of ps) row column ≡ e =
-          same_Some (vertical (length (xs_of ps)) (ys_of ps) row column) e (sym (slice_get-vertical (xs_of ps) (ys_of ps) row column above below) ∙ at) in
+      same_Some (vertical (length (xs_of ps)) (ys_of ps) row column) e
+      (sym (slice_get-vertical (xs_of ps) (ys_of ps) row column above below) ∙ at) in
       (sym (ap (λ (x : Edge). x.a) is), sym (ap (λ (x : Edge). x.b) is) ∙ omega arith);
 }
 
--- all stretches have all edges
-pub all_stretches : (g : Graph) (l : Layout) (place : ℕ) → IsLaidOut g l → 2 * l.rows - 1 ≤ place → length g.edges ≤ edges_before l place
-all_stretches g l place laid all =
+-- all strips have all edges
+pub all_strips : (g : Graph) (l : Layout) (place : ℕ) → IsLaidOut g l → 2 * l.rows - 1 ≤ place →
+    length g.edges ≤ edges_before l place
+all_strips g l place laid all =
     let rows : min place l.rows ≡ l.rows = min-eq_right (omega (arith, laid.some_rows)) in
-    let above = mul-le (l.rows - 1) l.columns (place - l.rows) l.columns (omega (arith, laid.some_rows)) (omega arith) in
+    let above = mul-le (l.rows - 1) l.columns (place - l.rows) l.columns (omega (arith, laid.some_rows))
+    (omega arith) in
     rw rows (omega (arith, laid.edges, above))

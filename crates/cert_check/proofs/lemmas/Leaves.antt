@@ -16,27 +16,32 @@ use Rattle.cert_check.specs.declared.leaf.Excess.{Excess}
 use Rattle.cert_check.specs.Cuts.{IsFirstOverload, PacksCut}
 use Rattle.cert_check.specs.Room.{Kept}
 use Rattle.cert_check.specs.Loads.{HasRows, IsLeafOf, IsOverload, IsLoadKept, KeepsDecision, KeepsEdge, KeepsLoads, LoadsBelow, LoadsOnly, SameWay}
-use Rattle.cert_check.specs.Stretches.{IsWhole}
+use Rattle.cert_check.specs.Strips.{IsWhole}
 use Rattle.cert_check.proofs.lemmas.Loading.{within_room}
 use Rattle.cert_check.proofs.lemmas.States.{states_kept}
 
 -- the loads of another edge stay
-KeepsEdge-elsewhere : (g : Graph) (cuts : List Cut) (n k : ℕ) (old new : Kept) → LoadsOnly n old new → k ≢ n → KeepsEdge g cuts old k → KeepsEdge g cuts new k
+KeepsEdge-elsewhere : (g : Graph) (cuts : List Cut) (n k : ℕ) (old new : Kept) → LoadsOnly n old new → k ≢ n →
+    KeepsEdge g cuts old k → KeepsEdge g cuts new k
 KeepsEdge-elsewhere g cuts n k old new only apart keeps e state at state_at =
     let before = keeps e state at (sym (ap (λ xs. slice_get xs k) only.way.states) ∙ state_at) in
     subst (λ n. KeepsLoads state e cuts n (get_or new.back k 0)) (sym (only.there k apart))
     (subst (λ n. KeepsLoads state e cuts (get_or old.there k 0) n) (sym (only.back k apart)) before)
 
 -- one edge more
-pub LoadsBelow-more : (g : Graph) (cuts : List Cut) (c : Cut) (n : ℕ) (e : Edge) (old new : Kept) → LoadsOnly n old new → slice_get g.edges n ≡ Some e →
-    ((state : EdgeState) → slice_get old.states n ≡ Some state → KeepsLoads state e cuts (get_or old.there n 0) (get_or old.back n 0) →
-    KeepsLoads state e (cuts ++ c ∷ []) (get_or new.there n 0) (get_or new.back n 0)) → LoadsBelow g cuts c n old → LoadsBelow g cuts c (n + 1) new
+pub LoadsBelow-more : (g : Graph) (cuts : List Cut) (c : Cut) (n : ℕ) (e : Edge) (old new : Kept) →
+    LoadsOnly n old new → slice_get g.edges n ≡ Some e →
+    ((state : EdgeState) → slice_get old.states n ≡ Some state →
+    KeepsLoads state e cuts (get_or old.there n 0) (get_or old.back n 0) →
+    KeepsLoads state e (cuts ++ c ∷ []) (get_or new.there n 0) (get_or new.back n 0)) → LoadsBelow g cuts c n old →
+    LoadsBelow g cuts c (n + 1) new
 LoadsBelow-more g cuts c n e old new only at passes below = record {
   passed = λ k lt. elim (cases_eq k n) [
     | inl is ↦ subst (KeepsEdge g (cuts ++ c ∷ []) new) (sym is) here
     | inr apart ↦ KeepsEdge-elsewhere g (cuts ++ c ∷ []) n k old new only apart (below.passed k (omega arith))
   ];
-  ahead = λ k le. let apart : k ≢ n = λ is. omega arith in KeepsEdge-elsewhere g cuts n k old new only apart (below.ahead k (omega arith));
+  ahead = λ k le. let apart : k ≢ n =
+      λ is. omega arith in KeepsEdge-elsewhere g cuts n k old new only apart (below.ahead k (omega arith));
 }
   where
     here : KeepsEdge g (cuts ++ c ∷ []) new n
@@ -47,7 +52,8 @@ LoadsBelow-more g cuts c n e old new only at passes below = record {
         (passes state before (below.ahead n (omega arith) e state at before))
 
 -- a cut that an arc doesn't enter loads it no more
-load-none : (cuts : List Cut) (c : Cut) (u v : ℕ) → enters c.members u v ≡ false → load (cuts ++ c ∷ []) u v ≡ load cuts u v
+load-none : (cuts : List Cut) (c : Cut) (u v : ℕ) → enters c.members u v ≡ false →
+    load (cuts ++ c ∷ []) u v ≡ load cuts u v
 load-none cuts c u v out =
     let amount : Cut → ℕ = λ c. if enters c.members u v then c.weight else 0 in
     let none : amount c ≡ 0 = rw out refl in
@@ -61,8 +67,10 @@ KeepsEdge-whole g cuts c n kept whole keeps e state at state_at =
     let loads = keeps e state at state_at in
     let out = whole e at in
     record {
-      forward = subst (λ m. IsLoadKept state e m (get_or kept.there n 0)) (sym (load-none cuts c e.a e.b out.0)) loads.forward;
-      backward = subst (λ m. IsLoadKept state e m (get_or kept.back n 0)) (sym (load-none cuts c e.b e.a out.1)) loads.backward;
+      forward = subst (λ m. IsLoadKept state e m (get_or kept.there n 0)) (sym (load-none cuts c e.a e.b out.0))
+          loads.forward;
+      backward = subst (λ m. IsLoadKept state e m (get_or kept.back n 0)) (sym (load-none cuts c e.b e.a out.1))
+          loads.backward;
     }
 
 -- so such edges are passed over
@@ -76,13 +84,11 @@ LoadsBelow-whole g cuts c n m kept le whole below = record {
   ahead = λ k from. below.ahead k (omega arith);
 }
 
--- none yet
-pub LoadsBelow-none : (g : Graph) (cuts : List Cut) (c : Cut) (kept : Kept) → IsLeafOf g cuts kept → LoadsBelow g cuts c 0 kept
-LoadsBelow-none g cuts c kept leaf = record { passed = λ k lt. absurd (omega arith); ahead = λ k from. leaf k }
-
 -- all edges
-pub IsLeafOf-below : (g : Graph) (cuts : List Cut) (c : Cut) (n : ℕ) (kept : Kept) → length g.edges ≤ n → LoadsBelow g cuts c n kept → IsLeafOf g (cuts ++ c ∷ []) kept
-IsLeafOf-below g cuts c n kept all below k e state at state_at = below.passed k (omega (arith, slice_get_within g.edges k e at)) e state at state_at
+pub IsLeafOf-below : (g : Graph) (cuts : List Cut) (c : Cut) (n : ℕ) (kept : Kept) → length g.edges ≤ n →
+    LoadsBelow g cuts c n kept → IsLeafOf g (cuts ++ c ∷ []) kept
+IsLeafOf-below g cuts c n kept all below k e state at state_at =
+    below.passed k (omega (arith, slice_get_within g.edges k e at)) e state at state_at
 
 -- the rows keep their lengths
 pub HasRows-only : (g : Graph) (n : ℕ) (old new : Kept) → LoadsOnly n old new → HasRows g old → HasRows g new
@@ -102,17 +108,20 @@ SameWay-then old mid new first second = record {
 }
 
 -- an edge whose loads are kept keeps its room
-KeepsRoom-kept : (g : Graph) (d : Decided) (packing : List Cut) (kept : Kept) (n : ℕ) → states_of g d ≡ kept.states → KeepsEdge g packing kept n → KeepsRoom g d packing n
+KeepsRoom-kept : (g : Graph) (d : Decided) (packing : List Cut) (kept : Kept) (n : ℕ) → states_of g d ≡ kept.states →
+    KeepsEdge g packing kept n → KeepsRoom g d packing n
 KeepsRoom-kept g d packing kept n same keeps e state at state_at =
     let loads = keeps e state at (sym (ap (λ xs. slice_get xs n) same) ∙ state_at) in
     (within_room state e _ _ loads.forward, within_room state e _ _ loads.backward)
 
 -- the decision stands in a room whose way is the same
-pub KeepsDecision-same : (g : Graph) (d : Decided) (old new : Kept) → SameWay old new → KeepsDecision g d old → KeepsDecision g d new
+pub KeepsDecision-same : (g : Graph) (d : Decided) (old new : Kept) → SameWay old new → KeepsDecision g d old →
+    KeepsDecision g d new
 KeepsDecision-same g d old new way keeps = record { edges = way.states ∙ keeps.edges; vertices = keeps.vertices }
 
 -- a cut with which no arc is loaded above its room may stand there
-pub PacksCut-kept : (g : Graph) (d : Decided) (cuts : List Cut) (c : Cut) (kept : Kept) → HasRows g kept → KeepsDecision g d kept → IsCut g d c.members →
+pub PacksCut-kept : (g : Graph) (d : Decided) (cuts : List Cut) (c : Cut) (kept : Kept) → HasRows g kept →
+    KeepsDecision g d kept → IsCut g d c.members →
     IsLeafOf g (cuts ++ c ∷ []) kept → PacksCut g d cuts c
 PacksCut-kept g d cuts c kept rows keeps cut leaf = record {
   cut = cut;
@@ -120,14 +129,18 @@ PacksCut-kept g d cuts c kept rows keeps cut leaf = record {
 }
 
 -- the next edge is the first of which an arc is loaded above its room
-pub IsFirstOverload-kept : (g : Graph) (d : Decided) (cuts : List Cut) (c : Cut) (n : ℕ) (e : Edge) (over : Excess) (kept : Kept) → HasRows g kept → KeepsDecision g d kept →
+pub IsFirstOverload-kept : (g : Graph) (d : Decided) (cuts : List Cut) (c : Cut) (n : ℕ) (e : Edge) (over : Excess)
+    (kept : Kept) → HasRows g kept → KeepsDecision g d kept →
     slice_get g.edges n ≡ Some e → LoadsBelow g cuts c n kept →
-    ((state : EdgeState) → slice_get kept.states n ≡ Some state → KeepsLoads state e cuts (get_or kept.there n 0) (get_or kept.back n 0) → IsOverload state e (cuts ++ c ∷ []) c.members over) →
+    ((state : EdgeState) → slice_get kept.states n ≡ Some state →
+    KeepsLoads state e cuts (get_or kept.there n 0) (get_or kept.back n 0) →
+    IsOverload state e (cuts ++ c ∷ []) c.members over) →
     IsFirstOverload g d (cuts ++ c ∷ []) c.members n over.load over.room
 IsFirstOverload-kept g d cuts c n e over kept rows keeps at below overloads =
     let same = states_kept g d kept rows keeps in
     let state = get_or kept.states n Undecided in
-    let state_at : slice_get kept.states n ≡ Some state = slice_get-get_or kept.states n Undecided (omega (arith, rows.states, slice_get_within g.edges n e at)) in
+    let state_at : slice_get kept.states n ≡ Some state =
+    slice_get-get_or kept.states n Undecided (omega (arith, rows.states, slice_get_within g.edges n e at)) in
     let is = overloads state state_at (below.ahead n (omega arith) e state at state_at) in
     record {
       is = e;

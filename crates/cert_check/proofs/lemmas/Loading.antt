@@ -14,7 +14,8 @@ kept_free : (state : EdgeState) (e : Edge) (amount kept : ℕ) → room_of state
 kept_free state e amount kept is = rw is tt
 
 -- a kept load is within the room
-pub within_room : (state : EdgeState) (e : Edge) (amount kept : ℕ) → IsLoadKept state e amount kept → IsWithinRoom state e amount
+pub within_room : (state : EdgeState) (e : Edge) (amount kept : ℕ) → IsLoadKept state e amount kept →
+    IsWithinRoom state e amount
 within_room Undecided e amount kept keeps = keeps.1
 within_room Inside e amount kept keeps = keeps.1
 within_room Outside e amount kept keeps = tt
@@ -22,10 +23,9 @@ within_room Outside e amount kept keeps = tt
 -- ---- one more cut
 
 -- the edge has no room
-pub passes_free : (state : EdgeState) (e : Edge) (packing : List Cut) (there back : ℕ) → room_of state e ≡ None → KeepsLoads state e packing there back
+pub passes_free : (state : EdgeState) (e : Edge) (packing : List Cut) (there back : ℕ) → room_of state e ≡ None →
+    KeepsLoads state e packing there back
 passes_free state e packing there back is = record {
   forward = kept_free state e (load packing e.a e.b) there is;
   backward = kept_free state e (load packing e.b e.a) back is;
 }
-
--- ---- what stays

@@ -1,56 +1,32 @@
 -- The marks of the edges that a set parts: which edges lie before the next mark and behind the last one.
-use Rattle.std.proofs.Common.{ℕ, ◌≡◌, ◌+◌, ◌-◌, ◌*◌, ◌/◌, ◌^◌, ◌<◌, ◌≤◌, Bool, true, false, not, ◌&&◌, List, length, eqb, refl, ap, sym, subst, ◌∙◌, ⊎_elim, arith, w64}
+use Rattle.std.proofs.Common.{ℕ, ◌≡◌, ◌+◌, ◌-◌, ◌*◌, ◌/◌, ◌^◌, ◌<◌, ◌≤◌, Bool, List, ap, sym, subst, ◌∙◌, ⊎_elim, arith, w64}
 use Rattle.std.specs.Int.{bit_at, trailing_zeros}
 use Rattle.std.proofs.Math.Nat.{div-div-eq-div-mul}
 use Rattle.std.proofs.lemmas.Nat.{pow-add, pow_pos, div_below}
 use Rattle.std.proofs.lemmas.Nat.Bits.{bit_at-zero, bit_at_above, bit_at-trailing_zeros}
 use Rattle.std.proofs.lemmas.Bool.{cases_lt}
-use Rattle.net_graph.specs.Flags.{has}
 use Rattle.net_graph.specs.Graph.{Graph}
-use Rattle.net_graph.specs.Packing.{enters}
-use Rattle.cert_check.specs.declared.border.Stretch.{Stretch}
-use Rattle.cert_check.specs.Stretches.{IsStretch, IsWhole, MarksParted}
+use Rattle.cert_check.specs.Strips.{IsWhole, MarksParted}
 use Rattle.cert_check.proofs.lemmas.WordBits.{bit_at-shr}
-
--- ---- at the start of a stretch
-
-never_both : (x : Bool) → (x && not x) ≡ false
-never_both true = refl
-never_both false = refl
-
--- a set that holds both ends of an edge or neither is entered by none of its arcs
-enters_none : (members : List Bool) (u v : ℕ) → has members u ≡ has members v → enters members u v ≡ false
-enters_none members u v same = rw same (never_both (has members v))
-
--- so the marks are those of the edges that the set parts
-pub marks_begin : (g : Graph) (members : List Bool) (s : Stretch) (marks : ℕ) → IsStretch g s → marks < 2 ^ s.count →
-    ((i : ℕ) → i < s.count → bit_at marks i ≡ 0 → has members (s.vertex + i) ≡ has members (s.vertex + s.step + i)) →
-    MarksParted g members marks s.edge (s.edge + s.count)
-marks_begin g members s marks stretch below same = record {
-  within = omega arith;
-  below = let count : s.edge + s.count - s.edge ≡ s.count = omega arith in rw count below;
-  others = λ i inside none e at.
-      let ends = stretch.joins i (omega arith) e at in
-      let alike : has members e.a ≡ has members e.b = rw (ends.0, ends.1) (same i (omega arith) none) in
-      (enters_none members e.a e.b alike, enters_none members e.b e.a (sym alike));
-}
 
 -- ---- the next mark
 
--- it is one of an edge of the stretch
-pub mark_within : (g : Graph) (members : List Bool) (marks n end : ℕ) → MarksParted g members marks n end → 0 < marks → marks < 2 ^ 64 →
+-- it is one of an edge of the strip
+pub mark_within : (g : Graph) (members : List Bool) (marks n end : ℕ) → MarksParted g members marks n end → 0 < marks →
+    marks < 2 ^ 64 →
     n + trailing_zeros w64 marks < end
 mark_within g members marks n end is some fits =
     let lowest = bit_at-trailing_zeros w64 marks some fits in
     ⊎_elim
     (λ (below : n + trailing_zeros w64 marks < end). below)
     (λ (above : end ≤ n + trailing_zeros w64 marks).
-      let none = bit_at_above marks (end - n) (trailing_zeros w64 marks) is.below (omega (arith, is.within)) in
-      absurd (omega (arith, none, lowest.1)))
+    let none = bit_at_above marks (end - n) (trailing_zeros w64 marks) is.below (omega (arith, is.within)) in
+    absurd (omega (arith, none, lowest.1)))
     (cases_lt (n + trailing_zeros w64 marks) end)
 
 -- the edges before it are whole
-pub whole_before : (g : Graph) (members : List Bool) (marks n end : ℕ) → MarksParted g members marks n end → 0 < marks → marks < 2 ^ 64 →
+pub whole_before : (g : Graph) (members : List Bool) (marks n end : ℕ) → MarksParted g members marks n end → 0 < marks →
+    marks < 2 ^ 64 →
     (k : ℕ) → n ≤ k → k < n + trailing_zeros w64 marks → IsWhole g members k
 whole_before g members marks n end is some fits k from below =
     let lowest = bit_at-trailing_zeros w64 marks some fits in
@@ -59,18 +35,21 @@ whole_before g members marks n end is some fits k from below =
     subst (IsWhole g members) at (is.others (k - n) (omega arith) (lowest.2 (k - n) (omega arith)))
 
 -- the marks behind it
-pub marks_behind : (g : Graph) (members : List Bool) (marks n end gap : ℕ) → MarksParted g members marks n end → n + gap < end →
+pub marks_behind : (g : Graph) (members : List Bool) (marks n end gap : ℕ) → MarksParted g members marks n end →
+    n + gap < end →
     MarksParted g members (marks / 2 ^ gap / 2) (n + gap + 1) end
 marks_behind g members marks n end gap is inside = record {
   within = omega arith;
   below =
       let once : marks / 2 ^ gap / 2 ≡ marks / 2 ^ (gap + 1) =
-          div-div-eq-div-mul marks (2 ^ gap) 2 ∙ ap (λ m. marks / m) (sym (pow-add 2 gap 1)) in
+      div-div-eq-div-mul marks (2 ^ gap) 2 ∙ ap (λ m. marks / m) (sym (pow-add 2 gap 1)) in
       let rest : end - n ≡ end - (n + gap + 1) + (gap + 1) = omega arith in
-      let room : 2 ^ (end - n) ≡ 2 ^ (end - (n + gap + 1)) * 2 ^ (gap + 1) = ap (λ k. 2 ^ k) rest ∙ pow-add 2 (end - (n + gap + 1)) (gap + 1) in
+      let room : 2 ^ (end - n) ≡ 2 ^ (end - (n + gap + 1)) * 2 ^ (gap + 1) =
+      ap (λ k. 2 ^ k) rest ∙ pow-add 2 (end - (n + gap + 1)) (gap + 1) in
       rw once (div_below marks (2 ^ (gap + 1)) (2 ^ (end - (n + gap + 1))) (pow_pos (gap + 1)) (rw (← room) is.below));
   others = λ i low none.
-      let bit : bit_at (marks / 2 ^ gap / 2) i ≡ bit_at marks (gap + (1 + i)) = bit_at-shr (marks / 2 ^ gap) 1 i ∙ bit_at-shr marks gap (1 + i) in
+      let bit : bit_at (marks / 2 ^ gap / 2) i ≡ bit_at marks (gap + (1 + i)) =
+      bit_at-shr (marks / 2 ^ gap) 1 i ∙ bit_at-shr marks gap (1 + i) in
       let at : n + (gap + (1 + i)) ≡ n + gap + 1 + i = omega arith in
       subst (IsWhole g members) at (is.others (gap + (1 + i)) (omega arith) (sym bit ∙ none));
 }
@@ -82,4 +61,5 @@ pub whole_behind : (g : Graph) (members : List Bool) (marks n end : ℕ) → Mar
     (k : ℕ) → n ≤ k → k < end → IsWhole g members k
 whole_behind g members marks n end is none k from below =
     let at : n + (k - n) ≡ k = omega arith in
-    subst (IsWhole g members) at (is.others (k - n) (omega arith) (ap (λ m. bit_at m (k - n)) none ∙ bit_at-zero (k - n)))
+    subst (IsWhole g members) at
+    (is.others (k - n) (omega arith) (ap (λ m. bit_at m (k - n)) none ∙ bit_at-zero (k - n)))

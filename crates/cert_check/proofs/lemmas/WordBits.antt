@@ -33,14 +33,15 @@ bit_at-shl_above n k i above low =
 -- ---- where two words differ
 
 -- not in a bit that is 0 among the lowest ones of their exclusive or
-pub same_bit : (a b count i : ℕ) → i < count → count < 64 → bit_at (bit_and (bit_xor a b) (1 * 2 ^ count % 2 ^ 64 - 1)) i ≡ 0 →
+pub same_bit : (a b count i : ℕ) → i < count → count < 64 →
+    bit_at (bit_and (bit_xor a b) (1 * 2 ^ count % 2 ^ 64 - 1)) i ≡ 0 →
     bit_at a i ≡ bit_at b i
 same_bit a b count i below few none =
     let mask : 1 * 2 ^ count % 2 ^ 64 - 1 ≡ 2 ^ count - 1 = ap (λ m. m - 1) (one_shl count 64 few) in
     let kept : bit_at (bit_and (bit_xor a b) (2 ^ count - 1)) i ≡ bit_at (bit_xor a b) i =
-        ap (λ m. bit_at m i) (and_mask (bit_xor a b) count) ∙ bit_at-mod (bit_xor a b) count i below in
+    ap (λ m. bit_at m i) (and_mask (bit_xor a b) count) ∙ bit_at-mod (bit_xor a b) count i below in
     let even : (bit_at a i + bit_at b i) % 2 ≡ 0 =
-        sym (bit_at_xor a b i) ∙ sym kept ∙ ap (λ m. bit_at (bit_and (bit_xor a b) m) i) (sym mask) ∙ none in
+    sym (bit_at_xor a b i) ∙ sym kept ∙ ap (λ m. bit_at (bit_and (bit_xor a b) m) i) (sym mask) ∙ none in
     omega (arith, bit_at-lt a i, bit_at-lt b i)
 
 -- ---- words of flags
@@ -51,35 +52,41 @@ HasFlags flags place word =
     (r : ℕ) → r < 64 → 64 * place + r < length flags → has flags (64 * place + r) ≡ eqb (bit_at word r) 1
 
 -- the flags from a number on that stand in the first word
-pub flag_in_first : (flags : List Bool) (n i word : ℕ) → HasFlags flags (n / 64) word → n + i < length flags → n % 64 + i < 64 →
+pub flag_in_first : (flags : List Bool) (n i word : ℕ) → HasFlags flags (n / 64) word → n + i < length flags →
+    n % 64 + i < 64 →
     has flags (n + i) ≡ eqb (bit_at (word / 2 ^ (n % 64)) i) 1
 flag_in_first flags n i word keeps within low =
     let at : 64 * (n / 64) + (n % 64 + i) ≡ n + i = omega arith in
     let here : has flags (n + i) ≡ eqb (bit_at word (n % 64 + i)) 1 =
-        subst (λ k. has flags k ≡ eqb (bit_at word (n % 64 + i)) 1) at (keeps (n % 64 + i) low (omega arith)) in
+    subst (λ k. has flags k ≡ eqb (bit_at word (n % 64 + i)) 1) at (keeps (n % 64 + i) low (omega arith)) in
     here ∙ ap (λ b. eqb b 1) (sym (bit_at-shr word (n % 64) i))
 
 -- those that stand in two words
-pub flag_in_two : (flags : List Bool) (n i low high : ℕ) → HasFlags flags (n / 64) low → HasFlags flags (n / 64 + 1) high → low < 2 ^ 64 →
+pub flag_in_two : (flags : List Bool) (n i low high : ℕ) → HasFlags flags (n / 64) low →
+    HasFlags flags (n / 64 + 1) high → low < 2 ^ 64 →
     n + i < length flags → i < 64 →
     has flags (n + i) ≡ eqb (bit_at (bit_or (low / 2 ^ (n % 64)) (high * 2 ^ (64 - n % 64) % 2 ^ 64)) i) 1
 flag_in_two flags n i low high first second fits within few =
     let front : ℕ = low / 2 ^ (n % 64) in
     let back : ℕ = high * 2 ^ (64 - n % 64) % 2 ^ 64 in
     let joined : bit_at (bit_or (low / 2 ^ (n % 64)) (high * 2 ^ (64 - n % 64) % 2 ^ 64)) i ≡
-        max (bit_at (low / 2 ^ (n % 64)) i) (bit_at (high * 2 ^ (64 - n % 64) % 2 ^ 64) i) =
-        bit_at_or (low / 2 ^ (n % 64)) (high * 2 ^ (64 - n % 64) % 2 ^ 64) i in
+    max (bit_at (low / 2 ^ (n % 64)) i) (bit_at (high * 2 ^ (64 - n % 64) % 2 ^ 64) i) =
+    bit_at_or (low / 2 ^ (n % 64)) (high * 2 ^ (64 - n % 64) % 2 ^ 64) i in
     ⊎_elim
     (λ (here : n % 64 + i < 64).
-      let none = bit_at-shl_below high (64 - n % 64) i (omega arith) few in
-      let bit : bit_at (bit_or (low / 2 ^ (n % 64)) (high * 2 ^ (64 - n % 64) % 2 ^ 64)) i ≡ bit_at (low / 2 ^ (n % 64)) i = omega arith in
-      flag_in_first flags n i low first within here ∙ ap (λ b. eqb b 1) (sym bit))
+    let none = bit_at-shl_below high (64 - n % 64) i (omega arith) few in
+    let bit : bit_at (bit_or (low / 2 ^ (n % 64)) (high * 2 ^ (64 - n % 64) % 2 ^ 64)) i ≡ bit_at (low / 2 ^ (n % 64))
+    i = omega arith in
+    flag_in_first flags n i low first within here ∙ ap (λ b. eqb b 1) (sym bit))
     (λ (there : 64 ≤ n % 64 + i).
-      let none : bit_at (low / 2 ^ (n % 64)) i ≡ 0 = bit_at-shr low (n % 64) i ∙ bit_at_above low 64 (n % 64 + i) fits there in
-      let some = bit_at-shl_above high (64 - n % 64) i (omega arith) few in
-      let bit : bit_at (bit_or (low / 2 ^ (n % 64)) (high * 2 ^ (64 - n % 64) % 2 ^ 64)) i ≡ bit_at high (i - (64 - n % 64)) = omega arith in
-      let at : 64 * (n / 64 + 1) + (i - (64 - n % 64)) ≡ n + i = omega arith in
-      let flag : has flags (n + i) ≡ eqb (bit_at high (i - (64 - n % 64))) 1 =
-          subst (λ k. has flags k ≡ eqb (bit_at high (i - (64 - n % 64))) 1) at (second (i - (64 - n % 64)) (omega arith) (omega arith)) in
-      flag ∙ ap (λ b. eqb b 1) (sym bit))
+    let none : bit_at (low / 2 ^ (n % 64)) i ≡ 0 =
+    bit_at-shr low (n % 64) i ∙ bit_at_above low 64 (n % 64 + i) fits there in
+    let some = bit_at-shl_above high (64 - n % 64) i (omega arith) few in
+    let bit : bit_at (bit_or (low / 2 ^ (n % 64)) (high * 2 ^ (64 - n % 64) % 2 ^ 64)) i ≡ bit_at high
+    (i - (64 - n % 64)) = omega arith in
+    let at : 64 * (n / 64 + 1) + (i - (64 - n % 64)) ≡ n + i = omega arith in
+    let flag : has flags (n + i) ≡ eqb (bit_at high (i - (64 - n % 64))) 1 =
+    subst (λ k. has flags k ≡ eqb (bit_at high (i - (64 - n % 64))) 1) at
+    (second (i - (64 - n % 64)) (omega arith) (omega arith)) in
+    flag ∙ ap (λ b. eqb b 1) (sym bit))
     (cases_lt (n % 64 + i) 64)

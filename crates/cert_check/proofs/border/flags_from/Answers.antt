@@ -8,5 +8,6 @@ returns-then-shift-count-le64 c i below =
 
 pub returns : goal.returns
 returns c i below =
-    flag_in_two c.args.members.now c.args.vertex i c.word.result c.word-2.result c.word.ensures c.word-2.ensures (search rules)
+    flag_in_two c.args.members.now c.args.vertex i c.word.result c.word-2.result c.word.ensures c.word-2.ensures
+    (search rules)
     (omega arith) (omega arith)

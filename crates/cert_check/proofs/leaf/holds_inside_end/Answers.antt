@@ -1,4 +1,4 @@
-use Rattle.std.proofs.Common.{◌≡◌, ◌<◌, length, slice_get, Some, subst, sym, ap, ◌∙◌, inl, inr, ⊎_elim, arith}
+use Rattle.std.proofs.Common.{◌≡◌, slice_get, Some, subst, sym, inl, inr, ⊎_elim, arith}
 use Rattle.std.proofs.lemmas.Option.{slice_get_within}
 use Rattle.net_graph.specs.declared.state.EdgeState.TheVariants.{Inside}
 use Rattle.net_graph.specs.Flags.{has}
@@ -8,12 +8,14 @@ use Rattle.cert_check.proofs.leaf.holds_inside_end.Goals as goal
 
 pub overflow_cast-edge : goal.overflow_cast-edge
 overflow_cast-edge c =
-    let within = turn_within c.args.g.now c.args.room.now c.loop-place.place c.turn-edge.result c.requires.on_way c.turn-edge.ensures in
+    let within = turn_within c.args.g.now c.args.room.now c.loop-place.place c.turn-edge.result c.requires.on_way
+    c.turn-edge.ensures in
     record { fits = omega (arith, within, c.edge_count.ensures.graph.few_edges) }
 
 pub is_inside-requires : goal.is_inside-requires
 is_inside-requires c =
-    let within = turn_within c.args.g.now c.args.room.now c.loop-place.place c.turn-edge.result c.requires.on_way c.turn-edge.ensures in
+    let within = turn_within c.args.g.now c.args.room.now c.loop-place.place c.turn-edge.result c.requires.on_way
+    c.turn-edge.ensures in
     omega (arith, within, c.requires.on_way.rows.states)
 
 pub edge-requires : goal.edge-requires

@@ -2,10 +2,10 @@ use Rattle.std.proofs.Common.{List}
 use Rattle.net_graph.specs.declared.packing.Cut.{Cut}
 use Rattle.cert_check.specs.Cuts.{cut_of}
 use Rattle.cert_check.specs.Loads.{HasRows, IsLeafOf, LoadsBelow, SameWay}
-use Rattle.cert_check.specs.Stretches.{edges_before}
+use Rattle.cert_check.specs.Strips.{edges_before}
 use Rattle.cert_check.proofs.leaf.load_arcs.Given as goal
 
--- the arcs of the stretches so far are loaded, and no others
+-- the arcs of the strips so far are loaded, and no others
 abbrev pub invariant-loop-place : goal.invariant-loop-place
 invariant-loop-place l = record {
   rows : HasRows l.g l.room;

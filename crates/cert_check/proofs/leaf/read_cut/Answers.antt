@@ -19,7 +19,8 @@ pub returns-clause-passes : goal.returns-clause-passes
 returns-clause-passes c =
     IfNone-then c.load_arcs.result c.load_arcs.ensures.leaf
     (λ more d cuts keeps leaf. (
-      PacksCut-kept c.args.g.now d cuts (cut_of c.args.weight c.args.members.now) c.load_arcs.new.room c.load_arcs.ensures.rows
+      PacksCut-kept c.args.g.now d cuts (cut_of c.args.weight c.args.members.now) c.load_arcs.new.room
+          c.load_arcs.ensures.rows
           (KeepsDecision-same c.args.g.now d c.args.room.now c.load_arcs.new.room c.load_arcs.ensures.way keeps)
           (c.in_default.ensures.passes d keeps) (more cuts leaf),
       more cuts leaf,
@@ -27,4 +28,5 @@ returns-clause-passes c =
 
 pub returns-clause-fault : goal.returns-clause-fault
 returns-clause-fault c =
-    IfSome-then c.load_arcs.result c.load_arcs.ensures.fault (λ cause fault d cuts keeps leaf. fault d cuts keeps (c.in_default.ensures.passes d keeps) leaf)
+    IfSome-then c.load_arcs.result c.load_arcs.ensures.fault
+    (λ cause fault d cuts keeps leaf. fault d cuts keeps (c.in_default.ensures.passes d keeps) leaf)

@@ -10,14 +10,19 @@ pub returns-in-Some-clause-fault : goal.returns-in-Some-clause-fault
 returns-in-Some-clause-fault c s stands =
     let g = hanan_grid_of c.args.grid.now in
     let old = c.args.self.now in
-    let fault = (rw c.graph-g.ensures.graph at c.in-Some.ensures.fault) (decision_at g old.room) s.cuts (KeepsDecision-on_way g old.room c.requires.sizes.way) stands.leaf in
-    (CutFault-due c.args.grid.now s old (cut_of c.args.weight c.args.members.now) c.args.line c.in-Some.cause stands fault, stands.network)
+    let fault = (rw c.graph-g.ensures.graph at c.in-Some.ensures.fault) (decision_at g old.room) s.cuts
+    (KeepsDecision-on_way g old.room c.requires.sizes.way) stands.leaf in (
+      CutFault-due c.args.grid.now s old (cut_of c.args.weight c.args.members.now) c.args.line c.in-Some.cause stands
+          fault,
+      stands.network,
+    )
 
 pub returns-clause-passes : goal.returns-clause-passes
 returns-clause-passes c s stands =
     let g = hanan_grid_of c.args.grid.now in
     let old = c.args.self.now in
-    let (packs, leaf) = (rw c.graph-g.ensures.graph at c.in_default.ensures.passes) (decision_at g old.room) s.cuts (KeepsDecision-on_way g old.room c.requires.sizes.way) stands.leaf in
+    let (packs, leaf) = (rw c.graph-g.ensures.graph at c.in_default.ensures.passes) (decision_at g old.room) s.cuts
+    (KeepsDecision-on_way g old.room c.requires.sizes.way) stands.leaf in
     cut_passes c.args.grid.now c.args.weight c.saturating_sub.result c.args.members.now old _ c.set_cuts_due.new.self s
     (record {
       head = refl;

@@ -5,5 +5,6 @@ use Rattle.cert_check.proofs.room.Room.depth.Goals as goal
 
 pub returns : goal.returns
 returns c =
-    sym (length-turns_from c.self.inside.row (path_start c.self.inside.edges c.self.inside.vertices) c.self.inside.depth)
+    sym (length-turns_from c.self.inside.row (path_start c.self.inside.edges c.self.inside.vertices)
+    c.self.inside.depth)
     ∙ ap (λ (o : Kept). length o.path) c.self.view_is

@@ -1,20 +1,20 @@
--- How the edges of a grid are numbered: in stretches of edges that join successive vertices to those a step further on.
+-- How the edges of a grid are numbered: in strips of edges that join successive vertices to those a step further on.
 use Rattle.std.specs.Prelude.{ℕ, ◌≡◌, ◌+◌, ◌-◌, ◌*◌, ◌^◌, ◌<◌, ◌≤◌, min, Bool, false, List, length, slice_get, Some}
 use Rattle.std.specs.Int.{bit_at}
 use Rattle.net_graph.specs.declared.edge.Edge.{Edge}
 use Rattle.net_graph.specs.Graph.{Graph}
 use Rattle.net_graph.specs.Packing.{enters}
 use Rattle.cert_check.specs.declared.border.Layout.{Layout}
-use Rattle.cert_check.specs.declared.border.Stretch.{Stretch}
+use Rattle.cert_check.specs.declared.border.Strip.{Strip}
 
--- How many edges stand before a stretch: a row has one horizontal edge less than columns, and behind the rows come the
+-- How many edges stand before a strip: a row has one horizontal edge less than columns, and behind the rows come the
 -- vertical edges from each row to the next, one a column.
 abbrev pub edges_before : Layout → ℕ → ℕ
 edges_before l place = min place l.rows * (l.columns - 1) + (place - l.rows) * l.columns
 
--- each edge with this number joins these vertices
-abbrev pub Joins : Graph → ℕ → ℕ → ℕ → Type 0
-Joins g n a b = (e : Edge) → slice_get g.edges n ≡ Some e → (e.a ≡ a) × (e.b ≡ b)
+-- the edge of this number has these ends
+abbrev pub HasEnds : Graph → ℕ → ℕ → ℕ → Type 0
+HasEnds g n a b = (e : Edge) → slice_get g.edges n ≡ Some e → (e.a ≡ a) × (e.b ≡ b)
 
 -- the graph is numbered as a grid of so many columns and rows, of which there are 1 to 50
 pub record IsLaidOut (g : Graph) (l : Layout) : Type 0 where
@@ -25,16 +25,17 @@ pub record IsLaidOut (g : Graph) (l : Layout) : Type 0 where
   pub vertices : g.vertices ≡ l.columns * l.rows
   pub edges : length g.edges ≡ l.rows * (l.columns - 1) + (l.rows - 1) * l.columns
   pub right : (row column : ℕ) → row < l.rows → column + 1 < l.columns →
-      Joins g (row * (l.columns - 1) + column) (row * l.columns + column) (row * l.columns + column + 1)
+      HasEnds g (row * (l.columns - 1) + column) (row * l.columns + column) (row * l.columns + column + 1)
   pub up : (row column : ℕ) → row + 1 < l.rows → column < l.columns →
-      Joins g (l.rows * (l.columns - 1) + row * l.columns + column) (row * l.columns + column) (row * l.columns + column + l.columns)
+      HasEnds g (l.rows * (l.columns - 1) + row * l.columns + column)
+      (row * l.columns + column) (row * l.columns + column + l.columns)
 
--- the edges of the stretch are those of the graph at its numbers
-pub record IsStretch (g : Graph) (s : Stretch) : Type 0 where
+-- the edges of the strip are those of the graph at its numbers
+pub record IsStrip (g : Graph) (s : Strip) : Type 0 where
   pub few : s.count ≤ 50
   pub vertices : s.vertex + s.step + s.count ≤ g.vertices
   pub edges : s.edge + s.count ≤ length g.edges
-  pub joins : (i : ℕ) → i < s.count → Joins g (s.edge + i) (s.vertex + i) (s.vertex + s.step + i)
+  pub ends : (i : ℕ) → i < s.count → HasEnds g (s.edge + i) (s.vertex + i) (s.vertex + s.step + i)
 
 -- neither arc of the edge enters the set
 abbrev pub IsWhole : Graph → List Bool → ℕ → Type 0
