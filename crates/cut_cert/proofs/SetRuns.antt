@@ -3,7 +3,6 @@ use Rattle.std.proofs.Common.{ℕ, ◌≡◌, ◌≢◌, ◌+◌, ◌<◌, ◌�
 use Rattle.std.specs.Fmt.{digit_glyph}
 use Rattle.std.proofs.lemmas.Bool.Decides.{nat_tests}
 use Rattle.std.proofs.lemmas.List.Elements.{All-nil, All-push}
-use Rattle.cut_cert.specs.AnswerLine.{Line}
 use Rattle.cut_cert.specs.declared.scan.Kept.{Kept}
 use Rattle.cut_cert.specs.declared.scan.Scan.{Scan}
 use Rattle.cut_cert.specs.declared.scan.Scan.TheVariants as scan

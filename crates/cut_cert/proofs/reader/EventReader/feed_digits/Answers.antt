@@ -1,4 +1,4 @@
-use Rattle.std.proofs.Common.{◌+◌, take, refl, sym, ap, subst, ◌∙◌}
+use Rattle.std.proofs.Common.{◌+◌, take, refl, sym, ap, subst}
 use Rattle.std.proofs.lemmas.List.{length-take-le}
 use Rattle.cut_cert.specs.declared.scan.Scan.TheVariants as scan
 use Rattle.cut_cert.specs.Scanning.{IsRun, IsSound}
