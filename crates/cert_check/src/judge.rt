@@ -108,7 +108,8 @@ impl Judge {
         ensures passes { IfNone result ((s : SoFar) (members : Option (List Bool)) → StandsFor grid.now s self.old
             → (s' : SoFar) × Passes grid.now s (Event.Edge name.now) members s' × StandsFor grid.now s' self.new) }
         ensures fault { IfSome result (λ cause. (s : SoFar) (members : Option (List Bool))
-            → StandsFor grid.now s self.old → Fails grid.now s line (Event.Edge name.now) members cause self.new.edges) }
+            → StandsFor grid.now s self.old
+            → Fails grid.now s line (Event.Edge name.now) members cause self.new.edges) }
     {
         if let Some(cause) = self.edges.read(grid, line, name) {
             return Some(cause);
@@ -145,7 +146,8 @@ impl Judge {
         ensures passes { IfNone result ((s : SoFar) (members : Option (List Bool)) → StandsFor grid.now s self.old
             → (s' : SoFar) × Passes grid.now s (Event.Split name.now) members s' × StandsFor grid.now s' self.new) }
         ensures fault { IfSome result (λ cause. (s : SoFar) (members : Option (List Bool))
-            → StandsFor grid.now s self.old → Fails grid.now s line (Event.Split name.now) members cause self.new.edges) }
+            → StandsFor grid.now s self.old
+            → Fails grid.now s line (Event.Split name.now) members cause self.new.edges) }
     {
         let Some(edge) = grid.edge_named(name) else {
             return Some(Cause::OffGrid(line));

@@ -103,6 +103,7 @@ fn load_strip(
         → IsCut g.now d members.now → LoadsBelow g.now cuts (cut_of weight members.now) strip.edge room.old
         → CutFault g.now d cuts (cut_of weight members.now) line cause) }
 {
+    // Few vertices, so their numbers are within 32 bits.
     prove!(g.vertex_count() <= 2500);
     let mut n = strip.edge;
     // Which of the edges from n on are still to be loaded.
@@ -142,7 +143,8 @@ fn load_edge(
         → KeepsLoads state e (cuts ++ cut_of weight members.now ∷ [])
         (slice_index room.new.there n) (slice_index room.new.back n)) }
     ensures over { IfErr result (λ over. (cuts : List Cut) (state : EdgeState)
-        → slice_get room.old.states n ≡ Some state → KeepsLoads state e cuts (slice_index room.old.there n) (slice_index room.old.back n)
+        → slice_get room.old.states n ≡ Some state
+        → KeepsLoads state e cuts (slice_index room.old.there n) (slice_index room.old.back n)
         → IsOverload state e (cuts ++ cut_of weight members.now ∷ []) members.now over) }
 {
     let Some(limit) = arc_room(room.state(n), &e) else {
