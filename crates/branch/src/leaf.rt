@@ -40,13 +40,7 @@ pub(crate) fn leaf_from<F: Rule>(
     let network = if ascent.closed {
         None
     } else {
-        Some(saturated_network_by(
-            alloc,
-            g,
-            &decision,
-            &ascent.packing,
-            &ascent.costs,
-        )?)
+        Some(saturated_network_by(alloc, g, &decision, &ascent.packing, &ascent.costs)?)
     };
     let value = value(g, &decision, &ascent.packing);
     Ok(NewLeaf {

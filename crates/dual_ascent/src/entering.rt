@@ -41,12 +41,7 @@ pub(crate) fn list_entering(
 
 // That arc of the edge of a number which enters the set, with what is left of it; none where neither enters or the one
 // that does can't be saturated.
-fn entering_at(
-    costs: &ReducedCosts,
-    members: &VertexSet,
-    n: u32,
-    e: Edge,
-) -> Option<EnteringArc>
+fn entering_at(costs: &ReducedCosts, members: &VertexSet, n: u32, e: Edge) -> Option<EnteringArc>
     requires edge { slice_get (edges_of costs.now) n ≡ Some e }
     requires few { n < 2 ^ 31 }
     ensures enters { IfSome result (EntersLeft costs.now members.now) }
