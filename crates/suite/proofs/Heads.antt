@@ -19,8 +19,7 @@ use Rattle.search_tools.specs.TruthLaws.{searches_truly}
 use Rattle.judge_tools.specs.Check.{Checks, EndsCheck, check_fault_text, check_fault_status}
 use Rattle.judge_tools.specs.CheckLaws.{checks_truly}
 use Rattle.judge_tools.specs.Truth.{ChecksTruly}
-use Rattle.trial_tools.specs.TrialLine.{trial_text, trial_status}
-use Rattle.trial_tools.specs.Trial.{EndsTrial, Tries, line_for}
+use Rattle.trial_tools.specs.Trial.{EndsTrial, Tries}
 use Rattle.trial_tools.specs.Truth.{TriesTruly}
 use Rattle.trial_tools.specs.TruthLaws.{tries_truly}
 use Rattle.requests.specs.declared.request.SearchRequest.{SearchRequest}

@@ -9,7 +9,6 @@ use Rattle.cut_cert.specs.Value.{WrittenAnswer}
 use Rattle.cert_tree.specs.Preorder.{split_count}
 use Rattle.cert_check.specs.Accepted.{IsAccepted}
 use Rattle.tree_inputs.specs.Generation.{IsTreeList, most_members}
-use Rattle.search_tools.specs.declared.options.SearchOptions.{SearchOptions}
 use Rattle.search_tools.specs.declared.solution.Solution.{Solution}
 use Rattle.search_tools.specs.Options.{usual_options}
 use Rattle.search_tools.specs.Permitted.{search_text}
