@@ -1,6 +1,5 @@
 -- From the code's request to the one that the words make.
-use Rattle.std.proofs.Common.{ℕ, ◌≡◌, Bool, List, Option, Some, sym, subst, ap, ◌∙◌, None, inl, inr, arith}
-use Rattle.std.specs.Prelude.{option_map}
+use Rattle.std.proofs.Common.{ℕ, ◌≡◌, Bool, List, Option, Some, sym, subst, None, inl, inr, arith}
 use Rattle.frame.specs.Outside.{Outside}
 use Rattle.judge_tools.specs.Check.{EndsCheck}
 use Rattle.judge_tools.specs.Plot.{EndsPlot}
@@ -14,9 +13,8 @@ use Rattle.tree_tools.specs.Graph.{EndsFst2graph}
 use Rattle.tree_tools.specs.Generation.{EndsRfst}
 use Rattle.tree_tools.specs.Pruning.{EndsPrunefst}
 use Rattle.trial_tools.specs.Trial.{EndsTrial}
-use Rattle.requests.specs.declared.request.Request.{Request as Asked}
 use Rattle.requests.specs.declared.request.SearchRequest.{SearchRequest}
-use Rattle.requests.specs.Requests.{Request, meaning}
+use Rattle.requests.specs.Requests.{Request}
 use Rattle.requests.specs.declared.request.Drawing.{Drawing}
 use Rattle.requests.specs.Requests.Request.{Points, Stp2points, Rfst, Prunefst, Bb, Solve, Check, Dumpfst, Fst2graph, Plot, Trial}
 use Rattle.suite.specs.Options.{options_of}
