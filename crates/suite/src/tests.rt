@@ -62,7 +62,7 @@ fn ran(rt: &HostRuntime, words: &[&str], input: &[u8]) -> Result<Outcome, Fail> 
 
 #[test]
 fn runs_each_tool(rt: HostRuntime) -> Result<(), Fail> {
-    let rows: [(&[&str], &[u8], u8, &[u8], &[u8]); 10] = [
+    let rows: [(&[&str], &[u8], u8, &[u8], &[u8]); 11] = [
         (&["solve"], POINTS, 0, ANSWER, b""),
         (
             &["check", "P"],
