@@ -1,13 +1,16 @@
 -- A search whose only leaf another one replaces.
-use Rattle.std.proofs.Common.{ℕ, ◌≡◌, ◌+◌, ◌<◌, ◌≤◌, List, [], ◌∷◌, length, slice_get, get_or, Some, ap, subst, sym, ◌∙◌, refl, arith}
+use Rattle.std.proofs.Common.{ℕ, ◌≡◌, ◌<◌, ◌≤◌, List, [], ◌∷◌, length, sum_by, slice_get, get_or, Some, ap, subst, sym, ◌∙◌, refl, arith}
+use Rattle.std.proofs.lemmas.List.Sums.{sum_by-append}
 use Rattle.std.proofs.lemmas.Option.{same_Some, slice_get-get_or}
 use Rattle.net_graph.specs.declared.packing.Cut.{Cut}
 use Rattle.net_graph.specs.Graph.{Graph}
-use Rattle.net_graph.specs.Decision.{nothing_decided}
+use Rattle.net_graph.specs.Decision.{Decided, nothing_decided}
+use Rattle.net_graph.specs.Packing.{packing_value}
+use Rattle.dual_ascent.specs.Ascending.{BeginsWith}
 use Rattle.cert_tree.specs.declared.split.SplitOn.{SplitOn}
 use Rattle.cert_tree.specs.Tree.{Tree}
 use Rattle.cert_tree.specs.Tree.Tree.{Leaf, Split}
-use Rattle.cert_tree.specs.Preorder.{packings_of, split_count}
+use Rattle.cert_tree.specs.Preorder.{split_count}
 use Rattle.cert_tree.specs.PreorderLaws.{length-packings_of}
 use Rattle.cert_tree.specs.TreeValue.{tree_value}
 use Rattle.branch.specs.declared.note.LeafNote.{LeafNote}
@@ -38,22 +41,54 @@ first_value g limit (Leaf cuts) notes note none are at =
     let of_note = subst (λ (l : DecidedLeaf). IsNoteOf g l note) (sym same) kept.0 in of_note.value
 first_value g limit (Split on outside inside) notes note none are at = absurd (omega (arith, none))
 
+-- a packing that begins with other cuts is worth no less
+pub worth : (g : Graph) (d : Decided) (packing start : List Cut) → BeginsWith packing start →
+    packing_value g d start ≤ packing_value g d packing
+worth g d packing start (rest, is) =
+    omega (arith, ap (sum_by (λ c. c.weight)) is, sum_by-append (λ c. c.weight) start rest)
+
+-- the first note tells the value of a search's only leaf
+only_value : (g : Graph) (kept : Frontier) (s : SearchState) (first : LeafNote) → IsSearch g kept → search_state g kept ≡ s →
+    split_count s.tree ≡ 0 → first ≡ get_or kept.notes.items 0 first → first.value ≡ tree_value g (nothing_decided g) kept.tree
+only_value g kept s first search view none is =
+    let count : split_count kept.tree ≡ 0 = ap (λ (t : SearchState). split_count t.tree) view ∙ none in
+    let at : slice_get kept.notes.items 0 ≡ Some first =
+    slice_get-get_or kept.notes.items 0 first (some_note g kept search) ∙ ap (λ (n : LeafNote). Some n) (sym is) in
+    first_value g kept.best.length kept.tree kept.notes.items first count search.notes at
+
 -- Another leaf in place of the only one, of a value that isn't less, raises the search.
-pub raised : (g : Graph) (old new : Frontier) (s : SearchState) (first note : LeafNote) (packing : List Cut) →
+pub raised : (g : Graph) (old new : Frontier) (s : SearchState) (first note : LeafNote) (packing cuts : List Cut) →
     IsSearch g old → search_state g old ≡ s → split_count s.tree ≡ 0 → first ≡ get_or old.notes.items 0 first →
     new.first_length ≡ old.first_length → new.tree ≡ Leaf packing →
-    IsNoteOf g (leaf_under (nothing_decided g) packing) note → first.value ≤ note.value → IsRaised s (search_state g new)
-raised g old new s first note packing search view none is first_length tree of_note more =
-    let count : split_count old.tree ≡ 0 = ap (λ (t : SearchState). split_count t.tree) view ∙ none in
-    let at : slice_get old.notes.items 0 ≡ Some first =
-    slice_get-get_or old.notes.items 0 first (some_note g old search) ∙ ap (λ (n : LeafNote). Some n) (sym is) in
-    let before = first_value g old.best.length old.tree old.notes.items first count search.notes at in
+    IsNoteOf g (leaf_under (nothing_decided g) packing) note → BeginsWith packing cuts → first.value ≤ note.value →
+    IsRaised cuts s (search_state g new)
+raised g old new s first note packing cuts search view none is first_length tree of_note begins more =
+    let before = only_value g old s first search view none is in
     let after : tree_value g (nothing_decided g) new.tree ≡ tree_value g (nothing_decided g) (Leaf packing) =
     ap (tree_value g (nothing_decided g)) tree in
     let value = of_note.value in
-    subst (λ (t : SearchState). IsRaised t (search_state g new)) view (record {
+    let least = worth g (nothing_decided g) packing cuts begins in
+    subst (λ (t : SearchState). IsRaised cuts t (search_state g new)) view (record {
       graph = refl;
       first_length = first_length;
       leaf = ap split_count tree;
       value = omega arith;
+      given = omega arith;
+    })
+
+-- A search is raised as it stands where the leaf of the cuts isn't worth more than its only one.
+pub stays_raised : (g : Graph) (kept : Frontier) (s : SearchState) (first note : LeafNote) (packing cuts : List Cut) →
+    IsSearch g kept → search_state g kept ≡ s → split_count s.tree ≡ 0 → first ≡ get_or kept.notes.items 0 first →
+    IsNoteOf g (leaf_under (nothing_decided g) packing) note → BeginsWith packing cuts → note.value ≤ first.value →
+    IsRaised cuts s s
+stays_raised g kept s first note packing cuts search view none is of_note begins less =
+    let before = only_value g kept s first search view none is in
+    let value = of_note.value in
+    let least = worth g (nothing_decided g) packing cuts begins in
+    subst (λ (t : SearchState). IsRaised cuts t t) view (record {
+      graph = refl;
+      first_length = refl;
+      leaf = ap (λ (t : SearchState). split_count t.tree) view ∙ none;
+      value = omega arith;
+      given = omega arith;
     })

@@ -1,9 +1,11 @@
 -- What a search keeps, and its steps.
 use Rattle.std.specs.Prelude.{ℕ, ◌≡◌, ◌+◌, ◌≤◌, Bool, List, slice_get, slice_set, Some}
 use Rattle.std.specs.List.{insert}
+use Rattle.net_graph.specs.declared.packing.Cut.{Cut}
 use Rattle.net_graph.specs.Graph.{Graph}
 use Rattle.net_graph.specs.Network.{length_of}
 use Rattle.net_graph.specs.Decision.{nothing_decided}
+use Rattle.net_graph.specs.Packing.{packing_value}
 use Rattle.cert_tree.specs.declared.split.SplitOn.{SplitOn}
 use Rattle.cert_tree.specs.declared.split.SplitOn.TheVariants as split
 use Rattle.cert_tree.specs.Tree.{Tree, split_with}
@@ -92,12 +94,14 @@ pub record IsAsBefore (old new : Frontier) : Type 0 where
   pub best : new.best ≡ old.best
   pub first_length : new.first_length ≡ old.first_length
 
--- Another leaf may stand in place of the only one, of no lesser value.
-pub record IsRaised (old new : SearchState) : Type 0 where
+-- Another leaf may stand in place of the only one: the value is no less than it was and than that of the given cuts.
+pub record IsRaised (cuts : List Cut) (old new : SearchState) : Type 0 where
   pub graph : new.graph ≡ old.graph
   pub first_length : new.first_length ≡ old.first_length
   pub leaf : split_count new.tree ≡ 0
   pub value : tree_value old.graph (nothing_decided old.graph) old.tree
+      ≤ tree_value new.graph (nothing_decided new.graph) new.tree
+  pub given : packing_value old.graph (nothing_decided old.graph) cuts
       ≤ tree_value new.graph (nothing_decided new.graph) new.tree
 
 -- no leaf's value is below the best network's length

@@ -84,7 +84,7 @@ impl<'a, F: Rule, G: Rule> Search<'a, F, G> {
         requires leaf { split_count self.old.tree ≡ 0 }
         requires feasible { IsFeasible self.old.graph (nothing_decided self.old.graph) cuts }
         requires few { length cuts ≤ 2 * length self.old.graph.edges }
-        ensures ok { OnOk result (IsRaised self.old self.new) }
+        ensures ok { OnOk result (IsRaised cuts self.old self.new) }
         ensures err { OnErr result (self.new ≡ self.old) }
     {
         let decision = Decision::none(self.alloc, self.graph)?;

@@ -1,4 +1,4 @@
-use Rattle.std.proofs.Common.{◌≡◌, ◌∙◌, true, length, ap, sym, subst, Contains, List}
+use Rattle.std.proofs.Common.{◌≡◌, ◌∙◌, true, length, ap, subst, Contains, List}
 use Rattle.std.proofs.lemmas.List.Elements.{All-contains}
 use Rattle.std.proofs.lemmas.Result.{IfOk-weaker}
 use Rattle.net_graph.specs.declared.arcs.Arc.{Arc}
