@@ -52,6 +52,10 @@ ends_of x false holds = absurd cc
 pub enters-ends : (members : List Bool) (u v : ℕ) → enters members u v ≡ true → (has members u ≡ false) × (has members v ≡ true)
 enters-ends members u v entered = ends_of (has members u) (has members v) entered
 
+-- it leads to a vertex within the set's size
+entered_within : (members : List Bool) (u v : ℕ) → enters members u v ≡ true → v < length members
+entered_within members u v entered = slice_get_within members v true (slice_get-has members v (enters-ends members u v entered).1)
+
 -- at the start
 pub AreEnteringBelow-none : (costs : List EdgeCosts) (members : List Bool) → AreEnteringBelow costs members 0 []
 AreEnteringBelow-none costs members = record {
@@ -71,13 +75,23 @@ AreEnteringBelow-skip costs members v w list so_far apart = record {
 }
 
 -- when all members were gone over that are vertices of the graph
-pub AreEntering-all : (g : Graph) (costs : List EdgeCosts) (members : List Bool) (v : ℕ) (list : List EnteringArc) → IsGraph g →
-    edges_of costs ≡ g.edges → min (length members) g.vertices ≤ v → AreEnteringBelow costs members v list → AreEntering costs members list
-AreEntering-all g costs members v list graph edges all so_far = record {
+pub AreEnteringBelow-past : (g : Graph) (costs : List EdgeCosts) (members : List Bool) (v w : ℕ) (list : List EnteringArc) → IsGraph g →
+    edges_of costs ≡ g.edges → min (length members) g.vertices ≤ v → AreEnteringBelow costs members v list → AreEnteringBelow costs members w list
+AreEnteringBelow-past g costs members v w list graph edges past so_far = record {
+  each = so_far.each;
+  every = λ arc left below is_arc entered is.
+      let vertex : arc.to < g.vertices = (IsArcOf-below g arc graph (subst (λ es. IsArcOf es arc) edges is_arc)).1 in
+      let member : arc.to < length members = entered_within members arc.from arc.to entered in
+      so_far.every arc left (omega arith) is_arc entered is;
+}
+
+-- when all of the set was gone over
+pub AreEntering-all : (costs : List EdgeCosts) (members : List Bool) (v : ℕ) (list : List EnteringArc) → length members ≤ v →
+    AreEnteringBelow costs members v list → AreEntering costs members list
+AreEntering-all costs members v list all so_far = record {
   each = so_far.each;
   every = λ arc left is_arc entered is.
-      let vertex : arc.to < g.vertices = (IsArcOf-below g arc graph (subst (λ es. IsArcOf es arc) edges is_arc)).1 in
-      let member : arc.to < length members = slice_get_within members arc.to true (slice_get-has members arc.to (enters-ends members arc.from arc.to entered).1) in
+      let member : arc.to < length members = entered_within members arc.from arc.to entered in
       so_far.every arc left (omega arith) is_arc entered is;
 }
 

@@ -1,6 +1,6 @@
 //! The arcs that enter a set of vertices.
 
-ghost use Rattle.std.specs.Prelude.{◌≡◌, ◌==◌, ◌+◌, ◌<◌, ℕ, true, false, map, filter, Some, IfSome, OnOk};
+ghost use Rattle.std.specs.Prelude.{◌≡◌, ◌==◌, ◌+◌, ◌*◌, ◌<◌, ℕ, true, false, length, map, filter, Some, IfSome, OnOk};
 ghost use Rattle.net_graph.specs.Arcs.{IsArcOf, partner_of};
 ghost use Rattle.net_graph.specs.Flags.{has};
 ghost use Rattle.dual_ascent.specs.declared.entering.EnteringArc.{EnteringArc};
@@ -19,7 +19,7 @@ pub(crate) struct EnteringArc {
 }
 
 /// Lists the arcs that enter the set and can be saturated, with what is left of each, in place of what the list held.
-/// Only the arcs at members of the set are looked at. An `Err` is want of memory.
+/// Only the arcs at members of the set are looked at, which are found by whole words of it. An `Err` is want of memory.
 pub(crate) fn list_entering(
     g: &NetGraph,
     costs: &ReducedCosts,
@@ -30,15 +30,43 @@ pub(crate) fn list_entering(
     ensures { OnOk result (AreEntering costs.now members.now list.new.items) }
 {
     list.clear();
-    for v in 0..members.len().min(g.vertex_count()) {
-        if members.has(v) {
-            list_entering_at(g, costs, members, v, list)?;
-        }
+    for place in 0..members.len().div_ceil(64) {
+        list_entering_in(g, costs, members, place, list)?;
     }
     Ok(())
 }
 
-// Lists those that lead to a member too. An `Err` is want of memory.
+// Lists those too that lead to the members in a word of the set. An `Err` is want of memory.
+fn list_entering_in(
+    g: &NetGraph,
+    costs: &ReducedCosts,
+    members: &VertexSet,
+    place: u32,
+    list: &mut Vec<EnteringArc>,
+) -> Result<(), AllocError>
+    requires edges { edges_of costs.now ≡ g.now.edges }
+    requires within { 64 * place < length members.now }
+    requires below { AreEnteringBelow costs.now members.now (64 * place) list.old.items }
+    ensures { OnOk result (AreEnteringBelow costs.now members.now (64 * (place + 1)) list.new.items) }
+{
+    let bound = members.len().min(g.vertex_count());
+    let mut v = 64 * place;
+    // Which of the vertices from v on are members. What is marked past the bound tells nothing.
+    let mut marks = members.word(place);
+    while marks != 0 {
+        let gap = marks.trailing_zeros();
+        v += gap;
+        if v >= bound {
+            return Ok(());
+        }
+        list_entering_at(g, costs, members, v, list)?;
+        v += 1;
+        marks = marks >> gap >> 1;
+    }
+    Ok(())
+}
+
+// Lists those too that lead to a member. An `Err` is want of memory.
 fn list_entering_at(
     g: &NetGraph,
     costs: &ReducedCosts,
