@@ -1,97 +1,182 @@
 -- The arcs that enter a set, gathered one after another, and what a cut leaves of them.
-use Rattle.std.proofs.Common.{ℕ, ◌≡◌, ◌≢◌, ◌+◌, ◌-◌, ◌*◌, ◌<◌, ◌≤◌, Bool, true, false, not, List, [], ◌∷◌, ◌++◌, map, length, get_or, slice_get, Option, Some, None, All, Contains, ◌⊎◌, inl, inr, ⊎_elim, refl, sym, ap, subst, ◌∙◌, arith, if◌then◌else◌}
+use Rattle.std.proofs.Common.{ℕ, ◌≡◌, ◌≢◌, ◌+◌, ◌-◌, ◌*◌, ◌<◌, ◌≤◌, min, Bool, true, false, not, ◌&&◌, List, [], ◌∷◌, ◌++◌, map, length, get_or, slice_get, Option, Some, None, All, Contains, ◌⊎◌, inl, inr, ⊎_elim, refl, sym, ap, subst, ◌∙◌, arith}
 use Rattle.std.specs.Option.{SomeIff, option_map}
 use Rattle.std.proofs.lemmas.Bool.{cases_Bool, cases_eq, cases_lt, both_ways}
 use Rattle.std.proofs.lemmas.List.{length-map, same_lists, get_or-map}
-use Rattle.std.proofs.lemmas.List.Elements.{All-nil, All-push, All-contains, Contains-append_left, Contains-push}
+use Rattle.std.proofs.lemmas.List.Elements.{All-nil, All-push, All-contains, Contains-append_left, Contains-push, Contains-push_cases}
 use Rattle.std.proofs.lemmas.Option.{same_Some, slice_get_within, slice_get-get_or, slice_get-map, get_or_from_slice_get}
 use Rattle.net_graph.specs.declared.arcs.Arc.{Arc}
 use Rattle.net_graph.specs.declared.edge.Edge.{Edge}
 use Rattle.net_graph.specs.declared.packing.Cut.{Cut}
-use Rattle.net_graph.specs.Arcs.{forward_arc, backward_arc, IsArcOf}
+use Rattle.net_graph.specs.Arcs.{forward_arc, backward_arc, partner_of, IsArcOf, AreArcsFrom}
+use Rattle.net_graph.specs.Flags.{has}
+use Rattle.net_graph.specs.Graph.{Graph, IsGraph}
+use Rattle.net_graph.specs.Joins.{slice_get-has}
 use Rattle.net_graph.specs.Packing.{enters}
+use Rattle.net_graph.specs.Turned.{partner_of-even, partner_of-odd}
 use Rattle.dual_ascent.specs.declared.costs.EdgeCosts.{EdgeCosts}
 use Rattle.dual_ascent.specs.declared.entering.EnteringArc.{EnteringArc}
 use Rattle.dual_ascent.specs.Costs.{left_after, weight_on, lowered_by, cost_of, edges_of, Entering, IsLeastOf}
-use Rattle.dual_ascent.specs.Entering.{EntersLeft, IsOfEdge, AreEntering, IsLeftOfOne}
-use Rattle.dual_ascent.proofs.ArcLemmas.{IsArcOf-number, same_arc, cost_of-even, cost_of-odd, slice_get-edges_of, costs_at}
+use Rattle.dual_ascent.specs.Entering.{EntersLeft, AreEntering, AreEnteringBelow, IsLeftOfOne, turned}
+use Rattle.dual_ascent.proofs.ArcLemmas.{IsArcOf-below, same_arc, cost_of-even, cost_of-odd, slice_get-edges_of, costs_at}
 use Rattle.dual_ascent.specs.CostLaws.{left_after-le, left_after-lt}
 
--- the arcs that enter the set and have a number below a bound
-pub record EnteringBelow (costs : List EdgeCosts) (members : List Bool) (bound : ℕ) (list : List EnteringArc) : Type 0 where
-  pub each : All (EntersLeft costs members) list
-  pub every : (arc : Arc) (left : ℕ) → arc.number < bound → IsArcOf (edges_of costs) arc →
-      enters members arc.from arc.to ≡ true → cost_of costs arc.number ≡ Some left →
-      Contains list (record { arc = arc; left = left })
+-- ---- arcs turned round
+
+-- an arc of an edge turned round is the edge's other arc
+pub IsArcOf-turned : (edges : List Edge) (arc : Arc) → IsArcOf edges arc → IsArcOf edges (turned arc)
+IsArcOf-turned edges arc (n, e, at, way) =
+    ⊎_elim
+    (λ (is : arc ≡ forward_arc n e). (n, e, at, inr (ap turned is ∙ ap (λ m. record { number = m; from = e.b; to = e.a }) (partner_of-even n))))
+    (λ (is : arc ≡ backward_arc n e). (n, e, at, inl (ap turned is ∙ ap (λ m. record { number = m; from = e.a; to = e.b }) (partner_of-odd n))))
+    way
+
+-- turned round twice, it is as before
+pub turned-turned : (edges : List Edge) (arc : Arc) → IsArcOf edges arc → turned (turned arc) ≡ arc
+turned-turned edges arc (n, e, at, way) =
+    ⊎_elim
+    (λ (is : arc ≡ forward_arc n e). ap (λ x. turned (turned x)) is
+    ∙ ap (λ m. record { number = m; from = e.a; to = e.b }) (ap partner_of (partner_of-even n) ∙ partner_of-odd n) ∙ sym is)
+    (λ (is : arc ≡ backward_arc n e). ap (λ x. turned (turned x)) is
+    ∙ ap (λ m. record { number = m; from = e.b; to = e.a }) (ap partner_of (partner_of-odd n) ∙ partner_of-even n) ∙ sym is)
+    way
+
+-- ---- the arcs at members of the set
+
+ends_of : (x y : Bool) → y && not x ≡ true → (x ≡ false) × (y ≡ true)
+ends_of false true holds = (refl, refl)
+ends_of true true holds = absurd cc
+ends_of x false holds = absurd cc
+
+-- an arc that enters leads from no member to a member
+pub enters-ends : (members : List Bool) (u v : ℕ) → enters members u v ≡ true → (has members u ≡ false) × (has members v ≡ true)
+enters-ends members u v entered = ends_of (has members u) (has members v) entered
+
+-- it leads to a vertex within the set's size
+entered_within : (members : List Bool) (u v : ℕ) → enters members u v ≡ true → v < length members
+entered_within members u v entered = slice_get_within members v true (slice_get-has members v (enters-ends members u v entered).1)
 
 -- at the start
-pub EnteringBelow-none : (costs : List EdgeCosts) (members : List Bool) → EnteringBelow costs members 0 []
-EnteringBelow-none costs members = record {
+pub AreEnteringBelow-none : (costs : List EdgeCosts) (members : List Bool) → AreEnteringBelow costs members 0 []
+AreEnteringBelow-none costs members = record {
   each = All-nil (EntersLeft costs members);
   every = λ arc left below is_arc entered is. absurd (omega arith);
 }
 
--- what an edge has of the arcs that enter
-abbrev pub HasOnly : List EdgeCosts → List Bool → ℕ → Edge → Option EnteringArc → Type 0
-HasOnly costs members n e found = (arc : Arc) (left : ℕ) → IsOfEdge n e arc → enters members arc.from arc.to ≡ true →
-    cost_of costs arc.number ≡ Some left → found ≡ Some (record { arc = arc; left = left })
-
--- an arc of the edges with a number below that of the next edge's is of an earlier edge or of this one
-earlier_or_here : (edges : List Edge) (n : ℕ) (e : Edge) (arc : Arc) → slice_get edges n ≡ Some e → IsArcOf edges arc →
-    arc.number < 2 * (n + 1) → (arc.number < 2 * n) ⊎ IsOfEdge n e arc
-earlier_or_here edges n e arc at (k, f, here, way) below =
-    ⊎_elim
-    (λ (earlier : k < n). inl (⊎_elim
-    (λ (is : arc ≡ forward_arc k f). let number : arc.number ≡ 2 * k = ap (λ (x : Arc). x.number) is in omega arith)
-    (λ (is : arc ≡ backward_arc k f). let number : arc.number ≡ 2 * k + 1 = ap (λ (x : Arc). x.number) is in omega arith)
-    way))
-    (λ (later : n ≤ k).
-    let low : 2 * k ≤ arc.number = ⊎_elim
-    (λ (is : arc ≡ forward_arc k f). let number : arc.number ≡ 2 * k = ap (λ (x : Arc). x.number) is in omega arith)
-    (λ (is : arc ≡ backward_arc k f). let number : arc.number ≡ 2 * k + 1 = ap (λ (x : Arc). x.number) is in omega arith)
-    way in
-    let same : k ≡ n = omega arith in
-    let edge : f ≡ e = same_Some f e (sym here ∙ ap (slice_get edges) same ∙ at) in
-    inr (subst (λ i. IsOfEdge i e arc) same (subst (λ x. IsOfEdge k x arc) edge way)))
-    (cases_lt k n)
-
--- one more edge, of which no arc enters that can be saturated
-pub EnteringBelow-skip : (costs : List EdgeCosts) (members : List Bool) (n : ℕ) (e : Edge) (list : List EnteringArc) →
-    EnteringBelow costs members (2 * n) list → slice_get (edges_of costs) n ≡ Some e → HasOnly costs members n e None →
-    EnteringBelow costs members (2 * (n + 1)) list
-EnteringBelow-skip costs members n e list so_far at only = record {
+-- where the vertices from one to another are no members
+pub AreEnteringBelow-skip : (costs : List EdgeCosts) (members : List Bool) (v w : ℕ) (list : List EnteringArc) →
+    AreEnteringBelow costs members v list → ((u : ℕ) → v ≤ u → u < w → has members u ≡ false) → AreEnteringBelow costs members w list
+AreEnteringBelow-skip costs members v w list so_far apart = record {
   each = so_far.each;
   every = λ arc left below is_arc entered is. ⊎_elim
       (λ earlier. so_far.every arc left earlier is_arc entered is)
-      (λ here. let found : None ≡ Some (record { arc = arc; left = left }) = only arc left here entered is in absurd cc)
-      (earlier_or_here (edges_of costs) n e arc at is_arc below);
+      (λ here. absurd (both_ways (has members arc.to) (apart arc.to here below) (enters-ends members arc.from arc.to entered).1))
+      (cases_lt arc.to v);
 }
 
--- one more edge, of which an arc enters
-pub EnteringBelow-push : (costs : List EdgeCosts) (members : List Bool) (n : ℕ) (e : Edge) (list : List EnteringArc)
-    (one : EnteringArc) → EnteringBelow costs members (2 * n) list → slice_get (edges_of costs) n ≡ Some e →
-    EntersLeft costs members one → HasOnly costs members n e (Some one) →
-    EnteringBelow costs members (2 * (n + 1)) (list ++ one ∷ [])
-EnteringBelow-push costs members n e list one so_far at own only = record {
-  each = All-push (EntersLeft costs members) list one so_far.each own;
-  every = λ arc left below is_arc entered is. ⊎_elim
-      (λ earlier. Contains-append_left list (one ∷ []) (record { arc = arc; left = left })
-      (so_far.every arc left earlier is_arc entered is))
-      (λ here. let same : one ≡ record { arc = arc; left = left } = same_Some one (record { arc = arc; left = left })
-      (only arc left here entered is) in
-      subst (Contains (list ++ one ∷ [])) same (Contains-push list one))
-      (earlier_or_here (edges_of costs) n e arc at is_arc below);
-}
-
--- when all edges were gone over
-pub AreEntering-all : (costs : List EdgeCosts) (members : List Bool) (n : ℕ) (list : List EnteringArc) →
-    length (edges_of costs) ≤ n → EnteringBelow costs members (2 * n) list → AreEntering costs members list
-AreEntering-all costs members n list all so_far = record {
+-- when all members were gone over that are vertices of the graph
+pub AreEnteringBelow-past : (g : Graph) (costs : List EdgeCosts) (members : List Bool) (v w : ℕ) (list : List EnteringArc) → IsGraph g →
+    edges_of costs ≡ g.edges → min (length members) g.vertices ≤ v → AreEnteringBelow costs members v list → AreEnteringBelow costs members w list
+AreEnteringBelow-past g costs members v w list graph edges past so_far = record {
   each = so_far.each;
-  every = λ arc left is_arc entered is.
-      let low : arc.number < 2 * length (edges_of costs) = IsArcOf-number (edges_of costs) arc is_arc in
+  every = λ arc left below is_arc entered is.
+      let vertex : arc.to < g.vertices = (IsArcOf-below g arc graph (subst (λ es. IsArcOf es arc) edges is_arc)).1 in
+      let member : arc.to < length members = entered_within members arc.from arc.to entered in
       so_far.every arc left (omega arith) is_arc entered is;
 }
+
+-- when all of the set was gone over
+pub AreEntering-all : (costs : List EdgeCosts) (members : List Bool) (v : ℕ) (list : List EnteringArc) → length members ≤ v →
+    AreEnteringBelow costs members v list → AreEntering costs members list
+AreEntering-all costs members v list all so_far = record {
+  each = so_far.each;
+  every = λ arc left is_arc entered is.
+      let member : arc.to < length members = entered_within members arc.from arc.to entered in
+      so_far.every arc left (omega arith) is_arc entered is;
+}
+
+-- ---- the arcs at one member
+
+-- the arcs that lead to a vertex below v, and those to v whose other arc was gone over
+pub record EnteringSoFar (costs : List EdgeCosts) (members : List Bool) (v : ℕ) (gone : List Arc) (list : List EnteringArc) : Type 0 where
+  pub each : All (EntersLeft costs members) list
+  pub every : (arc : Arc) (left : ℕ) → (arc.to < v) ⊎ Contains gone (turned arc) → IsArcOf (edges_of costs) arc →
+      enters members arc.from arc.to ≡ true → cost_of costs arc.number ≡ Some left →
+      Contains list (record { arc = arc; left = left })
+
+-- at the start
+pub EnteringSoFar-none : (costs : List EdgeCosts) (members : List Bool) (v : ℕ) (list : List EnteringArc) →
+    AreEnteringBelow costs members v list → EnteringSoFar costs members v [] list
+EnteringSoFar-none costs members v list below = record {
+  each = below.each;
+  every = λ arc left gone is_arc entered is. ⊎_elim
+      (λ earlier. below.every arc left earlier is_arc entered is)
+      (λ (k, below, at). absurd (omega arith))
+      gone;
+}
+
+-- what the other arc of one has
+abbrev pub HasOnly : List EdgeCosts → List Bool → Arc → Option EnteringArc → Type 0
+HasOnly costs members along found = (left : ℕ) → has members along.to ≡ false →
+    cost_of costs (partner_of along.number) ≡ Some left → found ≡ Some (record { arc = turned along; left = left })
+
+-- an arc whose other one has just been gone over was found
+found_here : (costs : List EdgeCosts) (members : List Bool) (along arc : Arc) (left : ℕ) (found : Option EnteringArc) →
+    HasOnly costs members along found → along ≡ turned arc → IsArcOf (edges_of costs) arc → enters members arc.from arc.to ≡ true →
+    cost_of costs arc.number ≡ Some left → found ≡ Some (record { arc = arc; left = left })
+found_here costs members along arc left found only same is_arc entered is =
+    let back : turned along ≡ arc = ap turned same ∙ turned-turned (edges_of costs) arc is_arc in
+    let outside : has members along.to ≡ false = ap (λ (x : Arc). has members x.to) same ∙ (enters-ends members arc.from arc.to entered).0 in
+    let cost : cost_of costs (partner_of along.number) ≡ Some left = ap (λ (x : Arc). cost_of costs x.number) back ∙ is in
+    only left outside cost ∙ ap (λ x. Some (record { arc = x; left = left })) back
+
+-- one more arc, whose other one doesn't enter or can't be saturated
+pub EnteringSoFar-skip : (costs : List EdgeCosts) (members : List Bool) (v : ℕ) (gone : List Arc) (along : Arc) (list : List EnteringArc) →
+    EnteringSoFar costs members v gone list → HasOnly costs members along None → EnteringSoFar costs members v (gone ++ along ∷ []) list
+EnteringSoFar-skip costs members v gone along list so_far only = record {
+  each = so_far.each;
+  every = λ arc left among is_arc entered is. ⊎_elim
+      (λ below. so_far.every arc left (inl below) is_arc entered is)
+      (λ listed. ⊎_elim
+      (λ earlier. so_far.every arc left (inr earlier) is_arc entered is)
+      (λ here. let found : None ≡ Some (record { arc = arc; left = left }) = found_here costs members along arc left None only here is_arc entered is in absurd cc)
+      (Contains-push_cases gone along (turned arc) listed))
+      among;
+}
+
+-- one more, whose other one is listed
+pub EnteringSoFar-push : (costs : List EdgeCosts) (members : List Bool) (v : ℕ) (gone : List Arc) (along : Arc) (list : List EnteringArc) (one : EnteringArc) →
+    EnteringSoFar costs members v gone list → EntersLeft costs members one → HasOnly costs members along (Some one) →
+    EnteringSoFar costs members v (gone ++ along ∷ []) (list ++ one ∷ [])
+EnteringSoFar-push costs members v gone along list one so_far own only = record {
+  each = All-push (EntersLeft costs members) list one so_far.each own;
+  every = λ arc left among is_arc entered is.
+      let kept = Contains-append_left list (one ∷ []) (record { arc = arc; left = left }) in
+      ⊎_elim
+      (λ below. kept (so_far.every arc left (inl below) is_arc entered is))
+      (λ listed. ⊎_elim
+      (λ earlier. kept (so_far.every arc left (inr earlier) is_arc entered is))
+      (λ here. let same : one ≡ record { arc = arc; left = left } = same_Some one (record { arc = arc; left = left })
+      (found_here costs members along arc left (Some one) only here is_arc entered is) in
+      subst (Contains (list ++ one ∷ [])) same (Contains-push list one))
+      (Contains-push_cases gone along (turned arc) listed))
+      among;
+}
+
+-- when all arcs from the member were gone over
+pub EnteringSoFar-all : (costs : List EdgeCosts) (members : List Bool) (v : ℕ) (arcs : List Arc) (list : List EnteringArc) →
+    AreArcsFrom (IsArcOf (edges_of costs)) v arcs → EnteringSoFar costs members v arcs list → AreEnteringBelow costs members (v + 1) list
+EnteringSoFar-all costs members v arcs list from so_far = record {
+  each = so_far.each;
+  every = λ arc left below is_arc entered is. ⊎_elim
+      (λ (earlier : arc.to < v). so_far.every arc left (inl earlier) is_arc entered is)
+      (λ (later : v ≤ arc.to).
+      let here : arc.to ≡ v = omega arith in
+      so_far.every arc left (inr (from.every (turned arc) (IsArcOf-turned (edges_of costs) arc is_arc) here)) is_arc entered is)
+      (cases_lt arc.to v);
+}
+
+-- ---- what a cut leaves of them
 
 -- no more is taken from what is left of an arc than there is
 pub left_after-checked : (rest : Option ℕ) (left weight : ℕ) → SomeIff rest (weight ≤ left) (left - weight) → rest ≡ left_after (Some left) weight

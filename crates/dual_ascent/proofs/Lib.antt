@@ -1,6 +1,7 @@
 pub mod CostLemmas
 pub mod ArcLemmas
 pub mod LoadLemmas
+pub mod MarkLemmas
 pub mod EnteringLemmas
 pub mod SaturatedLemmas
 pub mod PackLemmas
