@@ -1,6 +1,6 @@
 //! The search that begins with a network.
 
-ghost use Rattle.std.specs.Prelude.{◌≡◌, ◌<◌, length, IfOk, IfSome};
+ghost use Rattle.std.specs.Prelude.{◌≡◌, ◌<◌, ◌↔◌, length, IsTrue, IfOk, IfSome, OnOk};
 ghost use Rattle.net_graph.specs.Network.{length_of};
 ghost use Rattle.hanan_grid.specs.Grid.{hanan_grid_of};
 ghost use Rattle.cert_tree.specs.Preorder.{split_count};
@@ -13,13 +13,16 @@ use crate::options::{SearchOptions, ascent_place, split_place};
 use branch::{Search, Solved};
 use dual_ascent::{Candidate, Chooser, Rule};
 use hanan_grid::Grid;
-use net_graph::{EdgeSet, Packing};
+use net_graph::{EdgeSet, Packing, length};
 use std::alloc::{AllocError, Global};
 use tight_packing::{Bound, Budget, Exchanged, Outcome, exchange};
 
+/// At most so many exchanges are made, each but the first against a network that the one before has made shorter.
+const MOST_EXCHANGES: u8 = 3;
+
 /// What a search finds that begins with a network of a grid. Its first leaf is that of an ascent from no cut. Where this
-/// stays below the network's length, it is the better one of it and of an ascent that begins with what an exchange finds.
-/// An `Err` is want of memory.
+/// stays below the network's length, it is the better one of it and of an ascent that begins with what an exchange finds;
+/// where that shows a shorter network, an exchange against this one follows. An `Err` is want of memory.
 pub fn searched(
     alloc: Global,
     grid: &Grid,
@@ -93,14 +96,35 @@ fn begun<'a, F: Rule, G: Rule>(
     ensures leaf { IfOk result (λ s. split_count s.tree ≡ 0) }
 {
     let mut search = Search::start(alloc, grid.graph(), first, ascent, split)?;
-    if search.is_settled() {
-        return Ok(search);
+    for _ in 0..MOST_EXCHANGES {
+        if search.is_settled() || !shortened(alloc, grid, &mut search)? {
+            break;
+        }
     }
+    Ok(search)
+}
+
+// Raises a search by what an exchange against its network comes to. Whether the network is then a shorter one, so that
+// another exchange may come further. An `Err` is want of memory.
+fn shortened<F: Rule, G: Rule>(
+    alloc: Global,
+    grid: &Grid,
+    search: &mut Search<'_, F, G>,
+) -> Result<bool, AllocError>
+    requires graph { search.old.graph ≡ hanan_grid_of grid.now }
+    requires leaf { split_count search.old.tree ≡ 0 }
+    ensures shorter { IfOk result (λ shorter. IsTrue shorter
+        ↔ (length_of search.old.graph search.new.network < length_of search.old.graph search.old.network)) }
+    ensures graph { OnOk result (search.new.graph ≡ search.old.graph) }
+    ensures first { OnOk result (search.new.first_length ≡ search.old.first_length) }
+    ensures leaf { OnOk result (split_count search.new.tree ≡ 0) }
+{
+    let before = length(grid.graph(), search.network());
     let Some(bound) = exchanged(alloc, grid, search.network(), search.tree().packing(0))? else {
-        return Ok(search);
+        return Ok(false);
     };
     search.raise(bound.packing)?;
-    Ok(search)
+    Ok(length(grid.graph(), search.network()) < before)
 }
 
 // The packing that an exchange comes to, if one is at hand. An `Err` is want of memory.

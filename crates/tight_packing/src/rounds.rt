@@ -97,6 +97,21 @@ impl Rounds {
     /// Plays rounds until the outcome is decided or the budget is spent. An `Err` is want of
     /// memory.
     pub fn play(&mut self, state: &mut State, budget: Budget) -> Result<Ending, AllocError> {
+        let ending = self.decided(state, budget)?;
+        if ending == Ending::Tight {
+            return Ok(ending);
+        }
+        state.coarsen(PARTS)?;
+        state.unit_search(self.unit_steps)?;
+        Ok(if state.kept.overload == 0 {
+            Ending::Tight
+        } else {
+            ending
+        })
+    }
+
+    // Plays rounds until the outcome is decided or the budget is spent.
+    fn decided(&mut self, state: &mut State, budget: Budget) -> Result<Ending, AllocError> {
         for _ in 0..budget.rounds {
             let work = state.work;
             if work.searches >= budget.searches || work.moves >= budget.moves {
@@ -106,13 +121,7 @@ impl Rounds {
                 return Ok(ending);
             }
         }
-        state.coarsen(PARTS)?;
-        state.unit_search(self.unit_steps)?;
-        Ok(if state.kept.overload == 0 {
-            Ending::Tight
-        } else {
-            Ending::Exhausted
-        })
+        Ok(Ending::Exhausted)
     }
 
     // One round; an ending where the outcome is decided. An `Err` is want of memory.
