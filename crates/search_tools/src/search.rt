@@ -97,7 +97,7 @@ fn begun<'a, F: Rule, G: Rule>(
 {
     let mut search = Search::start(alloc, grid.graph(), first, ascent, split)?;
     for _ in 0..MOST_EXCHANGES {
-        if search.is_settled() || !shortened(alloc, grid, &mut search)? {
+        if search.is_settled() || !raise_by_exchange(alloc, grid, &mut search)? {
             break;
         }
     }
@@ -106,7 +106,7 @@ fn begun<'a, F: Rule, G: Rule>(
 
 // Raises a search by what an exchange against its network comes to. Whether the network is then a shorter one, so that
 // another exchange may come further. An `Err` is want of memory.
-fn shortened<F: Rule, G: Rule>(
+fn raise_by_exchange<F: Rule, G: Rule>(
     alloc: Global,
     grid: &Grid,
     search: &mut Search<'_, F, G>,
