@@ -96,7 +96,7 @@ fn begun<'a, F: Rule, G: Rule>(
     ensures leaf { IfOk result (λ s. split_count s.tree ≡ 0) }
 {
     let mut search = Search::start(alloc, grid.graph(), first, ascent, split)?;
-    for _ in 0..MOST_EXCHANGES {
+    for _exchange in 0..MOST_EXCHANGES {
         if search.is_settled() || !raise_by_exchange(alloc, grid, &mut search)? {
             break;
         }
