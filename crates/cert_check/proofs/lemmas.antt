@@ -1,5 +1,7 @@
 pub mod Tables
 pub mod Rooms
+pub mod Pigeons
+pub mod Listed
 pub mod States
 pub mod WordBits
 pub mod Layouts

@@ -4,6 +4,7 @@ pub mod Networks
 pub mod Splits
 pub mod Cuts
 pub mod Path
+pub mod Listed
 pub mod Room
 pub mod Loads
 pub mod Strips

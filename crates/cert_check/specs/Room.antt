@@ -4,6 +4,7 @@ use Rattle.std.specs.List.{range_with_len}
 use Rattle.net_graph.specs.declared.state.EdgeState.{EdgeState}
 use Rattle.net_graph.specs.declared.state.EdgeState.TheVariants.{Undecided, Inside, Outside}
 use Rattle.cert_check.specs.declared.turn.Turn.{Turn}
+use Rattle.cert_check.specs.Listed.{IsList}
 
 -- what stands in a room for a graph with so many vertices: the load of each edge's arc from its end a to its end b, that
 -- of the arc back, the state of each edge, and the way of splits to a node, the lowest of them first
@@ -37,7 +38,8 @@ abbrev pub turns_from : List ℕ → ℕ → ℕ → List Turn
 turns_from row start zero = []
 turns_from row start (suc depth) = turn_at row (start + 2 * depth) ∷ turns_from row start depth
 
--- Where the way stands in a row: behind the loads, the states, and the room of a search and of the vertices' states.
+-- Where the way stands in a row: behind the loads, the states, and the list of the loaded edges or what a search has in
+-- its place.
 abbrev pub path_start : ℕ → ℕ → ℕ
 path_start edges vertices = 3 * edges + 3 * vertices
 
@@ -51,12 +53,14 @@ kept_in row edges vertices depth = record {
   vertices = vertices;
 }
 
--- the row has a number for each of these, and the way has at most 255 splits
-pub record IsRoom (row : List ℕ) (edges vertices depth : ℕ) : Type 0 where
+-- the row has a number for each of these, the way has at most 255 splits, and so many edges are loaded and listed
+pub record IsRoom (row : List ℕ) (edges vertices depth loaded : ℕ) : Type 0 where
   pub few_edges : edges ≤ 4900
   pub few_vertices : vertices ≤ 2500
+  pub within : edges ≤ 2 * vertices
   pub length : length row ≡ 3 * edges + 3 * vertices + 512
   pub short : depth ≤ 255
+  pub list : IsList row edges loaded
 
 -- nothing is loaded or decided
 abbrev pub nothing_kept : ℕ → ℕ → Kept

@@ -8,6 +8,7 @@ mod end;
 mod judge;
 mod law;
 mod leaf;
+mod listed;
 mod network;
 mod read;
 mod room;

@@ -5,13 +5,15 @@ ghost use Rattle.net_graph.specs.Network.{IsNetwork, IsFirstApart};
 ghost use Rattle.cert_check.specs.Room.{nothing_kept, path_start, state_of};
 ghost use Rattle.cert_check.specs.declared.turn.Turn.{Turn};
 
+use crate::listed::{clear_listed, list_loaded, write_load};
 use crate::turn::Turn;
 use cut_cert::Row;
 use net_graph::{EdgeSet, EdgeState, NetGraph, first_apart_within};
 use std::marker::Model;
 
-/// A row of numbers in which an answer on a graph is checked. It has the load of each arc, the state of each edge, room
-/// for a search and for a state of each vertex, and the way of splits to the node that is read.
+/// A row of numbers in which an answer on a graph is checked. It has the load of each arc, the state of each edge, the
+/// list of the edges that are loaded, and the way of splits to the node that is read. A search may use the numbers of
+/// the list, which is then made anew.
 #[derive(Debug, Drop)]
 pub(crate) struct Room {
     row: Row,
@@ -19,6 +21,8 @@ pub(crate) struct Room {
     vertices: u32,
     /// How many splits are on the way.
     depth: u32,
+    /// How many edges are loaded.
+    loaded: u32,
 }
 
 impl Model for Room {
@@ -28,7 +32,7 @@ impl Model for Room {
 
     ghost view = { λ r. kept_in r.row r.edges r.vertices r.depth };
 
-    ghost invariant = { λ r. IsRoom r.row r.edges r.vertices r.depth };
+    ghost invariant = { λ r. IsRoom r.row r.edges r.vertices r.depth r.loaded };
 }
 
 impl Room {
@@ -36,6 +40,7 @@ impl Room {
     pub(crate) fn begin(row: Row, edges: u32, vertices: u32) -> Room
         requires few_edges { edges ≤ 4900 }
         requires few_vertices { vertices ≤ 2500 }
+        requires within { edges ≤ 2 * vertices }
         requires length { length row ≡ 3 * edges + 3 * vertices + 512 }
         ensures { result ≡ nothing_kept edges vertices }
     {
@@ -46,6 +51,7 @@ impl Room {
             edges,
             vertices,
             depth: 0,
+            loaded: 0,
         }
     }
 
@@ -57,12 +63,13 @@ impl Room {
         self.row.get(n)
     }
 
-    /// Writes the load of that arc.
+    /// Writes the load of that arc, which is no less than before.
     pub(crate) fn set_there(&mut self, n: u32, load: u64)
-        requires { n < length self.old.there }
+        requires edge { n < length self.old.there }
+        requires more { slice_index self.old.there n ≤ load }
         ensures { self.new ≡ record self.old { there = slice_set self.old.there n load } }
     {
-        self.row.set(n, load);
+        self.loaded = write_load(&mut self.row, self.edges, self.loaded, n, n, load);
     }
 
     /// The load of the arc of an edge from its end b to its end a.
@@ -73,22 +80,25 @@ impl Room {
         self.row.get(self.edges + n)
     }
 
-    /// Writes the load of that arc.
+    /// Writes the load of that arc, which is no less than before.
     pub(crate) fn set_back(&mut self, n: u32, load: u64)
-        requires { n < length self.old.back }
+        requires edge { n < length self.old.back }
+        requires more { slice_index self.old.back n ≤ load }
         ensures { self.new ≡ record self.old { back = slice_set self.old.back n load } }
     {
-        self.row.set(self.edges + n, load);
+        let place = self.edges + n;
+        self.loaded = write_load(&mut self.row, self.edges, self.loaded, n, place, load);
     }
 
-    /// Forgets all loads.
+    /// Forgets all loads, in as many steps as edges are loaded.
     pub(crate) fn clear_loads(&mut self)
         ensures { self.new ≡ record self.old {
           there = replicate (length self.old.there) 0;
           back = replicate (length self.old.back) 0;
         } }
     {
-        clear_numbers(&mut self.row, 2 * self.edges);
+        clear_listed(&mut self.row, self.edges, self.loaded);
+        self.loaded = 0;
     }
 
     /// The state of an edge.
@@ -179,7 +189,9 @@ impl Room {
         let (_, room) = self.row.numbers_mut().split_at_mut(3 * edges);
         let (marks, room) = room.split_at_mut(vertices);
         let (queue, _) = room.split_at_mut(vertices);
-        first_apart_within(g, set, marks, queue)
+        let apart = first_apart_within(g, set, marks, queue);
+        self.loaded = list_loaded(&mut self.row, self.edges);
+        apart
     }
 
     /// Goes up by one split.
@@ -196,7 +208,6 @@ fn clear_numbers(row: &mut Row, count: u32)
     requires { count ≤ length row.old }
     ensures length { length row.new ≡ length row.old }
     ensures zero { (k : ℕ) → k < count → slice_index row.new k ≡ 0 }
-    ensures kept { (k : ℕ) → count ≤ k → slice_index row.new k ≡ slice_index row.old k }
 {
     for n in 0..count {
         row.set(n, 0);

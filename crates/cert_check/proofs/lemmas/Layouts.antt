@@ -34,6 +34,15 @@ grid_laid_out ps some_columns few_columns some_rows few_rows = record {
       (sym (ap (λ (x : Edge). x.a) is), sym (ap (λ (x : Edge). x.b) is) ∙ omega arith);
 }
 
+-- each crossing is the lower end of at most two edges
+pub few_edges_of_grid : (ps : List Point) → length (hanan_grid_of ps).edges ≤ 2 * (hanan_grid_of ps).vertices
+few_edges_of_grid ps =
+    let columns = length (xs_of ps) in
+    let rows = length (ys_of ps) in
+    let across = mul-le rows (columns - 1) rows columns (omega arith) (omega arith) in
+    let up = mul-le (rows - 1) columns rows columns (omega arith) (omega arith) in
+    omega (arith, length-edges_of_lines (xs_of ps) (ys_of ps), across, up)
+
 -- all strips have all edges
 pub all_strips : (g : Graph) (l : Layout) (place : ℕ) → IsLaidOut g l → 2 * l.rows - 1 ≤ place →
     length g.edges ≤ edges_before l place

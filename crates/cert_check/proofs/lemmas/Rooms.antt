@@ -6,7 +6,7 @@ use Rattle.std.proofs.lemmas.List.FromFn.{length-map-range_with_len}
 use Rattle.std.proofs.lemmas.Option.{slice_get-get_or, get_or_from_slice_get}
 use Rattle.net_graph.specs.declared.state.EdgeState.TheVariants.{Undecided}
 use Rattle.cert_check.specs.declared.turn.Turn.{Turn}
-use Rattle.cert_check.specs.Room.{Kept, IsRoom, kept_in, nothing_kept, numbers_from, states_from, turn_at, turns_from, path_start, state_of}
+use Rattle.cert_check.specs.Room.{Kept, kept_in, nothing_kept, numbers_from, states_from, turn_at, turns_from, path_start, state_of}
 use Rattle.cut_cert.specs.RowLending.{with_first}
 use Rattle.cert_check.proofs.lemmas.Tables.{table_at, table-same, table-set, table-replicate}
 
@@ -68,14 +68,11 @@ turns_from-same row new start (suc depth) agree =
     cc
 
 -- one number was written among them
-pub numbers_from-set : (row : List ℕ) (start count n value : ℕ) → start + n < length row → n < count →
-    numbers_from (set row (start + n) value) start count ≡ set (numbers_from row start count) n value
-numbers_from-set row start count n value within below =
-    table-set (λ k. get_or row (start + k) 0) (λ k. get_or (set row (start + n) value) (start + k) 0) count n value 0
-    below
-    (get_or-set_same row (start + n) value 0 within)
-    (λ k lt apart. let other : start + k ≢ start + n =
-    λ is. apart (omega arith) in get_or-set_other row (start + n) (start + k) value 0 other)
+numbers_from-written : (row new : List ℕ) (start count n value : ℕ) → n < count → get_or new (start + n) 0 ≡ value →
+    ((k : ℕ) → k < count → k ≢ n → get_or new (start + k) 0 ≡ get_or row (start + k) 0) →
+    numbers_from new start count ≡ set (numbers_from row start count) n value
+numbers_from-written row new start count n value below here others =
+    table-set (λ k. get_or row (start + k) 0) (λ k. get_or new (start + k) 0) count n value 0 below here others
 
 pub states_from-set : (row : List ℕ) (start count n value : ℕ) → start + n < length row → n < count →
     states_from (set row (start + n) value) start count ≡ set (states_from row start count) n (state_of value)
@@ -88,12 +85,18 @@ states_from-set row start count n value within below =
 
 -- ---- one write
 
+-- rows of which the one has another load in one place, and maybe another list of edges
+pub record IsLoadWritten (row new : List ℕ) (E place value : ℕ) : Type 0 where
+  pub load : get_or new place 0 ≡ value
+  pub front : (k : ℕ) → k < 3 * E → k ≢ place → get_or new k 0 ≡ get_or row k 0
+  pub behind : (k : ℕ) → 4 * E ≤ k → get_or new k 0 ≡ get_or row k 0
+
 -- the load of an edge's arc to its end b
-pub kept_in-set_there : (row : List ℕ) (E V depth n value : ℕ) (old : Kept) → IsRoom row E V depth →
-    kept_in row E V depth ≡ old → n < length old.there →
-    kept_in (set row n value) E V depth ≡ record old { there = set old.there n value }
-kept_in-set_there row E V depth n value old room is inside =
-    subst (λ (o : Kept). kept_in (set row n value) E V depth ≡ record o { there = set o.there n value }) is done
+pub kept_in-set_there : (row new : List ℕ) (E V depth n value : ℕ) (old : Kept) → E ≤ 2 * V →
+    kept_in row E V depth ≡ old → n < length old.there → IsLoadWritten row new E n value →
+    kept_in new E V depth ≡ record old { there = set old.there n value }
+kept_in-set_there row new E V depth n value old within is inside written =
+    subst (λ (o : Kept). kept_in new E V depth ≡ record o { there = set o.there n value }) is done
   where
     below : n < E
     below = omega (
@@ -104,28 +107,24 @@ kept_in-set_there row E V depth n value old room is inside =
           (λ k. get_or row (0 + k) 0) 0 E,
     )
 
-    done : kept_in (set row n value) E V depth ≡ record (kept_in row E V depth) {
-      there =
-          set (numbers_from row 0 E) n value;
-    }
+    done : kept_in new E V depth ≡ record (kept_in row E V depth) { there = set (numbers_from row 0 E) n value }
     done =
-        let there : numbers_from (set row (0 + n) value) 0 E ≡ set (numbers_from row 0 E) n value =
-        numbers_from-set row 0 E n value (omega (arith, room.length, below)) below in
         let place : 0 + n ≡ n = omega arith in
-        same_kept _ _ (subst (λ p. numbers_from (set row p value) 0 E ≡ set (numbers_from row 0 E) n value) place there)
-        (numbers_from-same row (set row n value) E E (AgreeOn-set_before row n value E (E + E) below))
-        (states_from-same row (set row n value) (2 * E) E
-        (AgreeOn-set_before row n value (2 * E) (2 * E + E) (omega (arith, below))))
-        (turns_from-same row (set row n value) (path_start E V) depth
-        (AgreeOn-set_before row n value (path_start E V) (path_start E V + 2 * depth) (omega (arith, below))))
+        same_kept _ _
+        (numbers_from-written row new 0 E n value below (rw place written.load)
+        (λ k lt apart. written.front (0 + k) (omega (arith, below)) (λ same. apart (omega (arith, below)))))
+        (numbers_from-same row new E E (record { same = λ k le lt. written.front k (omega (arith, below)) (λ same. omega (arith, below)) }))
+        (states_from-same row new (2 * E) E
+        (record { same = λ k le lt. written.front k (omega (arith, below)) (λ same. omega (arith, below)) }))
+        (turns_from-same row new (path_start E V) depth (record { same = λ k le lt. written.behind k (omega (arith, below)) }))
         refl
 
 -- the load of the arc back
-pub kept_in-set_back : (row : List ℕ) (E V depth n value : ℕ) (old : Kept) → IsRoom row E V depth →
-    kept_in row E V depth ≡ old → n < length old.back →
-    kept_in (set row (E + n) value) E V depth ≡ record old { back = set old.back n value }
-kept_in-set_back row E V depth n value old room is inside =
-    subst (λ (o : Kept). kept_in (set row (E + n) value) E V depth ≡ record o { back = set o.back n value }) is done
+pub kept_in-set_back : (row new : List ℕ) (E V depth n value : ℕ) (old : Kept) → E ≤ 2 * V →
+    kept_in row E V depth ≡ old → n < length old.back → IsLoadWritten row new E (E + n) value →
+    kept_in new E V depth ≡ record old { back = set old.back n value }
+kept_in-set_back row new E V depth n value old within is inside written =
+    subst (λ (o : Kept). kept_in new E V depth ≡ record o { back = set o.back n value }) is done
   where
     below : n < E
     below = omega (
@@ -136,25 +135,21 @@ kept_in-set_back row E V depth n value old room is inside =
           (λ k. get_or row (E + k) 0) 0 E,
     )
 
-    done : kept_in (set row (E + n) value) E V depth ≡ record (kept_in row E V depth) {
-      back =
-          set (numbers_from row E E) n value;
-    }
+    done : kept_in new E V depth ≡ record (kept_in row E V depth) { back = set (numbers_from row E E) n value }
     done = same_kept _ _
-        (numbers_from-same row (set row (E + n) value) 0 E
-        (AgreeOn-set_behind row (E + n) value 0 (0 + E) (omega (arith, below))))
-        (numbers_from-set row E E n value (omega (arith, room.length, below)) below)
-        (states_from-same row (set row (E + n) value) (2 * E) E
-        (AgreeOn-set_before row (E + n) value (2 * E) (2 * E + E) (omega (arith, below))))
-        (turns_from-same row (set row (E + n) value) (path_start E V) depth
-        (AgreeOn-set_before row (E + n) value (path_start E V) (path_start E V + 2 * depth) (omega (arith, below))))
+        (numbers_from-same row new 0 E (record { same = λ k le lt. written.front k (omega (arith, below)) (λ same. omega (arith, below)) }))
+        (numbers_from-written row new E E n value below written.load
+        (λ k lt apart. written.front (E + k) (omega (arith, below)) (λ same. apart (omega (arith, below)))))
+        (states_from-same row new (2 * E) E
+        (record { same = λ k le lt. written.front k (omega (arith, below)) (λ same. omega (arith, below)) }))
+        (turns_from-same row new (path_start E V) depth (record { same = λ k le lt. written.behind k (omega (arith, below)) }))
         refl
 
 -- the state of an edge
-pub kept_in-set_state : (row : List ℕ) (E V depth n value : ℕ) (old : Kept) → IsRoom row E V depth →
-    kept_in row E V depth ≡ old → n < length old.states →
+pub kept_in-set_state : (row : List ℕ) (E V depth n value : ℕ) (old : Kept) →
+    length row ≡ 3 * E + 3 * V + 512 → kept_in row E V depth ≡ old → n < length old.states →
     kept_in (set row (2 * E + n) value) E V depth ≡ record old { states = set old.states n (state_of value) }
-kept_in-set_state row E V depth n value old room is inside =
+kept_in-set_state row E V depth n value old long is inside =
     subst (λ (o : Kept). kept_in (set row (2 * E + n) value) E V depth ≡ record o {
       states =
           set o.states n (state_of value);
@@ -178,7 +173,7 @@ kept_in-set_state row E V depth n value old room is inside =
         (AgreeOn-set_behind row (2 * E + n) value 0 (0 + E) (omega (arith, below))))
         (numbers_from-same row (set row (2 * E + n) value) E E
         (AgreeOn-set_behind row (2 * E + n) value E (E + E) (omega (arith, below))))
-        (states_from-set row (2 * E) E n value (omega (arith, room.length, below)) below)
+        (states_from-set row (2 * E) E n value (omega (arith, long, below)) below)
         (turns_from-same row (set row (2 * E + n) value) (path_start E V) depth
         (AgreeOn-set_before row (2 * E + n) value (path_start E V) (path_start E V + 2 * depth)
         (omega (arith, below))))
@@ -198,7 +193,7 @@ turns_from-less row start zero = refl
 turns_from-less row start (suc depth) = let less : suc depth - 1 ≡ depth = omega arith in rw less refl
 
 -- numbers before two that were written
-agree_before : (row : List ℕ) (place first second from to : ℕ) → to ≤ place →
+pub agree_before : (row : List ℕ) (place first second from to : ℕ) → to ≤ place →
     AgreeOn row (set (set row place first) (place + 1) second) from to
 agree_before row place first second from to before =
     AgreeOn-then row (set row place first) (set (set row place first) (place + 1) second) from to
@@ -233,11 +228,11 @@ turns_from-push row start depth flag turn within told =
     let more : depth + 1 ≡ suc depth = omega arith in
     rw more (ap (λ t. t ∷ turns_from new start depth) here ∙ ap (λ ts. turn ∷ ts) rest)
 
-pub kept_in-push : (row : List ℕ) (E V depth flag : ℕ) (turn : Turn) (old : Kept) → IsRoom row E V depth →
-    kept_in row E V depth ≡ old → length old.path < 255 → (flag == 1) ≡ turn.inside →
+pub kept_in-push : (row : List ℕ) (E V depth flag : ℕ) (turn : Turn) (old : Kept) →
+    length row ≡ 3 * E + 3 * V + 512 → kept_in row E V depth ≡ old → length old.path < 255 → (flag == 1) ≡ turn.inside →
     kept_in (set (set row (path_start E V + 2 * depth) turn.edge) (path_start E V + 2 * depth + 1) flag) E V
     (depth + 1) ≡ record old { path = turn ∷ old.path }
-kept_in-push row E V depth flag turn old room is few told =
+kept_in-push row E V depth flag turn old long is few told =
     let place = path_start E V + 2 * depth in
     let new = set (set row place turn.edge) (place + 1) flag in
     let short : depth < 255 =
@@ -249,7 +244,7 @@ kept_in-push row E V depth flag turn old room is few told =
     (numbers_from-same row new 0 E (agree_before row place turn.edge flag 0 (0 + E) (omega arith)))
     (numbers_from-same row new E E (agree_before row place turn.edge flag E (E + E) (omega arith)))
     (states_from-same row new (2 * E) E (agree_before row place turn.edge flag (2 * E) (2 * E + E) (omega arith)))
-    (turns_from-push row (path_start E V) depth flag turn (omega (arith, room.length)) told)
+    (turns_from-push row (path_start E V) depth flag turn (omega (arith, long)) told)
     refl in
     subst (λ (o : Kept). kept_in new E V (depth + 1) ≡ record o { path = turn ∷ o.path }) is done
 

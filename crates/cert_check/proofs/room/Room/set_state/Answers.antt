@@ -1,5 +1,7 @@
-use Rattle.std.proofs.Common.{arith}
-use Rattle.cert_check.proofs.lemmas.Rooms.{kept_in-set_state, states_size}
+use Rattle.std.proofs.Common.{ℕ, ◌+◌, ◌*◌, ◌<◌, set, ◌∙◌, arith}
+use Rattle.std.proofs.lemmas.List.{length-set}
+use Rattle.cert_check.proofs.lemmas.Rooms.{AgreeOn-set_before, AgreeOn-set_behind, kept_in-set_state, states_size}
+use Rattle.cert_check.proofs.lemmas.Listed.{IsList-same}
 use Rattle.cert_check.proofs.room.Room.set_state.Goals as goal
 
 pub overflow_add-self-inside : goal.overflow_add-self-inside
@@ -11,4 +13,23 @@ set-requires c = omega (arith, states_size c.self.inside.row c.self.inside.edges
 pub returns : goal.returns
 returns c =
     rw (c.set.ensures, ← c.number_from.ensures)
-    (kept_in-set_state c.self.inside.row c.self.inside.edges c.self.inside.vertices c.self.inside.depth c.args.n c.number_from.result c.args.self.now c.self.invariant c.self.view_is c.requires)
+    (kept_in-set_state c.self.inside.row c.self.inside.edges c.self.inside.vertices c.self.inside.depth c.args.n c.number_from.result c.args.self.now c.self.invariant.length c.self.view_is c.requires)
+
+pub invariant_of-self : goal.invariant_of-self
+invariant_of-self c =
+    let row = c.self.inside.row in
+    let E = c.self.inside.edges in
+    let place : ℕ = 2 * E + c.args.n in
+    let value = c.number_from.result in
+    let below : c.args.n < E = omega (arith, states_size row E c.self.inside.vertices c.self.inside.depth c.args.self.now c.self.view_is) in
+    rw c.set.ensures record {
+      few_edges = c.self.invariant.few_edges;
+      few_vertices = c.self.invariant.few_vertices;
+      within = c.self.invariant.within;
+      length = length-set row place value ∙ c.self.invariant.length;
+      short = c.self.invariant.short;
+      list = IsList-same row (set row place value) E c.self.inside.loaded
+          (AgreeOn-set_behind row place value 0 (2 * E) (omega arith))
+          (AgreeOn-set_before row place value (3 * E) (3 * E + c.self.inside.loaded) (omega arith))
+          c.self.invariant.list;
+    }
