@@ -40,6 +40,7 @@ impl<'a> Checker<'a> {
 
     /// A checker that was fed no byte. The room that it is handed: an empty set of the grid's E edges for the network,
     /// an empty set of its V vertices for the cut that is read, and a row of 3 E + 3 V + 512 numbers, whatever they are.
+    /// A `Workroom` has these.
     pub fn begin(grid: &'a Grid, network: EdgeSet, members: VertexSet, work: Row) -> Checker<'a>
         requires network { network ≡ replicate (length (hanan_grid_of grid.now).edges) false }
         requires members { members ≡ replicate (hanan_grid_of grid.now).vertices false }

@@ -17,7 +17,9 @@ mod tests;
 mod turn;
 mod verdict;
 mod way;
+mod workroom;
 
 pub use checker::Checker;
 pub use law::{accepted_bound_holds, one_verdict};
 pub use verdict::{Cause, Finished, Verdict};
+pub use workroom::Workroom;

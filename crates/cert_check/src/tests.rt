@@ -3,19 +3,19 @@
 
 use crate::checker::Checker;
 use crate::verdict::{Cause, Verdict};
-use cut_cert::Row;
+use crate::workroom::Workroom;
 use hanan_grid::Grid;
-use net_graph::{EdgeSet, VertexSet};
 use points_in::{Point, Points};
 use std::alloc::{AllocError, Global};
 use std::test::Fail;
 
 /// A checker with the room that it works in.
 fn checker_on<'a>(alloc: Global, grid: &'a Grid) -> Result<Checker<'a>, AllocError> {
-    let (edges, vertices) = (grid.graph().edge_count(), grid.graph().vertex_count());
-    let network = EdgeSet::empty(alloc, edges)?;
-    let members = VertexSet::empty(alloc, vertices)?;
-    let work = Row::zeros(alloc, 3 * edges + 3 * vertices + 512)?;
+    let Workroom {
+        network,
+        members,
+        work,
+    } = Workroom::new(alloc, grid)?;
     Ok(Checker::begin(grid, network, members, work))
 }
 

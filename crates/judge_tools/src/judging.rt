@@ -7,11 +7,10 @@ ghost use Rattle.judge_tools.specs.Judging.{TellsVerdict, JudgesInput};
 
 use crate::judge::ANSWER_LIMIT;
 use crate::verdict_line::VerdictLine;
-use cert_check::Checker;
-use cut_cert::Row;
+use cert_check::{Checker, Workroom};
 use frame::{InputFault, feed_input};
 use hanan_grid::Grid;
-use net_graph::{EdgeSet, VertexSet};
+use net_graph::EdgeSet;
 use rst_outside::{Consumer, Source};
 use std::alloc::{AllocError, Global};
 use std::marker::{Brand, PhantomData};
@@ -53,11 +52,11 @@ impl<'a, K: ForTerminals> Judging<'a, K> {
     fn begin(alloc: Global, grid: &'a Grid) -> Result<Judging<'a, K>, AllocError>
         ensures { IfOk result (λ judging. StandsForBytes grid.now [] judging.checker) }
     {
-        let edges = grid.graph().edge_count();
-        let vertices = grid.graph().vertex_count();
-        let network = EdgeSet::empty(alloc, edges)?;
-        let members = VertexSet::empty(alloc, vertices)?;
-        let work = Row::zeros(alloc, 3 * edges + 3 * vertices + 512)?;
+        let Workroom {
+            network,
+            members,
+            work,
+        } = Workroom::new(alloc, grid)?;
         Ok(Judging {
             checker: Checker::begin(grid, network, members, work),
             of: PhantomData,

@@ -6,11 +6,10 @@ ghost use Rattle.cert_check.specs.Verdicts.{byte_limit};
 ghost use Rattle.search_tools.specs.Steps.{IsPrintable, IsSpelled, solution_text};
 ghost use Rattle.trial_tools.specs.Steps.{IsSomeAnswer};
 
-use cert_check::{Checker, Finished, Verdict};
-use cut_cert::{Row, answer_len};
+use cert_check::{Checker, Finished, Verdict, Workroom};
+use cut_cert::answer_len;
 use frame::Answer;
 use hanan_grid::Grid;
-use net_graph::{EdgeSet, VertexSet};
 use rst_outside::{MemSink, PutFault};
 use search_tools::Solution;
 use std::alloc::{AllocError, Global};
@@ -46,11 +45,11 @@ fn verdict_on(alloc: Global, grid: &Grid, bytes: &[u8]) -> Result<Verdict, Alloc
     ensures { IfOk result (λ verdict. length bytes.now ≤ byte_limit → IsAccepted grid.now bytes.now
         → IsAccepting verdict) }
 {
-    let edges = grid.graph().edge_count();
-    let vertices = grid.graph().vertex_count();
-    let network = EdgeSet::empty(alloc, edges)?;
-    let members = VertexSet::empty(alloc, vertices)?;
-    let work = Row::zeros(alloc, 3 * edges + 3 * vertices + 512)?;
+    let Workroom {
+        network,
+        members,
+        work,
+    } = Workroom::new(alloc, grid)?;
     let mut checker = Checker::begin(grid, network, members, work);
     checker.feed(bytes);
     let Finished {
