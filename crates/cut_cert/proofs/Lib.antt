@@ -19,6 +19,7 @@ pub mod ScanNumbers
 pub mod ScanWords
 pub mod HexTable
 pub mod ScanSets
+pub mod SetDigits
 pub mod SetRuns
 pub mod Steps
 pub mod ScanLines

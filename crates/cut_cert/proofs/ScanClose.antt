@@ -150,12 +150,6 @@ inner_corner k corner.Y2 z l inner h = inner refl
 pub no_line-corner : (k : Kept) (c : Corner) (minus : Bool) (v : ℕ) → (c ≡ corner.Y2 → ⊥) → IsInField (field.Coordinate c minus) v → IsNoLineLeft k (scan.Number (field.Coordinate c minus) v)
 no_line-corner k c minus v inner inside l s' left due = inner_corner k c (signed minus v) l inner (over_end k (field.Coordinate c minus) v l inside left)
 
--- a name's line where none is due
-pub no_line-name : (k : Kept) (c : Corner) (minus : Bool) (v : ℕ) → ((e : EdgeName) (s' : Stage) → step k.stage (name_line k.stage e) ≡ Some s' → ⊥) → IsInField (field.Coordinate c minus) v → IsNoLineLeft k (scan.Number (field.Coordinate c minus) v)
-no_line-name k c minus v none inside l s' left due =
-    let behind = over_end k (field.Coordinate c minus) v l inside left in
-    none behind.name s' (ap (step k.stage) (sym behind.line) ∙ due)
-
 -- ---- sets
 
 pub closes-set : (k : Kept) (h : AnswerHead) (place cuts nodes left : ℕ) → k.stage ≡ stage.Body cuts nodes → left ≡ cuts - 1 → (length k.members + 3) / 4 ≤ place → 0 < k.weight → k.weight < 2 ^ 64 → FitsName k.name

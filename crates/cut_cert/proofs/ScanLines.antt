@@ -3,7 +3,7 @@ use Rattle.std.proofs.Common.{ℕ, suc, zero, ◌≡◌, ◌+◌, ◌/◌, ◌<�
 use Rattle.std.specs.Prelude.{◌⊎◌, codes, FitsSigned}
 use Rattle.std.specs.Int.{w64}
 use Rattle.std.specs.Fmt.{decimal, signed_decimal}
-use Rattle.std.proofs.lemmas.List.{append-nil, drop_all, ext_get_or, length-drop}
+use Rattle.std.proofs.lemmas.List.{append-nil, drop_all, length-drop}
 use Rattle.net_graph.specs.declared.packing.Cut.{Cut}
 use Rattle.hanan_grid.specs.declared.name.EdgeName.{EdgeName}
 use Rattle.cut_cert.specs.AnswerLine.{Line}
@@ -346,25 +346,12 @@ some_left k scan.Refused sound name = absurd sound
 
 -- ---- the end of a line
 
--- a number that ends no line
-pub blank_due : (k : Kept) (c : Corner) (z : ℤ) (l : Line) → (c ≡ corner.Y2 → ⊥) → BehindCoordinate k c z [] l → ⊥
-blank_due k corner.X1 z l inner h = let text = h.text in cc
-blank_due k corner.Y1 z l inner h = let text = h.text in cc
-blank_due k corner.X2 z l inner h = let text = h.text in cc
-blank_due k corner.Y2 z l inner h = inner refl
-
 -- a set that ends a line has all its digits
 pub set_whole : (k : Kept) (place : ℕ) (l : Line) → SetLeft k place [] l → (length k.members + 3) / 4 ≤ place
 set_whole k place l h =
     let size = h.size in
     let none = ap length h.text in
     omega (arith, length-drop place (set_text h.set), length-set_text h.set)
-
--- and is the one that was read
-pub set_same : (k : Kept) (place : ℕ) (l : Line) → (length k.members + 3) / 4 ≤ place → SetLeft k place [] l → l ≡ line.Cut (record { weight = k.weight; members = k.members })
-set_same k place l whole h =
-    let all : h.set ≡ k.members = ext_get_or false h.set k.members h.size (λ v inside. let size = h.size in h.same v (omega arith)) in
-    h.line ∙ (λ i. line.Cut (record { weight = k.weight; members = all i }))
 
 pub set_left : (k : Kept) (place : ℕ) → (0 < k.weight) → k.weight < 2 ^ 64 → (length k.members + 3) / 4 ≤ place → SetLeft k place [] (line.Cut (record { weight = k.weight; members = k.members }))
 set_left k place some fits whole = record {

@@ -3,7 +3,6 @@ use Rattle.std.proofs.Common.{ℕ, suc, zero, ◌≡◌, ◌+◌, ◌-◌, ◌*�
 use Rattle.std.specs.Prelude.{FitsSigned}
 use Rattle.std.specs.Int.{w64}
 use Rattle.std.specs.Fmt.{decimal, signed_decimal}
-use Rattle.std.proofs.lemmas.Bool.{cases_lt}
 use Rattle.std.proofs.lemmas.List.{append-nil}
 use Rattle.cut_cert.specs.AnswerLine.{Line}
 use Rattle.cut_cert.specs.LineKinds as line
@@ -114,17 +113,6 @@ leads-first k f digit b few is =
     let both = leads_to_digits k f [] (decimal digit) b (λ blank. omega arith) longer in
     record { on = both.0; back = both.1 }
 
-pub first-sound : (f : Field) (digit : ℕ) → digit < 10 → (digit ≡ 0 → least_of f ≡ 1 → ⊥) → IsInField f digit
-first-sound f digit few some = ⊎_elim
-    (λ (none : digit < 1).
-    let zero_digit : digit ≡ 0 = omega arith in
-    record {
-      least = ⊎_elim (λ (free : least_of f < 1). omega arith) (λ (one : 1 ≤ least_of f). let is : least_of f ≡ 1 = omega (arith, least-few f) in absurd (some zero_digit is)) (cases_lt (least_of f) 1);
-      limit = omega (arith, limit-some f);
-    })
-    (λ (one : 1 ≤ digit). record { least = omega (arith, least-few f); limit = omega (arith, limit-some f) })
-    (cases_lt digit 1)
-
 -- a number that begins with the byte
 record First (f : Field) (b : ℕ) : Type 0 where
   number : ℕ
@@ -159,9 +147,6 @@ leads-next k f v digit b inside some few is fits =
     let longer : decimal (10 * v + digit) ≡ decimal v ++ b ∷ [] = digit_more v digit some few (omega (arith, limit-wide f)) ∙ ap (λ x. decimal v ++ x ∷ []) (sym is) in
     let both = leads_to_digits k f (decimal v) (decimal (10 * v + digit)) b (λ blank. omega arith) longer in
     record { on = both.0; back = both.1 }
-
-pub next-sound : (f : Field) (v digit : ℕ) → 0 < v → 10 * v + digit < limit_of f → IsInField f (10 * v + digit)
-next-sound f v digit some fits = record { least = omega (arith, least-few f); limit = fits }
 
 pub dead-next : (k : Kept) (f : Field) (v b : ℕ) → IsInField f v → (b ≡ 32 → ⊥) → (48 ≤ b → b < 58 → 0 < v → 10 * v + (b - 48) < limit_of f → ⊥) → IsDead k (scan.Number f v) b
 dead-next k f v b inside other none rest l h =

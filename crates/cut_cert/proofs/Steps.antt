@@ -3,26 +3,10 @@ use Rattle.std.proofs.Common.{ℕ, suc, zero, ◌≡◌, refl, Some}
 use Rattle.net_graph.specs.declared.packing.Cut.{Cut}
 use Rattle.hanan_grid.specs.declared.name.EdgeName.{EdgeName}
 use Rattle.cut_cert.specs.declared.head.ConcatNote.{ConcatNote}
-use Rattle.std.specs.Prelude.{Bool}
 use Rattle.cut_cert.specs.LineKinds as line
 use Rattle.cut_cert.specs.declared.line.Stage.{Stage}
 use Rattle.cut_cert.specs.declared.line.Stage.TheVariants as stage
 use Rattle.cut_cert.specs.Lines.{step}
-
-pub step-title : (s s' : Stage) → step s line.Title ≡ Some s' → stage.Length ≡ s'
-step-title stage.Title s' e = cc
-step-title stage.Length s' e = absurd cc
-step-title stage.Bound s' e = absurd cc
-step-title stage.Status s' e = absurd cc
-step-title stage.Openings s' e = absurd cc
-step-title stage.Concat s' e = absurd cc
-step-title stage.Count s' e = absurd cc
-step-title (stage.Edges zero) s' e = absurd cc
-step-title (stage.Edges (suc k)) s' e = absurd cc
-step-title (stage.Body zero zero) s' e = absurd cc
-step-title (stage.Body zero (suc m)) s' e = absurd cc
-step-title (stage.Body (suc k) m) s' e = absurd cc
-step-title stage.Done s' e = absurd cc
 
 pub step-length : (s s' : Stage) (n : ℕ) → step s (line.Length n) ≡ Some s' → stage.Bound ≡ s'
 step-length stage.Length s' n e = cc
@@ -53,21 +37,6 @@ step-bound (stage.Body zero zero) s' n e = absurd cc
 step-bound (stage.Body zero (suc m)) s' n e = absurd cc
 step-bound (stage.Body (suc k) m) s' n e = absurd cc
 step-bound stage.Done s' n e = absurd cc
-
-pub step-status : (s s' : Stage) (optimal : Bool) → step s (line.Status optimal) ≡ Some s' → stage.Openings ≡ s'
-step-status stage.Status s' optimal e = cc
-step-status stage.Title s' optimal e = absurd cc
-step-status stage.Length s' optimal e = absurd cc
-step-status stage.Bound s' optimal e = absurd cc
-step-status stage.Openings s' optimal e = absurd cc
-step-status stage.Concat s' optimal e = absurd cc
-step-status stage.Count s' optimal e = absurd cc
-step-status (stage.Edges zero) s' optimal e = absurd cc
-step-status (stage.Edges (suc k)) s' optimal e = absurd cc
-step-status (stage.Body zero zero) s' optimal e = absurd cc
-step-status (stage.Body zero (suc m)) s' optimal e = absurd cc
-step-status (stage.Body (suc k) m) s' optimal e = absurd cc
-step-status stage.Done s' optimal e = absurd cc
 
 pub step-openings : (s s' : Stage) (n : ℕ) → step s (line.Openings n) ≡ Some s' → stage.Concat ≡ s'
 step-openings stage.Openings s' n e = cc
@@ -113,36 +82,6 @@ step-count (stage.Body zero zero) s' n e = absurd cc
 step-count (stage.Body zero (suc m)) s' n e = absurd cc
 step-count (stage.Body (suc k) m) s' n e = absurd cc
 step-count stage.Done s' n e = absurd cc
-
-pub step-tree : (s s' : Stage) → step s line.Tree ≡ Some s' → stage.Body 0 1 ≡ s'
-step-tree (stage.Edges zero) s' e = cc
-step-tree stage.Title s' e = absurd cc
-step-tree stage.Length s' e = absurd cc
-step-tree stage.Bound s' e = absurd cc
-step-tree stage.Status s' e = absurd cc
-step-tree stage.Openings s' e = absurd cc
-step-tree stage.Concat s' e = absurd cc
-step-tree stage.Count s' e = absurd cc
-step-tree (stage.Edges (suc k)) s' e = absurd cc
-step-tree (stage.Body zero zero) s' e = absurd cc
-step-tree (stage.Body zero (suc m)) s' e = absurd cc
-step-tree (stage.Body (suc k) m) s' e = absurd cc
-step-tree stage.Done s' e = absurd cc
-
-pub step-end : (s s' : Stage) → step s line.End ≡ Some s' → stage.Done ≡ s'
-step-end (stage.Body zero zero) s' e = cc
-step-end stage.Title s' e = absurd cc
-step-end stage.Length s' e = absurd cc
-step-end stage.Bound s' e = absurd cc
-step-end stage.Status s' e = absurd cc
-step-end stage.Openings s' e = absurd cc
-step-end stage.Concat s' e = absurd cc
-step-end stage.Count s' e = absurd cc
-step-end (stage.Edges zero) s' e = absurd cc
-step-end (stage.Edges (suc k)) s' e = absurd cc
-step-end (stage.Body zero (suc m)) s' e = absurd cc
-step-end (stage.Body (suc k) m) s' e = absurd cc
-step-end stage.Done s' e = absurd cc
 
 pub step-leaf : (s s' : Stage) (n : ℕ) → step s (line.Leaf n) ≡ Some s' → (nodes : ℕ) × (s ≡ stage.Body 0 (suc nodes)) × (stage.Body n nodes ≡ s')
 step-leaf (stage.Body zero (suc nodes)) s' n e = (nodes, refl, cc)

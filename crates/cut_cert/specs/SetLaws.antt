@@ -1,15 +1,19 @@
 -- The digits of a set, place by place.
-use Rattle.std.specs.Prelude.{ℕ, suc, zero, ◌+◌, ◌-◌, ◌*◌, ◌/◌, ◌≡◌, ◌<◌, ◌≤◌, Bool, true, false, ◌&&◌, List, [], ◌∷◌, ◌++◌, length, replicate, nat_lt, nat_le, if◌then◌else◌, refl}
-use Rattle.std.proofs.Common.{get_or, take, arith, add-zero, ap, sym, ◌∙◌}
-use Rattle.std.specs.Int.{div_ceil}
+use Rattle.std.specs.Prelude.{ℕ, suc, zero, ◌+◌, ◌-◌, ◌*◌, ◌/◌, ◌≡◌, ◌<◌, ◌≤◌, Bool, true, false, ◌&&◌, List, [], ◌∷◌, ◌++◌, length, replicate, nat_lt, nat_le, ◌==◌, if◌then◌else◌, refl}
+use Rattle.std.proofs.Common.{get_or, take, arith, add-zero, ap, sym, ◌∙◌, append_assoc}
+use Rattle.std.specs.Int.{div_ceil, bit_at}
 use Rattle.std.proofs.lemmas.Grind.{div_ceil_times}
-use Rattle.std.proofs.lemmas.List.{take_more, take_all}
+use Rattle.std.proofs.lemmas.List.{take_more, take_all, append-nil}
 use Rattle.net_graph.specs.Flags.{has, flag_of_four}
 use Rattle.cut_cert.specs.Text.{four_digit, set_text}
 
 -- the digit at a place, which stands for the four flags from there on
 abbrev pub digit_at_place : List Bool → ℕ → ℕ
 digit_at_place set place = four_digit (has set (4 * place)) (has set (4 * place + 1)) (has set (4 * place + 2)) (has set (4 * place + 3))
+
+-- the digit at a place of a word of 64 flags, of which the first is the lowest bit
+abbrev pub digit_in_word : ℕ → ℕ → ℕ
+digit_in_word word place = four_digit (bit_at word (4 * place) == 1) (bit_at word (4 * place + 1) == 1) (bit_at word (4 * place + 2) == 1) (bit_at word (4 * place + 3) == 1)
 
 -- a set has one digit for each four flags
 pub length-set_text : (set : List Bool) → length (set_text set) ≡ (length set + 3) / 4
@@ -43,12 +47,33 @@ get_or-set_text (a ∷ b ∷ c ∷ d ∷ set) (suc place) inside =
 pub digit_count : (n : ℕ) → div_ceil n 4 ≡ (n + 3) / 4
 digit_count n = omega (arith, div_ceil_times n 4 (omega arith))
 
--- one digit more, in a loop over the places
-pub take_set_text-more : (set : List Bool) (place : ℕ) → place < (length set + 3) / 4
+-- one digit more
+take_set_text-more : (set : List Bool) (place : ℕ) → place < (length set + 3) / 4
     → take place (set_text set) ++ (digit_at_place set place ∷ []) ≡ take (place + 1) (set_text set)
 take_set_text-more set place inside =
     let within : place < length (set_text set) = omega (arith, length-set_text set) in
     ap (λ digit. take place (set_text set) ++ (digit ∷ [])) (sym (get_or-set_text set place within)) ∙ sym (take_more (set_text set) place 0 within)
+
+-- so many digits more, in a loop over the words
+pub take_set_text-run : (set : List Bool) (digits : List ℕ) (place count : ℕ) → count ≤ length digits → place + count ≤ (length set + 3) / 4
+    → ((n : ℕ) → n < count → get_or digits n 0 ≡ digit_at_place set (place + n))
+    → take place (set_text set) ++ take count digits ≡ take (place + count) (set_text set)
+take_set_text-run set digits place zero enough inside are = append-nil (take place (set_text set)) ∙ ap (λ n. take n (set_text set)) (sym (add-zero place))
+take_set_text-run set digits place (suc count) enough inside are =
+    let front : take place (set_text set) ++ take count digits ≡ take (place + count) (set_text set) =
+    take_set_text-run set digits place count (omega arith) (omega arith) (λ n below. are n (omega arith)) in
+    let more : suc count ≡ count + 1 = omega arith in
+    let enough' : count < length digits = omega arith in
+    let least : count < suc count = omega arith in
+    let last : take (suc count) digits ≡ take count digits ++ digit_at_place set (place + count) ∷ [] =
+    ap (λ n. take n digits) more ∙ take_more digits count 0 enough' ∙ ap (λ digit. take count digits ++ digit ∷ []) (are count least) in
+    let next : place + count + 1 ≡ place + suc count = omega arith in
+    let inside_next : place + count < (length set + 3) / 4 = omega arith in
+    ap (λ run. take place (set_text set) ++ run) last
+    ∙ sym (append_assoc (take place (set_text set)) (take count digits) (digit_at_place set (place + count) ∷ []))
+    ∙ ap (λ run. run ++ digit_at_place set (place + count) ∷ []) front
+    ∙ take_set_text-more set (place + count) inside_next
+    ∙ ap (λ n. take n (set_text set)) next
 
 -- and no more of them
 pub take_set_text-all : (set : List Bool) (place : ℕ) → (length set + 3) / 4 ≤ place → take place (set_text set) ≡ set_text set

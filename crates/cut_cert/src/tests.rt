@@ -116,12 +116,13 @@ fn writes_the_worked_answer(rt: HostRuntime) -> Result<(), Fail> {
 #[test]
 fn writes_the_digits_of_sets(rt: HostRuntime) -> Result<(), Fail> {
     let alloc = rt.alloc();
-    let rows: [(u32, &[u32], &[u8]); 5] = [
+    let rows: [(u32, &[u32], &[u8]); 6] = [
         (6, &[2], b"20"),
         (6, &[4], b"08"),
         (6, &[1, 2, 5], b"64"),
         (9, &[0, 3, 4, 6], b"9a0"),
         (8, &[0, 1, 2, 3, 7], b"f1"),
+        (70, &[0, 63, 64, 69], b"800000000000000184"),
     ];
     for (size, members, digits) in rows {
         let set = set_of(alloc, size, members)?;

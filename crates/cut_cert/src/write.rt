@@ -1,11 +1,12 @@
 //! The parts of an answer's text that need no grid.
 
-ghost use Rattle.std.specs.Prelude.{◌≡◌, ◌<◌, ◌^◌, All};
+ghost use Rattle.std.specs.Prelude.{ℕ, ◌≡◌, ◌+◌, ◌*◌, ◌==◌, ◌<◌, ◌^◌, length, slice_get, All, Some};
+ghost use Rattle.std.specs.Int.{bit_at};
 ghost use Rattle.text_out.specs.Gathers.{Gathers};
 ghost use Rattle.net_graph.specs.Flags.{has};
-ghost use Rattle.cut_cert.specs.SetLaws.{digit_at_place};
+ghost use Rattle.cut_cert.specs.SetLaws.{digit_in_word};
 ghost use Rattle.cut_cert.specs.Spelling.{FitsHead, FitsWeight};
-ghost use Rattle.cut_cert.specs.Text.{flag_value, set_text, cut_line, cut_lines, leaf_text, status_word, concat_word, head_text, result_text, search_text, edge_line, split_line};
+ghost use Rattle.cut_cert.specs.Text.{set_text, cut_line, cut_lines, leaf_text, status_word, concat_word, head_text, result_text, search_text, edge_line, split_line};
 
 use crate::head::AnswerHead;
 use hanan_grid::EdgeName;
@@ -129,35 +130,45 @@ fn write_cut<S: Sink>(block: &mut Block, sink: &mut S, cut: &Cut)
     literal(block, sink, b"\n");
 }
 
-// The digits of a set.
+// The digits of a set, sixteen at once: those of a word of it.
 #[tactic(auto, using(text_out::specs::GatherLaws::pieces))]
 pub(crate) fn write_set<S: Sink>(block: &mut Block, sink: &mut S, set: &VertexSet)
     ensures { Gathers (S.state sink.old) block.old (set_text set.now) (S.state sink.new) block.new }
 {
-    for place in 0..set.len().div_ceil(4) {
-        literal(block, sink, &[digit_at(set, place)]);
+    let total = set.len().div_ceil(4);
+    for place in 0..set.len().div_ceil(64) {
+        let digits = digits_of(flags_at(set, place));
+        let count = (total - 16 * place).min(16) as usize;
+        literal(block, sink, &digits[..count]);
     }
 }
 
-// The digit at a place, which stands for the four flags from there on.
-pub(crate) fn digit_at(set: &VertexSet, place: u32) -> u8
-    ensures { result ≡ digit_at_place set.now place }
+// The flags of the 64 vertices from `64 * place` on, the first at the lowest bit; 0 past the end of the set.
+fn flags_at(set: &VertexSet, place: u32) -> u64
+    requires { 64 * place < length set.now }
+    ensures { (r : ℕ) → r < 64 → has set.now (64 * place + r) ≡ (bit_at result r == 1) }
 {
-    let first = 4 * u64::from(place);
-    let value = 8 * flag_at(set, first)
-        + 4 * flag_at(set, first + 1)
-        + 2 * flag_at(set, first + 2)
-        + flag_at(set, first + 3);
-    if value < 10 {
-        b'0' + value
+    let within = set.len() - 64 * place;
+    let flags = set.word(place);
+    if within < 64 {
+        flags & ((1 << within) - 1)
     } else {
-        b'a' + (value - 10)
+        flags
     }
 }
 
-// 1 for a member, and else 0, also past the end of the set.
-fn flag_at(set: &VertexSet, vertex: u64) -> u8
-    ensures { result ≡ flag_value (has set.now vertex) }
+// The sixteen digits of 64 flags.
+fn digits_of(flags: u64) -> [u8; 16]
+    ensures { (n : ℕ) → n < 16 → slice_get result n ≡ Some (digit_in_word flags n) }
 {
-    u8::from(vertex < u64::from(set.len()) && set.has(vertex as u32))
+    let mut digits = [0; 16];
+    for n in 0..16 {
+        digits[n] = DIGITS[(flags >> (4 * n) & 15) as usize];
+    }
+    digits
 }
+
+// The digits of four flags, by the number whose lowest bit is the first of them.
+const DIGITS: [u8; 16] = [
+    b'0', b'8', b'4', b'c', b'2', b'a', b'6', b'e', b'1', b'9', b'5', b'd', b'3', b'b', b'7', b'f',
+];
