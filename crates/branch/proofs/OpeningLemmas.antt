@@ -23,6 +23,7 @@ use Rattle.branch.specs.declared.frontier.Frontier.{Frontier}
 use Rattle.branch.specs.Leaves.{DecidedLeaf, leaf_under, leaves_of}
 use Rattle.branch.specs.States.{IsOpenLeaf, leaf_value}
 use Rattle.branch.specs.Openings.{IsSplitEdge}
+use Rattle.dual_ascent.specs.Costs.{costs_of}
 use Rattle.branch.specs.Notes.{IsBest, ShowsOwn, IsNoteOf, IsUpToOwn, IsKeptNote, IsNextNote, CanSplit, IsOfOwn}
 use Rattle.branch.specs.Searching.{IsSearch, IsOpeningOf}
 use Rattle.branch.proofs.ListLemmas.{beside_right}
@@ -113,6 +114,14 @@ module _ (g : Graph) (kept : Frontier) (place : ℕ) (note : LeafNote) (search :
   parent_feasible parent at =
       subst (λ (p : List Cut). IsFeasible g note.decision p) (parent_is parent at)
       (subst (λ (d : Decided). IsFeasible g d leaf.packing) (sym is_next.of_note.decision) is_next.of_note.feasible)
+
+  -- what is kept of the rooms
+  pub parent_costs : (parent : List Cut) → slice_get (packings_of kept.tree) place ≡ Some parent →
+      note.costs ≡ costs_of g.edges (states_of g note.decision) parent
+  parent_costs parent at =
+      is_next.of_note.costs note_can_split.set note_can_split.own
+      ∙ ap (λ (p : List Cut). costs_of g.edges (states_of g leaf.decision) p) (parent_is parent at)
+      ∙ ap (λ (d : Decided). costs_of g.edges (states_of g d) parent) (sym is_next.of_note.decision)
 
   pub own_splits : (e : ℕ) → IsOfOwn g note e → IsSplitEdge g leaf e
   own_splits e of_own = go note.network refl is_next.of_note.own

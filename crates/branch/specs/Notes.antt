@@ -3,10 +3,11 @@ use Rattle.std.specs.Prelude.{ℕ, ◌≡◌, ◌+◌, ◌*◌, ◌<◌, ◌≤�
 use Rattle.std.specs.List.{AllZip}
 use Rattle.net_graph.specs.Graph.{Graph, total_of}
 use Rattle.net_graph.specs.Network.{length_of}
-use Rattle.net_graph.specs.Decision.{Decided, IsDecisionFor, IsUndecided}
+use Rattle.net_graph.specs.Decision.{Decided, IsDecisionFor, IsUndecided, states_of}
 use Rattle.net_graph.specs.Packing.{IsFeasible}
 use Rattle.net_graph.specs.Saturation.{IsMaximal}
 use Rattle.dual_ascent.specs.declared.candidate.Candidate.{Candidate}
+use Rattle.dual_ascent.specs.Costs.{costs_of}
 use Rattle.branch.specs.declared.note.LeafNote.{LeafNote}
 use Rattle.branch.specs.declared.best.Best.{Best}
 use Rattle.branch.specs.Leaves.{DecidedLeaf}
@@ -31,6 +32,8 @@ pub record IsNoteOf (g : Graph) (leaf : DecidedLeaf) (note : LeafNote) : Type 0 
   pub few : length leaf.packing ≤ 4 * length g.edges + 1
   pub value : note.value ≡ leaf_value g leaf
   pub own : ShowsOwn g leaf note.network
+  pub costs : (set : List Bool) → note.network ≡ Some set
+      → note.costs ≡ costs_of g.edges (states_of g leaf.decision) leaf.packing
 
 -- what is kept as a leaf's own network is one
 abbrev pub IsOwnNetwork : Graph → Option (List Bool) → Type 0

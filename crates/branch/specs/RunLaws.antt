@@ -1,5 +1,5 @@
 -- Runs of openings and their first networks.
-use Rattle.std.specs.Prelude.{ℕ, zero, suc, ◌≡◌, ◌≤◌, Bool, List}
+use Rattle.std.specs.Prelude.{ℕ, zero, suc, ◌≤◌, Bool, List}
 use Rattle.std.proofs.Common.{arith}
 use Rattle.net_graph.specs.Graph.{Graph}
 use Rattle.cert_tree.specs.declared.split.SplitOn.{SplitOn}

@@ -31,8 +31,8 @@ pub(crate) fn opening_at<F: Rule, G: Rule>(
     let e = edge_to_split(alloc, g, note, split)?;
     let before = &note.decision;
     let parent = kept.tree.packing(place as u32);
-    let outside = child_of(alloc, g, before, parent, before.with_outside(g, e)?, ascent)?;
-    let inside = child_of(alloc, g, before, parent, before.with_inside(g, e)?, ascent)?;
+    let outside = child_of(alloc, g, note, parent, before.with_outside(g, e)?, ascent)?;
+    let inside = child_of(alloc, g, note, parent, before.with_inside(g, e)?, ascent)?;
     let best = kept.best.copy()?;
     let best = best.or_shorter(g, &outside.note)?;
     let best = best.or_shorter(g, &inside.note)?;

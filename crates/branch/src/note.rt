@@ -1,12 +1,15 @@
 //! What is kept beside a leaf of the tree.
 
+use dual_ascent::ReducedCosts;
 use net_graph::{Decision, EdgeSet};
 
 /// What is kept beside a leaf of the tree: the decision that stands there, the leaf's value, and where its packing is
-/// maximal a network whose edges each have a saturated arc.
+/// maximal a network whose edges each have a saturated arc, and what the packing leaves of the rooms of all arcs.
 #[derive(Debug, Drop)]
 pub(crate) struct LeafNote {
     pub decision: Decision,
     pub value: u128,
     pub network: Option<EdgeSet>,
+    /// Of no meaning where there is no network.
+    pub costs: ReducedCosts,
 }

@@ -1,10 +1,11 @@
 //! What is made of a leaf that is split.
 
 ghost use Rattle.std.specs.Prelude.{◌≡◌, ◌<◌, ◌≤◌, IfOk};
-ghost use Rattle.net_graph.specs.Decision.{IsDecisionFor};
+ghost use Rattle.net_graph.specs.Decision.{IsDecisionFor, states_of};
 ghost use Rattle.net_graph.specs.Packing.{IsFeasible};
 ghost use Rattle.dual_ascent.specs.Ascending.{BeginsWith};
 ghost use Rattle.dual_ascent.specs.Carried.{carried, DecidesOneMore};
+ghost use Rattle.dual_ascent.specs.Costs.{costs_of};
 ghost use Rattle.branch.specs.Leaves.{leaf_under};
 ghost use Rattle.branch.specs.Notes.{IsNoteOf, CanSplit, IsOfOwn, IsNextNote};
 
@@ -13,7 +14,7 @@ use crate::leaf::{NewLeaf, leaf_from};
 use crate::note::LeafNote;
 use crate::split_edge::undecided_edges;
 use cert_tree::SplitOn;
-use dual_ascent::{Chooser, Rule, carry};
+use dual_ascent::{Chooser, Rule, carry, carry_costs};
 use net_graph::{Decision, NetGraph, Packing};
 use std::alloc::{AllocError, Global};
 
@@ -47,21 +48,26 @@ pub(crate) fn edge_to_split<G: Rule>(
     Ok(list[place].number)
 }
 
-/// The leaf of the ascent that begins with what a packing carries to a further decision. An `Err` is want of memory.
+/// The leaf of the ascent that begins with what a leaf's packing carries to a further decision. An `Err` is want of
+/// memory.
 pub(crate) fn child_of<F: Rule>(
     alloc: Global,
     g: &NetGraph,
-    before: &Decision,
+    note: &LeafNote,
     parent: &Packing,
     now: Decision,
     rule: &Chooser<F>,
 ) -> Result<NewLeaf, AllocError>
+    requires before { IsDecisionFor g.now note.now.decision }
     requires now { IsDecisionFor g.now now }
-    requires one_more { DecidesOneMore g.now before.now now }
-    requires feasible { IsFeasible g.now before.now parent.now }
+    requires one_more { DecidesOneMore g.now note.now.decision now }
+    requires feasible { IsFeasible g.now note.now.decision parent.now }
+    requires costs { note.now.costs ≡ costs_of g.now.edges (states_of g.now note.now.decision) parent.now }
     ensures begins { IfOk result (λ leaf. BeginsWith leaf.packing (carried g.now now parent.now)) }
     ensures note { IfOk result (λ leaf. IsNoteOf g.now (leaf_under now leaf.packing) leaf.note) }
 {
+    let before = &note.decision;
     let start = carry(alloc, g, before, &now, parent)?;
-    leaf_from(alloc, g, now, start, rule)
+    let costs = carry_costs(alloc, g, before, &now, parent, &note.costs, &start)?;
+    leaf_from(alloc, g, now, start, costs, rule)
 }

@@ -9,14 +9,14 @@ ghost use Rattle.cert_tree.specs.TreeValue.{tree_value};
 
 use crate::best::Best;
 use crate::frontier::Frontier;
-use crate::leaf::leaf_from;
+use crate::leaf::first_leaf;
 use crate::next_opening::opening_at;
 use crate::open::{bound_of, next_open};
 use crate::solved::Solved;
 use crate::step::Step;
 use cert_tree::{CertTree, tree_bounds_every_network};
 use dual_ascent::{Chooser, Rule};
-use net_graph::{Decision, EdgeSet, NetGraph, Packing};
+use net_graph::{EdgeSet, NetGraph, Packing};
 use std::alloc::{AllocError, Global};
 use std::marker::Model;
 
@@ -66,8 +66,7 @@ impl<'a, F: Rule, G: Rule> Search<'a, F, G> {
         ensures first { IfOk result (λ s. s.first_length ≡ length_of g.now first) }
         ensures leaf { IfOk result (λ s. split_count s.tree ≡ 0) }
     {
-        let start = Packing::empty(alloc);
-        let leaf = leaf_from(alloc, g, Decision::none(alloc, g)?, start, &ascent)?;
+        let leaf = first_leaf(alloc, g, Packing::empty(alloc), &ascent)?;
         let kept = Frontier::begin(alloc, g, first, leaf)?;
         Ok(Search {
             alloc,
@@ -87,8 +86,7 @@ impl<'a, F: Rule, G: Rule> Search<'a, F, G> {
         ensures ok { OnOk result (IsRaised cuts self.old self.new) }
         ensures err { OnErr result (self.new ≡ self.old) }
     {
-        let decision = Decision::none(self.alloc, self.graph)?;
-        let leaf = leaf_from(self.alloc, self.graph, decision, cuts, &self.ascent)?;
+        let leaf = first_leaf(self.alloc, self.graph, cuts, &self.ascent)?;
         let first = &self.kept.notes[0];
         if first.value < leaf.note.value {
             self.kept = self.kept.with_leaf(self.alloc, self.graph, leaf)?;

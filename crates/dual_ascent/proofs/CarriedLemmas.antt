@@ -1,8 +1,8 @@
 -- A packing carried to the next decision stays feasible.
-use Rattle.std.proofs.Common.{ℕ, zero, suc, ◌≡◌, ◌+◌, ◌*◌, ◌≤◌, ◌<◌, Bool, true, false, not, ◌||◌, List, [], ◌∷◌, ◌++◌, filter, length, nat_le, slice_get, All, Contains, Some, None, IfSome, ◌⊎◌, inl, inr, ⊎_elim, refl, sym, ap, subst, ◌∙◌, arith, append-nil, append_assoc}
+use Rattle.std.proofs.Common.{ℕ, zero, suc, ◌≡◌, ◌≤◌, ◌<◌, Bool, true, false, not, ◌||◌, List, [], ◌∷◌, ◌++◌, filter, length, slice_get, All, Contains, Some, ⊎_elim, refl, sym, ap, subst, ◌∙◌, arith, append-nil, append_assoc}
 use Rattle.std.specs.List.{list_any}
 use Rattle.std.proofs.lemmas.Bool.{cases_Bool, both_ways, not-true}
-use Rattle.std.proofs.lemmas.List.Elements.{All-filter, All-cons, All-head, All-tail, All-weaker, Contains-append_right, filter_passes}
+use Rattle.std.proofs.lemmas.List.Elements.{All-filter, All-head, All-tail, All-weaker, Contains-append_right, filter_passes}
 use Rattle.std.proofs.lemmas.List.Folds.{list_any-from_Any}
 use Rattle.std.proofs.lemmas.List.Sums.{sum_by-cons}
 use Rattle.std.proofs.lemmas.Option.{same_Some}
@@ -93,7 +93,7 @@ load-none (c ∷ packing) u v none =
     omega (arith, sum_by-cons (λ (c : Cut). weight_on c u v) c packing)
 
 -- fewer cuts load no more
-load-fewer : (test : Cut → Bool) (packing : List Cut) (u v : ℕ) → load (filter test packing) u v ≤ load packing u v
+pub load-fewer : (test : Cut → Bool) (packing : List Cut) (u v : ℕ) → load (filter test packing) u v ≤ load packing u v
 load-fewer test [] u v = omega arith
 load-fewer test (c ∷ packing) u v =
     let less = load-fewer test packing u v in
@@ -114,14 +114,14 @@ required_still g before now v one required = ⊎_elim
     one
 
 -- what is undecided was undecided
-undecided_before : (g : Graph) (before now : Decided) (k : ℕ) → DecidesOneMore g before now → IsUndecided g now k → IsUndecided g before k
+pub undecided_before : (g : Graph) (before now : Decided) (k : ℕ) → DecidesOneMore g before now → IsUndecided g now k → IsUndecided g before k
 undecided_before g before now k one is_now = ⊎_elim
     (λ (n, state, undecided, is). IsUndecided-before_edge g before n k state undecided (subst (λ d. IsUndecided g d k) is is_now))
     (λ (w, state, undecided, is). IsUndecided-before_vertex g before w k state undecided (subst (λ d. IsUndecided g d k) is is_now))
     one
 
 -- the edge's arcs keep to their room
-room_kept : (g : Graph) (before now : Decided) (packing : List Cut) (n : ℕ) (e : Edge) (state : EdgeState) → DecidesOneMore g before now → IsFeasible g before packing →
+pub room_kept : (g : Graph) (before now : Decided) (packing : List Cut) (n : ℕ) (e : Edge) (state : EdgeState) → DecidesOneMore g before now → IsFeasible g before packing →
     slice_get g.edges n ≡ Some e → slice_get (states_of g now) n ≡ Some state →
     let kept : List Cut = unentered (inside_edges g.edges now.edges) packing in IsWithinRoom state e (load kept e.a e.b) × IsWithinRoom state e (load kept e.b e.a)
 room_kept g before now packing n e Outside one feasible at decided = (tt, tt)

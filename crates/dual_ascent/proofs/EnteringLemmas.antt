@@ -16,7 +16,7 @@ use Rattle.net_graph.specs.Packing.{enters}
 use Rattle.net_graph.specs.Turned.{partner_of-even, partner_of-odd}
 use Rattle.dual_ascent.specs.declared.costs.EdgeCosts.{EdgeCosts}
 use Rattle.dual_ascent.specs.declared.entering.EnteringArc.{EnteringArc}
-use Rattle.dual_ascent.specs.Costs.{left_after, weight_on, lowered_by, cost_of, edges_of, Entering, IsLeastOf}
+use Rattle.dual_ascent.specs.Costs.{left_after, raised_after, weight_on, lowered_by, raised_by, cost_of, edges_of, Entering, IsLeastOf}
 use Rattle.dual_ascent.specs.Entering.{EntersLeft, AreEntering, AreEnteringBelow, IsLeftOfOne, turned}
 use Rattle.dual_ascent.proofs.ArcLemmas.{IsArcOf-below, same_arc, cost_of-even, cost_of-odd, slice_get-edges_of, costs_at}
 use Rattle.dual_ascent.specs.CostLaws.{left_after-le, left_after-lt}
@@ -184,34 +184,33 @@ left_after-checked None left weight refused =
     ⊎_elim (λ over. sym (left_after-lt left weight over)) (λ fits. absurd (refused fits)) (cases_lt left weight)
 left_after-checked (Some rest) left weight (fits, is) = ap Some is ∙ sym (left_after-le left weight fits)
 
--- the weight was taken from what is left of these arcs
-pub record LoweredSoFar (before : List EdgeCosts) (weight : ℕ) (list : List EnteringArc) (now : List EdgeCosts) : Type 0 where
+-- what is left of these arcs was changed by the weight
+pub record ChangedSoFar (after : Option ℕ → ℕ → Option ℕ) (before : List EdgeCosts) (weight : ℕ) (list : List EnteringArc) (now : List EdgeCosts) : Type 0 where
   pub edges : edges_of now ≡ edges_of before
-  pub lowered : All (λ e. cost_of now e.arc.number ≡ left_after (cost_of before e.arc.number) weight) list
+  pub changed : All (λ e. cost_of now e.arc.number ≡ after (cost_of before e.arc.number) weight) list
   pub others : (n : ℕ) → (cost_of now n ≡ cost_of before n) ⊎ ((e : EnteringArc) × Contains list e × (e.arc.number ≡ n))
 
--- from none
-pub LoweredSoFar-none : (before : List EdgeCosts) (weight : ℕ) → LoweredSoFar before weight [] before
-LoweredSoFar-none before weight = record {
+-- of none
+pub ChangedSoFar-none : (after : Option ℕ → ℕ → Option ℕ) (before : List EdgeCosts) (weight : ℕ) → ChangedSoFar after before weight [] before
+ChangedSoFar-none after before weight = record {
   edges = refl;
-  lowered = All-nil (λ (e : EnteringArc). cost_of before e.arc.number ≡ left_after (cost_of before e.arc.number) weight);
+  changed = All-nil (λ (e : EnteringArc). cost_of before e.arc.number ≡ after (cost_of before e.arc.number) weight);
   others = λ n. inl refl;
 }
 
--- from one more
-pub LoweredSoFar-more : (before now next : List EdgeCosts) (weight : ℕ) (list : List EnteringArc) (e : EnteringArc) (rest : Option ℕ) → LoweredSoFar before weight list now →
-    cost_of before e.arc.number ≡ Some e.left → SomeIff rest (weight ≤ e.left) (e.left - weight) →
-    edges_of next ≡ edges_of now → cost_of next e.arc.number ≡ rest → ((n : ℕ) → n ≢ e.arc.number → cost_of next n ≡ cost_of now n) →
-    LoweredSoFar before weight (list ++ e ∷ []) next
-LoweredSoFar-more before now next weight list e rest so_far was checked edges changed others =
-    let P : EnteringArc → Type 0 = λ f. cost_of next f.arc.number ≡ left_after (cost_of before f.arc.number) weight in
-    let here : P e = changed ∙ left_after-checked rest e.left weight checked ∙ ap (λ c. left_after c weight) (sym was) in
+-- of one more
+pub ChangedSoFar-more : (after : Option ℕ → ℕ → Option ℕ) (before now next : List EdgeCosts) (weight : ℕ) (list : List EnteringArc) (e : EnteringArc) →
+    ChangedSoFar after before weight list now → cost_of next e.arc.number ≡ after (cost_of before e.arc.number) weight →
+    edges_of next ≡ edges_of now → ((n : ℕ) → n ≢ e.arc.number → cost_of next n ≡ cost_of now n) →
+    ChangedSoFar after before weight (list ++ e ∷ []) next
+ChangedSoFar-more after before now next weight list e so_far here edges others =
+    let P : EnteringArc → Type 0 = λ f. cost_of next f.arc.number ≡ after (cost_of before f.arc.number) weight in
     record {
       edges = edges ∙ so_far.edges;
-      lowered = All-push P list e
+      changed = All-push P list e
           (λ k d lt. let f : EnteringArc = get_or list k d in ⊎_elim
-          (λ (same : f.arc.number ≡ e.arc.number). subst (λ n. cost_of next n ≡ left_after (cost_of before n) weight) (sym same) here)
-          (λ (apart : f.arc.number ≢ e.arc.number). others f.arc.number apart ∙ so_far.lowered k d lt)
+          (λ (same : f.arc.number ≡ e.arc.number). subst (λ n. cost_of next n ≡ after (cost_of before n) weight) (sym same) here)
+          (λ (apart : f.arc.number ≢ e.arc.number). others f.arc.number apart ∙ so_far.changed k d lt)
           (cases_eq f.arc.number e.arc.number)) here;
       others = λ n. ⊎_elim
           (λ (same : n ≡ e.arc.number). inr (e, Contains-push list e, sym same))
@@ -226,33 +225,38 @@ pub left_after-zero : (cost : Option ℕ) → left_after cost 0 ≡ cost
 left_after-zero None = refl
 left_after-zero (Some left) = let same : left - 0 ≡ left = omega arith in left_after-le left 0 (omega arith) ∙ ap Some same
 
+raised_after-zero : (cost : Option ℕ) → raised_after cost 0 ≡ cost
+raised_after-zero None = refl
+raised_after-zero (Some left) = let same : left + 0 ≡ left = omega arith in ap Some same
+
 -- there is such an amount or none
 some_or_none : (cost : Option ℕ) → (cost ≡ None) ⊎ ((left : ℕ) × (cost ≡ Some left))
 some_or_none None = inl refl
 some_or_none (Some left) = inr (left, refl)
 
--- the arcs that enter the cut lost its weight, and no others
-cost_of-lowered_so_far : (before now : List EdgeCosts) (cut : Cut) (list : List EnteringArc) → AreEntering before cut.members list → LoweredSoFar before cut.weight list now →
-    (arc : Arc) → IsArcOf (edges_of before) arc → cost_of now arc.number ≡ left_after (cost_of before arc.number) (weight_on cut arc.from arc.to)
-cost_of-lowered_so_far before now cut list are so_far arc is_arc =
-    let P : EnteringArc → Type 0 = λ f. cost_of now f.arc.number ≡ left_after (cost_of before f.arc.number) cut.weight in
+-- what is left of the arcs that enter the cut was changed by its weight, and of no others
+cost_of-changed_so_far : (after : Option ℕ → ℕ → Option ℕ) → ((weight : ℕ) → after None weight ≡ None) → ((cost : Option ℕ) → after cost 0 ≡ cost) →
+    (before now : List EdgeCosts) (cut : Cut) (list : List EnteringArc) → AreEntering before cut.members list → ChangedSoFar after before cut.weight list now →
+    (arc : Arc) → IsArcOf (edges_of before) arc → cost_of now arc.number ≡ after (cost_of before arc.number) (weight_on cut arc.from arc.to)
+cost_of-changed_so_far after gone unchanged before now cut list are so_far arc is_arc =
+    let P : EnteringArc → Type 0 = λ f. cost_of now f.arc.number ≡ after (cost_of before f.arc.number) cut.weight in
     ⊎_elim
     (λ (entered : enters cut.members arc.from arc.to ≡ true).
     let loaded : weight_on cut arc.from arc.to ≡ cut.weight = rw entered refl in
     ⊎_elim
     (λ (kept : cost_of now arc.number ≡ cost_of before arc.number).
     elim (some_or_none (cost_of before arc.number)) [
-      | inl none ↦ kept ∙ none ∙ ap (λ c. left_after c (weight_on cut arc.from arc.to)) (sym none)
-      | inr (left, is) ↦ All-contains P list (record { arc = arc; left = left }) so_far.lowered (are.every arc left is_arc entered is) ∙ ap (left_after (cost_of before arc.number)) (sym loaded)
+      | inl none ↦ kept ∙ none ∙ sym (gone (weight_on cut arc.from arc.to)) ∙ ap (λ c. after c (weight_on cut arc.from arc.to)) (sym none)
+      | inr (left, is) ↦ All-contains P list (record { arc = arc; left = left }) so_far.changed (are.every arc left is_arc entered is) ∙ ap (after (cost_of before arc.number)) (sym loaded)
     ])
     (λ (f, listed, number).
-    let here : P f = All-contains P list f so_far.lowered listed in
-    subst (λ n. cost_of now n ≡ left_after (cost_of before n) cut.weight) number here ∙ ap (left_after (cost_of before arc.number)) (sym loaded))
+    let here : P f = All-contains P list f so_far.changed listed in
+    subst (λ n. cost_of now n ≡ after (cost_of before n) cut.weight) number here ∙ ap (after (cost_of before arc.number)) (sym loaded))
     (so_far.others arc.number))
     (λ (apart : enters cut.members arc.from arc.to ≡ false).
     let loaded : weight_on cut arc.from arc.to ≡ 0 = rw apart refl in
     ⊎_elim
-    (λ (kept : cost_of now arc.number ≡ cost_of before arc.number). kept ∙ sym (left_after-zero (cost_of before arc.number)) ∙ ap (left_after (cost_of before arc.number)) (sym loaded))
+    (λ (kept : cost_of now arc.number ≡ cost_of before arc.number). kept ∙ sym (unchanged (cost_of before arc.number)) ∙ ap (after (cost_of before arc.number)) (sym loaded))
     (λ (f, listed, number).
     let own : EntersLeft before cut.members f = All-contains (EntersLeft before cut.members) list f are.each listed in
     let same : f.arc ≡ arc = same_arc (edges_of before) f.arc arc own.arc is_arc number in
@@ -269,11 +273,20 @@ costs_with c e there back edge first second =
     let against : Option ℕ → EdgeCosts = λ x. record { edge = e; there = there; back = x } in
     ap of edge ∙ ap along first ∙ ap against second
 
--- what all arcs lost is what the cut takes
-pub lowered_is : (before now : List EdgeCosts) (cut : Cut) (list : List EnteringArc) → AreEntering before cut.members list → LoweredSoFar before cut.weight list now → now ≡ map (lowered_by cut) before
-lowered_is before now cut list are so_far =
+-- what a cut makes of an edge's costs, where it changes what is left of an arc so
+abbrev changed_by : (Option ℕ → ℕ → Option ℕ) → Cut → EdgeCosts → EdgeCosts
+changed_by after cut room = record {
+  edge = room.edge;
+  there = after room.there (weight_on cut room.edge.a room.edge.b);
+  back = after room.back (weight_on cut room.edge.b room.edge.a);
+}
+
+-- so all arcs were changed by what the cut loads onto them
+changed_is : (after : Option ℕ → ℕ → Option ℕ) → ((weight : ℕ) → after None weight ≡ None) → ((cost : Option ℕ) → after cost 0 ≡ cost) →
+    (before now : List EdgeCosts) (cut : Cut) (list : List EnteringArc) → AreEntering before cut.members list → ChangedSoFar after before cut.weight list now → now ≡ map (changed_by after cut) before
+changed_is after gone unchanged before now cut list are so_far =
     let size : length now ≡ length before = omega (arith, ap length so_far.edges, length-map now (λ (x : EdgeCosts). x.edge), length-map before (λ (x : EdgeCosts). x.edge)) in
-    same_lists now (map (lowered_by cut) before) (omega (arith, size, length-map before (lowered_by cut))) (λ k d lt.
+    same_lists now (map (changed_by after cut) before) (omega (arith, size, length-map before (changed_by after cut))) (λ k d lt.
     let low : k < length before = omega (arith, size) in
     let n : EdgeCosts = get_or now k d in
     let b : EdgeCosts = get_or before k d in
@@ -281,12 +294,22 @@ lowered_is before now cut list are so_far =
     let at : slice_get before k ≡ Some b = slice_get-get_or before k d low in
     let at_edge : slice_get (edges_of before) k ≡ Some b.edge = slice_get-edges_of before k b at in
     let edge : n.edge ≡ b.edge = same_Some n.edge b.edge (sym (slice_get-edges_of now k n at_now) ∙ ap (λ es. slice_get es k) so_far.edges ∙ at_edge) in
-    let there : n.there ≡ left_after b.there (weight_on cut b.edge.a b.edge.b) =
-    sym (cost_of-even now k n at_now) ∙ cost_of-lowered_so_far before now cut list are so_far (forward_arc k b.edge) (k, b.edge, at_edge, inl refl) ∙ ap (λ c. left_after c (weight_on cut b.edge.a b.edge.b)) (cost_of-even before k b at) in
-    let back : n.back ≡ left_after b.back (weight_on cut b.edge.b b.edge.a) =
-    sym (cost_of-odd now k n at_now) ∙ cost_of-lowered_so_far before now cut list are so_far (backward_arc k b.edge) (k, b.edge, at_edge, inr refl) ∙ ap (λ c. left_after c (weight_on cut b.edge.b b.edge.a)) (cost_of-odd before k b at) in
-    let same : n ≡ lowered_by cut b = costs_with n b.edge (left_after b.there (weight_on cut b.edge.a b.edge.b)) (left_after b.back (weight_on cut b.edge.b b.edge.a)) edge there back in
-    same ∙ sym (get_or-map (lowered_by cut) before k d d low))
+    let there : n.there ≡ after b.there (weight_on cut b.edge.a b.edge.b) =
+    sym (cost_of-even now k n at_now) ∙ cost_of-changed_so_far after gone unchanged before now cut list are so_far (forward_arc k b.edge) (k, b.edge, at_edge, inl refl) ∙ ap (λ c. after c (weight_on cut b.edge.a b.edge.b)) (cost_of-even before k b at) in
+    let back : n.back ≡ after b.back (weight_on cut b.edge.b b.edge.a) =
+    sym (cost_of-odd now k n at_now) ∙ cost_of-changed_so_far after gone unchanged before now cut list are so_far (backward_arc k b.edge) (k, b.edge, at_edge, inr refl) ∙ ap (λ c. after c (weight_on cut b.edge.b b.edge.a)) (cost_of-odd before k b at) in
+    let same : n ≡ changed_by after cut b = costs_with n b.edge (after b.there (weight_on cut b.edge.a b.edge.b)) (after b.back (weight_on cut b.edge.b b.edge.a)) edge there back in
+    same ∙ sym (get_or-map (changed_by after cut) before k d d low))
+
+-- what all arcs lost is what the cut takes
+pub lowered_is : (before now : List EdgeCosts) (cut : Cut) (list : List EnteringArc) → AreEntering before cut.members list →
+    ChangedSoFar left_after before cut.weight list now → now ≡ map (lowered_by cut) before
+lowered_is = changed_is left_after (λ weight. refl) left_after-zero
+
+-- .. and what they gained is what it gives back
+pub raised_is : (before now : List EdgeCosts) (cut : Cut) (list : List EnteringArc) → AreEntering before cut.members list →
+    ChangedSoFar raised_after before cut.weight list now → now ≡ map (raised_by cut) before
+raised_is = changed_is raised_after (λ weight. refl) raised_after-zero
 
 -- what the cut leaves of an arc
 pub cost_of-lowered : (costs : List EdgeCosts) (cut : Cut) (arc : Arc) → IsArcOf (edges_of costs) arc →

@@ -10,3 +10,4 @@ pub mod StepLemmas
 pub mod ActiveLemmas
 pub mod AscentLemmas
 pub mod CarriedLemmas
+pub mod CarriedCostLemmas

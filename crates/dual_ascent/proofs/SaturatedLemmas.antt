@@ -1,5 +1,5 @@
 -- Arcs of which nothing is left are the saturated arcs.
-use Rattle.std.proofs.Common.{ℕ, ◌≡◌, ◌+◌, ◌*◌, ◌/◌, ◌%◌, ◌<◌, Bool, true, List, map, length, get_or, slice_get, Option, Some, None, ◌↔◌, inl, inr, ⊎_elim, refl, sym, ap, ◌∙◌, eqb-true, arith}
+use Rattle.std.proofs.Common.{ℕ, ◌≡◌, ◌+◌, ◌*◌, ◌/◌, ◌%◌, ◌<◌, Bool, true, List, map, length, get_or, slice_get, Some, ◌↔◌, inl, inr, ⊎_elim, refl, sym, ap, ◌∙◌, arith}
 use Rattle.std.specs.Option.{option_map}
 use Rattle.std.proofs.lemmas.Option.{slice_get_within, slice_get-get_or, slice_get-map}
 use Rattle.net_graph.specs.declared.edge.Edge.{Edge}

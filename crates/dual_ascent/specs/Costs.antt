@@ -2,6 +2,7 @@
 use Rattle.std.specs.Prelude.{ℕ, zero, suc, ◌≡◌, ◌+◌, ◌-◌, ◌/◌, ◌%◌, ◌==◌, ◌≤◌, Bool, true, false, List, [], ◌∷◌, map, sum_by, slice_get, Contains, Option, Some, None, ◌⊎◌, nat_le, min, if◌then◌else◌}
 use Rattle.net_graph.specs.declared.edge.Edge.{Edge}
 use Rattle.net_graph.specs.declared.state.EdgeState.{EdgeState}
+use Rattle.net_graph.specs.declared.state.EdgeState.TheVariants.{Undecided, Inside, Outside}
 use Rattle.net_graph.specs.declared.packing.Cut.{Cut}
 use Rattle.net_graph.specs.Packing.{enters, load}
 use Rattle.net_graph.specs.Packing.{room_of}
@@ -33,6 +34,25 @@ lowered_by cut room = record {
   there = left_after room.there (weight_on cut room.edge.a room.edge.b);
   back = left_after room.back (weight_on cut room.edge.b room.edge.a);
 }
+
+-- what is left once a load was taken back; where there is no such amount there is none then
+abbrev pub raised_after : Option ℕ → ℕ → Option ℕ
+raised_after None amount = None
+raised_after (Some left) amount = Some (left + amount)
+
+-- what is left once a packed cut was taken back
+abbrev pub raised_by : Cut → EdgeCosts → EdgeCosts
+raised_by cut room = record {
+  edge = room.edge;
+  there = raised_after room.there (weight_on cut room.edge.a room.edge.b);
+  back = raised_after room.back (weight_on cut room.edge.b room.edge.a);
+}
+
+-- what is left of an edge's arcs in a state: of an undecided edge what was left, else the whole room
+abbrev pub left_in : EdgeCosts → EdgeState → EdgeCosts
+left_in costs Undecided = costs
+left_in costs Inside = left_of costs.edge Inside []
+left_in costs Outside = left_of costs.edge Outside []
 
 -- nothing is left
 abbrev pub is_used_up : Option ℕ → Bool

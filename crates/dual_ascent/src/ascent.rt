@@ -5,7 +5,7 @@ ghost use Rattle.net_graph.specs.Graph.{total_of};
 ghost use Rattle.net_graph.specs.Decision.{IsDecisionFor, IsLowerBoundUnder, states_of};
 ghost use Rattle.net_graph.specs.Packing.{IsFeasible, packing_value};
 ghost use Rattle.net_graph.specs.Saturation.{IsMaximal};
-ghost use Rattle.dual_ascent.specs.Ascending.{BeginsWith, closed_with};
+ghost use Rattle.dual_ascent.specs.Ascending.{BeginsWith, IsAscent, closed_with};
 ghost use Rattle.dual_ascent.specs.Costs.{costs_of};
 
 use crate::chooser::{Chooser, Rule};
@@ -55,9 +55,29 @@ pub fn ascend<F: Rule>(
     ensures bound { IfOk result
         (λ a. IsLowerBoundUnder g.now d.now (packing_value g.now d.now a.packing)) }
 {
+    let costs = ReducedCosts::of(alloc, g, d, &start)?;
+    ascend_with(alloc, g, d, start, costs, chooser)
+}
+
+/// The ascent that [`ascend`] makes, where it is known what the packing leaves of the rooms. An `Err` is want of
+/// memory.
+pub fn ascend_with<F: Rule>(
+    alloc: Global,
+    g: &NetGraph,
+    d: &Decision,
+    start: Packing,
+    costs: ReducedCosts,
+    chooser: &Chooser<F>,
+) -> Result<Ascent, AllocError>
+    requires decision { IsDecisionFor g.now d.now }
+    requires feasible { IsFeasible g.now d.now start }
+    requires few { length start ≤ 2 * length g.now.edges }
+    requires costs { costs ≡ costs_of g.now.edges (states_of g.now d.now) start }
+    ensures { IfOk result (IsAscent g.now d.now start) }
+{
     weak_duality();
     let required = required_vertices(alloc, g, d)?;
-    let mut state = AscentState::of(alloc, g, d, &required, &start)?;
+    let mut state = AscentState::of(alloc, g, &required, costs)?;
     let mut packing = start;
     loop {
         match state.next_step(g, chooser)? {
@@ -79,8 +99,7 @@ fn close(
     members: VertexSet,
     costs: ReducedCosts,
 ) -> Result<Ascent, AllocError>
-    ensures packing { IfOk result (λ a. a.packing ≡ closed_with g.now members packing) }
-    ensures closed { IfOk result (λ a. a.closed ≡ true) }
+    ensures { IfOk result (λ a. (a.packing ≡ closed_with g.now members packing) × (a.closed ≡ true)) }
 {
     let weight = g.total();
     if weight > 0 {

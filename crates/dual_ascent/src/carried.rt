@@ -2,11 +2,13 @@
 
 ghost use Rattle.std.specs.Prelude.{◌≡◌, ◌||◌, IfOk};
 ghost use Rattle.std.specs.List.{list_any};
-ghost use Rattle.net_graph.specs.Decision.{IsDecisionFor};
+ghost use Rattle.net_graph.specs.Decision.{IsDecisionFor, states_of};
 ghost use Rattle.net_graph.specs.Packing.{IsFeasible, enters};
+ghost use Rattle.dual_ascent.specs.Costs.{costs_of};
 ghost use Rattle.dual_ascent.specs.Carried.{DecidesOneMore, carried, inside_edges, is_entered_along, unentered};
 
-use crate::entering::holds;
+use crate::costs::ReducedCosts;
+use crate::entering::{holds, list_entering};
 use net_graph::{Cut, Decision, Edge, EdgeState, NetGraph, Packing, VertexSet};
 use std::alloc::{AllocError, Global};
 
@@ -34,6 +36,63 @@ pub fn carry(
     } else {
         Ok(Packing::empty(alloc))
     }
+}
+
+/// What the carried packing leaves of the rooms under the further decision, from what the packing of which it is carried
+/// leaves of them before: only the cuts that are lost are gone over. An `Err` is want of memory.
+pub fn carry_costs(
+    alloc: Global,
+    g: &NetGraph,
+    before: &Decision,
+    now: &Decision,
+    parent: &Packing,
+    costs: &ReducedCosts,
+    kept: &Packing,
+) -> Result<ReducedCosts, AllocError>
+    requires decided { IsDecisionFor g.now before.now }
+    requires decision { IsDecisionFor g.now now.now }
+    requires one_more { DecidesOneMore g.now before.now now.now }
+    requires feasible { IsFeasible g.now before.now parent.now }
+    requires costs { costs.now ≡ costs_of g.now.edges (states_of g.now before.now) parent.now }
+    requires kept { kept.now ≡ carried g.now now.now parent.now }
+    ensures { IfOk result (λ c. c ≡ costs_of g.now.edges (states_of g.now now.now) kept.now) }
+{
+    // None are carried where too many would be, too; the costs before help only where some are.
+    if kept.len() == 0 {
+        return ReducedCosts::of(alloc, g, now, kept);
+    }
+    let inside = list_inside(alloc, g, now)?;
+    let left = without_entered(alloc, g, before, costs, parent.cuts(), &inside)?;
+    left.under(alloc, g, now)
+}
+
+// What is left of the rooms once the cuts that an arc of one of these edges enters are taken back. An `Err` is want of
+// memory.
+fn without_entered(
+    alloc: Global,
+    g: &NetGraph,
+    before: &Decision,
+    costs: &ReducedCosts,
+    cuts: &[Cut],
+    edges: &[Edge],
+) -> Result<ReducedCosts, AllocError>
+    requires decided { IsDecisionFor g.now before.now }
+    requires feasible { IsFeasible g.now before.now cuts.now }
+    requires costs { costs.now ≡ costs_of g.now.edges (states_of g.now before.now) cuts.now }
+    ensures { IfOk result (λ c. c ≡ costs_of g.now.edges (states_of g.now before.now) (unentered edges.now cuts.now)) }
+{
+    let _ = before;
+    // The lengths of all edges sum to less than 2^63, so that no sum wraps.
+    let _ = g.edge_count();
+    let mut left = costs.copy()?;
+    let mut entering = Vec::new(alloc);
+    for cut in cuts {
+        if is_entered(&cut.members, edges) {
+            list_entering(g, &left, &cut.members, &mut entering)?;
+            left.raise(cut, &entering);
+        }
+    }
+    Ok(left)
 }
 
 // The inside edges. An `Err` is want of memory.

@@ -1,9 +1,9 @@
 //! What packed cuts leave of the room of a graph's arcs.
 
-ghost use Rattle.std.specs.Prelude.{ℕ, ◌≡◌, ◌≢◌, ◌*◌, ◌<◌, [], length, map, IfOk};
+ghost use Rattle.std.specs.Prelude.{ℕ, ◌≡◌, ◌≢◌, ◌+◌, ◌*◌, ◌^◌, ◌<◌, [], length, map, All, IfOk};
 ghost use Rattle.std.specs.List.{zip};
 ghost use Rattle.net_graph.specs.Decision.{IsDecisionFor, states_of};
-ghost use Rattle.dual_ascent.specs.Costs.{left_of, costs_of, cost_of, with_cost, edges_of, lowered_by, is_saturated, lesser_of};
+ghost use Rattle.dual_ascent.specs.Costs.{left_of, costs_of, cost_of, with_cost, edges_of, left_in, lowered_by, raised_by, is_saturated, lesser_of};
 ghost use Rattle.dual_ascent.specs.Entering.{AreEntering};
 
 use crate::entering::{EnteringArc, list_entering};
@@ -36,6 +36,16 @@ impl EdgeCosts {
             edge,
             there: room,
             back: room,
+        }
+    }
+
+    // What is left of its arcs in a state: of an undecided edge what was left, else the whole room.
+    fn left_in(self, state: EdgeState) -> EdgeCosts
+        ensures { result ≡ left_in self state }
+    {
+        match state {
+            EdgeState::Undecided => self,
+            EdgeState::Inside | EdgeState::Outside => EdgeCosts::whole(self.edge, state),
         }
     }
 
@@ -125,6 +135,36 @@ impl ReducedCosts {
         Ok(costs)
     }
 
+    /// The same under a decision: what was left of the arcs of undecided edges, and the whole room of others. An `Err`
+    /// is want of memory.
+    pub(crate) fn under(
+        &self,
+        alloc: Global,
+        g: &NetGraph,
+        d: &Decision,
+    ) -> Result<ReducedCosts, AllocError>
+        requires { IsDecisionFor g.now d.now }
+        ensures { IfOk result
+            (λ costs. costs ≡ map (λ pair. left_in pair.0 pair.1) (zip self.now (states_of g.now d.now))) }
+    {
+        let states = d.states(alloc, g)?;
+        let edges = self
+            .edges
+            .iter()
+            .zip(states.as_slice())
+            .map(|(costs, state)| costs.left_in(*state))
+            .collect(alloc)?;
+        Ok(ReducedCosts { edges })
+    }
+
+    /// The same amounts once more. An `Err` is want of memory.
+    pub(crate) fn copy(&self) -> Result<ReducedCosts, AllocError>
+        ensures { IfOk result (λ costs. costs ≡ self.now) }
+    {
+        let edges = self.edges.clone()?;
+        Ok(ReducedCosts { edges })
+    }
+
     /// What is left of the arc of a number.
     pub(crate) fn cost(&self, arc: u32) -> Option<u64>
         requires { arc < 2 * length self.now }
@@ -156,6 +196,17 @@ impl ReducedCosts {
     {
         for e in entering {
             self.set_cost(e.arc.number, e.left.checked_sub(cut.weight));
+        }
+    }
+
+    /// Takes back a packed cut, which these arcs enter.
+    pub(crate) fn raise(&mut self, cut: &Cut, entering: &[EnteringArc])
+        requires entering { AreEntering self.old cut.now.members entering.now }
+        requires fits { All (λ e. e.left + cut.now.weight < 2 ^ 64) entering.now }
+        ensures { self.new ≡ map (raised_by cut.now) self.old }
+    {
+        for e in entering {
+            self.set_cost(e.arc.number, Some(e.left + cut.weight));
         }
     }
 }

@@ -15,9 +15,9 @@ mod step;
 #[cfg(test)]
 mod tests;
 
-pub use ascent::{Ascent, ascend};
+pub use ascent::{Ascent, ascend, ascend_with};
 pub use candidate::Candidate;
-pub use carried::carry;
+pub use carried::{carry, carry_costs};
 pub use chooser::{Chooser, Rule};
 pub use costs::ReducedCosts;
 pub use maximality::maximal;

@@ -2,9 +2,8 @@
 
 ghost use Rattle.std.specs.Prelude.{ℕ, List, ◌≡◌, ◌<◌, length, map, All, Contains, IfOk, OnOk};
 ghost use Rattle.std.specs.List.Sorted.{IsStrictlyIncreasing};
-ghost use Rattle.net_graph.specs.Decision.{IsDecisionFor, states_of};
 ghost use Rattle.dual_ascent.specs.Active.{AreActive};
-ghost use Rattle.dual_ascent.specs.Costs.{edges_of, costs_of, lowered_by};
+ghost use Rattle.dual_ascent.specs.Costs.{edges_of, lowered_by};
 ghost use Rattle.dual_ascent.specs.Entering.{AreEntering};
 ghost use Rattle.dual_ascent.specs.Steps.{IsNextCut, IsNextStep, IsLoweredBy};
 
@@ -14,7 +13,7 @@ use crate::chooser::{Chooser, Rule};
 use crate::costs::ReducedCosts;
 use crate::entering::{EnteringArc, least_left, list_entering, list_with_left};
 use crate::step::Step;
-use net_graph::{Arc, Cut, Decision, NetGraph, Packing};
+use net_graph::{Arc, Cut, NetGraph};
 use std::alloc::{AllocError, Global};
 
 /// What is left of the arcs' rooms and the active vertices, both brought up to date after each step. The lists are
@@ -29,21 +28,19 @@ pub(crate) struct AscentState {
 }
 
 impl AscentState {
-    /// The state with this packing, where these vertices are required. An `Err` is want of memory.
+    /// The state with these costs, where these vertices are required. An `Err` is want of memory.
     pub fn of(
         alloc: Global,
         g: &NetGraph,
-        d: &Decision,
         required: &[u32],
-        packing: &Packing,
+        costs: ReducedCosts,
     ) -> Result<AscentState, AllocError>
-        requires decision { IsDecisionFor g.now d.now }
+        requires edges { edges_of costs ≡ g.now.edges }
         requires below { All (λ v. v < g.now.vertices) required.now }
         requires ascending { IsStrictlyIncreasing required.now }
-        ensures costs { IfOk result (λ s. s.costs ≡ costs_of g.now.edges (states_of g.now d.now) packing.now) }
+        ensures costs { IfOk result (λ s. s.costs ≡ costs) }
         ensures active { IfOk result (λ s. AreActive g.now required.now s.costs s.active.items) }
     {
-        let costs = ReducedCosts::of(alloc, g, d, packing)?;
         let active = active_vertices(alloc, g, required, &costs)?;
         Ok(AscentState {
             costs,

@@ -1,6 +1,6 @@
 -- How an open leaf is opened.
 use Rattle.std.proofs.Common.{◌<◌, ◌^◌, arith}
-use Rattle.branch.proofs.OpeningLemmas.{note_decided, note_can_split, place_within, place_small, parent_feasible, is_opening}
+use Rattle.branch.proofs.OpeningLemmas.{note_decided, note_can_split, place_within, place_small, parent_costs, parent_feasible, is_opening}
 use Rattle.branch.proofs.next_opening.opening_at.Goals as goal
 
 pub edge_to_split-requires-clause-decision : goal.edge_to_split-requires-clause-decision
@@ -19,14 +19,26 @@ packing-parent-requires _ c = place_within _ _ _ _ c.requires.search c.requires.
 pub with_outside-requires-clause-decision : goal.with_outside-requires-clause-decision
 with_outside-requires-clause-decision _ c = note_decided _ _ _ _ c.requires.search c.requires.next c.index-note.ensures
 
+pub child_of-requires-clause-before : goal.child_of-requires-clause-before
+child_of-requires-clause-before _ c = note_decided _ _ _ _ c.requires.search c.requires.next c.index-note.ensures
+
 pub child_of-requires-clause-feasible : goal.child_of-requires-clause-feasible
 child_of-requires-clause-feasible _ c = parent_feasible _ _ _ _ c.requires.search c.requires.next c.index-note.ensures _ c.packing-parent.ensures
+
+pub child_of-requires-clause-costs : goal.child_of-requires-clause-costs
+child_of-requires-clause-costs _ c = parent_costs _ _ _ _ c.requires.search c.requires.next c.index-note.ensures _ c.packing-parent.ensures
 
 pub with_inside-requires-clause-decision : goal.with_inside-requires-clause-decision
 with_inside-requires-clause-decision _ c = note_decided _ _ _ _ c.requires.search c.requires.next c.index-note.ensures
 
+pub child_of-requires-2-clause-before : goal.child_of-requires-2-clause-before
+child_of-requires-2-clause-before _ c = note_decided _ _ _ _ c.requires.search c.requires.next c.index-note.ensures
+
 pub child_of-requires-2-clause-feasible : goal.child_of-requires-2-clause-feasible
 child_of-requires-2-clause-feasible _ c = parent_feasible _ _ _ _ c.requires.search c.requires.next c.index-note.ensures _ c.packing-parent.ensures
+
+pub child_of-requires-2-clause-costs : goal.child_of-requires-2-clause-costs
+child_of-requires-2-clause-costs _ c = parent_costs _ _ _ _ c.requires.search c.requires.next c.index-note.ensures _ c.packing-parent.ensures
 
 pub overflow_cast-result : goal.overflow_cast-result
 overflow_cast-result _ c =

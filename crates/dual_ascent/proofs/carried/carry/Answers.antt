@@ -1,5 +1,4 @@
-use Rattle.std.proofs.Common.{◌≡◌, ◌∙◌, ap, sym, subst}
-use Rattle.net_graph.specs.Packing.{IsFeasible}
+use Rattle.std.proofs.Common.{◌≡◌, ◌∙◌, ap}
 use Rattle.dual_ascent.specs.Carried.{inside_edges, unentered}
 use Rattle.dual_ascent.proofs.CarriedLemmas.{IsFeasible-unentered}
 use Rattle.dual_ascent.proofs.carried.carry.Goals as goal

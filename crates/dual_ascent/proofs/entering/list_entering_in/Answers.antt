@@ -1,6 +1,5 @@
-use Rattle.std.proofs.Common.{ℕ, ◌≡◌, ◌+◌, ◌-◌, ◌*◌, ◌<◌, ◌≤◌, min, length, arith, w64}
+use Rattle.std.proofs.Common.{ℕ, ◌≡◌, ◌+◌, ◌-◌, ◌*◌, ◌≤◌, min, length, arith, w64}
 use Rattle.std.specs.Int.{trailing_zeros}
-use Rattle.net_graph.specs.Flags.{has}
 use Rattle.dual_ascent.proofs.EnteringLemmas.{AreEnteringBelow-skip, AreEnteringBelow-past}
 use Rattle.dual_ascent.proofs.MarkLemmas.{mark_within, mark_is_member, none_before, marks_behind, none_behind}
 use Rattle.dual_ascent.proofs.entering.list_entering_in.Goals as goal
