@@ -12,3 +12,4 @@ pub mod SearchLemmas
 pub mod SettledLemmas
 pub mod SolvingLemmas
 pub mod TreeLemmas
+pub mod OfferedLemmas

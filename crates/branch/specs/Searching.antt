@@ -1,5 +1,5 @@
 -- What a search keeps, and its steps.
-use Rattle.std.specs.Prelude.{ℕ, ◌≡◌, ◌+◌, ◌≤◌, Bool, List, slice_get, slice_set, Some}
+use Rattle.std.specs.Prelude.{ℕ, ◌≡◌, ◌+◌, ◌≤◌, min, Bool, List, slice_get, slice_set, Some}
 use Rattle.std.specs.List.{insert}
 use Rattle.net_graph.specs.declared.packing.Cut.{Cut}
 use Rattle.net_graph.specs.Graph.{Graph}
@@ -103,6 +103,13 @@ pub record IsRaised (cuts : List Cut) (old new : SearchState) : Type 0 where
       ≤ tree_value new.graph (nothing_decided new.graph) new.tree
   pub given : packing_value old.graph (nothing_decided old.graph) cuts
       ≤ tree_value new.graph (nothing_decided new.graph) new.tree
+
+-- The best network is the shorter one of what it was and another, and nothing else has changed.
+pub record IsOffered (network : List Bool) (old new : SearchState) : Type 0 where
+  pub graph : new.graph ≡ old.graph
+  pub first_length : new.first_length ≡ old.first_length
+  pub tree : new.tree ≡ old.tree
+  pub shorter : length_of old.graph new.network ≡ min (length_of old.graph old.network) (length_of old.graph network)
 
 -- no leaf's value is below the best network's length
 abbrev pub IsSettled : SearchState → Type 0

@@ -1,6 +1,6 @@
 //! The search by splits.
 
-ghost use Rattle.std.specs.Prelude.{◌≡◌, ◌+◌, ◌*◌, ◌<◌, ◌≤◌, ◌^◌, ◌↔◌, false, true, length, IsTrue, IfOk, OnOk, OnErr};
+ghost use Rattle.std.specs.Prelude.{◌≡◌, ◌+◌, ◌*◌, ◌<◌, ◌≤◌, ◌^◌, ◌↔◌, false, true, length, IsTrue, IfOk, IfSome, OnOk, OnErr};
 ghost use Rattle.net_graph.specs.Network.{length_of};
 ghost use Rattle.net_graph.specs.Decision.{nothing_decided};
 ghost use Rattle.net_graph.specs.Packing.{IsFeasible};
@@ -48,7 +48,7 @@ impl<'a, F: Rule, G: Rule> Model for Search<'a, F, G> {
 
 impl<'a, F: Rule, G: Rule> Search<'a, F, G> {
     ghost use Rattle.branch.specs.States.{IsNetworkOf};
-    ghost use Rattle.branch.specs.Searching.{IsRaised, IsSettled, SplitsEdges, TakesStep};
+    ghost use Rattle.branch.specs.Searching.{IsRaised, IsOffered, IsSettled, SplitsEdges, TakesStep};
     ghost use Rattle.branch.specs.Solving.{IsSolved};
 
     /// A search that begins with a network and with the leaf of an ascent from no cut. The rule `ascent`
@@ -92,6 +92,17 @@ impl<'a, F: Rule, G: Rule> Search<'a, F, G> {
             self.kept = self.kept.with_leaf(self.alloc, self.graph, leaf)?;
         }
         Ok(())
+    }
+
+    /// Takes a network in place of the best one, where it is shorter. It takes no memory.
+    pub fn offer(&mut self, network: EdgeSet)
+        requires { IsNetworkOf self.old.graph network }
+        ensures { IsOffered network self.old self.new }
+    {
+        let best = Best::of(self.graph, network);
+        if best.length < self.kept.best.length {
+            self.kept.best = best;
+        }
     }
 
     /// Splits the open leaf of the least value, the earliest in preorder on a tie: a leaf is open where its
@@ -153,6 +164,14 @@ impl<'a, F: Rule, G: Rule> Search<'a, F, G> {
         ensures network_of { IsNetworkOf self.now.graph result.now }
     {
         &self.kept.best.network
+    }
+
+    /// The network of edges with a saturated arc that the first leaf in preorder shows, where its packing is maximal. It
+    /// takes no memory.
+    pub fn shown(&self) -> Option<&EdgeSet>
+        ensures { IfSome result (λ set. IsNetworkOf self.now.graph set.now) }
+    {
+        self.kept.notes[0].network.as_ref()
     }
 
     /// The tree. It takes no memory.

@@ -9,11 +9,13 @@ ghost use Rattle.tight_packing.specs.Bound.{IsBoundOf};
 ghost use Rattle.branch.specs.States.{IsNetworkOf};
 ghost use Rattle.search_tools.specs.Steps.{IsTold};
 
+use crate::network::DESCENTS;
 use crate::options::{SearchOptions, ascent_place, split_place};
 use branch::{Search, Solved};
 use dual_ascent::{Candidate, Chooser, Rule};
 use hanan_grid::Grid;
 use net_graph::{EdgeSet, Packing, length};
+use network_search::shortened;
 use std::alloc::{AllocError, Global};
 use tight_packing::{Bound, Budget, Exchanged, Outcome, exchange};
 
@@ -22,7 +24,7 @@ const MOST_EXCHANGES: u8 = 3;
 
 /// What a search finds that begins with a network of a grid. Its first leaf is that of an ascent from no cut. Where this
 /// stays below the network's length, it is the better one of it and of an ascent that begins with what an exchange finds;
-/// where that shows a shorter network, an exchange against this one follows. An `Err` is want of memory.
+/// where that leads to a shorter network, an exchange against this one follows. An `Err` is want of memory.
 pub fn searched(
     alloc: Global,
     grid: &Grid,
@@ -124,7 +126,30 @@ fn raise_by_exchange<F: Rule, G: Rule>(
         return Ok(false);
     };
     search.raise(bound.packing)?;
+    if !search.is_settled() {
+        offer_shorter(alloc, grid, search)?;
+    }
     Ok(length(grid.graph(), search.network()) < before)
+}
+
+// Offers a search what a local search makes of the network that its first leaf shows. The nearer the packing comes to the
+// least length, the more of a shortest network are its saturated arcs: there the local search finds what it misses where
+// it begins with full trees. An `Err` is want of memory.
+fn offer_shorter<F: Rule, G: Rule>(
+    alloc: Global,
+    grid: &Grid,
+    search: &mut Search<'_, F, G>,
+) -> Result<(), AllocError>
+    requires graph { search.old.graph ≡ hanan_grid_of grid.now }
+    ensures graph { OnOk result (search.new.graph ≡ search.old.graph) }
+    ensures first { OnOk result (search.new.first_length ≡ search.old.first_length) }
+    ensures tree { OnOk result (search.new.tree ≡ search.old.tree) }
+{
+    if let Some(shown) = search.shown() {
+        let shorter = shortened(alloc, grid.graph(), shown, DESCENTS)?;
+        search.offer(shorter);
+    }
+    Ok(())
 }
 
 // The packing that an exchange comes to, if one is at hand. An `Err` is want of memory.

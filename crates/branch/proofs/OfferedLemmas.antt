@@ -1,0 +1,88 @@
+-- A search that is offered a network, and the network that its first leaf shows.
+use Rattle.std.proofs.Common.{ℕ, zero, suc, ◌≡◌, ◌<◌, ◌≤◌, Bool, List, get_or, slice_get, Option, Some, None, Bor, ap, sym, subst, ◌∙◌, arith}
+use Rattle.std.specs.Option.{IfSome, option_copied}
+use Rattle.std.proofs.lemmas.Option.{slice_get-get_or}
+use Rattle.net_graph.specs.Decision.{nothing_decided}
+use Rattle.net_graph.specs.Graph.{Graph}
+use Rattle.net_graph.specs.Network.{length_of}
+use Rattle.cert_tree.specs.declared.split.SplitOn.{SplitOn}
+use Rattle.cert_tree.specs.Preorder.{split_count}
+use Rattle.cert_tree.specs.Tree.{Tree}
+use Rattle.branch.specs.declared.best.Best.{Best}
+use Rattle.branch.specs.declared.frontier.Frontier.{Frontier}
+use Rattle.branch.specs.declared.note.LeafNote.{LeafNote}
+use Rattle.branch.specs.Leaves.{DecidedLeaf, leaves_of}
+use Rattle.branch.specs.Notes.{IsBest, IsKeptNote, IsOwnNetwork, ShowsOwn, AreNotesOf}
+use Rattle.branch.specs.Runs.{EndsOpenings}
+use Rattle.branch.specs.Searching.{IsSearch}
+use Rattle.branch.specs.States.{IsState}
+use Rattle.branch.proofs.ListLemmas.{AllZip-weaker, beside_right}
+use Rattle.branch.proofs.RaisedLemmas.{some_note}
+use Rattle.branch.proofs.SearchLemmas.{shorter_own, state_of}
+
+-- a run ends with a shorter network, too
+shorter_run : (g : Graph) (first_length n : ℕ) (network less : List Bool) (tree : Tree SplitOn) → EndsOpenings g first_length n network tree →
+    IsState g less tree → length_of g less ≤ length_of g network → EndsOpenings g first_length n less tree
+shorter_run g first_length zero network less tree (state, none, limit) now shorter = (now, none, omega arith)
+shorter_run g first_length (suc n) network less tree (state, count, rest) now shorter =
+    let (earlier, earlier_tree, ends, opening) = rest in
+    let no_longer = opening.no_longer in (
+      now,
+      count,
+      (
+        earlier,
+        earlier_tree,
+        ends,
+        record {
+          place = opening.place;
+          leaf = opening.leaf;
+          on = opening.on;
+          outside = opening.outside;
+          inside = opening.inside;
+          at = opening.at;
+          below = opening.below;
+          splits = opening.splits;
+          tree_is = opening.tree_is;
+          outside_begins = opening.outside_begins;
+          inside_begins = opening.inside_begins;
+          no_longer = omega arith;
+        },
+      ),
+    )
+
+-- a search with a shorter network
+pub offered_search : (g : Graph) (old new : Frontier) (best : Best) → IsSearch g old → IsBest g best → best.length < old.best.length →
+    new ≡ record old { best = best } → IsSearch g new
+offered_search g old new best search is_best less is =
+    let are : AreNotesOf g best.length (leaves_of (nothing_decided g) old.tree) old.notes.items =
+    AllZip-weaker (IsKeptNote g old.best.length) (IsKeptNote g best.length)
+    (λ leaf note kept. (kept.0, shorter_own g old.best.length best.length note.network (omega arith) kept.1))
+    (leaves_of (nothing_decided g) old.tree) old.notes.items search.notes in
+    let was = search.best.length in
+    let now = is_best.length in
+    subst (IsSearch g) (sym is) (record {
+      best = is_best;
+      valid = search.valid;
+      edges = search.edges;
+      notes = are;
+      run = shorter_run g old.first_length (split_count old.tree) old.best.network best.network old.tree search.run
+          (state_of g best old.tree old.notes.items is_best search.valid are) (omega arith);
+      no_longer = omega (arith, search.no_longer);
+    })
+
+-- what is kept as a leaf's own network is one
+own_network : (g : Graph) (leaf : DecidedLeaf) (own : Option (List Bool)) → ShowsOwn g leaf own → IsOwnNetwork g own
+own_network g leaf None shows = tt
+own_network g leaf (Some set) shows = shows.network_of
+
+pub first_own : (g : Graph) (kept : Frontier) (note : LeafNote) → IsSearch g kept → note ≡ get_or kept.notes.items 0 note → IsOwnNetwork g note.network
+first_own g kept note search is =
+    let at : slice_get kept.notes.items 0 ≡ Some note =
+    slice_get-get_or kept.notes.items 0 note (some_note g kept search) ∙ ap (λ (n : LeafNote). Some n) (sym is) in
+    let (leaf, leaf_at, of_note) = beside_right (IsKeptNote g kept.best.length) (leaves_of (nothing_decided g) kept.tree) kept.notes.items 0 note search.notes at in
+    own_network g leaf note.network of_note.0.own
+
+-- what a reference to it is, is the value
+pub IfSome-copied : {A : Type 0} (P : A → Type 0) (o : Option (Bor A)) → IfSome (option_copied o) P → IfSome o (λ x. P x.now)
+IfSome-copied P None holds = tt
+IfSome-copied P (Some x) holds = holds
