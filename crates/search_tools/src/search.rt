@@ -1,6 +1,6 @@
 //! The search that begins with a network.
 
-ghost use Rattle.std.specs.Prelude.{◌≡◌, ◌<◌, ◌↔◌, length, IsTrue, IfOk, IfSome, OnOk};
+ghost use Rattle.std.specs.Prelude.{◌≡◌, ◌<◌, length, IsTrue, IfOk, IfSome, OnOk};
 ghost use Rattle.net_graph.specs.Network.{length_of};
 ghost use Rattle.hanan_grid.specs.Grid.{hanan_grid_of};
 ghost use Rattle.cert_tree.specs.Preorder.{split_count};
@@ -19,12 +19,20 @@ use network_search::shortened;
 use std::alloc::{AllocError, Global};
 use tight_packing::{Bound, Budget, Exchanged, Outcome, exchange};
 
-/// At most so many exchanges are made, each but the first against a network that the one before has made shorter.
+/// At most so many exchanges are made, each but the first from what the one before came to: against a shorter network, or
+/// with a new budget.
 const MOST_EXCHANGES: u8 = 3;
+
+/// What each but the first may do. It begins near the length, and needs less.
+const FURTHER: Budget = Budget {
+    rounds: 200,
+    searches: 200_000,
+    moves: 2_000_000,
+};
 
 /// What a search finds that begins with a network of a grid. Its first leaf is that of an ascent from no cut. Where this
 /// stays below the network's length, it is the better one of it and of an ascent that begins with what an exchange finds;
-/// where that leads to a shorter network, an exchange against this one follows. An `Err` is want of memory.
+/// where that leads to a shorter network or has spent its budget, another exchange follows. An `Err` is want of memory.
 pub fn searched(
     alloc: Global,
     grid: &Grid,
@@ -98,36 +106,52 @@ fn begun<'a, F: Rule, G: Rule>(
     ensures leaf { IfOk result (λ s. split_count s.tree ≡ 0) }
 {
     let mut search = Search::start(alloc, grid.graph(), first, ascent, split)?;
-    for _exchange in 0..MOST_EXCHANGES {
-        if search.is_settled() || !raise_by_exchange(alloc, grid, &mut search)? {
+    for exchange in 0..MOST_EXCHANGES {
+        let budget = if exchange == 0 {
+            Budget::USUAL
+        } else {
+            FURTHER
+        };
+        if search.is_settled() || !raise_by_exchange(alloc, grid, &mut search, budget)? {
             break;
         }
     }
     Ok(search)
 }
 
-// Raises a search by what an exchange against its network comes to. Whether the network is then a shorter one, so that
-// another exchange may come further. An `Err` is want of memory.
+// Raises a search by what an exchange against its network comes to. Whether another one may come further: where the budget
+// was spent, or the network is then a shorter one. An `Err` is want of memory.
 fn raise_by_exchange<F: Rule, G: Rule>(
     alloc: Global,
     grid: &Grid,
     search: &mut Search<'_, F, G>,
+    budget: Budget,
 ) -> Result<bool, AllocError>
     requires graph { search.old.graph ≡ hanan_grid_of grid.now }
     requires leaf { split_count search.old.tree ≡ 0 }
-    ensures shorter { IfOk result (λ shorter. IsTrue shorter
-        ↔ (length_of search.old.graph search.new.network < length_of search.old.graph search.old.network)) }
+    ensures further { IfOk result (λ further.
+        length_of search.old.graph search.new.network < length_of search.old.graph search.old.network → IsTrue further) }
     ensures graph { OnOk result (search.new.graph ≡ search.old.graph) }
     ensures first { OnOk result (search.new.first_length ≡ search.old.first_length) }
     ensures leaf { OnOk result (split_count search.new.tree ≡ 0) }
 {
     let before = length(grid.graph(), search.network());
-    let Some(bound) = exchanged(alloc, grid, search.network(), search.tree().packing(0))? else {
+    let ExchangeEnd { bound, is_spent } = exchanged(
+        alloc,
+        grid,
+        search.network(),
+        search.tree().packing(0),
+        budget,
+    )?;
+    let Some(bound) = bound else {
         return Ok(false);
     };
     search.raise(bound.packing)?;
     if !search.is_settled() {
         offer_shorter(alloc, grid, search)?;
+    }
+    if is_spent {
+        return Ok(true);
     }
     Ok(length(grid.graph(), search.network()) < before)
 }
@@ -152,24 +176,33 @@ fn offer_shorter<F: Rule, G: Rule>(
     Ok(())
 }
 
-// The packing that an exchange comes to, if one is at hand. An `Err` is want of memory.
+// What an exchange comes to: a packing, if one is at hand, and whether it has spent its budget.
+#[derive(Debug, Drop)]
+struct ExchangeEnd {
+    bound: Option<Bound>,
+    is_spent: bool,
+}
+
+// Makes an exchange. An `Err` is want of memory.
 fn exchanged(
     alloc: Global,
     grid: &Grid,
     network: &EdgeSet,
     start: &Packing,
-) -> Result<Option<Bound>, AllocError>
+    budget: Budget,
+) -> Result<ExchangeEnd, AllocError>
     requires { length network.now ≡ length (hanan_grid_of grid.now).edges }
-    ensures { IfOk result (λ found. IfSome found (IsBoundOf (hanan_grid_of grid.now))) }
+    ensures { IfOk result (λ found. IfSome found.bound (IsBoundOf (hanan_grid_of grid.now))) }
 {
     let Exchanged {
         outcome,
         shorter: _,
-    } = exchange(alloc, grid, network, start, Budget::USUAL)?;
-    Ok(match outcome {
+    } = exchange(alloc, grid, network, start, budget)?;
+    let is_spent = matches!(outcome, Outcome::Exhausted(_));
+    let bound = match outcome {
         Outcome::Tight(bound) => Some(bound),
-        Outcome::Impossible(bound) => bound,
-        Outcome::Exhausted(bound) => bound,
+        Outcome::Impossible(bound) | Outcome::Exhausted(bound) => bound,
         Outcome::TooLong => None,
-    })
+    };
+    Ok(ExchangeEnd { bound, is_spent })
 }
