@@ -16,8 +16,6 @@ mod solve;
 mod solved;
 mod split_edge;
 mod step;
-#[cfg(test)]
-mod tests;
 
 pub use saturated::saturated_network;
 pub use search::Search;

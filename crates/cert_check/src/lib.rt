@@ -12,8 +12,6 @@ mod listed;
 mod network;
 mod read;
 mod room;
-#[cfg(test)]
-mod tests;
 mod turn;
 mod verdict;
 mod way;

@@ -4,8 +4,6 @@
 mod decision;
 mod laws;
 mod split;
-#[cfg(test)]
-mod tests;
 mod tree;
 mod value;
 mod way;

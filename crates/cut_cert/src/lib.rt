@@ -10,8 +10,6 @@ mod reader;
 mod reading;
 mod row;
 mod scan;
-#[cfg(test)]
-mod tests;
 mod write;
 
 pub use answer::{Answer, write_answer};

@@ -5,8 +5,6 @@ mod distinct;
 mod draw;
 mod drawn;
 mod laws;
-#[cfg(test)]
-mod tests;
 
 pub use distinct::distinct_points;
 pub use draw::draw_points;

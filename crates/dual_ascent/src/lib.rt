@@ -12,8 +12,6 @@ mod maximality;
 mod required;
 mod state;
 mod step;
-#[cfg(test)]
-mod tests;
 
 pub use ascent::{Ascent, ascend, ascend_with};
 pub use candidate::Candidate;

@@ -5,8 +5,6 @@ mod grid;
 mod plots;
 mod points;
 mod scale;
-#[cfg(test)]
-mod tests;
 mod trees;
 
 pub use grid::grid_as_stp;

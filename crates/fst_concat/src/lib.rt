@@ -24,5 +24,3 @@ pub use fault::ConcatFault;
 pub use laws::trees_in_form_have_members;
 pub use trail::Trail;
 
-#[cfg(test)]
-mod tests;

@@ -8,8 +8,6 @@ mod laws;
 mod line;
 mod points;
 mod read;
-#[cfg(test)]
-mod tests;
 mod tree_line;
 mod trees;
 mod write;

@@ -18,5 +18,3 @@ pub use fault::GenFault;
 pub use generation::generate;
 pub use laws::{failing_prefix_never_passes, pairs_join_all, trees_are_one_list};
 
-#[cfg(test)]
-mod tests;

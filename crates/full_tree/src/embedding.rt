@@ -32,32 +32,3 @@ pub fn embed(alloc: Global, grid: &Grid, code: &TreeCode) -> Result<EdgeSet, All
     }
     Ok(set)
 }
-
-#[cfg(test)]
-mod tests {
-    use super::*;
-    use crate::form::in_form;
-    use points_in::{Point, Points};
-    use std::test::Fail;
-
-    #[test]
-    fn a_cross_takes_four_edges(rt: HostRuntime) -> Result<(), Fail> {
-        let mut points = Points::begin(rt.alloc(), Point { x: 0, y: 1 })?;
-        points.add(Point { x: 1, y: 0 })?;
-        points.add(Point { x: 2, y: 1 })?;
-        points.add(Point { x: 1, y: 2 })?;
-        let grid = Grid::new(rt.alloc(), &points)?;
-        let code = TreeCode::Cross {
-            west: 0,
-            south: 1,
-            east: 2,
-            north: 3,
-        };
-        assert!(rt; in_form(&grid, &code));
-        let set = embed(rt.alloc(), &grid, &code)?;
-        for e in 0..set.len() {
-            assert_eq!(rt; set.has(e), [2, 3, 7, 10].contains(&e));
-        }
-        Ok(())
-    }
-}

@@ -34,5 +34,3 @@ pub use station::{Station, Stations};
 pub use straight::Piece;
 pub use way::Way;
 
-#[cfg(test)]
-mod tests;

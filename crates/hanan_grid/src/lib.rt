@@ -15,5 +15,3 @@ pub use grid::Grid;
 pub use name::EdgeName;
 pub use place::Place;
 
-#[cfg(test)]
-mod tests;

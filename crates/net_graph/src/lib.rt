@@ -17,8 +17,6 @@ mod rooted;
 mod search;
 mod sets;
 mod state;
-#[cfg(test)]
-mod tests;
 
 pub use arcs::{Arc, partner};
 pub use decision::{Decision, required, vertex_undecided};

@@ -13,7 +13,5 @@ mod local_search;
 mod shortening;
 mod shortest_paths;
 mod subgraph;
-#[cfg(test)]
-mod tests;
 
 pub use shortening::{cleaned, shortened};

@@ -26,5 +26,3 @@ pub use fitter::Fitter;
 pub use item::Item;
 pub use proposal::{Level, Proposal};
 
-#[cfg(test)]
-mod tests;

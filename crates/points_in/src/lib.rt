@@ -7,8 +7,6 @@ mod number;
 mod point;
 mod points;
 mod read;
-#[cfg(test)]
-mod tests;
 
 pub use fault::PointFault;
 pub use laws::{each_point_once, one_answer, written_points};

@@ -6,8 +6,6 @@ mod command;
 mod laws;
 mod request;
 mod rules;
-#[cfg(test)]
-mod tests;
 mod tool;
 mod value;
 mod words;

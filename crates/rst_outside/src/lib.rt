@@ -9,8 +9,6 @@ mod shelf;
 mod sink;
 mod source;
 mod take;
-#[cfg(test)]
-mod tests;
 
 pub use adapters::{DirShelf, StdSink, StdSource};
 pub use consumer::Consumer;

@@ -12,5 +12,3 @@ pub use laws::{bottlenecks_are_distances, tight_pairs_join};
 pub use pair::{Pair, PlaceList};
 pub use table::{Table, bottlenecks};
 
-#[cfg(test)]
-mod tests;

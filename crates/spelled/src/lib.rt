@@ -3,8 +3,6 @@
 
 mod number;
 mod split;
-#[cfg(test)]
-mod tests;
 
 pub use number::{signed_spelled, unsigned_spelled};
 pub use split::{BLANK, LINE_FEED, split_at_byte, split_line, split_word};

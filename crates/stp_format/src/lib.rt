@@ -15,8 +15,6 @@ mod points;
 mod read;
 mod section;
 mod terminals;
-#[cfg(test)]
-mod tests;
 mod words;
 mod write;
 

@@ -3,8 +3,6 @@
 
 mod options;
 mod program;
-#[cfg(test)]
-mod tests;
 
 pub use options::trial_is_solve;
 pub use program::run;

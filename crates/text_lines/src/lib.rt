@@ -7,8 +7,6 @@
 
 mod laws;
 mod lines;
-#[cfg(test)]
-mod tests;
 mod words;
 
 pub use laws::{line_count, lines_written, one_text};

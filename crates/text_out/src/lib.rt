@@ -18,8 +18,6 @@
 
 mod block;
 mod pieces;
-#[cfg(test)]
-mod tests;
 
 pub use block::{Block, finish};
 pub use pieces::{literal, number, signed};

@@ -3,23 +3,10 @@
 //! docs/ROWS.md.
 #![tactic(auto)]
 
-mod change;
-mod difference;
-mod fault;
-mod number;
-mod outcome;
-mod row;
-mod section;
-mod session;
-mod table;
-#[cfg(test)]
-mod tests;
-
 use rst_outside::{DirShelf, take_named};
-use session::run_table;
 use std::process::ExitCode;
 use std::{env, io};
-use table::Reader;
+use tool_table::{Reader, run_table};
 
 /// The greatest number of bytes of a table.
 const LIMIT: u64 = 1 << 26;

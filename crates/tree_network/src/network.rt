@@ -55,35 +55,3 @@ fn add_all(from: &EdgeSet, to: &mut EdgeSet)
         }
     }
 }
-
-#[cfg(test)]
-mod tests {
-    use super::*;
-    use full_tree::{Places, Tree, TreeCode, Way, in_form, tree_length};
-    use points_in::{Point, Points};
-    use std::test::Fail;
-
-    #[test]
-    fn a_tree_with_a_drop_takes_three_edges(rt: HostRuntime) -> Result<(), Fail> {
-        let alloc = rt.alloc();
-        let mut points = Points::begin(alloc, Point { x: 0, y: 0 })?;
-        points.add(Point { x: 2, y: 0 })?;
-        points.add(Point { x: 1, y: 1 })?;
-        let grid = Grid::new(alloc, &points)?;
-        let code = TreeCode::Long {
-            root: 0,
-            toward: Way::East,
-            drops: Places::from_slice(alloc, &[2]),
-            side: None,
-            tip: 1,
-        };
-        assert!(rt; in_form(&grid, &code));
-        let length = tree_length(&grid, &code);
-        let mut trees = TreeList::empty(alloc);
-        trees.push(Tree { length, code })?;
-        let edges = network_of(alloc, &grid, &trees, &[0])?;
-        let held: Vec<u32> = (0..edges.len()).filter(|e| edges.has(*e)).collect(alloc)?;
-        assert_eq!(rt; held.as_slice(), [0, 1, 5].as_slice());
-        Ok(())
-    }
-}

@@ -8,8 +8,6 @@ mod graph;
 mod graph_answer;
 mod listing;
 mod pruning;
-#[cfg(test)]
-mod tests;
 
 pub use dump::dumpfst;
 pub use generation::rfst;

@@ -1,0 +1,17 @@
+//! Rows of calls on graphs: sets, networks, decisions, packings, ascents, certificate trees and searches. What a row gives
+//! and what comes of it: docs/ROWS.md.
+#![tactic(auto)]
+
+mod described;
+mod networks;
+
+use row_tables::{Call, Fault};
+use std::alloc::Global;
+
+/// Makes the call of a row, and writes what comes of it.
+pub fn answer(alloc: Global, call: &Call, answer: &mut String) -> Result<(), Fault> {
+    match call.kind() {
+        "network" => networks::network(alloc, call, answer),
+        _ => Err(Fault::UnknownSubject),
+    }
+}

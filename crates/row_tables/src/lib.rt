@@ -1,0 +1,23 @@
+//! Tables of rows, as the programs of the gate read them: a text cut into sections by its marker lines, texts that
+//! sections name and change, numbers, and the calls that a table describes. How a table is written: docs/ROWS.md.
+#![tactic(auto)]
+
+mod call;
+mod changing;
+mod counting;
+mod difference;
+mod fault;
+mod reader;
+mod section;
+mod text;
+mod texts;
+
+pub use call::Call;
+pub use changing::change;
+pub use counting::{count, number, numbers, status};
+pub use difference::{LineDifference, first_difference};
+pub use fault::{Fault, TableFault};
+pub use reader::{Asked, CallReader};
+pub use section::{Section, sections_of};
+pub use text::{NamedText, Text};
+pub use texts::{Texts, named, no_lines};

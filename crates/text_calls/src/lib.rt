@@ -1,0 +1,13 @@
+//! Rows of calls on texts: words, lines, points, STP files, files of full trees. What a row gives and what comes of it:
+//! docs/ROWS.md.
+#![tactic(auto)]
+
+use row_tables::{Call, Fault};
+use std::alloc::Global;
+
+/// Makes the call of a row, and writes what comes of it.
+pub fn answer(_alloc: Global, call: &Call, _answer: &mut String) -> Result<(), Fault> {
+    match call.kind() {
+        _ => Err(Fault::UnknownSubject),
+    }
+}

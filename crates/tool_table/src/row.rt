@@ -1,0 +1,91 @@
+//! A row: one run of the program, and what has to come of it.
+
+use row_tables::{NamedText, Text};
+use std::alloc::Global;
+
+/// How many bytes the fakes of the outside move in a call, and which of their calls fail, counted from 0.
+#[derive(Drop)]
+pub struct Plan {
+    /// The most bytes that a call of the input, of `out` or of `err` moves. 0 counts as 1.
+    pub step: usize,
+    /// How many bytes `out` takes in all.
+    pub room: usize,
+    pub failing_reads: Vec<u64>,
+    pub failing_files: Vec<u64>,
+    pub failing_writes: Vec<u64>,
+    pub failing_reports: Vec<u64>,
+}
+
+impl Plan {
+    /// Nothing fails, and there is ample room.
+    pub fn without_faults(alloc: Global) -> Plan {
+        Plan {
+            step: 4096,
+            room: 1 << 20,
+            failing_reads: Vec::new(alloc),
+            failing_files: Vec::new(alloc),
+            failing_writes: Vec::new(alloc),
+            failing_reports: Vec::new(alloc),
+        }
+    }
+}
+
+/// How the bytes that came are compared with those that a row states.
+#[derive(Clone, Copy, Debug, PartialEq, Eq)]
+pub enum Relation {
+    /// They are the same.
+    Same,
+    /// They begin with those of the row.
+    BeginWith,
+    /// They are a proper prefix of those of the row: a text that a failed write cut short.
+    CutFrom,
+}
+
+/// What a row states of the bytes on `out` or on `err`.
+#[derive(Drop)]
+pub struct Wanted {
+    pub relation: Relation,
+    pub text: Text,
+}
+
+impl Wanted {
+    /// No bytes.
+    pub fn nothing(alloc: Global) -> Wanted {
+        Wanted {
+            relation: Relation::Same,
+            text: Text::empty(alloc),
+        }
+    }
+}
+
+/// One run of the program, and what has to come of it.
+#[derive(Drop)]
+pub struct Row {
+    pub name: String,
+    /// The words after the program's name.
+    pub words: Vec<String>,
+    /// The files of the shelf.
+    pub files: Vec<NamedText>,
+    pub input: Text,
+    pub plan: Plan,
+    pub out: Wanted,
+    pub err: Wanted,
+    /// The status that the program ends with.
+    pub status: u8,
+}
+
+impl Row {
+    /// A row without words, files and input, of which nothing comes but the status 0.
+    pub fn new(alloc: Global, name: String) -> Row {
+        Row {
+            name,
+            words: Vec::new(alloc),
+            files: Vec::new(alloc),
+            input: Text::empty(alloc),
+            plan: Plan::without_faults(alloc),
+            out: Wanted::nothing(alloc),
+            err: Wanted::nothing(alloc),
+            status: 0,
+        }
+    }
+}
