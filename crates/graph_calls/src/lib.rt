@@ -2,8 +2,9 @@
 //! and what comes of it: docs/ROWS.md.
 #![tactic(auto)]
 
-mod described;
+pub mod described;
 mod networks;
+pub mod told;
 
 use row_tables::{Call, Fault};
 use std::alloc::Global;
