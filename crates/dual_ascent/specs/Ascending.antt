@@ -1,9 +1,11 @@
 -- What an ascent comes to.
-use Rattle.std.specs.Prelude.{◌≡◌, ◌==◌, ◌+◌, ◌*◌, ◌≤◌, Bool, true, false, List, [], ◌∷◌, ◌++◌, length, if◌then◌else◌}
+use Rattle.std.specs.Prelude.{ℕ, ◌≡◌, ◌==◌, ◌+◌, ◌*◌, ◌≤◌, ◌⊎◌, Bool, true, false, Some, if◌then◌else◌}
+use Rattle.std.specs.Prelude.{List, [], ◌∷◌, ◌++◌, slice_get, length}
+use Rattle.net_graph.specs.declared.edge.Edge.{Edge}
 use Rattle.net_graph.specs.declared.packing.Cut.{Cut}
 use Rattle.net_graph.specs.Graph.{Graph, total_of}
-use Rattle.net_graph.specs.Decision.{Decided, IsLowerBoundUnder, states_of}
-use Rattle.net_graph.specs.Packing.{IsFeasible, packing_value}
+use Rattle.net_graph.specs.Decision.{Decided, IsFree, IsLowerBoundUnder, states_of}
+use Rattle.net_graph.specs.Packing.{IsCut, IsFeasible, enters, packing_value}
 use Rattle.net_graph.specs.Saturation.{IsMaximal}
 use Rattle.dual_ascent.specs.declared.ascent.Ascent.{Ascent}
 use Rattle.dual_ascent.specs.Costs.{costs_of}
@@ -14,7 +16,14 @@ BeginsWith packing start = (rest : List Cut) × (packing ≡ start ++ rest)
 
 -- the packing with a closing cut, whose weight is the graph's total; there is none where the total is 0
 abbrev pub closed_with : Graph → List Bool → List Cut → List Cut
-closed_with g members packing = if total_of g == 0 then packing else packing ++ record { weight = total_of g; members = members } ∷ []
+closed_with g members packing =
+    if total_of g == 0 then packing else packing ++ record { weight = total_of g; members = members } ∷ []
+
+-- a cut that only arcs of free edges enter, so that no weight is too much for it
+pub record IsClosingCut (g : Graph) (d : Decided) (members : List Bool) : Type 0 where
+  pub cut : IsCut g d members
+  pub free : (n : ℕ) (e : Edge) → slice_get g.edges n ≡ Some e →
+      (enters members e.a e.b ≡ true) ⊎ (enters members e.b e.a ≡ true) → IsFree g d n
 
 -- What an ascent comes to that begins with these cuts. No network that agrees with the decision is shorter than the
 -- packing's value.
@@ -25,4 +34,5 @@ pub record IsAscent (g : Graph) (d : Decided) (start : List Cut) (a : Ascent) : 
   pub maximal : a.closed ≡ false → IsMaximal g d a.packing
   pub costs : a.closed ≡ false → a.costs ≡ costs_of g.edges (states_of g d) a.packing
   pub closed : a.closed ≡ true → total_of g ≤ packing_value g d a.packing
+  pub closing : a.closed ≡ true → (members : List Bool) × IsClosingCut g d members
   pub bound : IsLowerBoundUnder g d (packing_value g d a.packing)

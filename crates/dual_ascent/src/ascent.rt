@@ -1,11 +1,11 @@
 //! Dual ascent, which packs cuts until saturated arcs lead to every required vertex.
 
-ghost use Rattle.std.specs.Prelude.{◌≡◌, ◌+◌, ◌*◌, ◌≤◌, true, false, length, IfOk};
+ghost use Rattle.std.specs.Prelude.{◌≡◌, ◌+◌, ◌*◌, ◌≤◌, Bool, true, false, List, length, IfOk};
 ghost use Rattle.net_graph.specs.Graph.{total_of};
 ghost use Rattle.net_graph.specs.Decision.{IsDecisionFor, IsLowerBoundUnder, states_of};
 ghost use Rattle.net_graph.specs.Packing.{IsFeasible, packing_value};
 ghost use Rattle.net_graph.specs.Saturation.{IsMaximal};
-ghost use Rattle.dual_ascent.specs.Ascending.{BeginsWith, IsAscent, closed_with};
+ghost use Rattle.dual_ascent.specs.Ascending.{BeginsWith, IsAscent, IsClosingCut, closed_with};
 ghost use Rattle.dual_ascent.specs.Costs.{costs_of};
 
 use crate::chooser::{Chooser, Rule};
@@ -51,6 +51,9 @@ pub fn ascend<F: Rule>(
     ensures costs { IfOk result (λ a. a.closed ≡ false
         → a.costs ≡ costs_of g.now.edges (states_of g.now d.now) a.packing) }
     ensures closed { IfOk result (λ a. a.closed ≡ true → total_of g.now ≤ packing_value g.now d.now a.packing) }
+    // It closes only where there is a cut that only arcs of free edges enter.
+    ensures closing { IfOk result (λ a. a.closed ≡ true
+        → (members : List Bool) × IsClosingCut g.now d.now members) }
     // No network that agrees with the decision is shorter than the packing's value.
     ensures bound { IfOk result
         (λ a. IsLowerBoundUnder g.now d.now (packing_value g.now d.now a.packing)) }

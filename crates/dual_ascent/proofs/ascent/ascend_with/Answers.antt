@@ -43,6 +43,7 @@ returns-in-Done g c =
       maximal = λ _. (IsMaximal-iff c.args.g.now c.args.d.now c.loop-packing.packing c.loop-packing.state.costs vertices c.requires.decision under_way.left c.in_ok-required.ensures.required).0 next;
       costs = λ _. (rw c.in-Done.is at c.in_ok-next_step.ensures.costs) ∙ under_way.left;
       closed = λ shut. absurd cc;
+      closing = λ shut. absurd cc;
       bound = c.weak_duality.ensures c.args.g.now c.args.d.now c.loop-packing.packing c.requires.decision under_way.feasible;
     }
 
@@ -67,7 +68,7 @@ pub returns-in-Close : goal.returns-in-Close
 returns-in-Close g c =
     let vertices = c.in_ok-required.required.items in
     let next : IsNextStep c.args.g.now vertices c.loop-packing.state.costs (Close c.in-Close.members) = rw c.in-Close.is at (c.in_ok-next_step.ensures.next vertices c.loop-packing.invariant.1) in
-    let ends = IsClosed-from_under_way c.args.g.now c.args.d.now c.args.start c.loop-packing.packing c.loop-packing.state.costs vertices c.in-Close.members c.in_ok-required.ensures.required c.loop-packing.invariant.0 next.0 next.1 in
+    let ends = IsClosed-from_under_way c.args.g.now c.args.d.now c.args.start c.loop-packing.packing c.loop-packing.state.costs vertices c.in-Close.members c.requires.decision c.in_ok-required.ensures.required c.loop-packing.invariant.0 next.0 next.1 in
     IfOk-weaker c.close.result _ (IsAscent c.args.g.now c.args.d.now c.args.start)
     (λ (a : Ascent) (is, shut). let closing : IsClosed c.args.g.now c.args.d.now c.args.start a.packing = subst (IsClosed c.args.g.now c.args.d.now c.args.start) (sym is) ends in
     record {
@@ -77,6 +78,7 @@ returns-in-Close g c =
       maximal = λ not_closed. absurd cc;
       costs = λ not_closed. absurd cc;
       closed = λ _. closing.value;
+      closing = λ _. closing.closing;
       bound = c.weak_duality.ensures c.args.g.now c.args.d.now a.packing c.requires.decision closing.feasible;
     })
     c.close.ensures
