@@ -13,7 +13,8 @@ use Rattle.net_graph.specs.Packing.{IsWithinRoom, IsFeasible, inside_length}
 use Rattle.duality.specs.Duality.{WeakDuality}
 use Rattle.duality.proofs.Hops.{is_away, is_away_one_way, Reaches-from_away}
 use Rattle.duality.proofs.Exchange.{edge_load, edge_load-le, set_load, sum-le-set_load}
-use Rattle.duality.proofs.Reached.{entries_from_cuts, Reaches-from_root_part}
+use Rattle.duality.specs.AgreeingLaws.{Reaches-from_root_part}
+use Rattle.duality.proofs.Reached.{entries_from_cuts}
 
 -- how much of an edge's length is not yet counted as inside
 abbrev pub open_length : EdgeState → Edge → ℕ
