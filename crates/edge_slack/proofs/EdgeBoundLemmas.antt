@@ -13,8 +13,8 @@ use Rattle.net_graph.specs.declared.state.VertexState.TheVariants as vertex
 use Rattle.net_graph.specs.EntryLaws.{slice_get-set_same, slice_get-set_other, slice_get-replicate}
 use Rattle.net_graph.specs.Flags.{has}
 use Rattle.net_graph.specs.Graph.{Graph, root_of, total_of}
-use Rattle.net_graph.specs.LengthLaws.{length_of_edges-all}
-use Rattle.net_graph.specs.Network.{Links, Reaches, IsNetwork}
+use Rattle.net_graph.specs.LengthLaws.{length_of_edges-le-sum}
+use Rattle.net_graph.specs.Network.{Links, Reaches}
 use Rattle.net_graph.specs.SearchLaws.{Leads-keeps}
 use Rattle.net_graph.specs.Decision.{Decided, Agrees, InRootPart, IsFree, IsMissed, IsUndecided, IsLowerBoundUnder, nothing_decided}
 use Rattle.net_graph.specs.DecisionLaws.{IsDecisionFor-nothing, IsUndecided-from}
@@ -22,10 +22,10 @@ use Rattle.net_graph.specs.Packing.{enters}
 use Rattle.net_graph.specs.Saturation.{IsMaximal}
 use Rattle.duality.specs.AgreeingLaws.{Reaches-from_required}
 use Rattle.dual_ascent.specs.Ascending.{IsClosingCut}
-use Rattle.edge_slack.specs.EdgeBound.{all_edges, edge_taken_in, IsLowerBoundWith}
+use Rattle.edge_slack.specs.EdgeBound.{edge_taken_in, IsInSomeNetwork, IsLowerBoundWith}
 
 -- an edge of the root part is one of the graph's edges
-pub within-from_root_part : (g : Graph) (set : List Bool) (e : ℕ) → InRootPart g set e → e < length g.edges
+within-from_root_part : (g : Graph) (set : List Bool) (e : ℕ) → InRootPart g set e → e < length g.edges
 within-from_root_part g set e (edge, in_set, at, reached) = slice_get_within g.edges e edge at
 
 -- where nothing is decided an edge is undecided
@@ -111,17 +111,26 @@ stays_out g set members v rootless shut reached =
         (λ (against : (e.a ≡ w) × (e.b ≡ u)). shut n e at (inr (rw (against.0, against.1) (entered u w out inside))))
         ends)
 
--- no cut closes an ascent where all edges are a network whose root part holds the edge
-pub closes_nowhere : (g : Graph) (e : ℕ) (members : List Bool) → IsNetwork g (all_edges g) →
-    InRootPart g (all_edges g) e → IsClosingCut g (edge_taken_in g e) members → ⊥
-closes_nowhere g e members network held closing =
+-- no cut closes an ascent where some network's root part holds the edge
+closes_nowhere : (g : Graph) (e : ℕ) (members : List Bool) → IsInSomeNetwork g e →
+    IsClosingCut g (edge_taken_in g e) members → ⊥
+closes_nowhere g e members (set, network, held) closing =
     let (v, required, inside) = closing.cut.required in
-    let within : e < length g.edges = within-from_root_part g (all_edges g) e held in
-    let reached : Reaches g (all_edges g) v =
-    Reaches-from_required g (edge_taken_in g e) (all_edges g) v (Agrees-taken_in g e (all_edges g) held) network required in
-    let out : has members v ≡ false = stays_out g (all_edges g) members v closing.cut.rootless
+    let within : e < length g.edges = within-from_root_part g set e held in
+    let reached : Reaches g set v =
+    Reaches-from_required g (edge_taken_in g e) set v (Agrees-taken_in g e set held) network required in
+    let out : has members v ≡ false = stays_out g set members v closing.cut.rootless
     (λ n x at enter. not_free g e n within (closing.free n x at enter)) reached in
     cc
+
+-- an ascent under the decision doesn't close, so its packing is maximal
+pub IsMaximal-not_closed : (g : Graph) (e : ℕ) (d : Decided) (closed : Bool) (packing : List Cut) →
+    IsInSomeNetwork g e → d ≡ edge_taken_in g e → (closed ≡ false → IsMaximal g d packing) →
+    (closed ≡ true → (members : List Bool) × IsClosingCut g d members) → IsMaximal g (edge_taken_in g e) packing
+IsMaximal-not_closed g e d closed packing some is maximal closing =
+    subst (λ x. IsMaximal g x packing) is (maximal (false_from_ne_true closed (λ shut.
+    let cut = closing shut in
+    closes_nowhere g e cut.0 some (subst (λ x. IsClosingCut g x cut.0) is cut.1))))
 
 -- a lower bound under the decision is one of the networks that use the edge
 pub IsLowerBoundWith-under : (g : Graph) (e bound : ℕ) → IsLowerBoundUnder g (edge_taken_in g e) bound →
@@ -129,17 +138,7 @@ pub IsLowerBoundWith-under : (g : Graph) (e bound : ℕ) → IsLowerBoundUnder g
 IsLowerBoundWith-under g e bound under other network held = under other (Agrees-taken_in g e other held) network
 
 -- .. so it is no more than all edges together
-pub bound-le-total : (g : Graph) (e bound : ℕ) → IsNetwork g (all_edges g) → InRootPart g (all_edges g) e →
+pub bound-le-total : (g : Graph) (e bound : ℕ) → IsInSomeNetwork g e →
     IsLowerBoundUnder g (edge_taken_in g e) bound → bound ≤ total_of g
-bound-le-total g e bound network held under =
-    subst (λ n. bound ≤ n) (length_of_edges-all g.edges)
-    (IsLowerBoundWith-under g e bound under (all_edges g) network held)
-
--- an ascent under the decision doesn't close, so its packing is maximal
-pub IsMaximal-not_closed : (g : Graph) (e : ℕ) (d : Decided) (closed : Bool) (packing : List Cut) → IsNetwork g (all_edges g) →
-    InRootPart g (all_edges g) e → d ≡ edge_taken_in g e → (closed ≡ false → IsMaximal g d packing) →
-    (closed ≡ true → (members : List Bool) × IsClosingCut g d members) → IsMaximal g (edge_taken_in g e) packing
-IsMaximal-not_closed g e d closed packing network held is maximal closing =
-    subst (λ x. IsMaximal g x packing) is (maximal (false_from_ne_true closed (λ shut.
-    let cut = closing shut in
-    closes_nowhere g e cut.0 network held (subst (λ x. IsClosingCut g x cut.0) is cut.1))))
+bound-le-total g e bound (set, network, held) under =
+    omega (arith, IsLowerBoundWith-under g e bound under set network held, length_of_edges-le-sum g.edges set)

@@ -1,6 +1,6 @@
 -- What is told of the networks that use an edge, by packings of directed cuts (dual ascent: Wong 1984; the bound of an
 -- edge: this project). A network uses an edge where its root part holds it.
-use Rattle.std.specs.Prelude.{ℕ, ◌≡◌, ◌≤◌, Bool, true, List, length, replicate}
+use Rattle.std.specs.Prelude.{ℕ, ◌≡◌, ◌≤◌, Bool, List}
 use Rattle.net_graph.specs.declared.packing.Cut.{Cut}
 use Rattle.net_graph.specs.declared.state.EdgeState.TheVariants.{Inside}
 use Rattle.net_graph.specs.Graph.{Graph}
@@ -9,9 +9,9 @@ use Rattle.net_graph.specs.Decision.{Decided, InRootPart, nothing_decided, with_
 use Rattle.net_graph.specs.Packing.{IsFeasible, packing_value}
 use Rattle.net_graph.specs.Saturation.{IsMaximal}
 
--- the set of all edges of the graph
-abbrev pub all_edges : Graph → List Bool
-all_edges g = replicate (length g.edges) true
+-- the root part of some network holds the edge
+abbrev pub IsInSomeNetwork : Graph → ℕ → Type 0
+IsInSomeNetwork g e = (set : List Bool) × IsNetwork g set × InRootPart g set e
 
 -- the decision that takes the edge in and decides nothing else
 abbrev pub edge_taken_in : Graph → ℕ → Decided

@@ -2,27 +2,27 @@
 
 ghost use Rattle.std.specs.Prelude.{◌≡◌, ◌+◌, ◌*◌, ◌<◌, ◌≤◌, length, IfOk};
 ghost use Rattle.net_graph.specs.Graph.{total_of};
-ghost use Rattle.net_graph.specs.Network.{IsNetwork};
-ghost use Rattle.net_graph.specs.Decision.{IsDecisionFor, InRootPart};
+ghost use Rattle.net_graph.specs.Decision.{IsDecisionFor};
 ghost use Rattle.net_graph.specs.Packing.{IsFeasible, packing_value};
 ghost use Rattle.net_graph.specs.Saturation.{IsMaximal};
-ghost use Rattle.edge_slack.specs.EdgeBound.{edge_taken_in, all_edges, IsEdgeBound, IsLowerBoundWith};
+ghost use Rattle.edge_slack.specs.EdgeBound.{edge_taken_in, IsInSomeNetwork, IsEdgeBound, IsLowerBoundWith};
 
 use dual_ascent::{Chooser, Rule, ascend};
 use net_graph::{Decision, NetGraph, Packing};
 use std::alloc::{AllocError, Global};
 
-/// A packing whose value bounds every network that uses the edge `e`, those whose root part holds it: the ascent from
-/// the empty packing under the decision that takes `e` in and decides nothing else (dual ascent: Wong 1984; the bound
-/// of an edge: this project). At each step the rule chooses the candidate. An `Err` is want of memory.
+/// A packing whose value bounds the networks that use the edge `e`, those whose root part holds it. It is what the
+/// ascent comes to from the empty packing under the decision that takes `e` in and decides nothing else (dual ascent:
+/// Wong 1984; the bound of an edge: this project). At each step the rule chooses the candidate. An `Err` is want of
+/// memory.
 pub fn edge_bound<F: Rule>(
     alloc: Global,
     g: &NetGraph,
     e: u32,
     chooser: &Chooser<F>,
 ) -> Result<Packing, AllocError>
-    requires network { IsNetwork g.now (all_edges g.now) }
-    requires edge { InRootPart g.now (all_edges g.now) e }
+    // It is so exactly where all edges together are a network whose root part holds the edge.
+    requires { IsInSomeNetwork g.now e }
     ensures feasible { IfOk result (λ p. IsFeasible g.now (edge_taken_in g.now e) p) }
     ensures maximal { IfOk result (λ p. IsMaximal g.now (edge_taken_in g.now e) p) }
     ensures few { IfOk result (λ p. length p ≤ 4 * length g.now.edges + 1) }

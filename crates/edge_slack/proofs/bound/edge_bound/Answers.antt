@@ -8,7 +8,7 @@ use Rattle.edge_slack.proofs.bound.edge_bound.Goals as goal
 pub returns-clause-maximal : goal.returns-clause-maximal
 returns-clause-maximal g c =
     let a = c.in_ok-ascent.ensures in
-    IsMaximal-not_closed c.args.g.now c.args.e c.in_ok-d.d c.in_ok-ascent.ascent.closed c.in_ok-ascent.ascent.packing c.requires.network c.requires.edge c.in_ok-d.ensures.value a.maximal a.closing
+    IsMaximal-not_closed c.args.g.now c.args.e c.in_ok-d.d c.in_ok-ascent.ascent.closed c.in_ok-ascent.ascent.packing c.requires c.in_ok-d.ensures.value a.maximal a.closing
 
 pub returns-clause-value : goal.returns-clause-value
 returns-clause-value g c =
@@ -16,7 +16,7 @@ returns-clause-value g c =
     let packing = c.in_ok-ascent.ascent.packing in (
       packing,
       subst (λ d. IsFeasible c.args.g.now d packing) c.in_ok-d.ensures.value a.feasible,
-      IsMaximal-not_closed c.args.g.now c.args.e c.in_ok-d.d c.in_ok-ascent.ascent.closed packing c.requires.network c.requires.edge c.in_ok-d.ensures.value a.maximal a.closing,
+      IsMaximal-not_closed c.args.g.now c.args.e c.in_ok-d.d c.in_ok-ascent.ascent.closed packing c.requires c.in_ok-d.ensures.value a.maximal a.closing,
       refl,
     )
 
@@ -29,5 +29,5 @@ returns-clause-bound g c =
 pub returns-clause-total : goal.returns-clause-total
 returns-clause-total g c =
     let packing = c.in_ok-ascent.ascent.packing in
-    bound-le-total c.args.g.now c.args.e (packing_value c.args.g.now (edge_taken_in c.args.g.now c.args.e) packing) c.requires.network c.requires.edge
+    bound-le-total c.args.g.now c.args.e (packing_value c.args.g.now (edge_taken_in c.args.g.now c.args.e) packing) c.requires
     (subst (λ d. IsLowerBoundUnder c.args.g.now d (packing_value c.args.g.now d packing)) c.in_ok-d.ensures.value c.in_ok-ascent.ensures.bound)
