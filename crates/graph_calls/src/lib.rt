@@ -3,6 +3,7 @@
 #![tactic(auto)]
 
 pub mod described;
+mod edge_bounds;
 mod networks;
 pub mod told;
 
@@ -12,6 +13,7 @@ use std::alloc::Global;
 /// Makes the call of a row, and writes what comes of it.
 pub fn answer(alloc: Global, call: &Call, answer: &mut String) -> Result<(), Fault> {
     match call.kind() {
+        "edge_bounds" => edge_bounds::edge_bounds(alloc, call, answer),
         "network" => networks::network(alloc, call, answer),
         _ => Err(Fault::UnknownSubject),
     }

@@ -1,0 +1,63 @@
+//! Bounds of the networks that use an edge.
+
+ghost use Rattle.std.specs.Prelude.{◌<◌, length};
+ghost use Rattle.dual_ascent.specs.Choosing.{IsCallableOnSome, AnswersAPlace};
+
+use crate::described::{edges, graph};
+use dual_ascent::{Candidate, Chooser, Rule};
+use edge_slack::{edge_bound, taking_in};
+use net_graph::{joins, root_part, value};
+use row_tables::{Call, Fault};
+use std::alloc::Global;
+
+/// For each edge in the root part of the network under `edges`, the value of the packing that bounds the networks which
+/// use it, where each ascent takes the candidate of the smallest size, and of these that of the lowest number.
+pub fn edge_bounds(alloc: Global, call: &Call, answer: &mut String) -> Result<(), Fault> {
+    tell_bounds(
+        alloc,
+        call,
+        answer,
+        |list: &[Candidate]| -> usize
+            requires { 0 < length list.now }
+            ensures { result < length list.now }
+        { least_place(list) },
+    )
+}
+
+// The same by any rule.
+fn tell_bounds<F: Rule>(
+    alloc: Global,
+    call: &Call,
+    answer: &mut String,
+    rule: F,
+) -> Result<(), Fault>
+    requires callable { IsCallableOnSome (F.may_choose rule) }
+    requires place { AnswersAPlace (F.chooses rule) }
+{
+    let g = graph(alloc, call)?;
+    let network = edges(alloc, call, &g, "edges")?;
+    if !joins(alloc, &g, &network)? {
+        return Err(Fault::NotAllowed);
+    }
+    let part = root_part(alloc, &g, &network)?;
+    let chooser = Chooser::new(rule);
+    for e in 0..g.edge_count() {
+        if part.has(e) {
+            let packing = edge_bound(alloc, &g, e, &chooser)?;
+            let d = taking_in(alloc, &g, e)?;
+            writeln!(answer, "edge {e} bound {}", value(&g, &d, &packing))?;
+        }
+    }
+    Ok(())
+}
+
+// The place of the candidate of the smallest size, and of these that of the lowest number.
+fn least_place(list: &[Candidate]) -> usize
+    requires { 0 < length list.now }
+    ensures { result < length list.now }
+{
+    list.iter()
+        .enumerate()
+        .min_by_key(|(_, candidate)| (candidate.size, candidate.number))
+        .map_or(0, |(place, _)| place)
+}
