@@ -1,6 +1,6 @@
 //! The laws on concatenations. A law is a call that does nothing, and its caller knows the fact from there on.
 
-ghost use Rattle.concatenation.specs.PartitionLaws.{PartitionBound, BoundWithTree};
+ghost use Rattle.concatenation.specs.PartitionLaws.{PartitionBound};
 ghost use Rattle.concatenation.specs.SetLaws.{MoreTreesJoin, AllJoin, TotalsRise};
 ghost use Rattle.concatenation.specs.TrailLaws.{BoundedTrailIsLeast, ClosedTrailIsLeast, SpentTrailsAreShort};
 
@@ -24,9 +24,7 @@ pub fn spent_trails_are_short()
     ensures { SpentTrailsAreShort }
 {}
 
-/// Partitions whose amounts pack into the trees that are open bound every concatenation that respects the choices, and
-/// one that has some open tree by the more the less they take of it.
+/// Partitions whose amounts pack into the trees that are open bound every concatenation that respects the choices.
 pub fn partition_bound()
-    ensures bound { PartitionBound }
-    ensures with_tree { BoundWithTree }
+    ensures { PartitionBound }
 {}

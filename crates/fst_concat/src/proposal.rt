@@ -68,7 +68,6 @@ pub fn propose(
         touching.items(),
         &guide,
         room_in_units(taken, best.total),
-        0,
     )?;
     match found {
         Some(fitted) => proposal_of(alloc, labels, &parts, &touching, &fitted),

@@ -14,7 +14,6 @@ pub record IsChainOf (parts : ℕ) (levels : List Level) : Type 0 where
 
 -- what is proposed names parts and items alone
 pub record IsInRange (parts count : ℕ) (proposal : Proposal) : Type 0 where
-  pub aside : All (λ levels. IsChainOf parts levels.items) proposal.aside.items
   pub levels : IsChainOf parts proposal.levels.items
   pub chosen : All (λ number. number < count) proposal.chosen.items
   pub split : IfSome proposal.split (λ number. number < count)

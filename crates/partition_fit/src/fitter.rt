@@ -11,7 +11,7 @@ use crate::growth::{Growing, grow};
 use crate::improve::Improver;
 use crate::item::{Item, Numbered};
 use crate::joining::Joining;
-use crate::proposal::{Proposal, chains_of, levels_of, numbers_of};
+use crate::proposal::{Proposal, levels_of, numbers_of};
 use crate::repair::repair;
 use crate::rest::Rest;
 use crate::sets::is_several;
@@ -47,7 +47,6 @@ pub struct Fitter {
     fit: Fit,
     rest: Rest,
     tried: Vec<Fitted>,
-    aside: Vec<Chain>,
 }
 
 impl Fitter {
@@ -64,24 +63,21 @@ impl Fitter {
             fit: Fit::new(alloc),
             rest: Rest::new(alloc),
             tried: Vec::new(alloc),
-            aside: Vec::new(alloc),
         }
     }
 
-    /// Proposes chains of partitions and a concatenation; `None` where the items don't join the parts. The same arguments
+    /// Proposes a chain of partitions and a concatenation; `None` where the items don't join the parts. The same arguments
     /// give the same proposal, whatever was proposed before. An `Err` is want of memory.
     ///
     /// `guide` has numbers of items that may make a good concatenation. `best` is the length in units that one must stay
-    /// below to be of use, a multiple of 12, or `u64::MAX` if there is none; the proposed one lowers it. The last chain is
-    /// made to bound more than that less 12, so that no whole length is left between. Up to `max_aside` chains come before it; with 0 it
-    /// overloads no item at all.
+    /// below to be of use, a multiple of 12, or `u64::MAX` if there is none; the proposed one lowers it. The chain is made
+    /// to bound more than that less 12, so that no whole length is left between, and overloads no item.
     pub fn propose(
         &mut self,
         parts: u8,
         items: &[Item],
         guide: &[u32],
         best: u64,
-        max_aside: u8,
     ) -> Result<Option<Proposal>, AllocError>
         requires some { 0 < parts }
         ensures { IfOk result (λ found. IfSome found (IsInRange parts (length items.now))) }
@@ -97,9 +93,8 @@ impl Fitter {
             return Ok(None);
         }
         self.choose(parts, items, guide)?;
-        let (chain, split) = self.search(parts, best, max_aside)?;
+        let (chain, split) = self.search(parts, best)?;
         Ok(Some(Proposal {
-            aside: chains_of(self.alloc, parts, &self.aside)?,
             levels: levels_of(self.alloc, parts, &chain)?,
             chosen: numbers_of(self.alloc, &self.chosen, items.len())?,
             split: number_below(split, items.len()),
@@ -147,13 +142,7 @@ impl Fitter {
 
     // Improves the chosen items, and fits a chain along them where the one of the growth doesn't bound enough: the chain,
     // and the number of an item to split on. An `Err` is want of memory.
-    fn search(
-        &mut self,
-        parts: u8,
-        best: u64,
-        max_aside: u8,
-    ) -> Result<(Chain, Option<u32>), AllocError> {
-        self.aside.clear();
+    fn search(&mut self, parts: u8, best: u64) -> Result<(Chain, Option<u32>), AllocError> {
         if self.grown.bound() >= wanted(best) {
             return Ok((self.grown, None));
         }
@@ -162,7 +151,7 @@ impl Fitter {
         if self.grown.bound() >= wanted {
             return Ok((self.grown, None));
         }
-        let chain = self.fit(parts, wanted, max_aside)?;
+        let chain = self.fit(parts, wanted)?;
         let split = self
             .fit
             .most_overloaded(&self.chosen)
@@ -171,9 +160,8 @@ impl Fitter {
     }
 
     // The best chain of a fit along the chosen items, that overloads no item. An `Err` is want of memory.
-    fn fit(&mut self, parts: u8, wanted: u64, max_aside: u8) -> Result<Chain, AllocError> {
+    fn fit(&mut self, parts: u8, wanted: u64) -> Result<Chain, AllocError> {
         self.begin(parts, wanted)?;
-        self.put_aside(self.grown, wanted, max_aside)?;
         let mut best = Chain::empty();
         let mut idle = 0u8;
         for _ in 0..ROUNDS {
@@ -181,7 +169,6 @@ impl Fitter {
             if chain.bound() > best.bound() {
                 best = chain;
                 idle = 0;
-                self.put_aside(best, wanted, max_aside)?;
             } else {
                 idle = idle.wrapping_add(1);
             }
@@ -207,21 +194,6 @@ impl Fitter {
         let gap = wanted.saturating_sub(self.grown.bound());
         self.rest
             .begin(&self.items, &self.chosen, &self.grown, gap, &mut self.fit)
-    }
-
-    // Puts aside what a chain, which overloads no item in hand, shows to be in no concatenation of use. An `Err` is want
-    // of memory.
-    fn put_aside(&mut self, chain: Chain, wanted: u64, max_aside: u8) -> Result<(), AllocError> {
-        let gap = wanted.saturating_sub(chain.bound());
-        if self.aside.len() < max_aside as usize && gap > 0 {
-            if self
-                .rest
-                .put_aside(&chain, gap, &self.chosen, &mut self.fit)
-            {
-                self.aside.push(chain)?;
-            }
-        }
-        Ok(())
     }
 
     // A round of the fit: the chain that it gives, repaired; the empty one if that doesn't come to an end. An `Err` is

@@ -25,4 +25,3 @@ mod table;
 pub use fitter::Fitter;
 pub use item::Item;
 pub use proposal::{Level, Proposal};
-

@@ -18,29 +18,12 @@ pub struct Level {
 /// What is proposed for parts and items.
 #[derive(Debug, Drop)]
 pub struct Proposal {
-    /// Nested chains of partitions that put items aside, each its finest partition first. None overloads an item, but for
-    /// those that the ones before it put aside: those outside `chosen` whose length, less their load, makes up what the
-    /// bound of the chain falls short of the wanted one.
-    pub aside: Vec<Vec<Level>>,
     /// A nested chain of partitions that bounds, the finest first.
     pub levels: Vec<Level>,
     /// The numbers of items that are meant to join all parts, at a small length.
     pub chosen: Vec<u32>,
     /// The number of the item to split on, if one tells itself.
     pub split: Option<u32>,
-}
-
-/// The levels of several chains. An `Err` is want of memory.
-pub fn chains_of(alloc: Global, parts: u8, chains: &[Chain]) -> Result<Vec<Vec<Level>>, AllocError>
-    requires some { 0 < parts }
-    ensures { IfOk result (λ found. All (λ levels. IsChainOf parts levels.items) found.items) }
-{
-    let mut found = Vec::new(alloc);
-    for chain in chains {
-        let levels = levels_of(alloc, parts, chain)?;
-        found.push(levels)?;
-    }
-    Ok(found)
 }
 
 /// The levels of a chain with at most 50 parts. An `Err` is want of memory.

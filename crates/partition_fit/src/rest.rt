@@ -75,26 +75,4 @@ impl Rest {
         }
         Ok(woke)
     }
-
-    /// Puts the items aside that have at least a room under a chain, but for the chosen ones; tells whether there is one.
-    pub fn put_aside(
-        &mut self,
-        chain: &Chain,
-        room: u64,
-        chosen: &[Numbered],
-        fit: &mut Fit,
-    ) -> bool {
-        let before = self.sleepers.len();
-        self.sleepers
-            .retain(|sleeper| stays(sleeper.item, chain, room, chosen));
-        fit.items
-            .retain(|fitted| stays(fitted.item, chain, room, chosen));
-        self.sleepers.len() < before
-    }
-}
-
-// Whether an item has less than a room under a chain, or is a chosen one.
-fn stays(item: Numbered, chain: &Chain, room: u64, chosen: &[Numbered]) -> bool {
-    let load = chain.load(item.touched).sum;
-    item.length.saturating_sub(load) < room || is_among(item.number, chosen)
 }

@@ -3,14 +3,13 @@ use Rattle.std.proofs.Common.{ℕ, zero, suc, ◌≡◌, ◌+◌, ◌*◌, ◌-�
 use Rattle.std.specs.Prelude.{All, slice_index}
 use Rattle.std.proofs.Math.Nat.{mul-le-mul_left}
 use Rattle.std.proofs.lemmas.List.Elements.{All-head, All-tail}
-use Rattle.std.proofs.lemmas.Option.{same_Some}
 use Rattle.full_tree.specs.declared.code.Tree.{Tree}
 use Rattle.concatenation.specs.declared.choice.Choice.{Choice}
 use Rattle.concatenation.specs.declared.choice.Choice.TheVariants.{Open, Taken, LeftOut}
 use Rattle.concatenation.specs.Concatenation.{IsConcatenation, total_of}
 use Rattle.concatenation.specs.Choices.{is_taken, taken_of, Respects}
 use Rattle.concatenation.specs.Partitions.{Layer, touched_count, load_of, bound_of, PacksLayers}
-use Rattle.concatenation.specs.PartitionLaws.{PartitionBound, BoundWithTree}
+use Rattle.concatenation.specs.PartitionLaws.{PartitionBound}
 use Rattle.concatenation.proofs.lemmas.Merging.{touches_of, part_count-le_touches}
 
 -- what the trees of a set take of all amounts
@@ -110,36 +109,6 @@ all_carried scale (tree ∷ trees) (choice ∷ choices) layers (flag ∷ set) ca
       all_carried scale trees choices layers set (IsCarried-rest carried),
     )
 
--- an open tree of the set has room besides what is taken of it
-first_with_room : (scale : ℕ) (first tree : Tree) (choice : Choice) (layers : List Layer) (flag : Bool) →
-    choice ≡ Open → flag ≡ true → first ≡ tree → load_of layers tree ≤ scale * tree.length →
-    scale * (if is_taken choice then first.length else 0) + (if flag then load_of layers first else 0)
-    + (scale * tree.length - load_of layers tree)
-    ≤ scale * (if flag then first.length else 0)
-first_with_room scale first tree choice layers flag is_open in_set same fits = rw (is_open, in_set, same) (omega arith)
-
-with_room : (scale : ℕ) (trees : List Tree) (choices : List Choice) (layers : List Layer) (set : List Bool) (place : ℕ) (tree : Tree) →
-    IsCarried scale trees choices layers set →
-    slice_get choices place ≡ Some Open → slice_get trees place ≡ Some tree → slice_get set place ≡ Some true →
-    scale * total_of trees (taken_of choices) + loads_of layers trees set + (scale * tree.length - load_of layers tree)
-    ≤ scale * total_of trees set
-with_room scale [] choices layers set place tree carried is_open at in_set = cc
-with_room scale (first ∷ trees) [] layers set place tree carried is_open at in_set = cc
-with_room scale (first ∷ trees) (choice ∷ choices) layers [] place tree carried is_open at in_set = cc
-with_room scale (first ∷ trees) (choice ∷ choices) layers (flag ∷ set) zero tree carried is_open at in_set =
-    omega (
-      arith,
-      first_with_room scale first tree choice layers flag (same_Some choice Open is_open) (same_Some flag true in_set)
-          (same_Some first tree at) (carried.loads 0 tree is_open at),
-      all_carried scale trees choices layers set (IsCarried-rest carried),
-    )
-with_room scale (first ∷ trees) (choice ∷ choices) layers (flag ∷ set) (suc place) tree carried is_open at in_set =
-    omega (
-      arith,
-      first_carried scale first trees choice choices layers flag set carried,
-      with_room scale trees choices layers set place tree (IsCarried-rest carried) is_open at in_set,
-    )
-
 -- what a packing gives
 IsCarried-from_packs : (n scale : ℕ) (trees : List Tree) (choices : List Choice) (layers : List Layer) (set : List Bool) →
     length choices ≡ length trees → PacksLayers n scale trees choices layers → IsConcatenation n trees set → Respects choices set →
@@ -159,13 +128,4 @@ partition_bound_lem n scale trees choices layers set size packs joined respects 
       bound_of-le_loads n trees set layers joined packs.sizes,
       all_carried scale trees choices layers set
           (IsCarried-from_packs n scale trees choices layers set size packs joined respects),
-    )
-
-pub bound_with_tree_lem : BoundWithTree
-bound_with_tree_lem n scale trees choices layers set size packs joined respects place tree is_open at in_set =
-    omega (
-      arith,
-      bound_of-le_loads n trees set layers joined packs.sizes,
-      with_room scale trees choices layers set place tree
-          (IsCarried-from_packs n scale trees choices layers set size packs joined respects) is_open at in_set,
     )

@@ -6,7 +6,7 @@ use Rattle.fst_concat.proofs.bound.least_under.Goals as goal
 
 pub returns-clause-least : goal.returns-clause-least
 returns-clause-least c = λ set joins respects.
-    let bounded = c.partition_bound.ensures.bound c.args.points 12 c.args.trees.now c.args.choices.now (layers_of c.args.points c.args.levels.now) set
+    let bounded = c.partition_bound.ensures c.args.points 12 c.args.trees.now c.args.choices.now (layers_of c.args.points c.args.levels.now) set
     c.requires.size (c.packs.ensures c.if-not-packs.false) joins respects in
     rw (c.div_ceil.ensures, c.from.ensures)
     (ceil_within c.args.taken c.bound.result (total_of c.args.trees.now set) (omega (arith, bounded, c.bound.ensures.value, c.requires.taken)))
