@@ -1,6 +1,8 @@
 //! Rows of calls on points, grids, and codes of full Steiner trees. What a row gives and what comes of it: docs/ROWS.md.
 #![tactic(auto)]
 
+pub mod described;
+
 use row_tables::{Call, Fault};
 use std::alloc::Global;
 
