@@ -1,10 +1,11 @@
 -- Lists of trees that join terminals.
-use Rattle.std.specs.Prelude.{ℕ, ◌≡◌, ◌<◌, ◌≤◌, ◌⊎◌, List, [], ◌∷◌, length, Contains}
+use Rattle.std.specs.Prelude.{ℕ, ◌<◌, ◌≤◌, List, length, Contains}
 use Rattle.points_in.specs.declared.point.Point.{Point}
 use Rattle.points_in.specs.Terminals.{AreDistinct}
 use Rattle.net_graph.specs.Search.{Leads}
 use Rattle.full_tree.specs.declared.code.Tree.{Tree}
 use Rattle.full_tree.specs.Code.{members_of}
+use Rattle.full_tree.specs.Pairs.{PairsJoinAll}
 use Rattle.fst_gen.specs.Trees.{AreTreesOf}
 
 -- some tree of the list has the terminals i and j among its members
@@ -14,19 +15,9 @@ pub record SharesTree (trees : List Tree) (i j : ℕ) : Type 0 where
   pub first : Contains (members_of tree.code) i
   pub second : Contains (members_of tree.code) j
 
--- some tree of the list has just the terminals i and j as members
-pub record HasPair (trees : List Tree) (i j : ℕ) : Type 0 where
-  pub tree : Tree
-  pub listed : Contains trees tree
-  pub members : (members_of tree.code ≡ i ∷ j ∷ []) ⊎ (members_of tree.code ≡ j ∷ i ∷ [])
-
 -- by trees of the list one comes from each of n terminals to each other one
 abbrev pub JoinsAll : ℕ → List Tree → Type 0
 JoinsAll n trees = (i j : ℕ) → i < n → j < n → Leads (SharesTree trees) i j
-
--- .. and so by those of two members alone
-abbrev pub PairsJoinAll : ℕ → List Tree → Type 0
-PairsJoinAll n trees = (i j : ℕ) → i < n → j < n → Leads (HasPair trees) i j
 
 -- the trees of distinct points join all of them, and so do those of two members
 abbrev pub TreesJoin : Type 0

@@ -7,7 +7,7 @@ use Rattle.full_tree.specs.declared.code.Tree.{Tree}
 use Rattle.full_tree.specs.Code.{members_of, HasFewMembers}
 use Rattle.full_tree.specs.Order.{tree_cmp}
 use Rattle.fst_gen.specs.Trees.{IsNotAfter}
-use Rattle.fst_gen.specs.Word.{IsWordOf}
+use Rattle.full_tree.specs.Word.{IsWordOf}
 
 abbrev pub AllHaveFewMembers : BTreeMap ℕ Tree → Type 0
 AllHaveFewMembers trees = (word : ℕ) (tree : Tree) → get nat_cmp trees word ≡ Some tree → HasFewMembers tree.code

@@ -2,7 +2,6 @@ pub mod Trees
 pub mod Joins
 pub mod PairLaws
 pub mod ListLaws
-pub mod Word
 pub mod Kept
 pub mod Store
 pub mod StoreLaws

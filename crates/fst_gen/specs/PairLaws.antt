@@ -28,7 +28,8 @@ use Rattle.full_tree.specs.Pieces.{piece_between, foot}
 use Rattle.full_tree.specs.Stations.{stations_of, station_at}
 use Rattle.full_tree.specs.Passing.{IsBetween, LiesOn, IsClear, KeepsBetween, KeepsBottlenecks, Passes}
 use Rattle.fst_gen.specs.Trees.{AreTreesOf}
-use Rattle.fst_gen.specs.Joins.{SharesTree, HasPair, PairsJoinAll, TreesJoin}
+use Rattle.full_tree.specs.Pairs.{HasPair, PairsJoinAll}
+use Rattle.fst_gen.specs.Joins.{SharesTree, TreesJoin}
 
 -- ---- numbers
 
@@ -129,7 +130,7 @@ module _ (r q f : Point) where
       omega arith
 
 -- points that are no distance apart are one
-no_distance : (p q : Point) → distance_between p q ≡ 0 → p ≡ q
+pub no_distance : (p q : Point) → distance_between p q ≡ 0 → p ≡ q
 no_distance p q is = same_coordinates p q (no_way p.x q.x (omega arith)) (no_way p.y q.y (omega arith))
 
 -- ---- the code of a tight pair

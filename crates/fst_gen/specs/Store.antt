@@ -10,7 +10,7 @@ use Rattle.fst_gen.specs.declared.fault.GenFault.TheVariants.{TooManyTrees, Memo
 use Rattle.full_tree.specs.Code.{members_of}
 use Rattle.full_tree.specs.Pieces.{code_length}
 use Rattle.fst_gen.specs.Trees.{IsWanted, IsNotAfter, tree_of, HasMoreSets}
-use Rattle.fst_gen.specs.Word.{IsWordOf}
+use Rattle.full_tree.specs.Word.{IsWordOf}
 
 -- the tree is a wanted one, and stands under the word of its members
 pub record IsKept (ps : List Point) (k word : ℕ) (tree : Tree) : Type 0 where

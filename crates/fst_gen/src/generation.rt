@@ -5,7 +5,8 @@ ghost use Rattle.std.specs.Ordering.{nat_cmp};
 ghost use Rattle.std.specs.BTreeMap.{IsOrdered, btree_map_len};
 ghost use Rattle.fst_gen.specs.declared.fault.GenFault.TheVariants.{TooManyTrees};
 ghost use Rattle.fst_gen.specs.Trees.{AreTreesOf, HasMoreSets};
-ghost use Rattle.fst_gen.specs.Joins.{JoinsAll, PairsJoinAll};
+ghost use Rattle.full_tree.specs.Pairs.{PairsJoinAll};
+ghost use Rattle.fst_gen.specs.Joins.{JoinsAll};
 ghost use Rattle.fst_gen.specs.Store.{IsStore, CoversAll, Generates};
 
 use crate::crosses::cross_all;

@@ -12,9 +12,7 @@ mod listing;
 mod prefix;
 mod store;
 mod tries;
-mod word;
 
 pub use fault::GenFault;
 pub use generation::generate;
 pub use laws::{failing_prefix_never_passes, pairs_join_all, trees_are_one_list};
-

@@ -9,8 +9,7 @@ ghost use Rattle.full_tree.specs.Code.{members_of, HasFewMembers};
 ghost use Rattle.fst_gen.specs.Kept.{AllHaveFewMembers, IsBetter, IsWorse, PutsLeast};
 
 use crate::fault::GenFault;
-use crate::word::word_of;
-use full_tree::{Tree, tree_order};
+use full_tree::{Tree, members, tree_order, word_of};
 use std::alloc::{AllocError, Global};
 use std::collections::BTreeMap;
 
@@ -30,7 +29,8 @@ pub fn keep(alloc: Global, trees: &mut BTreeMap<u64, Tree>, tree: Tree) -> Resul
         → PutsLeast tree trees.old trees.new × (20000 < btree_map_len trees.new)
         × IsOrdered nat_cmp trees.new) }
 {
-    let word = word_of(alloc, &tree.code);
+    let members = members(alloc, &tree.code);
+    let word = word_of(members.as_slice());
     if !is_better(trees, word, &tree) {
         return Ok(());
     }

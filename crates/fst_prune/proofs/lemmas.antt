@@ -1,4 +1,3 @@
-pub mod Words
 pub mod Told
 pub mod Places
 pub mod Firsts
@@ -7,4 +6,5 @@ pub mod Sums
 pub mod Replaced
 pub mod Flags
 pub mod Sublists
+pub mod KeptPairs
 pub mod Totals

@@ -1,16 +1,11 @@
 -- The first trees of a list that have their members, found by the members as one word.
 use Rattle.std.specs.Prelude.{ℕ, ◌≡◌, ◌<◌, List, Option, Some, Contains, slice_get, All}
-use Rattle.std.specs.Int.{bit_at}
 use Rattle.std.specs.Ordering.{nat_cmp}
 use Rattle.std.specs.BTreeMap.{BTreeMap, get}
 use Rattle.full_tree.specs.declared.code.Tree.{Tree}
 use Rattle.full_tree.specs.Code.{members_of, HasFewMembers}
+use Rattle.full_tree.specs.Word.{IsWordOf}
 use Rattle.fst_prune.specs.Kept.{IsRepeat}
-
--- bit k of the word is 1 exactly where the set has the place k
-pub record IsWordOf (word : ℕ) (places : List ℕ) : Type 0 where
-  pub has : (k : ℕ) → Contains places k → bit_at word k ≡ 1
-  pub only : (k : ℕ) → bit_at word k ≡ 1 → Contains places k
 
 -- the tree at place k has the members of the word and is no repeat
 pub record IsFirst (trees : List Tree) (word k : ℕ) : Type 0 where

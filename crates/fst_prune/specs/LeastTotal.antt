@@ -2,6 +2,7 @@
 use Rattle.std.specs.Prelude.{ℕ, ◌≡◌, ◌≤◌, ◌↔◌, Bool, List}
 use Rattle.full_tree.specs.declared.code.Tree.{Tree}
 use Rattle.full_tree.specs.Order.{IsInFileOrder}
+use Rattle.full_tree.specs.Pairs.{PairsJoinAll}
 use Rattle.concatenation.specs.Concatenation.{IsConcatenation, IsLeastTotal, total_of}
 use Rattle.fst_prune.specs.Kept.{AreKeptTrees}
 
@@ -24,6 +25,10 @@ IsMatched trees others = (n : ℕ) (set : List Bool) → IsConcatenation n trees
 -- what no concatenation of the one list is below, none of the other is
 abbrev pub HaveOneLeastTotal : List Tree → List Tree → Type 0
 HaveOneLeastTotal trees others = (n total : ℕ) → IsLeastTotal n trees total ↔ IsLeastTotal n others total
+
+-- whatever number of terminals the pairs of the first list join, those of the second join
+abbrev pub PairsStillJoin : List Tree → List Tree → Type 0
+PairsStillJoin trees others = (n : ℕ) → PairsJoinAll n trees → PairsJoinAll n others
 
 -- The kept trees of a list have a concatenation no worse than each one of the list, since what is dropped is replaced by
 -- kept trees that join its members at no greater length; and the list has all those of its kept trees.

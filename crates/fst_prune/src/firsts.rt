@@ -5,8 +5,7 @@ ghost use Rattle.std.specs.Ordering.{nat_cmp};
 ghost use Rattle.std.specs.BTreeMap.{Updates};
 ghost use Rattle.fst_prune.specs.Firsts.{AreFirsts, StandsUnder, IsSmall};
 
-use crate::word::word_of;
-use full_tree::{TreeList, members};
+use full_tree::{TreeList, members, word_of};
 use std::alloc::{AllocError, Global};
 use std::collections::BTreeMap;
 

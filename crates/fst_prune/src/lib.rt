@@ -7,7 +7,6 @@ mod laws;
 mod pair_array;
 mod pruning;
 mod within;
-mod word;
 
 pub use laws::pruning_keeps_least_total;
 pub use pruning::prune;

@@ -5,7 +5,7 @@ ghost use Rattle.std.specs.Bool.{MatchBool};
 ghost use Rattle.full_tree.specs.Order.{IsInFileOrder};
 ghost use Rattle.fst_prune.specs.Kept.{IsRepeat, IsReplaced, IsDropped, AreKeptTrees};
 ghost use Rattle.fst_prune.specs.Firsts.{AreFirsts, HasMembers, IsSmall};
-ghost use Rattle.fst_prune.specs.LeastTotal.{IsNoWorse, IsMatched, HaveOneLeastTotal};
+ghost use Rattle.fst_prune.specs.LeastTotal.{IsNoWorse, IsMatched, HaveOneLeastTotal, PairsStillJoin};
 
 use crate::copying::copy;
 use crate::firsts::{first_of, firsts};
@@ -28,6 +28,7 @@ pub fn prune(alloc: Global, trees: &TreeList) -> Result<TreeList, AllocError>
     ensures no_worse { IfOk result (IsNoWorse trees.now) }
     ensures matched { IfOk result (λ kept. IsMatched kept trees.now) }
     ensures least { IfOk result (HaveOneLeastTotal trees.now) }
+    ensures pairs_join { IfOk result (PairsStillJoin trees.now) }
 {
     let firsts = firsts(alloc, trees)?;
     let mut kept = TreeList::empty(alloc);

@@ -9,3 +9,4 @@ pub mod Embeds
 pub mod Passing
 pub mod Spine
 pub mod Clear
+pub mod Words

@@ -12,3 +12,6 @@ pub mod StationsLaws
 pub mod LongLaws
 pub mod Passing
 pub mod LengthBound
+pub mod Word
+pub mod WordLaws
+pub mod Pairs

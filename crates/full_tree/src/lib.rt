@@ -17,6 +17,7 @@ mod spine;
 mod station;
 mod straight;
 mod way;
+mod word;
 
 pub use code::{Tree, TreeCode, TreeList};
 pub use embedding::embed;
@@ -33,4 +34,4 @@ pub use spine::gap;
 pub use station::{Station, Stations};
 pub use straight::Piece;
 pub use way::Way;
-
+pub use word::word_of;

@@ -19,30 +19,8 @@ use Rattle.full_tree.specs.Code.{members_of}
 use Rattle.full_tree.specs.Order.{tree_cmp}
 use Rattle.full_tree.specs.OrderLaws.{tree_cmp_total}
 use Rattle.fst_gen.specs.Trees.{IsNotAfter}
-use Rattle.fst_gen.specs.Word.{IsWordOf}
+use Rattle.full_tree.specs.Word.{IsWordOf}
 use Rattle.fst_gen.specs.Kept.{IsBetter, IsWorse, PutsLeast}
-
--- one place more
-pub IsWordOf-more : (word : ℕ) (xs : List ℕ) (i : ℕ) → i < length xs → get_or xs i 0 < 64 → IsWordOf word (take i xs)
-    → IsWordOf (bit_or word (1 * 2 ^ get_or xs i 0 % 18446744073709551616)) (take (i + 1) xs)
-IsWordOf-more word xs i inside small is =
-    let x = get_or xs i 0 in
-    let new = bit_or word (1 * 2 ^ x % 18446744073709551616) in
-    let here : bit_at new x ≡ 1 = bit_at_set_same w64 word x small in
-    let other : (q : ℕ) → q ≢ x → bit_at new q ≡ bit_at word q = λ q apart. bit_at_set_other w64 word x small q apart in
-    subst (λ zs. IsWordOf new zs) (sym (take_more xs i 0 inside)) record {
-      has = λ q member. ⊎_elim
-          (λ (same : q ≡ x). subst (λ r. bit_at new r ≡ 1) (sym same) here)
-          (λ (apart : q ≡ x → ⊥). other q apart ∙ ⊎_elim
-          (λ (old : Contains (take i xs) q). is.has q old)
-          (λ (same : x ≡ q). absurd (apart (sym same)))
-          (Contains-push_cases (take i xs) x q member))
-          (cases_eq q x);
-      only = λ q one. ⊎_elim
-          (λ (same : q ≡ x). subst (λ r. Contains (take i xs ++ x ∷ []) r) (sym same) (Contains-push (take i xs) x))
-          (λ (apart : q ≡ x → ⊥). Contains-append_left (take i xs) (x ∷ []) q (is.only q (sym (other q apart) ∙ one)))
-          (cases_eq q x);
-    }
 
 some_same : (x y : Tree) → Some x ≡ Some y → x ≡ y
 some_same x y e = cc

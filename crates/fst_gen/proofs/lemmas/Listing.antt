@@ -23,12 +23,14 @@ use Rattle.full_tree.specs.Code.{members_of, HasFewMembers}
 use Rattle.full_tree.specs.Order.{tree_cmp, IsInFileOrder}
 use Rattle.full_tree.specs.OrderLaws.{tree_cmp_total, same_tree, in_file_order_by_neighbours}
 use Rattle.fst_gen.specs.Trees.{IsNotAfter, IsWanted, tree_of, IsTreeOf, HasTreeOf, AreTreesOf, HasMoreSets}
-use Rattle.fst_gen.specs.Joins.{JoinsAll, PairsJoinAll}
+use Rattle.full_tree.specs.Pairs.{PairsJoinAll}
+use Rattle.fst_gen.specs.Joins.{JoinsAll}
 use Rattle.fst_gen.specs.PairLaws.{trees-join}
 use Rattle.fst_gen.specs.ListLaws.{more_trees}
-use Rattle.fst_gen.specs.Word.{IsWordOf}
+use Rattle.full_tree.specs.Word.{IsWordOf}
 use Rattle.fst_gen.specs.Store.{IsStore, CoversAll}
-use Rattle.fst_gen.proofs.lemmas.Tries.{same_word, same_set}
+use Rattle.full_tree.specs.WordLaws.{same_word}
+use Rattle.fst_gen.proofs.lemmas.Tries.{same_set}
 
 some_same : (x y : Tree) → Some x ≡ Some y → x ≡ y
 some_same x y e = cc

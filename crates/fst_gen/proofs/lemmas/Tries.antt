@@ -22,28 +22,15 @@ use Rattle.full_tree.specs.Pieces.{code_length}
 use Rattle.fst_gen.specs.declared.fault.GenFault.{GenFault}
 use Rattle.fst_gen.specs.declared.fault.GenFault.TheVariants.{TooManyTrees, Memory}
 use Rattle.fst_gen.specs.Trees.{IsWanted, IsNotAfter, tree_of, HasMoreSets}
-use Rattle.fst_gen.specs.Word.{IsWordOf}
+use Rattle.full_tree.specs.Word.{IsWordOf}
+use Rattle.full_tree.specs.WordLaws.{same_word, same_places}
 use Rattle.fst_gen.specs.Kept.{PutsLeast}
 use Rattle.fst_gen.specs.Store.{IsKept, IsStore, Covers, Generates}
 
--- a set has one word
-pub same_word : (v w : ℕ) (places : List ℕ) → IsWordOf v places → IsWordOf w places → v ≡ w
-same_word v w places a b = same_from_bits v w (λ i.
-    let low = bit_at-lt v i in
-    let low' = bit_at-lt w i in
-    ⊎_elim
-    (λ (one : bit_at v i ≡ 1). one ∙ sym (b.has i (a.only i one)))
-    (λ (none : bit_at v i ≡ 1 → ⊥). ⊎_elim
-    (λ (one : bit_at w i ≡ 1). absurd (none (a.has i (b.only i one))))
-    (λ (none' : bit_at w i ≡ 1 → ⊥). omega (arith, low, low', none, none'))
-    (cases_eq (bit_at w i) 1))
-    (cases_eq (bit_at v i) 1))
-
 -- a word is of one set of members
 pub same_set : (word : ℕ) (a b : TreeCode) → IsWordOf word (members_of a) → IsWordOf word (members_of b) → members_of a ≡ members_of b
-same_set word a b x y = same_from_members (members_of a) (members_of b)
+same_set word a b = same_places word (members_of a) (members_of b)
     (Climbs-ascending_places (named_places a)) (Climbs-ascending_places (named_places b))
-    (λ r member. y.only r (x.has r member)) (λ r member. x.only r (y.has r member))
 
 some_same : (x y : Tree) → Some x ≡ Some y → x ≡ y
 some_same x y e = cc

@@ -10,8 +10,9 @@ use Rattle.full_tree.specs.declared.code.Tree.{Tree}
 use Rattle.full_tree.specs.Code.{members_of, named_places}
 use Rattle.full_tree.specs.MembersLaws.{Climbs, Climbs-ascending_places}
 use Rattle.fst_prune.specs.Kept.{IsRepeat}
-use Rattle.fst_prune.specs.Firsts.{IsWordOf, IsFirst, AreFirsts, StandsUnder}
-use Rattle.fst_prune.proofs.lemmas.Words.{same_word, same_places}
+use Rattle.full_tree.specs.Word.{IsWordOf}
+use Rattle.full_tree.specs.WordLaws.{same_word, same_places}
+use Rattle.fst_prune.specs.Firsts.{IsFirst, AreFirsts, StandsUnder}
 
 -- members ascend
 pub members_climb : (tree : Tree) → Climbs (members_of tree.code)

@@ -25,7 +25,7 @@ abbrev pub IsWithin : List Bool → List Bool → Type 0
 IsWithin set flags = (k : ℕ) → slice_get set k ≡ Some true → slice_get flags k ≡ Some true
 
 -- a tree of one list is one of the other, each with its flag
-abbrev Has : List Tree → List Bool → Tree → Type 0
+abbrev pub Has : List Tree → List Bool → Tree → Type 0
 Has trees set tree = (k : ℕ) × (slice_get set k ≡ Some true) × (slice_get trees k ≡ Some tree)
 
 -- ---- to the sublist
@@ -51,7 +51,7 @@ total_of-restrict (tree ∷ trees) (false ∷ flags) (true ∷ set) same same' w
 total_of-restrict (tree ∷ trees) (false ∷ flags) (false ∷ set) same same' within =
     omega (arith, total_of-restrict trees flags set (omega (arith, same)) (omega (arith, same')) (λ k at. within (suc k) at))
 
-has-restrict : (trees : List Tree) (flags set : List Bool) (k : ℕ) (tree : Tree) → slice_get flags k ≡ Some true
+pub has-restrict : (trees : List Tree) (flags set : List Bool) (k : ℕ) (tree : Tree) → slice_get flags k ≡ Some true
     → slice_get set k ≡ Some true → slice_get trees k ≡ Some tree → Has (trees_of trees flags) (restrict flags set) tree
 has-restrict [] flags set k tree kept inside at = absurd cc
 has-restrict (t ∷ trees) [] set k tree kept inside at = absurd cc

@@ -20,15 +20,7 @@ use Rattle.fst_prune.specs.LeastTotal.{HasConcatenation, IsNoWorse, IsMatched, H
 use Rattle.fst_prune.proofs.lemmas.Sums.{weights_of, sum_of_trees, single, length-single, single_has, single_only, sum_of-single, Part, Holds, ComesFrom, Gathered, gather}
 use Rattle.fst_prune.proofs.lemmas.Sublists.{restrict, expand, IsWithin, total_of-restrict, total_of-expand, IsConcatenation-restrict, IsConcatenation-expand}
 use Rattle.fst_prune.proofs.lemmas.Replaced.{weight_at}
-
--- a flag is true or false
-flag_cases : (flags : List Bool) (k : ℕ) → k < length flags → (slice_get flags k ≡ Some true) ⊎ (slice_get flags k ≡ Some false)
-flag_cases flags k inside =
-    let at = slice_get-get_or flags k false inside in
-    ⊎_elim
-    (λ (test : get_or flags k false ≡ true). inl (at ∙ ap Some test))
-    (λ (test : get_or flags k false ≡ false). inr (at ∙ ap Some test))
-    (cases_Bool (get_or flags k false))
+use Rattle.fst_prune.proofs.lemmas.KeptPairs.{flag_cases}
 
 -- an earlier tree in file order is no longer
 then_less : (o p : Ordering) → ordering_then o p ≡ Less → (o ≡ Less) ⊎ (o ≡ Equal)

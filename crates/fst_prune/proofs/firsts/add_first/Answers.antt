@@ -4,7 +4,7 @@ use Rattle.std.specs.BTreeMap.{get, Updates}
 use Rattle.std.specs.Option.{option_copied}
 use Rattle.std.specs.Prelude.{Some}
 use Rattle.std.proofs.lemmas.Result.{on_ok_weaker}
-use Rattle.fst_prune.specs.Firsts.{IsWordOf}
+use Rattle.full_tree.specs.Word.{IsWordOf}
 use Rattle.full_tree.specs.Code.{members_of}
 use Rattle.std.proofs.Common.{List, ℕ, subst}
 use Rattle.fst_prune.proofs.lemmas.Firsts.{firsts_passed, firsts_added}

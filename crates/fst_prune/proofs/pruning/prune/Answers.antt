@@ -9,6 +9,7 @@ use Rattle.full_tree.specs.declared.code.Tree.{Tree}
 use Rattle.fst_prune.specs.Kept.{IsDropped, AreKeptTrees}
 use Rattle.fst_prune.specs.LeastTotal.{KeepsTotals}
 use Rattle.fst_prune.proofs.lemmas.Totals.{pruning_keeps_totals}
+use Rattle.fst_prune.proofs.lemmas.KeptPairs.{pairs_still_join}
 use Rattle.fst_prune.proofs.lemmas.Flags.{AreKeptOf, kept_of_none, kept_of_kept, kept_of_dropped, kept_of_all, length-trees_of, All-trees_of, AllPairs-trees_of}
 use Rattle.fst_prune.proofs.pruning.prune.Goals.{then-not-branch+in_ok-push, else-not-branch}
 use Rattle.fst_prune.proofs.pruning.prune.Goals as goal
@@ -47,4 +48,5 @@ returns c =
       no_worse = totals.no_worse;
       matched = totals.matched;
       least = totals.least;
+      pairs_join = pairs_still_join trees list kept;
     }

@@ -1,6 +1,6 @@
 use Rattle.std.proofs.Common.{take}
-use Rattle.fst_prune.specs.Firsts.{IsWordOf}
-use Rattle.fst_prune.proofs.word.word_of.Given as goal
+use Rattle.full_tree.specs.Word.{IsWordOf}
+use Rattle.full_tree.proofs.word.word_of.Given as goal
 
 abbrev pub invariant-loop-place : goal.invariant-loop-place
 invariant-loop-place l = IsWordOf l.word (take l.place-index l.places)

@@ -1,6 +1,6 @@
 use Rattle.std.proofs.Common.{arith}
-use Rattle.fst_prune.proofs.lemmas.Words.{IsWordOf-more}
-use Rattle.fst_prune.proofs.word.word_of.Goals as goal
+use Rattle.full_tree.proofs.lemmas.Words.{IsWordOf-more}
+use Rattle.full_tree.proofs.word.word_of.Goals as goal
 
 pub loop-place-preserved : goal.loop-place-preserved
 loop-place-preserved c =
