@@ -1,15 +1,16 @@
 -- The beginnings of long codes: a root, a direction and the first drops.
-use Rattle.std.specs.Prelude.{ℕ, ◌≡◌, ◌+◌, ◌<◌, ◌≤◌, pos, List, [], ◌∷◌, ◌++◌, length, map, All, Option, Some}
+use Rattle.std.specs.Prelude.{ℕ, ◌≡◌, ◌≢◌, ◌+◌, ◌<◌, ◌≤◌, pos, List, [], ◌∷◌, ◌++◌, length, map, All, AllPairs, Option, Some}
 use Rattle.points_in.specs.declared.point.Point.{Point}
 use Rattle.hanan_grid.specs.Distance.{distance_between}
+use Rattle.full_tree.specs.declared.straight.Piece.{Piece}
 use Rattle.full_tree.specs.declared.way.Way.{Way}
 use Rattle.full_tree.specs.declared.code.TreeCode.{TreeCode}
 use Rattle.full_tree.specs.declared.code.TreeCode.TheVariants.{Long}
-use Rattle.full_tree.specs.Geometry.{point_at, RisesFrom}
-use Rattle.full_tree.specs.Form.{along_of, LieInTurn}
-use Rattle.full_tree.specs.Pieces.{foot}
+use Rattle.full_tree.specs.Geometry.{point_at, RisesFrom, Alternates}
+use Rattle.full_tree.specs.Form.{along_of, across_of, LieInTurn}
+use Rattle.full_tree.specs.Pieces.{foot, line_over, drop_pieces}
 use Rattle.full_tree.specs.Stations.{first_stations, last_foot}
-use Rattle.full_tree.specs.Passing.{Passes, KeepsUpTo, IsWithinBottleneck}
+use Rattle.full_tree.specs.Passing.{Passes, IsClear, KeepsUpTo, KeepsBottlenecks, IsWithinBottleneck}
 use Rattle.fst_gen.specs.declared.prefix.Prefix.{Prefix}
 
 -- the last drop, or the root where there is none
@@ -50,6 +51,25 @@ module _ (root : ℕ) (toward : Way) (drops : List ℕ) where
 abbrev pub ContinuesBelow : ℕ → Way → List ℕ → ℕ → TreeCode → Type 0
 ContinuesBelow root toward drops n code = (d : ℕ) × (d < n) × HasPrefix root toward (drops ++ d ∷ []) code
 
+-- the pieces of a beginning: from the root over the feet of the drops to the last one, and each drop from its foot
+abbrev pub first_pieces : List Point → ℕ → Way → List ℕ → List Piece
+first_pieces ps root toward drops =
+    line_over (point_at ps root) (map (foot ps root toward) drops) ++ drop_pieces ps root toward drops
+
+-- What is asked of a code, as far as it speaks of the root, the direction and the first drops alone: with a tip there
+-- are at most 8 members, each is a terminal and stands once; the feet lie ahead of the root, in order, and the drops
+-- beside the long leg, on its two sides in turn; each terminal that lies on a piece of the beginning is the root or one
+-- of the drops, and one of that piece's two ends; and each two of these keep their bottleneck.
+pub record MayBegin (ps : List Point) (root : ℕ) (toward : Way) (drops : List ℕ) : Type 0 where
+  pub few : length drops + 2 ≤ 8
+  pub distinct : AllPairs (λ p q. p ≢ q) (root ∷ drops)
+  pub terminals : All (λ k. k < length ps) (root ∷ drops)
+  pub forward : RisesFrom (pos 0) (map (along_of ps root toward) drops)
+  pub off : All (λ d. across_of ps root toward d ≢ pos 0) drops
+  pub in_turn : Alternates (map (across_of ps root toward) drops)
+  pub clear : All (IsClear ps (root ∷ drops)) (first_pieces ps root toward drops)
+  pub bottlenecks : KeepsBottlenecks ps (first_stations ps root toward drops)
+
 -- What a further drop must meet, by the root and the drops so far alone: it lies ahead of them, and
 -- across from the last drop or on the long leg itself; and it and each earlier member keep their bottleneck.
 pub record MayFollow (ps : List Point) (root : ℕ) (toward : Way) (drops : List ℕ) (d : ℕ) : Type 0 where
@@ -66,6 +86,11 @@ pub record MayEndAt (ps : List Point) (root : ℕ) (toward : Way) (drops : List 
 -- no code of this kind passes
 abbrev pub NonePasses : List Point → (TreeCode → Type 0) → Type 0
 NonePasses ps Kind = (code : TreeCode) → Kind code → Passes ps code → ⊥
+
+-- no code passes whose beginning fails in any of that
+abbrev pub FailingBeginningNeverPasses : Type 0
+FailingBeginningNeverPasses = (ps : List Point) (root : ℕ) (toward : Way) (drops : List ℕ)
+    → ¬ MayBegin ps root toward drops → NonePasses ps (HasPrefix root toward drops)
 
 -- no code passes that begins with drops behind which the last one may not follow
 abbrev pub FailingDropNeverPasses : Type 0

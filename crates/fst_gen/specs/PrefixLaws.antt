@@ -23,7 +23,7 @@ use Rattle.fst_gen.specs.Prefix.{last_member, MayFollow, HasPrefix, FailingDropN
 
 -- ---- the form
 
-rises_first : (f : ℕ → ℤ) (z : ℤ) (xs ys : List ℕ) → RisesFrom z (map f (xs ++ ys)) → RisesFrom z (map f xs)
+pub rises_first : (f : ℕ → ℤ) (z : ℤ) (xs ys : List ℕ) → RisesFrom z (map f (xs ++ ys)) → RisesFrom z (map f xs)
 rises_first f z [] ys rises = tt
 rises_first f z (x ∷ xs) ys rises = (rises.0, rises_first f (f x) xs ys rises.1)
 
@@ -31,7 +31,7 @@ alternates_first : (f : ℕ → ℤ) (c : ℤ) (xs ys : List ℕ) → Alternates
 alternates_first f c [] ys turns = tt
 alternates_first f c (x ∷ xs) ys turns = (turns.0, alternates_first f (f x) xs ys turns.1)
 
-in_turn_first : (f : ℕ → ℤ) (xs ys : List ℕ) → Alternates (map f (xs ++ ys)) → Alternates (map f xs)
+pub in_turn_first : (f : ℕ → ℤ) (xs ys : List ℕ) → Alternates (map f (xs ++ ys)) → Alternates (map f xs)
 in_turn_first f [] ys turns = tt
 in_turn_first f (x ∷ xs) ys turns = alternates_first f (f x) xs ys turns
 
@@ -62,7 +62,7 @@ module _ (ps : List Point) (root : ℕ) (toward : Way) where
       (distance_between (foot ps root toward x) (point_at ps x)) ∷ rest) (drop_stations-append (foot ps root toward x) xs ys)
 
   -- a code's stations begin with those of its beginning
-  stations_begin : (xs ys : List ℕ) (side : Option ℕ) (tip : ℕ)
+  pub stations_begin : (xs ys : List ℕ) (side : Option ℕ) (tip : ℕ)
       → (rest : List Station) × (stations_of ps (Long root toward (xs ++ ys) side tip) ≡ first_stations ps root toward xs ++ rest)
   stations_begin xs ys side tip =
       let start = point_at ps root in
@@ -84,7 +84,7 @@ module _ (ps : List Point) (root : ℕ) (toward : Way) where
       (distance_between (foot ps root toward d) (point_at ps d))) (foot ps root toward d) ds
 
 -- stations at the beginning keep their bottlenecks by themselves
-keeps_first : (ps : List Point) (xs ys : List Station) → KeepsBottlenecks ps (xs ++ ys) → KeepsBottlenecks ps xs
+pub keeps_first : (ps : List Point) (xs ys : List Station) → KeepsBottlenecks ps (xs ++ ys) → KeepsBottlenecks ps xs
 keeps_first ps xs ys keeps b inside a before =
     let none = station 0 0 0 in
     let same : (c : ℕ) → c < length xs → station_at (xs ++ ys) c ≡ station_at xs c = λ c in'. get_or_append_left xs ys none c in' in

@@ -1,5 +1,6 @@
 use Rattle.fst_gen.specs.PrefixLaws.{failing_drop, far_tip}
+use Rattle.fst_gen.proofs.lemmas.Beginning.{failing_beginning}
 use Rattle.fst_gen.proofs.laws.failing_prefix_never_passes.Goals as goal
 
 pub returns : goal.returns
-returns c = record { drop = failing_drop; tip = far_tip }
+returns c = record { beginning = failing_beginning; drop = failing_drop; tip = far_tip }
