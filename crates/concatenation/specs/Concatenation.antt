@@ -1,6 +1,7 @@
 -- Concatenations of full trees. A set of the trees of a list is the list of its flags: one for each tree, true where
 -- the tree is in it. Terminals are the numbers below n.
-use Rattle.std.specs.Prelude.{ℕ, ◌≡◌, ◌+◌, ◌<◌, ◌≤◌, Bool, true, List, [], ◌∷◌, length, replicate, slice_get, Some, Contains, if◌then◌else◌}
+use Rattle.std.specs.Prelude.{ℕ, ◌≡◌, ◌+◌, ◌<◌, ◌≤◌, Bool, true, List, [], ◌∷◌, length, replicate, slice_get, Some}
+use Rattle.std.specs.Prelude.{Contains, if◌then◌else◌}
 use Rattle.net_graph.specs.Search.{Leads}
 use Rattle.full_tree.specs.declared.code.Tree.{Tree}
 use Rattle.full_tree.specs.Code.{members_of}

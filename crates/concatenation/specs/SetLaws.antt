@@ -14,7 +14,8 @@ MoreTreesJoin = (n : ℕ) (trees : List Tree) (few more : List Bool)
 
 -- where some set of the list's trees is a concatenation, the set of all of them is
 abbrev pub AllJoin : Type 0
-AllJoin = (n : ℕ) (trees : List Tree) (set : List Bool) → IsConcatenation n trees set → IsConcatenation n trees (all_of trees)
+AllJoin = (n : ℕ) (trees : List Tree) (set : List Bool)
+    → IsConcatenation n trees set → IsConcatenation n trees (all_of trees)
 
 -- a set within another has at most its total
 abbrev pub TotalsRise : Type 0

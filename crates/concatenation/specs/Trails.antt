@@ -57,8 +57,8 @@ pub record IsOpenEnd (n : ℕ) (trees : List Tree) (total : ℕ) (choices : List
 abbrev pub IsNoBetter : ℕ → List Tree → ℕ → List Choice → Type 0
 IsNoBetter n trees total choices = AreTakenJoining n trees choices → total ≤ total_of trees (taken_of choices)
 
--- The trail of a search that stopped: each split is on a tree that no split above it names, and stands where a search can
--- go on; no end is better than the total; and some end is open.
+-- The trail of a search that stopped: each split is on a tree that no split above it names, and stands where a search
+-- can go on; no end is better than the total; and some end is open.
 pub record IsSpentTrail (n : ℕ) (trees : List Tree) (total : ℕ) (trail : Trail) : Type 0 where
   pub places : AllSplits IsOpenPlace (no_choices trees) trail
   pub splits : AllSplits (λ choices place. CanGoOn n trees choices) (no_choices trees) trail

@@ -8,6 +8,7 @@ use Rattle.spanning.specs.declared.pair.Pair.{Pair}
 abbrev pub pair_of : Tree → Pair
 pair_of tree = record {
   a = slice_index (members_of tree.code) 0;
-  b = (if length (members_of tree.code) == 2 then slice_index (members_of tree.code) 1 else slice_index (members_of tree.code) 0);
+  b = (if length (members_of tree.code) == 2 then slice_index (members_of tree.code) 1
+      else slice_index (members_of tree.code) 0);
   length = tree.length;
 }

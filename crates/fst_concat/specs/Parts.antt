@@ -1,5 +1,6 @@
 -- Labels of terminals as the parts that trees join them to.
-use Rattle.std.specs.Prelude.{ℕ, ◌≡◌, ◌<◌, ◌==◌, Bool, true, List, [], ◌∷◌, length, map, slice_get, slice_index, Some, if◌then◌else◌}
+use Rattle.std.specs.Prelude.{ℕ, ◌≡◌, ◌<◌, ◌==◌, Bool, true, List, [], ◌∷◌, length, map, slice_get, slice_index, Some}
+use Rattle.std.specs.Prelude.{if◌then◌else◌}
 use Rattle.net_graph.specs.Search.{Leads}
 use Rattle.full_tree.specs.declared.code.Tree.{Tree}
 use Rattle.concatenation.specs.Concatenation.{IsMember, SharesTree}

@@ -27,7 +27,8 @@ trails_in (None ∷ list) = End ∷ trails_in list
 trails_in (Some place ∷ list) = split_over place (trails_in list)
 
 -- the list gives the trail back
-pub trails_in-onto : (trail : Trail) (list : List (Option ℕ)) → trails_in (trail_onto trail list) ≡ trail ∷ trails_in list
+pub trails_in-onto : (trail : Trail) (list : List (Option ℕ))
+    → trails_in (trail_onto trail list) ≡ trail ∷ trails_in list
 trails_in-onto End list = refl
 trails_in-onto (Split place without with_it) list =
     ap (split_over place)

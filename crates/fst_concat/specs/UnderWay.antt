@@ -1,10 +1,12 @@
--- A search that is under way: the steps so far, and the choices that are still to be judged, that of the next step first.
+-- A search that is under way: the steps so far, and the choices that are still to be judged, that of the next step
+-- first.
 use Rattle.std.specs.Prelude.{ℕ, ◌≡◌, ◌+◌, ◌-◌, ◌*◌, ◌^◌, ◌<◌, ◌≤◌, ◌⊎◌, List, [], ◌∷◌, All, length, min}
 use Rattle.full_tree.specs.declared.code.Tree.{Tree}
 use Rattle.concatenation.specs.declared.choice.Choice.{Choice}
 use Rattle.concatenation.specs.Concatenation.{total_of}
 use Rattle.concatenation.specs.Choices.{taken_of, IsLeastUnder}
-use Rattle.concatenation.specs.Trails.{Trail, splits_of, no_choices, AllEnds, AllSplits, SomeEnd, IsOpenPlace, CanGoOn, IsNoBetter}
+use Rattle.concatenation.specs.Trails.{Trail, splits_of, no_choices, AllEnds, AllSplits, SomeEnd, IsOpenPlace, CanGoOn}
+use Rattle.concatenation.specs.Trails.{IsNoBetter}
 use Rattle.fst_concat.specs.declared.trail.Step.{Step}
 use Rattle.fst_concat.specs.declared.search.Way.{Way}
 use Rattle.fst_concat.specs.Steps.{unwind}
@@ -70,7 +72,8 @@ CompletesAll n trees total low used steps pending = (trails : List Trail) → le
     → Completes n trees total low used steps pending trails
 
 -- a search with this best total is under way, and these choices are still to be judged, the first of them next
-pub record IsUnderWay (n : ℕ) (trees : List Tree) (allowed total : ℕ) (way : Way) (pending : List (List Choice)) : Type 0 where
+pub record IsUnderWay (n : ℕ) (trees : List Tree) (allowed total : ℕ) (way : Way) (pending : List (List Choice))
+    : Type 0 where
   pub completes : CompletesAll n trees total way.low way.used way.steps.items pending
   pub sizes : All (λ choices. length choices ≡ length trees) pending
   pub within : way.used ≤ allowed

@@ -104,8 +104,8 @@ fn weigh(
     }
 }
 
-// Offers the taken trees with those that are proposed, where they join all terminals, unless the levels alone may settle it.
-// An `Err` is want of memory.
+// Offers the taken trees with those that are proposed, where they join all terminals, unless the levels alone may
+// settle it. An `Err` is want of memory.
 fn offer(
     alloc: Global,
     points: u8,

@@ -23,4 +23,3 @@ pub use chosen::{Chosen, ChosenKind};
 pub use fault::ConcatFault;
 pub use laws::trees_in_form_have_members;
 pub use trail::Trail;
-

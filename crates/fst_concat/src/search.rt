@@ -1,6 +1,7 @@
 //! The search, depth first: a split opens the part with its tree before the part without it.
 
-ghost use Rattle.std.specs.Prelude.{ℕ, ◌≡◌, ◌<◌, ◌≤◌, ◌+◌, ◌^◌, min, length, IfOk, OnOk, slice_set, reverse, ◌∷◌, ◌++◌, []};
+ghost use Rattle.std.specs.Prelude.{ℕ, ◌≡◌, ◌<◌, ◌≤◌, ◌+◌, ◌^◌, min, length, IfOk, OnOk, slice_set, reverse, ◌∷◌, ◌++◌};
+ghost use Rattle.std.specs.Prelude.{[]};
 ghost use Rattle.fst_concat.specs.Chosen.{IsChosen, KindHolds};
 ghost use Rattle.fst_concat.specs.Listed.{IsListed};
 ghost use Rattle.fst_concat.specs.UnderWay.{IsUnderWay, steps_left};
@@ -96,7 +97,8 @@ impl Way {
         requires room { self.old.used < 4294967295 }
         ensures steps { OnOk result (self.new.steps.items ≡ self.old.steps.items ++ Step.Fork place ∷ []) }
         ensures pending { OnOk result (self.new.pending.items
-            ≡ self.old.pending.items ++ slice_set choices place Choice.LeftOut ∷ slice_set choices place Choice.Taken ∷ []) }
+            ≡ self.old.pending.items ++ slice_set choices place Choice.LeftOut
+            ∷ slice_set choices place Choice.Taken ∷ []) }
         ensures used { OnOk result (self.new.used ≡ self.old.used + 1) }
         ensures low { OnOk result (self.new.low ≡ self.old.low) }
     {

@@ -3,3 +3,7 @@ pub mod Tries
 pub mod Steps
 pub mod Listing
 pub mod Beginning
+pub mod Pairs
+pub mod Lists
+pub mod Stores
+pub mod Prefixes

@@ -1,10 +1,6 @@
 pub mod Trees
 pub mod Joins
-pub mod PairLaws
-pub mod ListLaws
 pub mod Kept
 pub mod Store
-pub mod StoreLaws
 pub mod Prefix
-pub mod PrefixLaws
 pub mod Kinds

@@ -1,5 +1,6 @@
 -- The beginnings of long codes: a root, a direction and the first drops.
-use Rattle.std.specs.Prelude.{ℕ, ◌≡◌, ◌≢◌, ◌+◌, ◌<◌, ◌≤◌, pos, List, [], ◌∷◌, ◌++◌, length, map, All, AllPairs, Option, Some}
+use Rattle.std.specs.Prelude.{ℕ, ◌≡◌, ◌≢◌, ◌+◌, ◌<◌, ◌≤◌, pos, List, [], ◌∷◌, ◌++◌, length, map, All, AllPairs, Option}
+use Rattle.std.specs.Prelude.{Some}
 use Rattle.points_in.specs.declared.point.Point.{Point}
 use Rattle.hanan_grid.specs.Distance.{distance_between}
 use Rattle.full_tree.specs.declared.straight.Piece.{Piece}

@@ -43,7 +43,8 @@ IsCause ps k TooManyTrees = HasMoreSets ps k 20000
 IsCause ps k (Memory e) = Unit {0}
 
 -- a step of the generation stores the codes of a kind, or ends it
-abbrev pub Generates : List Point → ℕ → (TreeCode → Type 0) → BTreeMap ℕ Tree → BTreeMap ℕ Tree → Result (Unit {0}) GenFault → Type 0
+abbrev pub Generates : List Point → ℕ → (TreeCode → Type 0) → BTreeMap ℕ Tree → BTreeMap ℕ Tree
+    → Result (Unit {0}) GenFault → Type 0
 Generates ps k Kind old new (Ok done) = Stores ps k Kind old new
 Generates ps k Kind old new (Err fault) = IsCause ps k fault
 

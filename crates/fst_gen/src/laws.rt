@@ -22,8 +22,8 @@ pub fn trees_are_one_list()
         → AreTreesOf ps k trees → HasMoreSets ps k n → n < length trees }
 {}
 
-/// What fails in the beginning of a code fails in each code that begins so: whatever is asked of a code that speaks of the
-/// root, the direction and the first drops alone; what a next drop has to meet; how far the tip's corner may be.
+/// What fails in the beginning of a code fails in each code that begins so: whatever is asked of a code that speaks of
+/// the root, the direction and the first drops alone; what a next drop has to meet; how far the tip's corner may be.
 pub fn failing_prefix_never_passes()
     ensures beginning { FailingBeginningNeverPasses }
     ensures drop { FailingDropNeverPasses }

@@ -30,8 +30,8 @@ HaveOneLeastTotal trees others = (n total : ℕ) → IsLeastTotal n trees total 
 abbrev pub PairsStillJoin : List Tree → List Tree → Type 0
 PairsStillJoin trees others = (n : ℕ) → PairsJoinAll n trees → PairsJoinAll n others
 
--- The kept trees of a list have a concatenation no worse than each one of the list, since what is dropped is replaced by
--- kept trees that join its members at no greater length; and the list has all those of its kept trees.
+-- The kept trees of a list have a concatenation no worse than each one of the list, since what is dropped is replaced
+-- by kept trees that join its members at no greater length; and the list has all those of its kept trees.
 pub record KeepsTotals (trees kept : List Tree) : Type 0 where
   pub no_worse : IsNoWorse trees kept
   pub matched : IsMatched kept trees

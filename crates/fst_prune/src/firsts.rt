@@ -9,8 +9,8 @@ use full_tree::{TreeList, members, word_of};
 use std::alloc::{AllocError, Global};
 use std::collections::BTreeMap;
 
-/// The places of the first trees of a list that have their members, each under the word of the members. An `Err` is want
-/// of memory.
+/// The places of the first trees of a list that have their members, each under the word of the members. An `Err` is
+/// want of memory.
 pub fn firsts(alloc: Global, trees: &TreeList) -> Result<BTreeMap<u64, usize>, AllocError>
     requires { All IsSmall trees.now }
     ensures { IfOk result (AreFirsts trees.now (length trees.now)) }

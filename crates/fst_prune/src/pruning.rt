@@ -15,9 +15,9 @@ use spanning::least_joining;
 use std::alloc::{AllocError, Global};
 use std::collections::BTreeMap;
 
-/// The trees of a list that pruning keeps, in their order: a tree is dropped where an earlier one has the same members, or
-/// where it has three or more members and kept trees of two of its members join them all at no greater length. An `Err` is
-/// want of memory.
+/// The trees of a list that pruning keeps, in their order: a tree is dropped where an earlier one has the same members,
+/// or where it has three or more members and kept trees of two of its members join them all at no greater length. An
+/// `Err` is want of memory.
 pub fn prune(alloc: Global, trees: &TreeList) -> Result<TreeList, AllocError>
     requires small { All IsSmall trees.now }
     requires order { IsInFileOrder trees.now }
@@ -73,7 +73,8 @@ fn is_repeat(trees: &TreeList, firsts: &BTreeMap<u64, usize>, place: usize, memb
     first_of(firsts, members) != Some(place)
 }
 
-// Whether a set of kept pairs replaces the tree at a place, which has three or more members. An `Err` is want of memory.
+// Whether a set of kept pairs replaces the tree at a place, which has three or more members. An `Err` is want of
+// memory.
 fn is_replaced(
     alloc: Global,
     trees: &TreeList,

@@ -20,9 +20,9 @@ pub struct Merge {
 }
 
 /// A nested chain of partitions, given as a tree with weighted edges: the parts are merged along the edges in ascending
-/// weight (the rule of Kruskal 1956). Each merge has its partition, that of the blocks just before it; the amount is the
-/// weight of the merge less that of the one before. So what the chain bounds is the sum of all weights, and the load of a
-/// tree is the sum of the weights of those merges that have parts of it on both sides.
+/// weight (the rule of Kruskal 1956). Each merge has its partition, that of the blocks just before it; the amount is
+/// the weight of the merge less that of the one before. So what the chain bounds is the sum of all weights, and the
+/// load of a tree is the sum of the weights of those merges that have parts of it on both sides.
 #[derive(Clone, Copy)]
 pub struct Chain {
     pub edges: [Edge; 64],

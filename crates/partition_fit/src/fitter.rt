@@ -66,12 +66,12 @@ impl Fitter {
         }
     }
 
-    /// Proposes a chain of partitions and a concatenation; `None` where the items don't join the parts. The same arguments
-    /// give the same proposal, whatever was proposed before. An `Err` is want of memory.
+    /// Proposes a chain of partitions and a concatenation; `None` where the items don't join the parts. The same
+    /// arguments give the same proposal, whatever was proposed before. An `Err` is want of memory.
     ///
-    /// `guide` has numbers of items that may make a good concatenation. `best` is the length in units that one must stay
-    /// below to be of use, a multiple of 12, or `u64::MAX` if there is none; the proposed one lowers it. The chain is made
-    /// to bound more than that less 12, so that no whole length is left between, and overloads no item.
+    /// `guide` has numbers of items that may make a good concatenation. `best` is the length in units that one must
+    /// stay below to be of use, a multiple of 12, or `u64::MAX` if there is none; the proposed one lowers it. The chain
+    /// is made to bound more than that less 12, so that no whole length is left between, and overloads no item.
     pub fn propose(
         &mut self,
         parts: u8,
@@ -140,8 +140,8 @@ impl Fitter {
         Ok(())
     }
 
-    // Improves the chosen items, and fits a chain along them where the one of the growth doesn't bound enough: the chain,
-    // and the number of an item to split on. An `Err` is want of memory.
+    // Improves the chosen items, and fits a chain along them where the one of the growth doesn't bound enough: the
+    // chain, and the number of an item to split on. An `Err` is want of memory.
     fn search(&mut self, parts: u8, best: u64) -> Result<(Chain, Option<u32>), AllocError> {
         if self.grown.bound() >= wanted(best) {
             return Ok((self.grown, None));

@@ -35,8 +35,8 @@ impl Line {
         }
     }
 
-    /// Shifts up to `most` units, where that lowers the sum of squared overloads; tells whether it did. An `Err` is want
-    /// of memory.
+    /// Shifts up to `most` units, where that lowers the sum of squared overloads; tells whether it did. An `Err` is
+    /// want of memory.
     pub fn shift(&self, fit: &mut Fit, most: u64) -> Result<bool, AllocError> {
         self.gather(fit)?;
         let before = potential(fit);

@@ -1,5 +1,6 @@
 -- Laws of the trees that places name.
-use Rattle.std.specs.Prelude.{ℕ, zero, suc, ◌≡◌, ◌+◌, ◌<◌, Bool, true, false, List, [], ◌∷◌, length, map, get_or, slice_get, Some, All, Contains}
+use Rattle.std.specs.Prelude.{ℕ, zero, suc, ◌≡◌, ◌+◌, ◌<◌, Bool, true, false, List, [], ◌∷◌, length, map, get_or}
+use Rattle.std.specs.Prelude.{slice_get, Some, All, Contains}
 use Rattle.std.proofs.Common.{ap, sym, ◌∙◌, subst, arith}
 use Rattle.std.proofs.lemmas.List.{length-map, get_or-map}
 use Rattle.std.proofs.lemmas.List.Elements.{All-nil, All-cons, All-weaker, Contains-append_right}
@@ -90,7 +91,8 @@ IsNetwork-from_concatenation ps trees set edges joins whole k v inside =
     let Step = Links (hanan_grid_of ps) edges in
     let root = terminal_vertex ps 0 in
     let within : k < length ps = omega (arith, length-map ps (vertex_of (xs_of ps) (ys_of ps))) in
-    let led = Leads-keeps (SharesTree trees set) (λ i. Leads Step root (terminal_vertex ps i)) 0 k (Leads-start Step root)
+    let led = Leads-keeps (SharesTree trees set) (λ i. Leads Step root (terminal_vertex ps i)) 0 k
+    (Leads-start Step root)
     (λ i j so_far shared. Leads-trans Step root (terminal_vertex ps i) (terminal_vertex ps j) so_far
     (shared_leads ps trees set edges joins i j shared)) (whole.joins k within) in
     rw (terminal_at ps 0 0 (omega arith), terminal_at ps k v within) led

@@ -22,8 +22,8 @@ use Rattle.full_tree.specs.Pieces.{piece_between, foot, side_foot, line_over, lo
 use Rattle.full_tree.specs.Stations.{station, station_at, drop_stations, first_stations, end_stations, last_foot}
 use Rattle.full_tree.specs.Passing.{Passes, IsClear, IsEndOf, IsWithinBottleneck, KeepsBottlenecks}
 use Rattle.fst_gen.specs.Prefix.{HasPrefix, MayBegin, FailingBeginningNeverPasses, first_pieces}
-use Rattle.fst_gen.specs.PairLaws.{no_distance}
-use Rattle.fst_gen.specs.PrefixLaws.{rises_first, in_turn_first, stations_begin, keeps_first}
+use Rattle.fst_gen.proofs.lemmas.Pairs.{no_distance}
+use Rattle.fst_gen.proofs.lemmas.Prefixes.{rises_first, in_turn_first, stations_begin, keeps_first}
 
 -- ---- lists
 

@@ -25,8 +25,8 @@ use Rattle.full_tree.specs.OrderLaws.{tree_cmp_total, same_tree, in_file_order_b
 use Rattle.fst_gen.specs.Trees.{IsNotAfter, IsWanted, tree_of, IsTreeOf, HasTreeOf, AreTreesOf, HasMoreSets}
 use Rattle.full_tree.specs.Pairs.{PairsJoinAll}
 use Rattle.fst_gen.specs.Joins.{JoinsAll}
-use Rattle.fst_gen.specs.PairLaws.{trees-join}
-use Rattle.fst_gen.specs.ListLaws.{more_trees}
+use Rattle.fst_gen.proofs.lemmas.Pairs.{trees-join}
+use Rattle.fst_gen.proofs.lemmas.Lists.{more_trees}
 use Rattle.full_tree.specs.Word.{IsWordOf}
 use Rattle.fst_gen.specs.Store.{IsStore, CoversAll}
 use Rattle.full_tree.specs.WordLaws.{same_word}

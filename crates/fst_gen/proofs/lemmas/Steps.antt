@@ -24,9 +24,9 @@ use Rattle.fst_gen.specs.declared.fault.GenFault.{GenFault}
 use Rattle.fst_gen.specs.declared.prefix.Prefix.{Prefix}
 use Rattle.fst_gen.specs.Trees.{IsWanted}
 use Rattle.fst_gen.specs.Store.{IsStore, Stores, Generates}
-use Rattle.fst_gen.specs.StoreLaws.{Stores-none, Stores-then, Stores-only, Generates-then}
+use Rattle.fst_gen.proofs.lemmas.Stores.{Stores-none, Stores-then, Stores-only, Generates-then}
 use Rattle.fst_gen.specs.Prefix.{IsPrefix, HasPrefix, EndsAt, EndsBelow, IsHung, HangsBelow, ContinuesBelow, MayFollow, MayEndAt, last_member}
-use Rattle.fst_gen.specs.PrefixLaws.{MayFollow-from_passing, near_from_passing}
+use Rattle.fst_gen.proofs.lemmas.Prefixes.{MayFollow-from_passing, near_from_passing}
 use Rattle.fst_gen.specs.Kinds.{GrownBelow, IsRootedAt, IsRootedBelow, Below, OfAny, CrossesHalf, CrossesLevel, IsAnyCross}
 
 -- ---- what a wanted long code says of its parts

@@ -1,5 +1,5 @@
 use Rattle.std.proofs.Common.{arith}
-use Rattle.fst_gen.specs.PrefixLaws.{IsLongerBy-made, prefix_stations-length}
+use Rattle.fst_gen.proofs.lemmas.Prefixes.{IsLongerBy-made, prefix_stations-length}
 use Rattle.fst_gen.proofs.begin.lengthened.Goals as goal
 
 pub push-requires : goal.push-requires

@@ -1,5 +1,5 @@
 use Rattle.std.proofs.Common.{◌∙◌, ap, arith, length, length-append, ◌∷◌, []}
-use Rattle.fst_gen.specs.PrefixLaws.{keeps_longer, prefix_stations-in, prefix_stations-length, keeps_moved}
+use Rattle.fst_gen.proofs.lemmas.Prefixes.{keeps_longer, prefix_stations-in, prefix_stations-length, keeps_moved}
 use Rattle.fst_gen.proofs.begin.with_drop.Goals as goal
 
 pub keeps_up_to-requires-clause-members : goal.keeps_up_to-requires-clause-members

@@ -1,5 +1,5 @@
 use Rattle.fst_gen.specs.Kinds.{IsRootedBelow, IsAnyCross}
-use Rattle.fst_gen.specs.StoreLaws.{Generates-then}
+use Rattle.fst_gen.proofs.lemmas.Stores.{Generates-then}
 use Rattle.fst_gen.proofs.lemmas.Steps.{any_code}
 use Rattle.std.proofs.Common.{length}
 use Rattle.fst_gen.proofs.generation.fill.Goals as goal

@@ -1,5 +1,5 @@
 use Rattle.std.proofs.Common.{◌∙◌, ◌≡◌, sym}
-use Rattle.fst_gen.specs.StoreLaws.{Generates-only}
+use Rattle.fst_gen.proofs.lemmas.Stores.{Generates-only}
 use Rattle.fst_gen.proofs.lemmas.Steps.{IsHung-none}
 use Rattle.fst_gen.proofs.growth.hang_side.Goals as goal
 

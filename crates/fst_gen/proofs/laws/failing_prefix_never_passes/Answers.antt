@@ -1,4 +1,4 @@
-use Rattle.fst_gen.specs.PrefixLaws.{failing_drop, far_tip}
+use Rattle.fst_gen.proofs.lemmas.Prefixes.{failing_drop, far_tip}
 use Rattle.fst_gen.proofs.lemmas.Beginning.{failing_beginning}
 use Rattle.fst_gen.proofs.laws.failing_prefix_never_passes.Goals as goal
 

@@ -1,4 +1,4 @@
-use Rattle.fst_gen.specs.ListLaws.{one_list, more_trees}
+use Rattle.fst_gen.proofs.lemmas.Lists.{one_list, more_trees}
 use Rattle.fst_gen.proofs.laws.trees_are_one_list.Goals as goal
 
 pub returns : goal.returns
