@@ -5,7 +5,7 @@
 mod session;
 
 use row_tables::CallReader;
-use rst_outside::{DirShelf, take_named};
+use rst_outside::{DirShelf, Shelf, take_named};
 use session::make_calls;
 use std::process::ExitCode;
 use std::{env, io};
@@ -15,9 +15,10 @@ const LIMIT: u64 = 1 << 26;
 
 fn main(rt: HostRuntime) -> io::Result<ExitCode> {
     let mut reader = CallReader::new(rt.alloc());
+    let mut shelf = DirShelf::new(&rt);
     let mut all_well = true;
     for name in env::args(&rt)?.skip(1) {
-        let is_well = is_well(&rt, &mut reader, name.as_str())?;
+        let is_well = is_well(&rt, &mut shelf, &mut reader, name.as_str())?;
         all_well = all_well && is_well;
     }
     Ok(if all_well {
@@ -28,10 +29,14 @@ fn main(rt: HostRuntime) -> io::Result<ExitCode> {
 }
 
 /// Makes the calls of the table in a file, prints a line a row, and tells whether all is well.
-fn is_well(rt: &HostRuntime, reader: &mut CallReader, name: &str) -> io::Result<bool> {
+fn is_well<S: Shelf>(
+    rt: &HostRuntime,
+    shelf: &mut S,
+    reader: &mut CallReader,
+    name: &str,
+) -> io::Result<bool> {
     let alloc = rt.alloc();
-    let mut shelf = DirShelf::new(rt);
-    let Ok(table) = take_named(alloc, &mut shelf, name, LIMIT) else {
+    let Ok(table) = take_named(alloc, shelf, name, LIMIT) else {
         println!(rt; "{name}: cannot be read")?;
         return Ok(false);
     };

@@ -12,7 +12,8 @@ use points_in::Point;
 use std::marker::Model;
 
 /// What an STP file of this profile holds: how many nodes there are, edges between them, terminals among them, and,
-/// where it has a section for them, points of nodes. Nodes are counted from 1. Only `read_stp` makes one.
+/// where it has a section for them, points of nodes. Nodes are counted from 1. Only `read_stp` makes one. No tool takes
+/// more of it than `points_of` gives.
 #[derive(Debug, Drop)]
 pub struct StpFile {
     graph: Graph,
@@ -97,7 +98,7 @@ impl StpFile {
         *self.terminals.get(n as usize)
     }
 
-    /// The point of a node. None exactly where the file names no point of it.
+    /// The point of a node. None exactly where the file names no point of it. No tool calls it.
     pub fn coordinates(&self, node: u32) -> Option<Point>
         ensures { result ≡ point_in self.now node }
     {

@@ -18,7 +18,7 @@ use stp_text::{
 use text_out::{Block, finish};
 
 /// Writes the text of a file, with the points in ascending order of their nodes. It takes no memory. An `Err`
-/// says that the sink failed, and that a proper prefix of the text was written.
+/// says that the sink failed, and that a proper prefix of the text was written. No tool calls it.
 #[tactic(auto, using(text_out::specs::GatherLaws::pieces))]
 pub fn write_stp<S: Sink>(sink: &mut S, file: &StpFile) -> Result<(), PutFault>
     ensures { Writes (S.state sink.old) (stp_text file.now) (S.state sink.new) result }

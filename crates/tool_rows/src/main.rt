@@ -3,7 +3,7 @@
 //! docs/ROWS.md.
 #![tactic(auto)]
 
-use rst_outside::{DirShelf, take_named};
+use rst_outside::{DirShelf, Shelf, take_named};
 use std::process::ExitCode;
 use std::{env, io};
 use tool_table::{Reader, run_table};
@@ -13,9 +13,10 @@ const LIMIT: u64 = 1 << 26;
 
 fn main(rt: HostRuntime) -> io::Result<ExitCode> {
     let mut reader = Reader::new(rt.alloc());
+    let mut shelf = DirShelf::new(&rt);
     let mut all_well = true;
     for name in env::args(&rt)?.skip(1) {
-        let is_well = runs_well(&rt, &mut reader, name.as_str())?;
+        let is_well = runs_well(&rt, &mut shelf, &mut reader, name.as_str())?;
         all_well = all_well && is_well;
     }
     Ok(if all_well {
@@ -26,10 +27,14 @@ fn main(rt: HostRuntime) -> io::Result<ExitCode> {
 }
 
 /// Runs the rows of the table in a file, prints a line a row, and tells whether all is well.
-fn runs_well(rt: &HostRuntime, reader: &mut Reader, name: &str) -> io::Result<bool> {
+fn runs_well<S: Shelf>(
+    rt: &HostRuntime,
+    shelf: &mut S,
+    reader: &mut Reader,
+    name: &str,
+) -> io::Result<bool> {
     let alloc = rt.alloc();
-    let mut shelf = DirShelf::new(rt);
-    let Ok(table) = take_named(alloc, &mut shelf, name, LIMIT) else {
+    let Ok(table) = take_named(alloc, shelf, name, LIMIT) else {
         println!(rt; "{name}: cannot be read")?;
         return Ok(false);
     };

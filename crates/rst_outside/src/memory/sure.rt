@@ -11,7 +11,7 @@ use crate::sink::Sink;
 use crate::source::{Failed, Source};
 use std::marker::Model;
 
-/// Bytes in memory as a source that never fails. Contracts see the bytes that are still to come.
+/// Bytes in memory as a source that never fails. Contracts see the bytes that are still to come. No tool makes one.
 #[derive(Drop)]
 pub struct SureSource {
     bytes: Vec<u8>,
@@ -63,7 +63,8 @@ impl Source for SureSource {
     }
 }
 
-/// A sink that takes all bytes and keeps none. Its sure room is always 2^64 bytes, more than any slice has.
+/// A sink that takes all bytes and keeps none. Its sure room is always 2^64 bytes, more than any slice has. No tool makes
+/// one.
 #[derive(Drop)]
 pub struct SureSink;
 

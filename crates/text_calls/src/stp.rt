@@ -1,0 +1,35 @@
+//! STP files, read and written back.
+
+use crate::given::{shown, sink as given_sink};
+use row_tables::{Call, Fault};
+use std::alloc::Global;
+use stp_format::{StpFault, StpFile, read_stp, write_stp};
+
+/// The fault of the STP file under `file`; or what it holds, and the file as it is written.
+pub fn stp(alloc: Global, call: &Call, answer: &mut String) -> Result<(), Fault> {
+    let file = match read_stp(alloc, call.bytes("file")?) {
+        Ok(file) => file,
+        Err(StpFault::Memory(error)) => return Err(Fault::from(error)),
+        Err(fault) => return Ok(writeln!(answer, "{fault}")?),
+    };
+    tell_file(&file, answer)?;
+    let mut sink = given_sink(alloc, call)?;
+    let written = write_stp(&mut sink, &file);
+    writeln!(answer, "written {written:?}")?;
+    Ok(write!(answer, "{}", shown(sink.bytes())?)?)
+}
+
+// Tells the nodes of a file with their points, its edges and its terminals.
+fn tell_file(file: &StpFile, answer: &mut String) -> Result<(), Fault> {
+    for node in 1..=file.nodes() {
+        writeln!(answer, "node {node} {:?}", file.coordinates(node))?;
+    }
+    for n in 0..file.edge_count() {
+        let edge = file.edge(n);
+        writeln!(answer, "edge {} {} {}", edge.i, edge.j, edge.length)?;
+    }
+    for n in 0..file.terminal_count() {
+        writeln!(answer, "terminal {}", file.terminal(n))?;
+    }
+    Ok(())
+}
