@@ -1,12 +1,7 @@
 -- How the pieces that a consumer is fed add up.
-use Rattle.std.specs.Prelude.{ℕ, ◌≡◌, List, [], ◌++◌}
+use Rattle.std.specs.Prelude.{ℕ, List, ◌++◌}
 use Rattle.std.proofs.Common.{append_assoc}
-use Rattle.std.proofs.lemmas.List.{append-nil}
 use Rattle.rst_outside.specs.Fed.{Fed}
-
--- A consumer that stayed as it was was fed no bytes.
-pub fed_nothing : {T : Type 0} (stands : T → List ℕ → Type 0) (before after : T) → after ≡ before → Fed stands before [] after
-fed_nothing stands before after same front stood = rw (same, append-nil) stood
 
 -- What was fed first and what was fed next was fed.
 pub fed_more : {T : Type 0} (stands : T → List ℕ → Type 0) (before : T) (first : List ℕ) (mid : T) (next : List ℕ) (after : T) →

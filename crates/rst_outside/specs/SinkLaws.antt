@@ -1,10 +1,9 @@
 -- How the writes of one text after another add up.
-use Rattle.std.specs.Prelude.{ℕ, ◌≡◌, ◌+◌, ◌<◌, ◌≤◌, List, [], ◌++◌, length, take, Option, None, Some, Result, Ok, Err, ⊤}
+use Rattle.std.specs.Prelude.{ℕ, ◌≡◌, ◌+◌, ◌≤◌, List, [], ◌++◌, length, take, Option, None, Some}
 use Rattle.std.proofs.Common.{refl, ap, sym, ◌∙◌, append_assoc, length-append, length-take, arith}
 use Rattle.std.proofs.lemmas.List.{append-nil}
-use Rattle.rst_outside.specs.Counts.{Rose}
 use Rattle.rst_outside.specs.CountLaws.{rose_later}
-use Rattle.rst_outside.specs.Sink.{SinkState, Appended, Wrote, CutShort, Writes}
+use Rattle.rst_outside.specs.Sink.{SinkState, Appended, Wrote, CutShort}
 
 -- Nothing was appended where what was taken stayed the same.
 pub appended_nothing : (before after : Option (List ℕ)) → after ≡ before → Appended before [] after
@@ -34,17 +33,6 @@ wrote_some before text n after within appended count room = record {
   appended = appended;
   count = count;
   room = omega (arith, length-take n text);
-}
-
--- What a sink says of a failed write, as one fact.
-pub cut_at_once : (before : SinkState) (text : List ℕ) (after : SinkState) →
-    0 < length text → after.taken ≡ before.taken → before.faults ≤ after.faults →
-    Rose before.faults after.faults → before.sure ≡ 0 → CutShort before text after
-cut_at_once before text after some kept count rose no_room = record {
-  prefix = ([], text, refl, some, appended_nothing before.taken after.taken kept);
-  count = count;
-  rose = rose;
-  no_room = omega arith;
 }
 
 -- One text after another is the two together.
@@ -91,25 +79,3 @@ cut_sooner before first after next cut =
       rose = cut.rose;
       no_room = omega (arith, length-append first next);
     }
-
--- A writer that is called after a first text was written answers for both.
-pub writes_after : {E : Type 0} (before : SinkState) (first : List ℕ) (mid : SinkState) (next : List ℕ) (after : SinkState)
-    (result : Result ⊤ E) → Wrote before first mid → Writes mid next after result →
-    Writes before (first ++ next) after result
-writes_after before first mid next after (Ok done) one two = wrote_more before first mid next after one two
-writes_after before first mid next after (Err fault) one two = cut_later before first mid next after one two
-
--- A writer of a text is one of any equal text.
-pub writes_same : {E : Type 0} (before : SinkState) (text same : List ℕ) (after : SinkState) (result : Result ⊤ E) →
-    text ≡ same → Writes before text after result → Writes before same after result
-writes_same before text same after result equal writes = rw equal at writes
-
--- Where the sink surely had room for the text, the text was not cut short.
-pub never_cut : (before : SinkState) (text : List ℕ) (after : SinkState) →
-    length text ≤ before.sure → CutShort before text after → ⊥
-never_cut before text after enough cut = omega arith
-
--- A sink that tells what it took now tells that with the text behind it.
-pub taken_after : (before : SinkState) (text : List ℕ) (after : SinkState) (taken : List ℕ) →
-    before.taken ≡ Some taken → Wrote before text after → after.taken ≡ Some (taken ++ text)
-taken_after before text after taken told wrote = rw told at wrote.appended

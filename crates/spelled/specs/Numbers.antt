@@ -4,7 +4,7 @@ use Rattle.std.specs.Prelude.{ℕ, suc, ◌≡◌, ◌≢◌, ◌<◌, ◌^◌, 
 use Rattle.std.specs.Int.{w64}
 use Rattle.std.specs.Fmt.{decimal, signed_decimal}
 use Rattle.std.proofs.Common.{arith}
-use Rattle.std.proofs.lemmas.Fmt.{decimal_is_IsNumeral, decimal_nonempty, decimal_injective, signed_decimal_injective}
+use Rattle.std.proofs.lemmas.Fmt.{decimal_is_IsNumeral, decimal_nonempty, signed_decimal_injective}
 use Rattle.std.proofs.lemmas.Str.Parse.{digit_at}
 use Rattle.std.proofs.lemmas.List.Elements.{All-from_get_or, All-cons}
 use Rattle.spelled.specs.Words.{Lacks, IsWord}
@@ -46,13 +46,6 @@ signed_decimal_is_word z fits = record {
 -- two signed numbers with one spelling are the same
 pub signed_decimal_one : (y z : ℤ) → FitsSigned w64 y → FitsSigned w64 z → signed_decimal y ≡ signed_decimal z → y ≡ z
 signed_decimal_one y z p q e = signed_decimal_injective y z p.sfits q.sfits e
-
--- an unsigned number and what follows are determined where a separator stands between them
-pub decimal_front_unique : (separator m n : ℕ) (x y : List ℕ) → separator < 48 → m < 2 ^ 64 → n < 2 ^ 64
-    → decimal m ++ separator ∷ x ≡ decimal n ++ separator ∷ y → (m ≡ n) × (x ≡ y)
-decimal_front_unique separator m n x y low p q e =
-    let same = front_unique separator (decimal m) (decimal n) x y (decimal-lacks m separator p low) (decimal-lacks n separator q low) e in
-    (decimal_injective m n p q same.0, same.1)
 
 -- so are a signed number and what follows
 pub signed_front_unique : (separator : ℕ) (a b : ℤ) (x y : List ℕ) → separator < 45 → FitsSigned w64 a → FitsSigned w64 b

@@ -1,5 +1,5 @@
 -- How the calls that write one text add up.
-use Rattle.std.specs.Prelude.{◌≡◌, ℕ, ◌+◌, ◌<◌, List, [], ◌∷◌, ◌++◌, length, Option, None, Some, option_map, Result, Ok, Err, ⊤, flat_map}
+use Rattle.std.specs.Prelude.{◌≡◌, ℕ, ◌+◌, List, [], ◌∷◌, ◌++◌, Option, None, Some, option_map, Result, Ok, Err, ⊤}
 use Rattle.std.specs.List.{range_with_len}
 use Rattle.std.proofs.Common.{refl, sym, ◌∙◌, ap, subst, append_assoc, take, get_or, zero-add}
 use Rattle.std.proofs.lemmas.Bool.{false≢true}
@@ -170,15 +170,6 @@ pub writes_three : {E : Type 0} (s0 s1 s2 s3 after : SinkState) (b1 b2 b3 : Opti
 writes_three s0 s1 s2 s3 after b1 b2 b3 t1 t2 t3 text result p1 p2 p3 end same =
     let all = gathers_three s0 s1 s2 s3 (Some []) b1 b2 b3 t1 t2 t3 (t1 ++ (t2 ++ t3)) p1 p2 p3 refl in
     subst (λ whole. Writes s0 whole after result) same (writes_gathered s0 (t1 ++ (t2 ++ t3)) s3 b3 after result all end)
-
--- One more item in a loop that writes the text of each
-pub gathers_item : {X : Type 0} (text_of : X → List ℕ) (items : List X) (i : ℕ) (d : X) (start before after : SinkState) (first block block' : Option (List ℕ)) →
-    i < length items → Gathers start first (flat_map text_of (take i items)) before block →
-    Gathers before block (text_of (get_or items i d)) after block' →
-    Gathers start first (flat_map text_of (take (i + 1) items)) after block'
-gathers_item text_of items i d start before after first block block' within one two =
-    let more = flat_map_more text_of [] (take i items) (get_or items i d) ∙ ap (flat_map text_of) (sym (take_more items i d within)) in
-    gathers_two start before after first block block' (flat_map text_of (take i items)) (text_of (get_or items i d)) (flat_map text_of (take (i + 1) items)) one two more
 
 -- One more number in a loop over the numbers from 0
 pub range_more : (n : ℕ) → range_with_len 0 (n + 1) ≡ range_with_len 0 n ++ n ∷ []
