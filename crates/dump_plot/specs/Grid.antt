@@ -30,7 +30,8 @@ vertex_line ps vertex = located_line (vertex + 1) (point_of_vertex (xs_of ps) (y
 
 -- the section of the points of all vertices, in ascending number
 abbrev pub coordinates_text : List Point → List ℕ
-coordinates_text ps = coordinates_head ++ flat_map (vertex_line ps) (range_with_len 0 (hanan_grid_of ps).vertices) ++ section_end
+coordinates_text ps =
+    coordinates_head ++ flat_map (vertex_line ps) (range_with_len 0 (hanan_grid_of ps).vertices) ++ section_end
 
 -- the sections behind the comment
 abbrev pub grid_sections_text : List Point → List ℕ

@@ -14,7 +14,8 @@ use Rattle.dump_plot.specs.declared.scale.PagePoint.{PagePoint}
 abbrev pub extent_of : List ℤ → ℕ
 extent_of lines = unsigned_abs (line_at lines (length lines - 1) -ℤ line_at lines 0)
 
--- How the grid of the points lies on the page: by its least coordinates, and by the greater of its width and its height.
+-- How the grid of the points lies on the page: by its least coordinates, and by the greater of its width and its
+-- height.
 abbrev pub scale_of : List Point → Scale
 scale_of ps = record {
   left = line_at (xs_of ps) 0;
@@ -22,8 +23,8 @@ scale_of ps = record {
   span = max (extent_of (xs_of ps)) (extent_of (ys_of ps));
 }
 
--- Where a coordinate lies along a side of the page: the least one at 36, and one that is the span away at 576. A span of 0
--- stands for 1.
+-- Where a coordinate lies along a side of the page: the least one at 36, and one that is the span away at 576. A span
+-- of 0 stands for 1.
 abbrev pub along : ℕ → ℤ → ℤ → ℕ
 along span least z = 36 + unsigned_abs (z -ℤ least) * 540 / max span 1
 

@@ -16,9 +16,9 @@ use stp_text::{
 };
 use text_out::{Block, finish};
 
-/// Writes the grid of points as an STP file: node v + 1 is the vertex v, edges stand in ascending number, terminals in the
-/// points' order, and each vertex has its coordinates. It takes no memory; on an `Err` the sink failed, and the text was
-/// cut short.
+/// Writes the grid of points as an STP file: node v + 1 is the vertex v, edges stand in ascending number, terminals
+/// in the points' order, and each vertex has its coordinates. It takes no memory; on an `Err` the sink failed, and
+/// the text was cut short.
 #[tactic(auto, using(text_out::specs::GatherLaws::pieces), unfolding(crate::specs::Grid::grid_stp_text))]
 pub fn grid_as_stp<S: Sink>(sink: &mut S, grid: &Grid) -> Result<(), PutFault>
     ensures { Writes (S.state sink.old) (grid_stp_text grid.now) (S.state sink.new) result }

@@ -15,10 +15,10 @@ use points_in::Point;
 use rst_outside::{PutFault, Sink};
 use text_out::{Block, finish, literal, number};
 
-/// Writes a plot of a network on a grid, as a PostScript program of one page: a stroke for each edge of the network in
-/// ascending number, from its lower-numbered vertex to the other one, and a cross of two strokes for each point of the grid
-/// in order. The least coordinates lie at 36, and the greater of the grid's width and height is 540 long. It takes no
-/// memory; on an `Err` the sink failed, and the text was cut short.
+/// Writes a plot of a network on a grid, as a PostScript program of one page: a stroke for each edge of the network
+/// in ascending number, from its lower-numbered vertex to the other one, and a cross of two strokes for each point of
+/// the grid in order. The least coordinates lie at 36, and the greater of the grid's width and height is 540 long. It
+/// takes no memory; on an `Err` the sink failed, and the text was cut short.
 #[tactic(auto, using(text_out::specs::GatherLaws::pieces), unfolding(crate::specs::Plot::plot_text))]
 pub fn plot<S: Sink>(sink: &mut S, grid: &Grid, network: &EdgeSet) -> Result<(), PutFault>
     requires { length network.now ≡ length (hanan_grid_of grid.now).edges }

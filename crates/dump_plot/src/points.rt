@@ -9,8 +9,8 @@ use points_in::{Point, Points};
 use rst_outside::{PutFault, Sink};
 use text_out::{Block, finish, literal, signed};
 
-/// Writes drawn points, repeats among them, one a line. It takes no memory; on an `Err` the sink failed, and the text was
-/// cut short.
+/// Writes drawn points, repeats among them, one a line. It takes no memory; on an `Err` the sink failed, and the text
+/// was cut short.
 #[tactic(auto, using(text_out::specs::GatherLaws::pieces))]
 pub fn dump_points<S: Sink>(sink: &mut S, list: &Drawn) -> Result<(), PutFault>
     ensures { Writes (S.state sink.old) (points_text list.now) (S.state sink.new) result }

@@ -15,9 +15,9 @@ use points_in::Point;
 use rst_outside::{PutFault, Sink};
 use text_out::{Block, finish, literal, number, signed};
 
-/// Writes a line for each tree: its members' places in ascending order and its length. Where `pieces` is true each such
-/// line is followed by one for each of the tree's pieces, in their order. It takes no memory; on an `Err` the sink failed,
-/// and the text was cut short.
+/// Writes a line for each tree: its members' places in ascending order and its length. Where `pieces` is true each
+/// such line is followed by one for each of the tree's pieces, in their order. It takes no memory; on an `Err` the
+/// sink failed, and the text was cut short.
 #[tactic(auto, using(text_out::specs::GatherLaws::pieces))]
 pub fn dump_trees<S: Sink>(
     sink: &mut S,

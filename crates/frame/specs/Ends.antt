@@ -47,17 +47,20 @@ pub record Refuses (line : List ℕ) (code : ℕ) (before after : Writable) (sta
 
 -- The text was written whole or in part.
 abbrev pub PrintsOrNot : List ℕ → Print → Writable → Writable → ℕ → Type 0
-PrintsOrNot tool print before after status = Printed print before after status ⊎ Unwritten tool print before after status
+PrintsOrNot tool print before after status =
+    Printed print before after status ⊎ Unwritten tool print before after status
 
 -- How a run ends, by what the tool found: nothing where memory was wanting, else what it prints or a fault.
-abbrev pub Concludes : {F : Type 0} → (F → FaultStatus) → (F → List ℕ) → List ℕ → Option (Result Print F) → Writable → Writable → ℕ → Type 0
+abbrev pub Concludes : {F : Type 0} → (F → FaultStatus) → (F → List ℕ) → List ℕ → Option (Result Print F) → Writable →
+    Writable → ℕ → Type 0
 Concludes fault_status fault_text tool None before after status = Refuses no_memory_line NO_MEMORY before after status
 Concludes fault_status fault_text tool (Some (Err fault)) before after status =
     Refuses (fault_line tool (fault_text fault)) (fault_code (fault_status fault)) before after status
-Concludes fault_status fault_text tool (Some (Ok print)) before after status = PrintsOrNot tool print before after status
+Concludes fault_status fault_text tool (Some (Ok print)) before after status =
+    PrintsOrNot tool print before after status
 
--- A run of a tool. What it found is related to what was read, which the run left as the tool may leave it; and the run ends
--- as is due to what was found.
+-- A run of a tool. What it found is related to what was read, which the run left as the tool may leave it; and the
+-- run ends as is due to what was found.
 pub record Ends {F : Type 0} (fault_status : F → FaultStatus) (fault_text : F → List ℕ) (tool : List ℕ)
     (Finds : Readable → Readable → Result Print F → Type 0) (Leaves : Readable → Readable → Type 0)
     (before after : Outside) (status : ℕ) : Type 0 where
@@ -71,6 +74,7 @@ abbrev pub print_of : {A : Type 0} → {F : Type 0} → (A → List ℕ) → (A 
 print_of text status (Ok answer) = Ok (record { text = text answer; status = status answer })
 print_of text status (Err fault) = Err fault
 
-abbrev pub prints_of : {A : Type 0} → {F : Type 0} → {E : Type 0} → (A → List ℕ) → (A → AnswerStatus) → Result (Result A F) E → Option (Result Print F)
+abbrev pub prints_of : {A : Type 0} → {F : Type 0} → {E : Type 0} → (A → List ℕ) → (A → AnswerStatus) →
+    Result (Result A F) E → Option (Result Print F)
 prints_of text status (Ok found) = Some (print_of text status found)
 prints_of text status (Err memory) = None

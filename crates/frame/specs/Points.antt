@@ -22,8 +22,8 @@ pub record ListsPoints (bytes : List ℕ) (ps : List Point) : Type 0 where
   pub text : IsPointText bytes ps
   pub short : total_of (grid_of_points ps) < 2 ^ 63
 
--- Why bytes give no grid: they are no text of points, by its first fault; or the edges of the grid of theirs sum to this
--- total, which is too great.
+-- Why bytes give no grid: they are no text of points, by its first fault; or the edges of the grid of theirs sum to
+-- this total, which is too great.
 abbrev pub IsListFault : List ℕ → ListFault → Type 0
 IsListFault bytes (BadNumber at) = PointFaultOf bytes (point_fault.BadNumber at)
 IsListFault bytes (NumberTooLarge at) = PointFaultOf bytes (point_fault.NumberTooLarge at)
@@ -45,9 +45,11 @@ FileLists limit shelf name ps = (bytes : List ℕ) × IsWholeFile limit shelf na
 -- Why the file of this name gives no grid.
 abbrev pub IsPointsFault : ℕ → ShelfState → ShelfState → List ℕ → PointsFault → Type 0
 IsPointsFault limit shelf shelf' name (File fault) = IsFileFault limit shelf shelf' name fault
-IsPointsFault limit shelf shelf' name (InList fault) = (bytes : List ℕ) × IsWholeFile limit shelf name bytes × IsListFault bytes fault
+IsPointsFault limit shelf shelf' name (InList fault) =
+    (bytes : List ℕ) × IsWholeFile limit shelf name bytes × IsListFault bytes fault
 
 -- The grid of the points that the file lists; or why there is none.
 abbrev pub ReadsPointsFile : ℕ → ShelfState → ShelfState → List ℕ → Result (List Point) PointsFault → Type 0
-ReadsPointsFile limit shelf shelf' name (Ok grid) = (ps : List Point) × FileLists limit shelf name ps × (grid ≡ terminals_of ps)
+ReadsPointsFile limit shelf shelf' name (Ok grid) =
+    (ps : List Point) × FileLists limit shelf name ps × (grid ≡ terminals_of ps)
 ReadsPointsFile limit shelf shelf' name (Err fault) = IsPointsFault limit shelf shelf' name fault

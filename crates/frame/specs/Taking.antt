@@ -27,7 +27,8 @@ TakesInput limit before after (Ok bytes) = IsWholeInput limit before after bytes
 TakesInput limit before after (Err fault) = IsInputFault limit before after fault
 
 -- The input was read to its end, and a consumer was fed its bytes; or it couldn't be read so.
-abbrev pub FeedsInput : {T : Type 0} → (T → List ℕ → Type 0) → ℕ → SourceState → SourceState → T → T → Result ⊤ InputFault → Type 0
+abbrev pub FeedsInput : {T : Type 0} → (T → List ℕ → Type 0) → ℕ → SourceState → SourceState → T → T →
+    Result ⊤ InputFault → Type 0
 FeedsInput stands limit before after consumer consumer' (Ok done) =
     (bytes : List ℕ) × IsWholeInput limit before after bytes × Fed stands consumer bytes consumer'
 FeedsInput stands limit before after consumer consumer' (Err fault) = IsInputFault limit before after fault

@@ -32,10 +32,13 @@ PrintsLocated bytes (Err fault) = LocatesPoints bytes (Err fault)
 
 -- bytes that give points have no fault
 abbrev pub LocatedHasNoFault : Type 0
-LocatedHasNoFault = (bytes : List ℕ) (points : List Point) (fault : StpPointsFault) → LocatesPoints bytes (Ok points) → LocatesPoints bytes (Err fault) → ⊥
+LocatedHasNoFault =
+    (bytes : List ℕ) (points : List Point) (fault : StpPointsFault) → LocatesPoints bytes (Ok points) →
+    LocatesPoints bytes (Err fault) → ⊥
 
 -- A run of `stp2points`.
 abbrev pub EndsStp2points : Outside → Outside → ℕ → Type 0
 EndsStp2points before after status =
-    Ends (text_fault_status stp_points_fault_status) (text_fault_text stp_points_fault_text) (codes "stp2points") (FromText TEXT_LIMIT PrintsLocated)
+    Ends (text_fault_status stp_points_fault_status) (text_fault_text stp_points_fault_text) (codes "stp2points")
+    (FromText TEXT_LIMIT PrintsLocated)
     LeavesShelf before after status

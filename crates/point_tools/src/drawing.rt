@@ -14,8 +14,8 @@ use frame::{InputFault, conclude};
 use rst_outside::Sink;
 use std::alloc::{AllocError, Global};
 
-/// Runs `points`: prints the `n` points, 1 to 50, that are drawn from a seed, one a line and repeats among them. Gives the
-/// status that the program ends with.
+/// Runs `points`: prints the `n` points, 1 to 50, that are drawn from a seed, one a line and repeats among them.
+/// Gives the status that the program ends with.
 pub fn points<O: Sink, R: Sink>(alloc: Global, n: u8, seed: u64, out: &mut O, err: &mut R) -> u8
     requires some { 0 < n }
     requires few { n ≤ 50 }

@@ -23,7 +23,8 @@ pub record Wrote (before : SinkState) (text : List ℕ) (after : SinkState) : Ty
 -- A proper prefix of the text was appended, and the count of faults rose. It never happens where the
 -- sink surely had room for the text.
 pub record CutShort (before : SinkState) (text : List ℕ) (after : SinkState) : Type 0 where
-  pub prefix : (front back : List ℕ) × (text ≡ front ++ back) × (0 < length back) × Appended before.taken front after.taken
+  pub prefix : (front back : List ℕ) × (text ≡ front ++ back) × (0 < length back)
+      × Appended before.taken front after.taken
   pub count : before.faults ≤ after.faults
   pub rose : Rose before.faults after.faults
   pub no_room : before.sure < length text

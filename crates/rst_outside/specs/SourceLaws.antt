@@ -5,7 +5,8 @@ use Rattle.std.proofs.lemmas.List.{append-nil}
 use Rattle.rst_outside.specs.Source.{Came, CameToTheEnd}
 
 -- What came first and what came next came.
-pub came_more : (before : Option (List ℕ)) (first : List ℕ) (mid : Option (List ℕ)) (next : List ℕ) (after : Option (List ℕ)) →
+pub came_more : (before : Option (List ℕ)) (first : List ℕ) (mid : Option (List ℕ)) (next : List ℕ)
+    (after : Option (List ℕ)) →
     Came before first mid → Came mid next after → Came before (first ++ next) after
 came_more None first mid next after one two = rw one at two
 came_more (Some rest) first mid next after one two =
@@ -14,7 +15,8 @@ came_more (Some rest) first mid next after one two =
     (end, last, parts ∙ ap (λ x. first ++ x) more ∙ sym (append_assoc first next end))
 
 -- Bytes that came up to the end are the whole rest that the source told.
-pub all_of_the_rest : (rest bytes : List ℕ) (after : Option (List ℕ)) → CameToTheEnd (Some rest) bytes after → bytes ≡ rest
+pub all_of_the_rest : (rest bytes : List ℕ) (after : Option (List ℕ)) → CameToTheEnd (Some rest) bytes after →
+    bytes ≡ rest
 all_of_the_rest rest bytes after whole =
     let (left, now, parts) = whole.came in
     let end : left ≡ [] = rw now at whole.at_end in

@@ -5,7 +5,8 @@ use Rattle.std.proofs.lemmas.List.Elements.{All-head, All-tail}
 use Rattle.spelled.specs.Words.{Lacks}
 
 -- bytes that lack the separator don't hold one after a front
-pub separator_missing : (separator : ℕ) (bytes front back : List ℕ) → Lacks bytes separator → bytes ≡ front ++ separator ∷ back → ⊥
+pub separator_missing : (separator : ℕ) (bytes front back : List ℕ) → Lacks bytes separator →
+    bytes ≡ front ++ separator ∷ back → ⊥
 separator_missing separator [] [] back lacks e = cc
 separator_missing separator [] (b ∷ front) back lacks e = cc
 separator_missing separator (a ∷ bytes) [] back lacks e =

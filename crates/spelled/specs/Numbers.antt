@@ -48,8 +48,11 @@ pub signed_decimal_one : (y z : ℤ) → FitsSigned w64 y → FitsSigned w64 z �
 signed_decimal_one y z p q e = signed_decimal_injective y z p.sfits q.sfits e
 
 -- so are a signed number and what follows
-pub signed_front_unique : (separator : ℕ) (a b : ℤ) (x y : List ℕ) → separator < 45 → FitsSigned w64 a → FitsSigned w64 b
+pub signed_front_unique : (separator : ℕ) (a b : ℤ) (x y : List ℕ) → separator < 45 → FitsSigned w64 a →
+    FitsSigned w64 b
     → signed_decimal a ++ separator ∷ x ≡ signed_decimal b ++ separator ∷ y → (a ≡ b) × (x ≡ y)
 signed_front_unique separator a b x y low p q e =
-    let same = front_unique separator (signed_decimal a) (signed_decimal b) x y (signed_decimal-lacks a separator p low) (signed_decimal-lacks b separator q low) e in
+    let same =
+    front_unique separator (signed_decimal a) (signed_decimal b) x y (signed_decimal-lacks a separator p low)
+    (signed_decimal-lacks b separator q low) e in
     (signed_decimal_one a b p q same.0, same.1)

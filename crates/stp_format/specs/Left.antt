@@ -56,7 +56,8 @@ pub record TakesLine (before : LinesLeft) (line : ToldLine) (after : LinesLeft) 
   pub last : last_number before ≡ last_number after
 
 -- What was read of the lines leads on to what is left of them, or it is their fault; memory may be short.
-abbrev pub Reads : {X : Type 0} → Reading → (X → Result Reading StpFault) → LinesLeft → Result X StpFault → LinesLeft → Type 0
+abbrev pub Reads : {X : Type 0} → Reading → (X → Result Reading StpFault) → LinesLeft → Result X StpFault →
+    LinesLeft → Type 0
 Reads r next before result after = Tells (λ x. next x >>= (λ r'. comes_to r' after)) result (comes_to r before)
 
 -- what is left comes to what is left later

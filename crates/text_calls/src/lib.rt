@@ -1,5 +1,5 @@
-//! Rows of calls on texts: sources and sinks, pieces of texts, words and lines, STP files, texts that are cut. What a row
-//! gives and what comes of it: docs/ROWS.md.
+//! Rows of calls on texts: sources and sinks, pieces of texts, words and lines, STP files, texts that are cut. What a
+//! row gives and what comes of it: docs/ROWS.md.
 #![tactic(auto)]
 
 mod cuts;

@@ -20,9 +20,11 @@ pub parts_some : (p : ℕ → Bool) (bytes : List ℕ) → 0 < length (slice_spl
 parts_some p bytes = omega (arith, length-slice_split p bytes)
 
 -- and the parts determine what was cut
-pub parts_one : (separator : ℕ) (a b : List ℕ) → slice_split (λ x. x == separator) a ≡ slice_split (λ x. x == separator) b → a ≡ b
+pub parts_one : (separator : ℕ) (a b : List ℕ) →
+    slice_split (λ x. x == separator) a ≡ slice_split (λ x. x == separator) b → a ≡ b
 parts_one separator a b e =
-    sym (join_with_byte-slice_split separator a) ∙ ap (join_with_byte separator) e ∙ join_with_byte-slice_split separator b
+    sym (join_with_byte-slice_split separator a) ∙ ap (join_with_byte separator) e
+    ∙ join_with_byte-slice_split separator b
 
 -- a line has a word
 pub words_some : (line : List ℕ) → 0 < length (words_of line)
@@ -42,7 +44,8 @@ words_of-none word lacks = slice_split_none (λ b. b == 32) word (other_bytes 32
 
 -- the first line, and those behind the first line feed
 pub lines_of-at : (line left : List ℕ) → IsLine line → lines_of (line ++ 10 ∷ left) ≡ words_of line ∷ lines_of left
-lines_of-at line left lacks = ap (map words_of) (slice_split_at (λ b. b == 10) line 10 left (other_bytes 10 line lacks) refl)
+lines_of-at line left lacks =
+    ap (map words_of) (slice_split_at (λ b. b == 10) line 10 left (other_bytes 10 line lacks) refl)
 
 -- bytes without a line feed are the last line
 pub lines_of-none : (line : List ℕ) → IsLine line → lines_of line ≡ words_of line ∷ []
@@ -79,7 +82,8 @@ words_of-join [] are = absurd (let some = are.0 in omega arith)
 words_of-join (w ∷ words) are = words_of-joined w words are.1.0 are.1.1
 
 -- no line feed stands among joined words
-joined-lacks : (w : List ℕ) (words : List (List ℕ)) → IsWord w → AllByRecursion IsWord words → IsLine (join_with_byte 32 (w ∷ words))
+joined-lacks : (w : List ℕ) (words : List (List ℕ)) → IsWord w → AllByRecursion IsWord words →
+    IsLine (join_with_byte 32 (w ∷ words))
 joined-lacks w [] is are = is.no_line_feed
 joined-lacks w (v ∷ words) is are =
     All-append (λ b. b ≢ 10) w (32 ∷ join_with_byte 32 (v ∷ words)) is.no_line_feed
@@ -95,6 +99,7 @@ pub lines_of-text_of : (lines : List (List (List ℕ))) (rest : List ℕ) → Al
 lines_of-text_of [] rest are = refl
 lines_of-text_of (l ∷ lines) rest are =
     let line = join_with_byte 32 l in
-    let regrouped : (line ++ 10 ∷ []) ++ text_of lines ++ rest ≡ line ++ 10 ∷ (text_of lines ++ rest) = simp append_assoc in
+    let regrouped : (line ++ 10 ∷ []) ++ text_of lines ++ rest ≡ line ++ 10 ∷ (text_of lines ++ rest) =
+    simp append_assoc in
     ap lines_of regrouped ∙ lines_of-at line (text_of lines ++ rest) (join-lacks l are.0)
     ∙ cc (words_of-join l are.0, lines_of-text_of lines rest are.1)

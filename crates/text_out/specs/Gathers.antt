@@ -13,12 +13,15 @@ pub record Gathered (before : SinkState) (waiting text : List ℕ) (after : Sink
 
 -- The clause of every writer of a text over a block: the text was gathered, or the sink failed and what waited
 -- with the text was cut short. Where the sink had failed before, nothing happens.
-pub record Gathers (before : SinkState) (block : Option (List ℕ)) (text : List ℕ) (after : SinkState) (block' : Option (List ℕ)) : Type 0 where
-  pub gathered : (waiting waiting' : List ℕ) → block ≡ Some waiting → block' ≡ Some waiting' → Gathered before waiting text after waiting'
+pub record Gathers (before : SinkState) (block : Option (List ℕ)) (text : List ℕ) (after : SinkState)
+    (block' : Option (List ℕ)) : Type 0 where
+  pub gathered : (waiting waiting' : List ℕ) → block ≡ Some waiting → block' ≡ Some waiting' →
+      Gathered before waiting text after waiting'
   pub short : (waiting : List ℕ) → block ≡ Some waiting → block' ≡ None → CutShort before (waiting ++ text) after
   pub failed : block ≡ None → (block' ≡ None) × (after ≡ before)
 
 -- The end of a text: what waits is written out. It fails where the sink has failed, now or before.
-pub record Finishes {E : Type 0} (before : SinkState) (block : Option (List ℕ)) (after : SinkState) (result : Result ⊤ E) : Type 0 where
+pub record Finishes {E : Type 0} (before : SinkState) (block : Option (List ℕ)) (after : SinkState)
+    (result : Result ⊤ E) : Type 0 where
   pub written : (waiting : List ℕ) → block ≡ Some waiting → Writes before waiting after result
   pub failed : block ≡ None → IsErr result × (after ≡ before)

@@ -26,7 +26,8 @@ ReadsFst bytes (Err fault) = IsFirstFault bytes (file_fault_of fault)
 
 -- bytes that spell a file have no fault
 abbrev pub SpelledHasNoFault : Type 0
-SpelledHasNoFault = (bytes : List ℕ) (file : FstValue) (fault : FstFault) → SpellsFstFile bytes file → ReadsFst bytes (Err fault) → ⊥
+SpelledHasNoFault =
+    (bytes : List ℕ) (file : FstValue) (fault : FstFault) → SpellsFstFile bytes file → ReadsFst bytes (Err fault) → ⊥
 
 -- bytes spell one file at most
 abbrev pub OneReading : Type 0

@@ -26,7 +26,8 @@ abbrev pub GeneratesFst : ℕ → List ℕ → Result FstValue GenerationFault �
 GeneratesFst k bytes (Ok file) = (ps : List Point) × ListsPoints bytes ps × (file.points ≡ terminals_of ps)
     × IsTreeList file.points k file.trees
 GeneratesFst k bytes (Err (InList fault)) = IsListFault bytes fault
-GeneratesFst k bytes (Err TooManyTrees) = (ps : List Point) × ListsPoints bytes ps × HasMoreSets (terminals_of ps) k 20000
+GeneratesFst k bytes (Err TooManyTrees) =
+    (ps : List Point) × ListsPoints bytes ps × HasMoreSets (terminals_of ps) k 20000
 
 -- The same of terminals, whose list has no fault.
 abbrev pub GeneratesTrees : ℕ → List Point → Result FstValue GenerationFault → Type 0

@@ -19,8 +19,8 @@ use std::alloc::{AllocError, Global};
 /// How many members a generated tree has at most, where no word asks for another number.
 pub const MOST_MEMBERS: u8 = 6;
 
-/// The file of the points that the input lists and of their trees of up to `k` members; or why there is none. An `Err` is
-/// want of memory.
+/// The file of the points that the input lists and of their trees of up to `k` members; or why there is none. An
+/// `Err` is want of memory.
 pub fn take_generated<I: Source>(
     alloc: Global,
     input: &mut I,

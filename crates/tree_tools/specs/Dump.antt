@@ -26,4 +26,5 @@ Dumps pieces bytes (Err fault) = ReadsFst bytes (Err fault)
 -- A run of `dumpfst`, with or without pieces.
 abbrev pub EndsDumpfst : Bool → Outside → Outside → ℕ → Type 0
 EndsDumpfst pieces before after status =
-    Ends (text_fault_status fst_fault_status) (text_fault_text fst_fault_text) (codes "dumpfst") (FromText TEXT_LIMIT (Dumps pieces)) LeavesShelf before after status
+    Ends (text_fault_status fst_fault_status) (text_fault_text fst_fault_text) (codes "dumpfst")
+    (FromText TEXT_LIMIT (Dumps pieces)) LeavesShelf before after status

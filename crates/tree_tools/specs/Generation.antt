@@ -22,13 +22,14 @@ use Rattle.tree_inputs.specs.Generation.{IsTreeList}
 abbrev pub fst_print : List Point → List Tree → Print
 fst_print points trees = record { text = fst_text (record { points = points; trees = trees }); status = Done }
 
--- What `rfst` finds in a text: the file of the points that it lists and of their trees of up to k members, which join these
--- points. Or it lists none, or there are more than 20,000 such trees.
+-- What `rfst` finds in a text: the file of the points that it lists and of their trees of up to k members, which join
+-- these points. Or it lists none, or there are more than 20,000 such trees.
 abbrev pub GeneratesFile : ℕ → List ℕ → Result Print GenerationFault → Type 0
 GeneratesFile k bytes (Ok print) = (ps : List Point) × (trees : List Tree) × ListsPoints bytes ps
     × IsTreeList (terminals_of ps) k trees × (print ≡ fst_print (terminals_of ps) trees)
 GeneratesFile k bytes (Err (InList fault)) = IsListFault bytes fault
-GeneratesFile k bytes (Err TooManyTrees) = (ps : List Point) × ListsPoints bytes ps × HasMoreSets (terminals_of ps) k 20000
+GeneratesFile k bytes (Err TooManyTrees) =
+    (ps : List Point) × ListsPoints bytes ps × HasMoreSets (terminals_of ps) k 20000
 
 -- A run of `rfst` for trees of up to k members.
 abbrev pub EndsRfst : ℕ → Outside → Outside → ℕ → Type 0

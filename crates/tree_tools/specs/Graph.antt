@@ -27,4 +27,5 @@ GraphsFile bytes (Err fault) = ReadsFst bytes (Err fault)
 -- A run of `fst2graph`.
 abbrev pub EndsFst2graph : Outside → Outside → ℕ → Type 0
 EndsFst2graph before after status =
-    Ends (text_fault_status fst_fault_status) (text_fault_text fst_fault_text) (codes "fst2graph") (FromText TEXT_LIMIT GraphsFile) LeavesShelf before after status
+    Ends (text_fault_status fst_fault_status) (text_fault_text fst_fault_text) (codes "fst2graph")
+    (FromText TEXT_LIMIT GraphsFile) LeavesShelf before after status

@@ -23,5 +23,6 @@ IsAnything l = Unit {0}
 
 -- The list of the trees of the file that the input spells; or why it spells none.
 abbrev pub FindsListing : Bool → Readable → Readable → Result Listing (TextFault FstFault) → Type 0
-FindsListing pieces before after (Ok l) = FromText {F = FstFault} TEXT_LIMIT ReadsFst before after (Ok l.file) × (l.pieces ≡ pieces)
+FindsListing pieces before after (Ok l) =
+    FromText {F = FstFault} TEXT_LIMIT ReadsFst before after (Ok l.file) × (l.pieces ≡ pieces)
 FindsListing pieces before after (Err fault) = FromText TEXT_LIMIT ReadsFst before after (Err fault)

@@ -17,9 +17,11 @@ use Rattle.tree_inputs.specs.Files.{ReadsFst}
 use Rattle.tree_inputs.specs.Pruning.{IsPruned}
 use Rattle.tree_tools.specs.Generation.{fst_print}
 
--- What `prunefst` finds in a text: the file of the points and the kept trees of the file that it spells; or its first fault.
+-- What `prunefst` finds in a text: the file of the points and the kept trees of the file that it spells; or its first
+-- fault.
 abbrev pub PrunesFile : List ℕ → Result Print FstFault → Type 0
-PrunesFile bytes (Ok print) = (file : FstValue) × (kept : List Tree) × SpellsFstFile bytes file × AreKeptTrees file.trees kept
+PrunesFile bytes (Ok print) =
+    (file : FstValue) × (kept : List Tree) × SpellsFstFile bytes file × AreKeptTrees file.trees kept
     × (print ≡ fst_print file.points kept)
 PrunesFile bytes (Err fault) = ReadsFst bytes (Err fault)
 
@@ -31,5 +33,6 @@ FindsPruned bytes (Err fault) = ReadsFst bytes (Err fault)
 -- A run of `prunefst`.
 abbrev pub EndsPrunefst : Outside → Outside → ℕ → Type 0
 EndsPrunefst before after status =
-    Ends (text_fault_status fst_fault_status) (text_fault_text fst_fault_text) (codes "prunefst") (FromText TEXT_LIMIT PrunesFile) LeavesShelf
+    Ends (text_fault_status fst_fault_status) (text_fault_text fst_fault_text) (codes "prunefst")
+    (FromText TEXT_LIMIT PrunesFile) LeavesShelf
     before after status

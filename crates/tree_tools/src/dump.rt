@@ -13,8 +13,8 @@ use rst_outside::{Sink, Source};
 use std::alloc::{AllocError, Global};
 use tree_inputs::{FstFault, take_fst};
 
-/// Runs `dumpfst`: reads a file of full trees from the input and prints its trees, each with its members and its length,
-/// and with its straight pieces where `pieces` says so. Gives the status that the program ends with.
+/// Runs `dumpfst`: reads a file of full trees from the input and prints its trees, each with its members and its
+/// length, and with its straight pieces where `pieces` says so. Gives the status that the program ends with.
 pub fn dumpfst<I: Source, O: Sink, R: Sink>(
     alloc: Global,
     pieces: bool,
@@ -30,7 +30,8 @@ pub fn dumpfst<I: Source, O: Sink, R: Sink>(
     conclude(out, err, b"dumpfst", found)
 }
 
-// The list of the trees of the file that the input spells. A fault has the cause that it names. An `Err` is want of memory.
+// The list of the trees of the file that the input spells. A fault has the cause that it names. An `Err` is want of
+// memory.
 fn find<I: Source>(
     alloc: Global,
     pieces: bool,

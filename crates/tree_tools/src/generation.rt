@@ -33,8 +33,8 @@ pub fn rfst<I: Source, O: Sink, R: Sink>(
     conclude(out, err, b"rfst", found)
 }
 
-// The file of the points that the input lists and of their trees. A fault has the cause that it names. An `Err` is want of
-// memory.
+// The file of the points that the input lists and of their trees. A fault has the cause that it names. An `Err` is
+// want of memory.
 fn find<I: Source>(
     alloc: Global,
     size: u8,

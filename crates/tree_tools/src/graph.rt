@@ -13,8 +13,8 @@ use rst_outside::{Sink, Source};
 use std::alloc::{AllocError, Global};
 use tree_inputs::{FstFault, take_fst};
 
-/// Runs `fst2graph`: reads a file of full trees from the input and prints the grid of its points as an STP file. Gives the
-/// status that the program ends with.
+/// Runs `fst2graph`: reads a file of full trees from the input and prints the grid of its points as an STP file.
+/// Gives the status that the program ends with.
 pub fn fst2graph<I: Source, O: Sink, R: Sink>(
     alloc: Global,
     input: &mut I,
@@ -29,7 +29,8 @@ pub fn fst2graph<I: Source, O: Sink, R: Sink>(
     conclude(out, err, b"fst2graph", found)
 }
 
-// The grid of the points of the file that the input spells. A fault has the cause that it names. An `Err` is want of memory.
+// The grid of the points of the file that the input spells. A fault has the cause that it names. An `Err` is want of
+// memory.
 fn find<I: Source>(
     alloc: Global,
     input: &mut I,

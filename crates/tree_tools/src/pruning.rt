@@ -13,8 +13,8 @@ use rst_outside::{Sink, Source};
 use std::alloc::{AllocError, Global};
 use tree_inputs::{FstFault, pruned, take_fst};
 
-/// Runs `prunefst`: reads a file of full trees from the input and prints the file of the same points and of the trees that
-/// pruning keeps. Gives the status that the program ends with.
+/// Runs `prunefst`: reads a file of full trees from the input and prints the file of the same points and of the trees
+/// that pruning keeps. Gives the status that the program ends with.
 pub fn prunefst<I: Source, O: Sink, R: Sink>(
     alloc: Global,
     input: &mut I,
@@ -29,8 +29,8 @@ pub fn prunefst<I: Source, O: Sink, R: Sink>(
     conclude(out, err, b"prunefst", found)
 }
 
-// The file of the points and the kept trees of the file that the input spells. A fault has the cause that it names. An `Err`
-// is want of memory.
+// The file of the points and the kept trees of the file that the input spells. A fault has the cause that it names.
+// An `Err` is want of memory.
 fn find<I: Source>(
     alloc: Global,
     input: &mut I,
