@@ -7,7 +7,7 @@ use stp_format::{StpFault, read_stp};
 
 /// The faults of the proper prefixes of the text under `file`, from the shortest one on, each with how many prefixes
 /// in a row have it: of an STP file or of a file of full trees, as the word under `format` says.
-pub fn cuts(alloc: Global, call: &Call, answer: &mut String) -> Result<(), Fault> {
+pub(crate) fn cuts(alloc: Global, call: &Call, answer: &mut String) -> Result<(), Fault> {
     let text = call.bytes("file")?;
     let mut last = String::new(alloc);
     let mut times: usize = 0;

@@ -11,13 +11,13 @@ use std::str::from_utf8;
 const ROOM: usize = 1 << 16;
 
 /// A source of the bytes under `bytes`, in steps of `step`, that fails at the calls under `failing`.
-pub fn source(alloc: Global, call: &Call) -> Result<MemSource, Fault> {
+pub(crate) fn source(alloc: Global, call: &Call) -> Result<MemSource, Fault> {
     let bytes = Vec::from_slice(alloc, call.bytes("bytes")?)?;
     Ok(MemSource::new(bytes, step(call)?, failing(alloc, call)?))
 }
 
 /// A sink with the room under `room`, that takes steps of `step`, and fails at the calls under `failing`.
-pub fn sink(alloc: Global, call: &Call) -> Result<MemSink, Fault> {
+pub(crate) fn sink(alloc: Global, call: &Call) -> Result<MemSink, Fault> {
     let room = if call.has("room") {
         count(call.word("room")?)?
     } else {
@@ -27,7 +27,7 @@ pub fn sink(alloc: Global, call: &Call) -> Result<MemSink, Fault> {
 }
 
 /// The bytes as a text.
-pub fn shown(bytes: &[u8]) -> Result<&str, Fault> {
+pub(crate) fn shown(bytes: &[u8]) -> Result<&str, Fault> {
     from_utf8(bytes).map_err(|_| Fault::NotUtf8)
 }
 

@@ -7,7 +7,7 @@ use text_lines::{LineWords, TextLines};
 
 /// The lines of the text under `bytes` by their numbers, the words of each with the numbers that they spell, and the
 /// number of the line where no whole one is left.
-pub fn lines(call: &Call, answer: &mut String) -> Result<(), Fault> {
+pub(crate) fn lines(call: &Call, answer: &mut String) -> Result<(), Fault> {
     let text = call.bytes("bytes")?;
     let mut lines = TextLines::of(text);
     for _ in 0..text.len() {

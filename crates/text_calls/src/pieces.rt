@@ -7,7 +7,7 @@ use std::alloc::Global;
 use text_out::{Block, finish, literal, number, signed};
 
 /// What a sink has of a text whose pieces stand under `literal`, `number` and `signed`, and whether it was cut short.
-pub fn pieces(alloc: Global, call: &Call, answer: &mut String) -> Result<(), Fault> {
+pub(crate) fn pieces(alloc: Global, call: &Call, answer: &mut String) -> Result<(), Fault> {
     let mut sink = given_sink(alloc, call)?;
     let mut block = Block::new();
     for piece in &call.arguments {

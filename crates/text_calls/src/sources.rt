@@ -23,7 +23,7 @@ impl Consumer for Gathering {
 
 /// What is taken of a source with at most `limit` bytes, then what is taken of its rest, and what the same source feeds
 /// from its start, two bytes at a time.
-pub fn source(alloc: Global, call: &Call, answer: &mut String) -> Result<(), Fault> {
+pub(crate) fn source(alloc: Global, call: &Call, answer: &mut String) -> Result<(), Fault> {
     let limit = number(call.word("limit")?)?;
     let mut source = given_source(alloc, call)?;
     tell_taken(take_all(alloc, &mut source, limit), answer)?;
@@ -35,7 +35,7 @@ pub fn source(alloc: Global, call: &Call, answer: &mut String) -> Result<(), Fau
 }
 
 /// What a source that never fails gives to four bytes and then, and what a sink says that never fails.
-pub fn sure(alloc: Global, call: &Call, answer: &mut String) -> Result<(), Fault> {
+pub(crate) fn sure(alloc: Global, call: &Call, answer: &mut String) -> Result<(), Fault> {
     let mut source = SureSource::new(Vec::from_slice(alloc, call.bytes("bytes")?)?);
     let mut block = [0u8; 4];
     if let Ok(n) = source.read(&mut block) {

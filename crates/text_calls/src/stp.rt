@@ -6,7 +6,7 @@ use std::alloc::Global;
 use stp_format::{StpFault, StpFile, read_stp, write_stp};
 
 /// The fault of the STP file under `file`; or what it holds, and the file as it is written.
-pub fn stp(alloc: Global, call: &Call, answer: &mut String) -> Result<(), Fault> {
+pub(crate) fn stp(alloc: Global, call: &Call, answer: &mut String) -> Result<(), Fault> {
     let file = match read_stp(alloc, call.bytes("file")?) {
         Ok(file) => file,
         Err(StpFault::Memory(error)) => return Err(Fault::from(error)),
