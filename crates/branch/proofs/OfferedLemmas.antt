@@ -1,7 +1,6 @@
 -- A search that is offered a network, and the network that its first leaf shows.
-use Rattle.std.proofs.Common.{ℕ, zero, suc, ◌≡◌, ◌<◌, ◌≤◌, Bool, List, get_or, slice_get, Option, Some, None, Bor, ap, sym, subst, ◌∙◌, arith}
+use Rattle.std.proofs.Common.{ℕ, zero, suc, ◌≡◌, ◌<◌, ◌≤◌, Bool, List, Option, Some, None, Bor, sym, subst, arith}
 use Rattle.std.specs.Option.{IfSome, option_copied}
-use Rattle.std.proofs.lemmas.Option.{slice_get-get_or}
 use Rattle.net_graph.specs.Decision.{nothing_decided}
 use Rattle.net_graph.specs.Graph.{Graph}
 use Rattle.net_graph.specs.Network.{length_of}
@@ -16,8 +15,7 @@ use Rattle.branch.specs.Notes.{IsBest, IsKeptNote, IsOwnNetwork, ShowsOwn, AreNo
 use Rattle.branch.specs.Runs.{EndsOpenings}
 use Rattle.branch.specs.Searching.{IsSearch}
 use Rattle.branch.specs.States.{IsState}
-use Rattle.branch.proofs.ListLemmas.{AllZip-weaker, beside_right}
-use Rattle.branch.proofs.RaisedLemmas.{some_note}
+use Rattle.branch.proofs.ListLemmas.{AllZip-weaker}
 use Rattle.branch.proofs.SearchLemmas.{shorter_own, state_of}
 
 -- a run ends with a shorter network, too
@@ -71,16 +69,9 @@ offered_search g old new best search is_best less is =
     })
 
 -- what is kept as a leaf's own network is one
-own_network : (g : Graph) (leaf : DecidedLeaf) (own : Option (List Bool)) → ShowsOwn g leaf own → IsOwnNetwork g own
+pub own_network : (g : Graph) (leaf : DecidedLeaf) (own : Option (List Bool)) → ShowsOwn g leaf own → IsOwnNetwork g own
 own_network g leaf None shows = tt
 own_network g leaf (Some set) shows = shows.network_of
-
-pub first_own : (g : Graph) (kept : Frontier) (note : LeafNote) → IsSearch g kept → note ≡ get_or kept.notes.items 0 note → IsOwnNetwork g note.network
-first_own g kept note search is =
-    let at : slice_get kept.notes.items 0 ≡ Some note =
-    slice_get-get_or kept.notes.items 0 note (some_note g kept search) ∙ ap (λ (n : LeafNote). Some n) (sym is) in
-    let (leaf, leaf_at, of_note) = beside_right (IsKeptNote g kept.best.length) (leaves_of (nothing_decided g) kept.tree) kept.notes.items 0 note search.notes at in
-    own_network g leaf note.network of_note.0.own
 
 -- what a reference to it is, is the value
 pub IfSome-copied : {A : Type 0} (P : A → Type 0) (o : Option (Bor A)) → IfSome (option_copied o) P → IfSome o (λ x. P x.now)

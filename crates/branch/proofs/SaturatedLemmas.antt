@@ -1,18 +1,24 @@
 -- Edges with saturated arcs, one after another and as a network.
-use Rattle.std.proofs.Common.{ℕ, ◌≡◌, ◌+◌, ◌<◌, ◌≤◌, ◌↔◌, ◌⊎◌, ⊎_elim, inl, inr, Bool, true, false, List, [], ◌∷◌, ◌++◌, length, replicate, slice_get, slice_set, Some, All, Contains, sym, ap, ◌∙◌, subst, arith}
+use Rattle.std.proofs.Common.{ℕ, ◌≡◌, ◌+◌, ◌-◌, ◌*◌, ◌/◌, ◌%◌, ◌<◌, ◌≤◌, ◌↔◌, ◌⊎◌, ⊎_elim, inl, inr, Bool, true, false}
+use Rattle.std.proofs.Common.{List, [], ◌∷◌, ◌++◌, length, replicate, slice_get, slice_set, Option, Some, All, Contains}
+use Rattle.std.proofs.Common.{refl, sym, ap, ◌∙◌, subst, arith}
 use Rattle.std.proofs.lemmas.Bool.{cases_lt}
 use Rattle.std.proofs.lemmas.List.Elements.{All-contains, Contains-get_or, Contains-push_cases}
+use Rattle.std.proofs.lemmas.Option.{slice_get_within}
 use Rattle.net_graph.specs.declared.arcs.Arc.{Arc}
 use Rattle.net_graph.specs.declared.packing.Cut.{Cut}
 use Rattle.net_graph.specs.Adds.{Adds}
 use Rattle.net_graph.specs.AddsLaws.{Adds-one, Adds-then, Adds-iff, Adds-holds}
-use Rattle.net_graph.specs.Decision.{Decided}
+use Rattle.net_graph.specs.Decision.{Decided, IsDecisionFor, states_of}
 use Rattle.net_graph.specs.Graph.{Graph, root_of}
 use Rattle.net_graph.specs.Network.{Links, IsNetwork}
-use Rattle.net_graph.specs.Packing.{load}
+use Rattle.net_graph.specs.Packing.{load, room_of}
 use Rattle.net_graph.specs.Saturation.{SaturatedStep, IsMaximal}
 use Rattle.net_graph.specs.SearchLaws.{Leads-weaker}
-use Rattle.branch.specs.SaturatedArcs.{HasSaturatedArc}
+use Rattle.dual_ascent.specs.declared.costs.EdgeCosts.{EdgeCosts}
+use Rattle.dual_ascent.specs.Costs.{left_after, left_of, costs_of, is_used_up}
+use Rattle.dual_ascent.specs.CostLaws.{left_after-le, slice_get-costs_of, saturated_edge}
+use Rattle.branch.specs.SaturatedArcs.{HasSaturatedArc, IsUsedUpEdge}
 
 module _ (H : ℕ → Type 0) where
   -- one more number, which was put in
@@ -85,4 +91,33 @@ IsNetwork-saturated g d packing set maximal each k v within =
       ),
       at,
       ends,
+    )
+
+-- nothing is left of an arc whose load is its room
+used_up-full : (room : Option ℕ) (amount : ℕ) → room ≡ Some amount → is_used_up (left_after room amount) ≡ true
+used_up-full room amount is =
+    let none : amount - amount ≡ 0 = omega arith in
+    rw (is, left_after-le amount amount (omega arith), none) refl
+
+-- An edge has a saturated arc exactly where nothing is left of the room of one.
+pub HasSaturatedArc-used_up : (g : Graph) (d : Decided) (packing : List Cut) → IsDecisionFor g d → (n : ℕ) →
+    IsUsedUpEdge (costs_of g.edges (states_of g d) packing) n ↔ HasSaturatedArc g d packing n
+HasSaturatedArc-used_up g d packing size n =
+    let costs : List EdgeCosts = costs_of g.edges (states_of g d) packing in (
+      λ (below, one). ⊎_elim
+          (λ first. let half : 2 * n / 2 ≡ n = omega arith in
+          subst (HasSaturatedArc g d packing) half (saturated_edge g d packing size (2 * n) first))
+          (λ second. let half : (2 * n + 1) / 2 ≡ n = omega arith in
+          subst (HasSaturatedArc g d packing) half (saturated_edge g d packing size (2 * n + 1) second))
+          one,
+      λ (e, state, at, decided, full).
+          let here = slice_get-costs_of g.edges (states_of g d) packing n e state at decided in (
+            slice_get_within costs n (left_of e state packing) here,
+            ⊎_elim
+                (λ first. let half : 2 * n / 2 ≡ n = omega arith in let even : 2 * n % 2 ≡ 0 = omega arith in
+                inl (rw (half, here, even) (used_up-full (room_of state e) (load packing e.a e.b) first)))
+                (λ second. let half : (2 * n + 1) / 2 ≡ n = omega arith in let odd : (2 * n + 1) % 2 ≡ 1 = omega arith in
+                inr (rw (half, here, odd) (used_up-full (room_of state e) (load packing e.b e.a) second)))
+                full,
+          ),
     )

@@ -1,5 +1,6 @@
 -- What a search keeps beside the leaves of its tree.
-use Rattle.std.specs.Prelude.{ℕ, ◌≡◌, ◌+◌, ◌*◌, ◌<◌, ◌≤◌, Bool, true, List, length, slice_get, Option, Some, None, IfSome, All, ◌⊎◌}
+use Rattle.std.specs.Prelude.{ℕ, ◌≡◌, ◌+◌, ◌*◌, ◌<◌, ◌≤◌, Bool, true, List, [], ◌∷◌, length, slice_get, Option, Some}
+use Rattle.std.specs.Prelude.{None, IfSome, All, ◌⊎◌, nat_le, if◌then◌else◌}
 use Rattle.std.specs.List.{AllZip}
 use Rattle.net_graph.specs.Graph.{Graph, total_of}
 use Rattle.net_graph.specs.Network.{length_of}
@@ -42,6 +43,16 @@ IsOwnNetwork g own = IfSome own (λ set. IsNetworkOf g set)
 -- the length is at most that of a leaf's own network
 abbrev pub IsUpToOwn : Graph → ℕ → Option (List Bool) → Type 0
 IsUpToOwn g length own = IfSome own (λ set. length ≤ length_of g set)
+
+-- the shorter one of a network and of another one, if there is another; the first of them on a tie
+abbrev pub shorter_of : Graph → List Bool → Option (List Bool) → List Bool
+shorter_of g set None = set
+shorter_of g set (Some other) = if nat_le (length_of g set) (length_of g other) then set else other
+
+-- the network that is kept beside the first leaf, if one is
+abbrev pub shown_first : List LeafNote → Option (List Bool)
+shown_first [] = None
+shown_first (note ∷ notes) = note.network
 
 -- what is kept beside a leaf is true of it, and the leaf's own network is no shorter than the length
 abbrev pub IsKeptNote : Graph → ℕ → DecidedLeaf → LeafNote → Type 0

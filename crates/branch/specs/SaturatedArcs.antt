@@ -1,5 +1,5 @@
 -- Saturated arcs, by the edges whose arcs they are.
-use Rattle.std.specs.Prelude.{ℕ, ◌≡◌, ◌/◌, ◌<◌, ◌⊎◌, true, List, length, slice_get, Some, Contains}
+use Rattle.std.specs.Prelude.{ℕ, ◌≡◌, ◌+◌, ◌*◌, ◌/◌, ◌<◌, ◌⊎◌, true, List, length, slice_get, Some, Contains}
 use Rattle.net_graph.specs.declared.arcs.Arc.{Arc}
 use Rattle.net_graph.specs.declared.edge.Edge.{Edge}
 use Rattle.net_graph.specs.declared.packing.Cut.{Cut}
@@ -22,6 +22,11 @@ pub record IsOfSaturated (g : Graph) (costs : List EdgeCosts) (arc : Arc) : Type
   pub to : arc.to < g.vertices
   pub edge : arc.number / 2 < length g.edges
   pub saturated : is_saturated costs arc.number ≡ true
+
+-- nothing is left of the room of one of the edge's arcs
+abbrev pub IsUsedUpEdge : List EdgeCosts → ℕ → Type 0
+IsUsedUpEdge costs n =
+    (n < length costs) × ((is_saturated costs (2 * n) ≡ true) ⊎ (is_saturated costs (2 * n + 1) ≡ true))
 
 -- one of the arcs is of the edge of this number
 abbrev pub IsEdgeOfOne : List Arc → ℕ → Type 0

@@ -1,6 +1,6 @@
 -- How a search as contracts see it is stored: by its parts.
-use Rattle.std.specs.Prelude.{ℕ, Bool, List, refl}
-use Rattle.std.specs.Coded.{Coded, code_by, coded×, coded_ℕ, coded_bool, coded_list}
+use Rattle.std.specs.Prelude.{ℕ, Bool, List, Option, refl}
+use Rattle.std.specs.Coded.{Coded, code_by, coded×, coded_ℕ, coded_bool, coded_list, coded_option}
 use Rattle.net_graph.specs.declared.edge.Edge.{Edge}
 use Rattle.net_graph.specs.Graph.{Graph}
 use Rattle.cert_tree.specs.declared.split.SplitOn.{SplitOn}
@@ -21,7 +21,8 @@ graph_code =
 
 abbrev pub search_code : Coded SearchState
 search_code =
-    code_by (Graph × (List Bool × (Tree SplitOn × ℕ)))
-    (coded× graph_code (coded× (coded_list coded_bool) (coded× tree_code coded_ℕ)))
-    (λ s. (s.graph, (s.network, (s.tree, s.first_length))))
-    (λ p. record { graph = p.0; network = p.1.0; tree = p.1.1.0; first_length = p.1.1.1 }) (λ _. refl)
+    code_by (Graph × (List Bool × (Tree SplitOn × (ℕ × Option (List Bool)))))
+    (coded× graph_code (coded× (coded_list coded_bool)
+    (coded× tree_code (coded× coded_ℕ (coded_option (coded_list coded_bool))))))
+    (λ s. (s.graph, (s.network, (s.tree, (s.first_length, s.shown)))))
+    (λ p. record { graph = p.0; network = p.1.0; tree = p.1.1.0; first_length = p.1.1.1.0; shown = p.1.1.1.1 }) (λ _. refl)

@@ -1,5 +1,5 @@
 -- What a search keeps, and its steps.
-use Rattle.std.specs.Prelude.{ℕ, ◌≡◌, ◌+◌, ◌≤◌, min, Bool, List, slice_get, slice_set, Some}
+use Rattle.std.specs.Prelude.{ℕ, ◌≡◌, ◌+◌, ◌≤◌, min, Bool, List, slice_get, slice_set, Option, Some}
 use Rattle.std.specs.List.{insert}
 use Rattle.net_graph.specs.declared.packing.Cut.{Cut}
 use Rattle.net_graph.specs.Graph.{Graph}
@@ -22,15 +22,16 @@ use Rattle.branch.specs.Leaves.{DecidedLeaf, leaf_under, leaves_of}
 use Rattle.branch.specs.States.{IsOpenLeaf}
 use Rattle.branch.specs.Openings.{IsOpening, IsSplitEdge, BeginsAt}
 use Rattle.branch.specs.Runs.{EndsRunOfOpenings}
-use Rattle.branch.specs.Notes.{IsBest, AreNotesOf, IsNoteOf, IsUpToOwn}
+use Rattle.branch.specs.Notes.{IsBest, ShowsOwn, AreNotesOf, IsNoteOf, IsUpToOwn, shorter_of, shown_first}
 
--- A search as contracts see it: its graph, its best network, its tree, and the length of the network that it
--- began with.
+-- A search as contracts see it: its graph, its best network, its tree, the length of the network that it began with,
+-- and the network that the first leaf in preorder shows, if it shows one.
 pub record SearchState : Type 0 where
   pub graph : Graph
   pub network : List Bool
   pub tree : Tree SplitOn
   pub first_length : ℕ
+  pub shown : Option (List Bool)
 
 -- what contracts see of what is kept
 abbrev pub search_state : Graph → Frontier → SearchState
@@ -39,7 +40,14 @@ search_state g kept = record {
   network = kept.best.network;
   tree = kept.tree;
   first_length = kept.first_length;
+  shown = shown_first kept.notes.items;
 }
+
+-- What is shown is what the first leaf in preorder shows: a network whose edges each have a saturated arc there, where its
+-- packing is maximal; there is none only where its value is at least the sum of all lengths.
+abbrev pub IsShownFirst : SearchState → Type 0
+IsShownFirst s =
+    (leaf : DecidedLeaf) × (slice_get (leaves_of (nothing_decided s.graph) s.tree) 0 ≡ Some leaf) × ShowsOwn s.graph leaf s.shown
 
 -- each split of the tree is on an edge
 abbrev pub SplitsEdges : Tree SplitOn → Type 0
@@ -94,7 +102,8 @@ pub record IsAsBefore (old new : Frontier) : Type 0 where
   pub best : new.best ≡ old.best
   pub first_length : new.first_length ≡ old.first_length
 
--- Another leaf may stand in place of the only one: the value is no less than it was and than that of the given cuts.
+-- Another leaf may stand in place of the only one: the value is no less than it was and than that of the given cuts. The
+-- best network is the shorter one of what it was and of the one that the leaf now shows, and what it was on a tie.
 pub record IsRaised (cuts : List Cut) (old new : SearchState) : Type 0 where
   pub graph : new.graph ≡ old.graph
   pub first_length : new.first_length ≡ old.first_length
@@ -103,12 +112,14 @@ pub record IsRaised (cuts : List Cut) (old new : SearchState) : Type 0 where
       ≤ tree_value new.graph (nothing_decided new.graph) new.tree
   pub given : packing_value old.graph (nothing_decided old.graph) cuts
       ≤ tree_value new.graph (nothing_decided new.graph) new.tree
+  pub network : new.network ≡ shorter_of old.graph old.network new.shown
 
 -- The best network is the shorter one of what it was and another, and nothing else has changed.
 pub record IsOffered (network : List Bool) (old new : SearchState) : Type 0 where
   pub graph : new.graph ≡ old.graph
   pub first_length : new.first_length ≡ old.first_length
   pub tree : new.tree ≡ old.tree
+  pub shown : new.shown ≡ old.shown
   pub shorter : length_of old.graph new.network ≡ min (length_of old.graph old.network) (length_of old.graph network)
 
 -- no leaf's value is below the best network's length

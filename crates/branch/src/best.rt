@@ -15,7 +15,7 @@ pub(crate) struct Best {
 }
 
 impl Best {
-    ghost use Rattle.branch.specs.Notes.{IsBest, IsOwnNetwork, IsUpToOwn};
+    ghost use Rattle.branch.specs.Notes.{IsBest, IsOwnNetwork, IsUpToOwn, shorter_of};
 
     /// The network with its length.
     pub fn of(g: &NetGraph, network: EdgeSet) -> Best
@@ -45,6 +45,7 @@ impl Best {
         ensures best { IfOk result (λ best. IsBest g.now best) }
         ensures no_longer { IfOk result (λ best. best.length ≤ self.length) }
         ensures own { IfOk result (λ best. IsUpToOwn g.now best.length note.now.network) }
+        ensures which { IfOk result (λ best. best.network ≡ shorter_of g.now self.network note.now.network) }
     {
         match &note.network {
             Some(network) if length(g, network) < self.length => Ok(Best::of(g, network.copy()?)),

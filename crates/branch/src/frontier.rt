@@ -1,6 +1,6 @@
 //! What a search keeps.
 
-ghost use Rattle.std.specs.Prelude.{◌≡◌, ◌<◌, ◌≤◌, ◌^◌, length, IfOk, OnOk, OnErr};
+ghost use Rattle.std.specs.Prelude.{◌≡◌, ◌<◌, ◌≤◌, ◌^◌, [], ◌∷◌, length, IfOk, OnOk, OnErr};
 ghost use Rattle.net_graph.specs.Network.{length_of};
 ghost use Rattle.net_graph.specs.Decision.{nothing_decided};
 ghost use Rattle.cert_tree.specs.Tree.Tree.{Leaf};
@@ -27,7 +27,7 @@ pub(crate) struct Frontier {
 impl Frontier {
     ghost use Rattle.branch.specs.Leaves.{leaf_under};
     ghost use Rattle.branch.specs.States.{IsNetworkOf};
-    ghost use Rattle.branch.specs.Notes.{IsNoteOf};
+    ghost use Rattle.branch.specs.Notes.{IsNoteOf, shorter_of};
     ghost use Rattle.branch.specs.Searching.{IsSearch, IsOpened, IsAsBefore};
 
     /// A search that begins with a network and with one leaf where nothing is decided. An `Err` is want of memory.
@@ -42,6 +42,8 @@ impl Frontier {
         ensures search { IfOk result (λ kept. IsSearch g.now kept) }
         ensures first { IfOk result (λ kept. kept.first_length ≡ length_of g.now first) }
         ensures leaf { IfOk result (λ kept. kept.tree ≡ Leaf leaf.packing) }
+        ensures notes { IfOk result (λ kept. kept.notes.items ≡ leaf.note ∷ []) }
+        ensures network { IfOk result (λ kept. kept.best.network ≡ shorter_of g.now first leaf.note.network) }
     {
         let NewLeaf { packing, note } = leaf;
         let first = Best::of(g, first);
@@ -70,6 +72,9 @@ impl Frontier {
         ensures search { IfOk result (λ kept. IsSearch g.now kept) }
         ensures first { IfOk result (λ kept. kept.first_length ≡ self.now.first_length) }
         ensures leaf { IfOk result (λ kept. kept.tree ≡ Leaf leaf.packing) }
+        ensures notes { IfOk result (λ kept. kept.notes.items ≡ leaf.note ∷ []) }
+        ensures network { IfOk result
+            (λ kept. kept.best.network ≡ shorter_of g.now self.now.best.network leaf.note.network) }
     {
         let kept = Frontier::begin(alloc, g, self.best.network.copy()?, leaf)?;
         Ok(Frontier {

@@ -59,7 +59,7 @@ pub(crate) fn saturated_network_by(
     if joins(alloc, g, &kept)? {
         Ok(kept)
     } else {
-        saturated_edges(alloc, g, d, packing)
+        saturated_edges(alloc, g, costs)
     }
 }
 

@@ -1,6 +1,8 @@
 //! The search by splits.
 
-ghost use Rattle.std.specs.Prelude.{◌≡◌, ◌+◌, ◌*◌, ◌<◌, ◌≤◌, ◌^◌, ◌↔◌, false, true, length, IsTrue, IfOk, IfSome, OnOk, OnErr};
+ghost use Rattle.std.specs.Prelude.{◌≡◌, ◌+◌, ◌*◌, ◌<◌, ◌≤◌, ◌^◌, ◌↔◌, false, true, length, IsTrue, IfOk, IfSome};
+ghost use Rattle.std.specs.Prelude.{OnOk, OnErr};
+ghost use Rattle.std.specs.Option.{option_copied};
 ghost use Rattle.net_graph.specs.Network.{length_of};
 ghost use Rattle.net_graph.specs.Decision.{nothing_decided};
 ghost use Rattle.net_graph.specs.Packing.{IsFeasible};
@@ -48,7 +50,8 @@ impl<'a, F: Rule, G: Rule> Model for Search<'a, F, G> {
 
 impl<'a, F: Rule, G: Rule> Search<'a, F, G> {
     ghost use Rattle.branch.specs.States.{IsNetworkOf};
-    ghost use Rattle.branch.specs.Searching.{IsRaised, IsOffered, IsSettled, SplitsEdges, TakesStep};
+    ghost use Rattle.branch.specs.Notes.{shorter_of};
+    ghost use Rattle.branch.specs.Searching.{IsRaised, IsOffered, IsSettled, IsShownFirst, SplitsEdges, TakesStep};
     ghost use Rattle.branch.specs.Solving.{IsSolved};
 
     /// A search that begins with a network and with the leaf of an ascent from no cut. The rule `ascent`
@@ -65,6 +68,7 @@ impl<'a, F: Rule, G: Rule> Search<'a, F, G> {
         ensures graph { IfOk result (λ s. s.graph ≡ g.now) }
         ensures first { IfOk result (λ s. s.first_length ≡ length_of g.now first) }
         ensures leaf { IfOk result (λ s. split_count s.tree ≡ 0) }
+        ensures network { IfOk result (λ s. s.network ≡ shorter_of g.now first s.shown) }
     {
         let leaf = first_leaf(alloc, g, Packing::empty(alloc), &ascent)?;
         let kept = Frontier::begin(alloc, g, first, leaf)?;
@@ -78,7 +82,8 @@ impl<'a, F: Rule, G: Rule> Search<'a, F, G> {
     }
 
     /// Takes the leaf of an ascent that begins with given cuts in place of the tree's only leaf, where its value is
-    /// greater. An `Err` is want of memory, and leaves the search as it was.
+    /// greater, and the network that it shows in place of the best one, where it is shorter. An `Err` is want of memory, and
+    /// leaves the search as it was.
     pub fn raise(&mut self, cuts: Packing) -> Result<(), AllocError>
         requires leaf { split_count self.old.tree ≡ 0 }
         requires feasible { IsFeasible self.old.graph (nothing_decided self.old.graph) cuts }
@@ -166,10 +171,12 @@ impl<'a, F: Rule, G: Rule> Search<'a, F, G> {
         &self.kept.best.network
     }
 
-    /// The network of edges with a saturated arc that the first leaf in preorder shows, where its packing is maximal. It
-    /// takes no memory.
+    /// The network of edges with a saturated arc that the first leaf in preorder shows, where its packing is maximal. There
+    /// is none only where that leaf is worth the sum of all lengths. It takes no memory.
     pub fn shown(&self) -> Option<&EdgeSet>
-        ensures { IfSome result (λ set. IsNetworkOf self.now.graph set.now) }
+        ensures shown { option_copied result ≡ self.now.shown }
+        ensures first { IsShownFirst self.now }
+        ensures network_of { IfSome result (λ set. IsNetworkOf self.now.graph set.now) }
     {
         self.kept.notes[0].network.as_ref()
     }
