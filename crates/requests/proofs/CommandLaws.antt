@@ -19,9 +19,9 @@ use Rattle.requests.specs.Values.{ascent_in, number_in, split_in, truth_in}
 use Rattle.requests.proofs.PassLaws.{HasParser, IsOwnName, number_within}
 use Rattle.requests.specs.declared.request.Drawing.{Drawing}
 use Rattle.requests.specs.declared.request.Request.{Request as Asked}
-use Rattle.requests.specs.declared.request.SearchRequest.{SearchRequest}
-use Rattle.requests.specs.declared.rules.AscentRule.{AscentRule}
-use Rattle.requests.specs.declared.rules.SplitRule.{SplitRule}
+use Rattle.search_rules.specs.declared.options.SearchOptions.{SearchOptions}
+use Rattle.search_rules.specs.declared.rules.AscentRule.{AscentRule}
+use Rattle.search_rules.specs.declared.rules.SplitRule.{SplitRule}
 use Rattle.requests.specs.declared.tool.Tool.{Tool}
 use Rattle.requests.specs.declared.tool.Tool.TheVariants as tool
 
@@ -144,7 +144,7 @@ search_limits : (rows : List Row) → ((n : ℕ) → number_in 32 (codes "concat
 search_limits rows bound = go (number_in 8 (codes "openings") rows) (number_in 32 (codes "concat") rows) (ascent_in rows) (split_in rows) refl
   where
     go : (openings concat : Option ℕ) (ascent : Option AscentRule) (split : Option SplitRule) → number_in 32 (codes "concat") rows ≡ concat
-        → IfSome (search_from openings concat ascent split) (λ (s : SearchRequest). s.concat ≤ 20000)
+        → IfSome (search_from openings concat ascent split) (λ (s : SearchOptions). s.concat ≤ 20000)
     go None concat ascent split e = tt
     go (Some a) None ascent split e = tt
     go (Some a) (Some b) None split e = tt

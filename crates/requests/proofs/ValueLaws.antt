@@ -10,7 +10,7 @@ use Rattle.clap.specs.Matches.{ReadsOne}
 use Rattle.clap.specs.ValueTests.{is_numeral}
 use Rattle.clap.specs.Words.{Text}
 use Rattle.clap.proofs.WalkLemmas.{both}
-use Rattle.requests.specs.Names.{IsNamed}
+use Rattle.search_rules.specs.Names.{IsNamed}
 use Rattle.requests.specs.Values.{number_of, truth_of}
 
 -- a getter that reads nothing where there is no text, and else what the text spells

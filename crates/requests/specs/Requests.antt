@@ -7,12 +7,12 @@ use Rattle.clap.specs.Words.{Row, Text, fault_of, first_of, matches_of}
 use Rattle.clap.specs.Kinds.{Kinds}
 use Rattle.requests.specs.Commands.{command_of, tool_named}
 use Rattle.requests.specs.Values.{number_in, truth_in, ascent_in, split_in}
-use Rattle.requests.specs.declared.rules.AscentRule.{AscentRule}
-use Rattle.requests.specs.declared.rules.SplitRule.{SplitRule}
+use Rattle.search_rules.specs.declared.rules.AscentRule.{AscentRule}
+use Rattle.search_rules.specs.declared.rules.SplitRule.{SplitRule}
 use Rattle.requests.specs.declared.tool.Tool.{Tool}
 use Rattle.requests.specs.declared.tool.Tool.TheVariants as tool
 use Rattle.requests.specs.declared.request.Drawing.{Drawing}
-use Rattle.requests.specs.declared.request.SearchRequest.{SearchRequest}
+use Rattle.search_rules.specs.declared.options.SearchOptions.{SearchOptions}
 use Rattle.requests.specs.declared.request.Request.{Request as Asked}
 use Rattle.requests.specs.declared.request.Request.TheVariants as asked
 
@@ -22,8 +22,8 @@ pub data Request : Type 0 where
   Stp2points : Request
   Rfst : (size : ℕ) → Request
   Prunefst : Request
-  Bb : SearchRequest → Request
-  Solve : (size : ℕ) → SearchRequest → Request
+  Bb : SearchOptions → Request
+  Solve : (size : ℕ) → SearchOptions → Request
   Check : (points : Text) → Request
   Dumpfst : (pieces : Bool) → Request
   Fst2graph : Request
@@ -55,12 +55,12 @@ abbrev pub drawing_in : List Row → Option Drawing
 drawing_in rows = drawing_from (number_in 8 (codes "count") rows) (number_in 64 (codes "seed") rows)
 
 -- the search of these choices, where all are there
-abbrev pub search_from : Option ℕ → Option ℕ → Option AscentRule → Option SplitRule → Option SearchRequest
+abbrev pub search_from : Option ℕ → Option ℕ → Option AscentRule → Option SplitRule → Option SearchOptions
 search_from (Some openings) (Some concat) (Some ascent) (Some split) =
     Some (record { openings = openings; concat = concat; ascent = ascent; split = split })
 search_from _ _ _ _ = None
 
-abbrev pub search_in : List Row → Option SearchRequest
+abbrev pub search_in : List Row → Option SearchOptions
 search_in rows = search_from (number_in 8 (codes "openings") rows) (number_in 32 (codes "concat") rows)
     (ascent_in rows) (split_in rows)
 

@@ -5,9 +5,9 @@ use Rattle.std.specs.Str.{bytes_eq}
 use Rattle.std.specs.Str.Parse.{digits_value, without_leading_plus}
 use Rattle.clap.specs.ValueTests.{is_numeral}
 use Rattle.clap.specs.Words.{Row, Text, one_of}
-use Rattle.requests.specs.Names.{ascent_named, split_named}
-use Rattle.requests.specs.declared.rules.AscentRule.{AscentRule}
-use Rattle.requests.specs.declared.rules.SplitRule.{SplitRule}
+use Rattle.search_rules.specs.Names.{ascent_named, split_named}
+use Rattle.search_rules.specs.declared.rules.AscentRule.{AscentRule}
+use Rattle.search_rules.specs.declared.rules.SplitRule.{SplitRule}
 
 -- the number that the text spells in decimal digits, where it is below 2 ^ bits; a plus may stand before them
 abbrev pub number_of : ℕ → Text → Option ℕ

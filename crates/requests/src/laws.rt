@@ -2,7 +2,7 @@
 
 ghost use Rattle.requests.specs.Defaults.{SolveAloneAsks};
 
-/// The word `solve` alone asks for the defaults.
+/// The word `solve` alone asks for the usual options.
 pub fn solve_alone_asks()
     ensures { SolveAloneAsks }
 {}

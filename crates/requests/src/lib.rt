@@ -5,12 +5,10 @@
 mod command;
 mod laws;
 mod request;
-mod rules;
 mod tool;
 mod value;
 mod words;
 
 pub use laws::solve_alone_asks;
-pub use request::{Drawing, Request, SearchRequest};
-pub use rules::{AscentRule, SplitRule, UnknownRule};
+pub use request::{Drawing, Request};
 pub use words::request_in;

@@ -1,6 +1,6 @@
 //! Requests.
 
-use crate::rules::{AscentRule, SplitRule};
+use search_rules::SearchOptions;
 
 /// A tool of the program, with what its words tell it.
 #[derive(Clone, Copy, Debug, PartialEq, Eq)]
@@ -14,9 +14,9 @@ pub enum Request<'a> {
     /// Reads a file of full trees and prints the file of those that pruning keeps.
     Prunefst,
     /// Reads a file of full trees and prints a network that is made of them.
-    Bb(SearchRequest),
+    Bb(SearchOptions),
     /// Reads points and prints a network that joins them, made of full trees of up to `size` members, 2 to 8.
-    Solve { size: u8, search: SearchRequest },
+    Solve { size: u8, search: SearchOptions },
     /// Judges an answer for the points of the file of this name.
     Check { points: &'a str },
     /// Reads a file of full trees and prints a line for each of them, and behind it the tree's straight pieces where
@@ -37,17 +37,4 @@ pub struct Drawing {
     pub count: u8,
     /// What the generator starts from.
     pub seed: u64,
-}
-
-/// How a network is searched for.
-#[derive(Clone, Copy, Debug, PartialEq, Eq)]
-pub struct SearchRequest {
-    /// The most splits of the certificate tree.
-    pub openings: u8,
-    /// The most splits of a concatenation, up to 20,000.
-    pub concat: u32,
-    /// The rule of the ascents.
-    pub ascent: AscentRule,
-    /// The rule of the splits.
-    pub split: SplitRule,
 }

@@ -5,9 +5,9 @@ ghost use Rattle.clap.specs.Words.{first_of, found_of, rows_of};
 ghost use Rattle.requests.specs.Values.{number_in, truth_in, ascent_in, split_in};
 ghost use Rattle.requests.specs.Requests.{drawing_in, search_in};
 
-use crate::request::{Drawing, SearchRequest};
-use crate::rules::{AscentRule, SplitRule};
+use crate::request::Drawing;
 use clap::ArgMatches;
+use search_rules::{AscentRule, SearchOptions, SplitRule};
 
 /// The text of the argument `id`.
 pub(crate) fn text<'a>(matches: &ArgMatches<'a>, id: &str) -> Option<&'a str>
@@ -76,10 +76,10 @@ pub(crate) fn drawing(matches: &ArgMatches<'_>) -> Option<Drawing>
 }
 
 /// How a network is searched for.
-pub(crate) fn search(matches: &ArgMatches<'_>) -> Option<SearchRequest>
+pub(crate) fn search(matches: &ArgMatches<'_>) -> Option<SearchOptions>
     ensures { result ≡ search_in (rows_of (found_of matches.now)) }
 {
-    Some(SearchRequest {
+    Some(SearchOptions {
         openings: byte(matches, "openings")?,
         concat: number(matches, "concat")?,
         ascent: ascent(matches)?,

@@ -24,7 +24,7 @@ use Rattle.cut_cert.specs.declared.head.ConcatNote.{ConcatNote}
 use Rattle.cut_cert.specs.Text.{answer_text}
 use Rattle.cut_cert.specs.Answers.{IsAnswerOn, value_of}
 use Rattle.search_tools.specs.declared.network.Found.{Found}
-use Rattle.search_tools.specs.declared.options.SearchOptions.{SearchOptions}
+use Rattle.search_rules.specs.declared.options.SearchOptions.{SearchOptions}
 use Rattle.search_tools.specs.Solution.{IsSearched, bound_of, head_with, value_on}
 use Rattle.search_tools.specs.Steps.{IsFor, IsMadeOf, IsTold, answer_with}
 use Rattle.search_tools.proofs.TreeLaws.{nodes_on, packings_on}

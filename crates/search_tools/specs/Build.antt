@@ -17,7 +17,7 @@ use Rattle.frame.specs.FromText.{FromText}
 use Rattle.frame.specs.Leaves.{LeavesShelf}
 use Rattle.tree_inputs.specs.FstFaults.{fst_fault_text, fst_fault_status}
 use Rattle.tree_inputs.specs.Files.{ReadsFst}
-use Rattle.search_tools.specs.declared.options.SearchOptions.{SearchOptions}
+use Rattle.search_rules.specs.declared.options.SearchOptions.{SearchOptions}
 use Rattle.search_tools.specs.declared.build_fault.BuildFault.{BuildFault}
 use Rattle.search_tools.specs.declared.build_fault.BuildFault.TheVariants.{InFile, Apart}
 use Rattle.search_tools.specs.Permitted.{IsPermitted, search_print}

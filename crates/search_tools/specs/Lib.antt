@@ -1,4 +1,3 @@
-pub mod Options
 pub mod Solution
 pub mod Permitted
 pub mod Solve

@@ -15,7 +15,7 @@ use Rattle.cert_check.specs.Accepted.{IsAccepted}
 use Rattle.frame.specs.declared.status.AnswerStatus.{AnswerStatus}
 use Rattle.frame.specs.declared.status.AnswerStatus.TheVariants.{Done, Stopped}
 use Rattle.frame.specs.Ends.{Print}
-use Rattle.search_tools.specs.declared.options.SearchOptions.{SearchOptions}
+use Rattle.search_rules.specs.declared.options.SearchOptions.{SearchOptions}
 use Rattle.search_tools.specs.Solution.{IsSearched, bound_of, solution}
 
 -- What an answer tells of the concatenations of a list of trees of n terminals is true: some concatenation has the total,

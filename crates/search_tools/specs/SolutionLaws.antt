@@ -16,7 +16,7 @@ use Rattle.cut_cert.specs.Spelling.{SpellsAnswer}
 use Rattle.cert_check.specs.Accepted.{IsAccepted}
 use Rattle.frame.specs.declared.status.AnswerStatus.TheVariants.{Done, Stopped}
 use Rattle.frame.specs.Ends.{Print}
-use Rattle.search_tools.specs.declared.options.SearchOptions.{SearchOptions}
+use Rattle.search_rules.specs.declared.options.SearchOptions.{SearchOptions}
 use Rattle.search_tools.specs.declared.solution.Solution.{Solution}
 use Rattle.search_tools.specs.Solution.{IsSearched, solution}
 use Rattle.search_tools.specs.Permitted.{IsPermitted, search_text, search_print}

@@ -18,7 +18,7 @@ use Rattle.frame.specs.Points.{ListsPoints}
 use Rattle.tree_inputs.specs.declared.generation_fault.GenerationFault.{GenerationFault}
 use Rattle.tree_inputs.specs.GenerationFaults.{generation_fault_text, generation_fault_status}
 use Rattle.tree_inputs.specs.Generation.{GeneratesFst}
-use Rattle.search_tools.specs.declared.options.SearchOptions.{SearchOptions}
+use Rattle.search_rules.specs.declared.options.SearchOptions.{SearchOptions}
 use Rattle.search_tools.specs.Permitted.{IsPermitted, search_print}
 
 -- The bytes list these points, and the answer that tells the network, the tree and the note is one for them and for the

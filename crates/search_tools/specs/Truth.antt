@@ -11,7 +11,7 @@ use Rattle.cert_tree.specs.Tree.{Tree}
 use Rattle.cert_tree.specs.Preorder.{split_count}
 use Rattle.branch.specs.Runs.{EndsOpenings}
 use Rattle.frame.specs.Outside.{Outside}
-use Rattle.search_tools.specs.declared.options.SearchOptions.{SearchOptions}
+use Rattle.search_rules.specs.declared.options.SearchOptions.{SearchOptions}
 use Rattle.search_tools.specs.Solution.{bound_of}
 use Rattle.search_tools.specs.Permitted.{IsPermitted, search_text}
 

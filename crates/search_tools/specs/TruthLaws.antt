@@ -16,7 +16,7 @@ use Rattle.cert_tree.specs.Preorder.{split_count}
 use Rattle.branch.specs.Runs.{EndsOpenings}
 use Rattle.frame.specs.Statuses.{answer_code}
 use Rattle.frame.specs.Outside.{Outside}
-use Rattle.search_tools.specs.declared.options.SearchOptions.{SearchOptions}
+use Rattle.search_rules.specs.declared.options.SearchOptions.{SearchOptions}
 use Rattle.search_tools.specs.Solution.{bound_of, value_on}
 use Rattle.search_tools.specs.Permitted.{IsPermitted, search_text, status_of_bound}
 use Rattle.search_tools.specs.Truth.{SearchesTruly}

@@ -9,10 +9,10 @@ ghost use Rattle.search_tools.specs.Build.{EndsBb};
 ghost use Rattle.search_tools.specs.Steps.{FindsBuilt, fault_of_file};
 
 use crate::build_fault::BuildFault;
-use crate::options::SearchOptions;
 use crate::solution::{Solution, solution_of};
 use frame::{TEXT_LIMIT, TextFault, conclude};
 use rst_outside::{Sink, Source};
+use search_rules::SearchOptions;
 use std::alloc::{AllocError, Global};
 use tree_inputs::{FstFault, take_fst};
 

@@ -10,12 +10,12 @@ ghost use Rattle.branch.specs.States.{IsNetworkOf};
 ghost use Rattle.search_tools.specs.Steps.{IsTold};
 
 use crate::network::DESCENTS;
-use crate::options::{SearchOptions, ascent_place, split_place};
 use branch::{Search, Solved};
 use dual_ascent::{Candidate, Chooser, Rule};
 use hanan_grid::Grid;
 use net_graph::{EdgeSet, Packing, length};
 use network_search::shortened;
+use search_rules::{SearchOptions, ascent_place, split_place};
 use std::alloc::{AllocError, Global};
 use tight_packing::{Bound, Budget, Exchanged, Outcome, exchange};
 
@@ -24,7 +24,7 @@ use tight_packing::{Bound, Budget, Exchanged, Outcome, exchange};
 const MOST_EXCHANGES: u8 = 3;
 
 /// What each but the first may do. It begins near the length, and needs less.
-const FURTHER: Budget = Budget {
+const FURTHER_BUDGET: Budget = Budget {
     rounds: 200,
     searches: 200_000,
     moves: 2_000_000,
@@ -110,7 +110,7 @@ fn begun<'a, F: Rule, G: Rule>(
         let budget = if exchange == 0 {
             Budget::USUAL
         } else {
-            FURTHER
+            FURTHER_BUDGET
         };
         if search.is_settled() || !raise_by_exchange(alloc, grid, &mut search, budget)? {
             break;

@@ -4,7 +4,6 @@ ghost use Rattle.std.specs.Prelude.{◌≡◌, IfOk};
 ghost use Rattle.search_tools.specs.Steps.{IsPrintable, IsSpelled, SolvesFile, answer_with, solution_text, solution_status};
 
 use crate::network::{Found, network_on};
-use crate::options::SearchOptions;
 use crate::search::searched;
 use branch::Solved;
 use cut_cert::{Answer as CutAnswer, AnswerHead, ConcatNote, answer_len, write_answer};
@@ -12,6 +11,7 @@ use frame::{Answer, AnswerStatus};
 use fst_file::FstFile;
 use hanan_grid::Grid;
 use rst_outside::{PutFault, Sink};
+use search_rules::SearchOptions;
 use std::alloc::{AllocError, Global};
 
 /// An answer, and the grid that it is for.

@@ -9,12 +9,12 @@ ghost use Rattle.fst_gen.specs.Joins.{JoinsAll};
 ghost use Rattle.search_tools.specs.Solve.{EndsSolve};
 ghost use Rattle.search_tools.specs.Steps.{FindsSolution, SolvesPruned};
 
-use crate::options::SearchOptions;
 use crate::solution::{Solution, solution_of};
 use concatenation::more_trees;
 use frame::{TEXT_LIMIT, TextFault, conclude};
 use fst_file::FstFile;
 use rst_outside::{Sink, Source};
+use search_rules::SearchOptions;
 use std::alloc::{AllocError, Global};
 use tree_inputs::{GenerationFault, pruned, take_generated};
 

@@ -13,11 +13,10 @@ use Rattle.tree_tools.specs.Graph.{EndsFst2graph}
 use Rattle.tree_tools.specs.Generation.{EndsRfst}
 use Rattle.tree_tools.specs.Pruning.{EndsPrunefst}
 use Rattle.trial_tools.specs.Trial.{EndsTrial}
-use Rattle.requests.specs.declared.request.SearchRequest.{SearchRequest}
+use Rattle.search_rules.specs.declared.options.SearchOptions.{SearchOptions}
 use Rattle.requests.specs.Requests.{Request}
 use Rattle.requests.specs.declared.request.Drawing.{Drawing}
 use Rattle.requests.specs.Requests.Request.{Points, Stp2points, Rfst, Prunefst, Bb, Solve, Check, Dumpfst, Fst2graph, Plot, Trial}
-use Rattle.suite.specs.Options.{options_of}
 use Rattle.suite.specs.Run.{IsShort, EndsAsAsked, IsRun}
 use Rattle.suite.specs.Headlines.{BuildHeadline, CheckHeadline, Headline, TrialHeadline}
 use Rattle.suite.specs.Complete.{Completes}
@@ -25,13 +24,13 @@ use Rattle.suite.proofs.Heads.{solve_headline, bb_headline, check_headline, tria
 use Rattle.suite.proofs.Completeness.{solve_completes, bb_completes, check_completes, plot_completes, dump_completes, rfst_completes, prune_completes, graph_completes, points_completes, stp_completes, trial_completes}
 
 -- `solve` ends with an answer where nothing troubles it
-pub solve_asked_completes : (request : Option Request) (size : ℕ) (search : SearchRequest) (before after : Outside) (status : ℕ) → request ≡ Some (Solve size search) →
-    EndsSolve (options_of search) size before after status → Completes request before after status
+pub solve_asked_completes : (request : Option Request) (size : ℕ) (search : SearchOptions) (before after : Outside) (status : ℕ) → request ≡ Some (Solve size search) →
+    EndsSolve search size before after status → Completes request before after status
 solve_asked_completes request size search before after status is ends = subst (λ r. Completes r before after status) (sym is) (solve_completes size search before after status ends)
 
 -- so does `bb`
-pub bb_asked_completes : SpelledHasNoFault → OneReading → (request : Option Request) (search : SearchRequest) (before after : Outside) (status : ℕ) → request ≡ Some (Bb search) →
-    EndsBb (options_of search) before after status → Completes request before after status
+pub bb_asked_completes : SpelledHasNoFault → OneReading → (request : Option Request) (search : SearchOptions) (before after : Outside) (status : ℕ) → request ≡ Some (Bb search) →
+    EndsBb search before after status → Completes request before after status
 bb_asked_completes law one request search before after status is ends = subst (λ r. Completes r before after status) (sym is) (bb_completes law one search before after status ends)
 
 -- so does `check`
@@ -82,23 +81,23 @@ trial_asked_completes request drawing before after status is ends =
     subst (λ r. Completes r before after status) (sym is) (trial_completes drawing before after status ends)
 
 -- a run of `solve` is the one that the words ask for
-pub solve_asked_runs : (request : Option Request) (size : ℕ) (search : SearchRequest) (before after : Outside) (status : ℕ) → request ≡ Some (Solve size search) →
-    EndsSolve (options_of search) size before after status → IsRun request before after status
+pub solve_asked_runs : (request : Option Request) (size : ℕ) (search : SearchOptions) (before after : Outside) (status : ℕ) → request ≡ Some (Solve size search) →
+    EndsSolve search size before after status → IsRun request before after status
 solve_asked_runs request size search before after status is ends = inr (subst (λ r. EndsAsAsked r before after status) (sym is) ends)
 
 -- so is one of `bb`
-pub bb_asked_runs : (request : Option Request) (search : SearchRequest) (before after : Outside) (status : ℕ) → request ≡ Some (Bb search) →
-    EndsBb (options_of search) before after status → IsRun request before after status
+pub bb_asked_runs : (request : Option Request) (search : SearchOptions) (before after : Outside) (status : ℕ) → request ≡ Some (Bb search) →
+    EndsBb search before after status → IsRun request before after status
 bb_asked_runs request search before after status is ends = inr (subst (λ r. EndsAsAsked r before after status) (sym is) ends)
 
 -- what `solve` printed with the options that the words give is true
-pub solve_asked_headline : (request : Option Request) (size : ℕ) (search : SearchRequest) (before after : Outside) (status : ℕ) → request ≡ Some (Solve size search) →
-    EndsSolve (options_of search) size before after status → Headline request before after status
+pub solve_asked_headline : (request : Option Request) (size : ℕ) (search : SearchOptions) (before after : Outside) (status : ℕ) → request ≡ Some (Solve size search) →
+    EndsSolve search size before after status → Headline request before after status
 solve_asked_headline request size search before after status is ends = subst (λ r. Headline r before after status) (sym is) (solve_headline size search before after status ends)
 
 -- so is what `bb` printed
-pub bb_asked_headline : (request : Option Request) (search : SearchRequest) (before after : Outside) (status : ℕ) → request ≡ Some (Bb search) →
-    EndsBb (options_of search) before after status → BuildHeadline request before after status
+pub bb_asked_headline : (request : Option Request) (search : SearchOptions) (before after : Outside) (status : ℕ) → request ≡ Some (Bb search) →
+    EndsBb search before after status → BuildHeadline request before after status
 bb_asked_headline request search before after status is ends = subst (λ r. BuildHeadline r before after status) (sym is) (bb_headline search before after status ends)
 
 -- what `check` told under the name that the words give is true

@@ -59,10 +59,9 @@ use Rattle.tree_inputs.specs.GenerationFaults.{generation_fault_text, generation
 use Rattle.tree_tools.specs.Generation.{GeneratesFile, EndsRfst}
 use Rattle.tree_inputs.specs.Generation.{most_members}
 use Rattle.trial_tools.specs.Trial.{EndsTrial, Tries, drawn_grid, drawn_terminals}
-use Rattle.requests.specs.declared.request.SearchRequest.{SearchRequest}
+use Rattle.search_rules.specs.declared.options.SearchOptions.{SearchOptions}
 use Rattle.requests.specs.declared.request.Drawing.{Drawing}
 use Rattle.requests.specs.Requests.Request.{Points, Stp2points, Rfst, Prunefst, Bb, Solve, Check, Dumpfst, Fst2graph, Plot, Trial}
-use Rattle.suite.specs.Options.{options_of}
 use Rattle.suite.specs.Complete.{Completes}
 
 -- the status of an answer is 0 or 3
@@ -180,9 +179,9 @@ rfst_completes k before after status ends = λ bytes ps has lists few writes.
     ]
 
 -- points with no more trees than a file holds give a file
-generation_faultless : (search : SearchRequest) (k : ℕ) (before after : Readable) (bytes : List ℕ) (ps : List Point) → HasInput TEXT_LIMIT before.input after.input bytes → ListsPoints bytes ps →
+generation_faultless : (search : SearchOptions) (k : ℕ) (before after : Readable) (bytes : List ℕ) (ps : List Point) → HasInput TEXT_LIMIT before.input after.input bytes → ListsPoints bytes ps →
     ¬ HasMoreSets (terminals_of ps) k 20000 →
-    (fault : TextFault GenerationFault) → FromText TEXT_LIMIT (Solves (options_of search) k) before after (Err fault) → ⊥
+    (fault : TextFault GenerationFault) → FromText TEXT_LIMIT (Solves search k) before after (Err fault) → ⊥
 generation_faultless search k before after bytes ps has lists few (text_fault.Input fault) is = input_is_taken TEXT_LIMIT before.input after.input bytes fault has is
 generation_faultless search k before after bytes ps has lists few (text_fault.Text (generation_fault.List fault)) (taken, whole, is) =
     lists_points_faultless bytes ps fault lists
@@ -191,9 +190,9 @@ generation_faultless search k before after bytes ps has lists few (text_fault.Te
     file_has_no_fault k bytes ps lists few generation_fault.TooManyTrees
     (subst (λ b. GeneratesFile k b (Err generation_fault.TooManyTrees)) (whole_input_is TEXT_LIMIT before.input after.input bytes taken has whole) is)
 
-pub solve_completes : (size : ℕ) (search : SearchRequest) (before after : Outside) (status : ℕ) → EndsSolve (options_of search) size before after status → Completes (Some (Solve size search)) before after status
+pub solve_completes : (size : ℕ) (search : SearchOptions) (before after : Outside) (status : ℕ) → EndsSolve search size before after status → Completes (Some (Solve size search)) before after status
 solve_completes size search before after status ends = λ bytes ps has lists few writes.
-    elim (complete_ends (text_fault_status generation_fault_status) (text_fault_text generation_fault_text) (codes "solve") (FromText TEXT_LIMIT (Solves (options_of search) size)) LeavesShelf before after status
+    elim (complete_ends (text_fault_status generation_fault_status) (text_fault_text generation_fault_text) (codes "solve") (FromText TEXT_LIMIT (Solves search size)) LeavesShelf before after status
     (generation_faultless search size before.read after.read bytes ps has lists few) writes ends) [
       | inl seven ↦ inr seven
       | inr (print, (taken, whole, (qs, network, tree, note, solved, of_points)), answers) ↦
@@ -205,25 +204,25 @@ none_apart : (n : ℕ) (trees : List Tree) (place : ℕ) → IsConcatenation n t
 none_apart n trees place joins is = is.apart (joins.joins place is.within)
 
 -- bytes that spell a file whose trees join its points have no fault
-build_faultless : SpelledHasNoFault → OneReading → (search : SearchRequest) (bytes : List ℕ) (file : FstValue) → SpellsFstFile bytes file → IsConcatenation (length file.points) file.trees (all_of file.trees) →
-    (fault : BuildFault) → Builds (options_of search) bytes (Err fault) → ⊥
+build_faultless : SpelledHasNoFault → OneReading → (search : SearchOptions) (bytes : List ℕ) (file : FstValue) → SpellsFstFile bytes file → IsConcatenation (length file.points) file.trees (all_of file.trees) →
+    (fault : BuildFault) → Builds search bytes (Err fault) → ⊥
 build_faultless law one search bytes file spells joins (build_fault.InFile fault) is = law bytes file fault spells is
 build_faultless law one search bytes file spells joins (build_fault.Apart place) (other, spelled, apart) =
     let same = one bytes other file spelled spells in
     none_apart (length file.points) file.trees place joins
     (subst (λ (f : FstValue). IsFirstApart (length f.points) f.trees (all_of f.trees) place) same apart)
 
-bb_faultless : SpelledHasNoFault → OneReading → (search : SearchRequest) (before after : Readable) (bytes : List ℕ) (file : FstValue) → HasInput TEXT_LIMIT before.input after.input bytes → SpellsFstFile bytes file →
+bb_faultless : SpelledHasNoFault → OneReading → (search : SearchOptions) (before after : Readable) (bytes : List ℕ) (file : FstValue) → HasInput TEXT_LIMIT before.input after.input bytes → SpellsFstFile bytes file →
     IsConcatenation (length file.points) file.trees (all_of file.trees) →
-    (fault : TextFault BuildFault) → FromText TEXT_LIMIT (Builds (options_of search)) before after (Err fault) → ⊥
+    (fault : TextFault BuildFault) → FromText TEXT_LIMIT (Builds search) before after (Err fault) → ⊥
 bb_faultless law one search before after bytes file has spells joins (text_fault.Input fault) is = input_is_taken TEXT_LIMIT before.input after.input bytes fault has is
 bb_faultless law one search before after bytes file has spells joins (text_fault.Text fault) (taken, whole, is) =
     build_faultless law one search bytes file spells joins fault
-    (subst (λ b. Builds (options_of search) b (Err fault)) (whole_input_is TEXT_LIMIT before.input after.input bytes taken has whole) is)
+    (subst (λ b. Builds search b (Err fault)) (whole_input_is TEXT_LIMIT before.input after.input bytes taken has whole) is)
 
-pub bb_completes : SpelledHasNoFault → OneReading → (search : SearchRequest) (before after : Outside) (status : ℕ) → EndsBb (options_of search) before after status → Completes (Some (Bb search)) before after status
+pub bb_completes : SpelledHasNoFault → OneReading → (search : SearchOptions) (before after : Outside) (status : ℕ) → EndsBb search before after status → Completes (Some (Bb search)) before after status
 bb_completes law one search before after status ends = λ bytes file has spells joins writes.
-    elim (complete_ends (text_fault_status build_fault_status) (text_fault_text build_fault_text) (codes "bb") (FromText TEXT_LIMIT (Builds (options_of search))) LeavesShelf before after status
+    elim (complete_ends (text_fault_status build_fault_status) (text_fault_text build_fault_text) (codes "bb") (FromText TEXT_LIMIT (Builds search)) LeavesShelf before after status
     (bb_faultless law one search before.read after.read bytes file has spells joins) writes ends) [
       | inl seven ↦ inr seven
       | inr (print, (taken, whole, (other, network, tree, note, spelled, permitted, of_file)), answers) ↦

@@ -22,21 +22,20 @@ use Rattle.judge_tools.specs.Truth.{ChecksTruly}
 use Rattle.trial_tools.specs.Trial.{EndsTrial, Tries}
 use Rattle.trial_tools.specs.Truth.{TriesTruly}
 use Rattle.trial_tools.specs.TruthLaws.{tries_truly}
-use Rattle.requests.specs.declared.request.SearchRequest.{SearchRequest}
+use Rattle.search_rules.specs.declared.options.SearchOptions.{SearchOptions}
 use Rattle.requests.specs.Requests.Request.{Bb, Solve}
-use Rattle.suite.specs.Options.{options_of}
 use Rattle.suite.specs.Headlines.{Headline, BuildHeadline}
 
 -- what `solve` printed, with the status that it ended with
-solve_printed : (size : ℕ) (search : SearchRequest) (before after : Outside) (status : ℕ) (s : AnswerStatus) → status ≡ answer_code s → EndsSolve (options_of search) size before after status →
+solve_printed : (size : ℕ) (search : SearchOptions) (before after : Outside) (status : ℕ) (s : AnswerStatus) → status ≡ answer_code s → EndsSolve search size before after status →
     Headline (Some (Solve size search)) before after status
 solve_printed size search before after status s is ends = λ k asked same ended.
     let of_size : size ≡ k = cc in
     let of_search : search ≡ asked = cc in
-    let run = subst (λ n. EndsSolve (options_of search) n before after status) of_size ends in
-    let run_as_asked = subst (λ (q : SearchRequest). EndsSolve (options_of q) k before after status) of_search run in
+    let run = subst (λ n. EndsSolve search n before after status) of_size ends in
+    let run_as_asked = subst (λ (q : SearchOptions). EndsSolve q k before after status) of_search run in
     let (print, (bytes, whole, (ps, network, tree, note, solved, of_points)), printed) =
-    printed_ends (text_fault_status generation_fault_status) (text_fault_text generation_fault_text) (codes "solve") (FromText TEXT_LIMIT (Solves (options_of asked) k)) LeavesShelf before after status s is run_as_asked in (
+    printed_ends (text_fault_status generation_fault_status) (text_fault_text generation_fault_text) (codes "solve") (FromText TEXT_LIMIT (Solves asked k)) LeavesShelf before after status s is run_as_asked in (
       bytes,
       ps,
       solved.generated,
@@ -45,35 +44,35 @@ solve_printed size search before after status s is ends = λ k asked same ended.
       solved.points.text,
       solved.are_generated,
       solved.are_kept,
-      searches_truly (options_of asked) (terminals_of ps) solved.trees network tree note before after status solved.permitted
+      searches_truly asked (terminals_of ps) solved.trees network tree note before after status solved.permitted
           (subst (λ (p : Print). Appended before.written.out.taken p.text after.written.out.taken) of_points printed.wrote.appended)
           (printed.ends ∙ ap (λ (p : Print). answer_code p.status) of_points),
     )
 
 -- What `solve` printed is true.
-pub solve_headline : (size : ℕ) (search : SearchRequest) (before after : Outside) (status : ℕ) → EndsSolve (options_of search) size before after status → Headline (Some (Solve size search)) before after status
+pub solve_headline : (size : ℕ) (search : SearchOptions) (before after : Outside) (status : ℕ) → EndsSolve search size before after status → Headline (Some (Solve size search)) before after status
 solve_headline size search before after status ends k options same (inl zero) = solve_printed size search before after status Done zero ends k options same (inl zero)
 solve_headline size search before after status ends k options same (inr three) = solve_printed size search before after status Stopped three ends k options same (inr three)
 
 -- what `bb` printed, with the status that it ended with
-bb_printed : (search : SearchRequest) (before after : Outside) (status : ℕ) (s : AnswerStatus) → status ≡ answer_code s → EndsBb (options_of search) before after status →
+bb_printed : (search : SearchOptions) (before after : Outside) (status : ℕ) (s : AnswerStatus) → status ≡ answer_code s → EndsBb search before after status →
     BuildHeadline (Some (Bb search)) before after status
 bb_printed search before after status s is ends = λ asked same ended.
     let of_search : search ≡ asked = cc in
-    let run = subst (λ (q : SearchRequest). EndsBb (options_of q) before after status) of_search ends in
+    let run = subst (λ (q : SearchOptions). EndsBb q before after status) of_search ends in
     let (print, (bytes, whole, (file, network, tree, note, spelled, permitted, of_file)), printed) =
-    printed_ends (text_fault_status build_fault_status) (text_fault_text build_fault_text) (codes "bb") (FromText TEXT_LIMIT (Builds (options_of asked))) LeavesShelf before after status s is run in (
+    printed_ends (text_fault_status build_fault_status) (text_fault_text build_fault_text) (codes "bb") (FromText TEXT_LIMIT (Builds asked)) LeavesShelf before after status s is run in (
       bytes,
       file,
       whole.came,
       spelled,
-      searches_truly (options_of asked) file.points file.trees network tree note before after status permitted
+      searches_truly asked file.points file.trees network tree note before after status permitted
           (subst (λ (p : Print). Appended before.written.out.taken p.text after.written.out.taken) of_file printed.wrote.appended)
           (printed.ends ∙ ap (λ (p : Print). answer_code p.status) of_file),
     )
 
 -- What `bb` printed is true.
-pub bb_headline : (search : SearchRequest) (before after : Outside) (status : ℕ) → EndsBb (options_of search) before after status → BuildHeadline (Some (Bb search)) before after status
+pub bb_headline : (search : SearchOptions) (before after : Outside) (status : ℕ) → EndsBb search before after status → BuildHeadline (Some (Bb search)) before after status
 bb_headline search before after status ends options same (inl zero) = bb_printed search before after status Done zero ends options same (inl zero)
 bb_headline search before after status ends options same (inr three) = bb_printed search before after status Stopped three ends options same (inr three)
 

@@ -14,32 +14,31 @@ use Rattle.search_tools.specs.Truth.{SearchesTruly}
 use Rattle.judge_tools.specs.Truth.{ChecksTruly}
 use Rattle.requests.specs.Requests.{Request}
 use Rattle.trial_tools.specs.Truth.{TriesTruly}
-use Rattle.requests.specs.declared.request.SearchRequest.{SearchRequest}
+use Rattle.search_rules.specs.declared.options.SearchOptions.{SearchOptions}
 use Rattle.requests.specs.declared.request.Drawing.{Drawing}
 use Rattle.requests.specs.Requests.Request.{Bb, Solve, Check, Trial}
-use Rattle.suite.specs.Options.{options_of}
 
 -- What `solve` printed is true: the input was read to its end, it is a text of points, and the bytes that went out are an
 -- answer that may be printed for its terminals and for the kept ones of their trees (`SearchesTruly`): the answer of a network
 -- of their grid with its plain length and of a tree of cuts that bounds every network, accepted by whoever judges it, which
 -- stops short only once as many openings were made as the words allow.
 abbrev pub Headline : Option Request → Outside → Outside → ℕ → Type 0
-Headline request before after status = (size : ℕ) (search : SearchRequest) → request ≡ Some (Solve size search) → (status ≡ 0) ⊎ (status ≡ 3) →
+Headline request before after status = (size : ℕ) (search : SearchOptions) → request ≡ Some (Solve size search) → (status ≡ 0) ⊎ (status ≡ 3) →
     (bytes : List ℕ) × (ps : List Point) × (generated : List Tree) × (trees : List Tree)
     × CameToTheEnd before.read.input.rest bytes after.read.input.rest
     × IsPointText bytes ps
     × AreTreesOf (terminals_of ps) size generated
     × AreKeptTrees generated trees
-    × SearchesTruly (options_of search) (terminals_of ps) trees before after status
+    × SearchesTruly search (terminals_of ps) trees before after status
 
 -- What `bb` printed is true: the input was read to its end, it spells a file of full trees, and the bytes that went out are an
 -- answer that may be printed for the points and the trees of the file.
 abbrev pub BuildHeadline : Option Request → Outside → Outside → ℕ → Type 0
-BuildHeadline request before after status = (search : SearchRequest) → request ≡ Some (Bb search) → (status ≡ 0) ⊎ (status ≡ 3) →
+BuildHeadline request before after status = (search : SearchOptions) → request ≡ Some (Bb search) → (status ≡ 0) ⊎ (status ≡ 3) →
     (bytes : List ℕ) × (file : FstValue)
     × CameToTheEnd before.read.input.rest bytes after.read.input.rest
     × SpellsFstFile bytes file
-    × SearchesTruly (options_of search) file.points file.trees before after status
+    × SearchesTruly search file.points file.trees before after status
 
 -- What `check` told is true: the file lists points, the input was read to its end, and the status is 0 exactly where its bytes
 -- are accepted as an answer for the points. Then `out` gained the line with the answer's length and bound, no network of the

@@ -1,4 +1,4 @@
-pub mod Options
+pub mod Trials
 pub mod Run
 pub mod Headlines
 pub mod Complete

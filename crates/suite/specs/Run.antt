@@ -16,7 +16,6 @@ use Rattle.tree_tools.specs.Pruning.{EndsPrunefst}
 use Rattle.trial_tools.specs.Trial.{EndsTrial}
 use Rattle.requests.specs.Requests.{Request}
 use Rattle.requests.specs.Requests.Request.{Points, Stp2points, Rfst, Prunefst, Bb, Solve, Check, Dumpfst, Fst2graph, Plot, Trial}
-use Rattle.suite.specs.Options.{options_of}
 
 -- the text on `err` where the words ask for nothing
 abbrev pub usage_line : List ℕ
@@ -42,8 +41,8 @@ EndsAsAsked (Some (Points drawing)) before after status = EndsPoints drawing.cou
 EndsAsAsked (Some Stp2points) before after status = EndsStp2points before after status
 EndsAsAsked (Some (Rfst size)) before after status = EndsRfst size before after status
 EndsAsAsked (Some Prunefst) before after status = EndsPrunefst before after status
-EndsAsAsked (Some (Bb search)) before after status = EndsBb (options_of search) before after status
-EndsAsAsked (Some (Solve size search)) before after status = EndsSolve (options_of search) size before after status
+EndsAsAsked (Some (Bb search)) before after status = EndsBb search before after status
+EndsAsAsked (Some (Solve size search)) before after status = EndsSolve search size before after status
 EndsAsAsked (Some (Check points)) before after status = EndsCheck points before after status
 EndsAsAsked (Some (Dumpfst pieces)) before after status = EndsDumpfst pieces before after status
 EndsAsAsked (Some Fst2graph) before after status = EndsFst2graph before after status

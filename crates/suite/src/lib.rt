@@ -1,8 +1,8 @@
 //! The top call, which runs the tool that the words ask for.
 #![tactic(auto)]
 
-mod options;
+mod laws;
 mod program;
 
-pub use options::trial_is_solve;
+pub use laws::trial_is_solve;
 pub use program::run;

@@ -7,7 +7,7 @@ ghost use Rattle.suite.specs.Run.{IsRun};
 ghost use Rattle.suite.specs.Headlines.{Headline, BuildHeadline, CheckHeadline, TrialHeadline};
 ghost use Rattle.suite.specs.Complete.{Completes};
 
-use crate::options::{options_from, trial_is_solve};
+use crate::laws::trial_is_solve;
 use frame::{MISUSED, NO_MEMORY, report};
 use judge_tools::{check, plot};
 use point_tools::{located_has_no_fault, points, stp2points};
@@ -101,10 +101,10 @@ fn answer<I: Source, O: Sink, R: Sink, S: Shelf>(
         }
         Some(Request::Bb(search)) => {
             spelled_has_no_fault();
-            bb(alloc, options_from(search), input, out, err)
+            bb(alloc, search, input, out, err)
         }
         Some(Request::Solve { size, search }) => {
-            solve(alloc, options_from(search), size, input, out, err)
+            solve(alloc, search, size, input, out, err)
         }
         Some(Request::Check { points }) => check(alloc, points, input, out, err, shelf),
         Some(Request::Dumpfst { pieces }) => {

@@ -10,7 +10,7 @@ use Rattle.cert_tree.specs.Preorder.{split_count}
 use Rattle.cert_check.specs.Accepted.{IsAccepted}
 use Rattle.tree_inputs.specs.Generation.{IsTreeList, most_members}
 use Rattle.search_tools.specs.declared.solution.Solution.{Solution}
-use Rattle.search_tools.specs.Options.{usual_options}
+use Rattle.search_rules.specs.Options.{usual_options}
 use Rattle.search_tools.specs.Permitted.{search_text}
 use Rattle.search_tools.specs.Steps.{IsFor, IsSpelled, SolvesPruned, solution_text}
 use Rattle.search_tools.specs.SolutionLaws.{permitted_answer, told_value}

@@ -3,7 +3,7 @@ use Rattle.std.specs.Prelude.{ℕ, List, length}
 use Rattle.points_in.specs.declared.point.Point.{Point}
 use Rattle.full_tree.specs.declared.code.Tree.{Tree as FullTree}
 use Rattle.cert_tree.specs.Preorder.{split_count}
-use Rattle.search_tools.specs.declared.options.SearchOptions.{SearchOptions}
+use Rattle.search_rules.specs.declared.options.SearchOptions.{SearchOptions}
 use Rattle.search_tools.specs.declared.solution.Solution.{Solution}
 use Rattle.search_tools.specs.Steps.{IsFor}
 use Rattle.trial_tools.specs.declared.trial_line.TrialLine.{TrialLine}

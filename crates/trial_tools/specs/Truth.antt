@@ -7,7 +7,7 @@ use Rattle.cert_tree.specs.Tree.{Tree}
 use Rattle.cert_tree.specs.Preorder.{split_count}
 use Rattle.branch.specs.Runs.{EndsOpenings}
 use Rattle.frame.specs.Outside.{Outside}
-use Rattle.search_tools.specs.Options.{usual_options}
+use Rattle.search_rules.specs.Options.{usual_options}
 use Rattle.search_tools.specs.Solution.{bound_of}
 use Rattle.trial_tools.specs.TrialLine.{trial_text}
 use Rattle.trial_tools.specs.Trial.{IsTried, drawn_grid, line_for}

@@ -9,7 +9,7 @@ use Rattle.cert_tree.specs.Preorder.{split_count}
 use Rattle.branch.specs.Runs.{EndsOpenings}
 use Rattle.frame.specs.Statuses.{answer_code}
 use Rattle.frame.specs.Outside.{Outside}
-use Rattle.search_tools.specs.Options.{usual_options}
+use Rattle.search_rules.specs.Options.{usual_options}
 use Rattle.search_tools.specs.Solution.{bound_of, value_on}
 use Rattle.search_tools.specs.TruthLaws.{zero_where_equal, value_below}
 use Rattle.trial_tools.specs.TrialLine.{trial_text, trial_status}

@@ -15,7 +15,8 @@ use drawn_points::{distinct_points, draw_points, short_grid};
 use frame::conclude;
 use hanan_grid::{Grid, GridFault};
 use rst_outside::Sink;
-use search_tools::{SearchOptions, solved};
+use search_rules::SearchOptions;
+use search_tools::solved;
 use std::alloc::{AllocError, Global};
 use tree_inputs::{GenerationFault, MOST_MEMBERS, trees_of};
 

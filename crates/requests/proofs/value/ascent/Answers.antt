@@ -1,7 +1,7 @@
 use Rattle.std.proofs.Common.{◌∙◌, codes}
 use Rattle.clap.specs.Words.{found_of, one_of, rows_of}
 use Rattle.clap.proofs.WalkLemmas.{one_text-rows}
-use Rattle.requests.specs.Names.{ascent_named}
+use Rattle.search_rules.specs.Names.{ascent_named}
 use Rattle.requests.proofs.ValueLaws.{named_reads, reads}
 use Rattle.requests.proofs.value.ascent.Goals as goal
 

@@ -1,9 +1,7 @@
 -- What the tool printed is true, and a run that nothing troubles ends with an answer.
-use Rattle.std.proofs.Common.{rules, option_map, subst}
+use Rattle.std.proofs.Common.{rules, option_map}
 use Rattle.frame.specs.Outside.{outside}
 use Rattle.requests.specs.Requests.{meaning}
-use Rattle.search_tools.specs.Build.{EndsBb}
-use Rattle.search_tools.specs.Solve.{EndsSolve}
 use Rattle.suite.proofs.Asked.{solve_asked_completes, bb_asked_completes, check_asked_completes, plot_asked_completes, dump_asked_completes, rfst_asked_completes, prune_asked_completes, graph_asked_completes, points_asked_completes, stp_asked_completes, solve_asked_runs, bb_asked_runs, solve_asked_headline, bb_asked_headline, check_asked_headline, trial_asked_completes, trial_asked_headline}
 use Rattle.suite.proofs.program.answer.Goals as goal
 
@@ -15,10 +13,7 @@ returns-in-Some-Solve-clause-run g c =
     (outside (g.I.Source.state c.solve.new.input) (g.O.Sink.state c.solve.new.out) (g.R.Sink.state c.solve.new.err) (g.S.Shelf.state c.args.shelf.now))
     c.solve.result
     (search rules)
-    (subst (λ options. EndsSolve options c.in-Some-Solve.size
-    (outside (g.I.Source.state c.args.input.now) (g.O.Sink.state c.args.out.now) (g.R.Sink.state c.args.err.now) (g.S.Shelf.state c.args.shelf.now))
-    (outside (g.I.Source.state c.solve.new.input) (g.O.Sink.state c.solve.new.out) (g.R.Sink.state c.solve.new.err) (g.S.Shelf.state c.args.shelf.now))
-    c.solve.result) c.options_from-in-Some-Solve.ensures (c.solve.ensures (g.S.Shelf.state c.args.shelf.now)))
+    (c.solve.ensures (g.S.Shelf.state c.args.shelf.now))
 
 pub returns-in-Some-Solve-clause-headline : goal.returns-in-Some-Solve-clause-headline
 returns-in-Some-Solve-clause-headline g c =
@@ -28,10 +23,7 @@ returns-in-Some-Solve-clause-headline g c =
     (outside (g.I.Source.state c.solve.new.input) (g.O.Sink.state c.solve.new.out) (g.R.Sink.state c.solve.new.err) (g.S.Shelf.state c.args.shelf.now))
     c.solve.result
     (search rules)
-    (subst (λ options. EndsSolve options c.in-Some-Solve.size
-    (outside (g.I.Source.state c.args.input.now) (g.O.Sink.state c.args.out.now) (g.R.Sink.state c.args.err.now) (g.S.Shelf.state c.args.shelf.now))
-    (outside (g.I.Source.state c.solve.new.input) (g.O.Sink.state c.solve.new.out) (g.R.Sink.state c.solve.new.err) (g.S.Shelf.state c.args.shelf.now))
-    c.solve.result) c.options_from-in-Some-Solve.ensures (c.solve.ensures (g.S.Shelf.state c.args.shelf.now)))
+    (c.solve.ensures (g.S.Shelf.state c.args.shelf.now))
 
 pub returns-in-Some-Solve-clause-complete : goal.returns-in-Some-Solve-clause-complete
 returns-in-Some-Solve-clause-complete g c =
@@ -41,10 +33,7 @@ returns-in-Some-Solve-clause-complete g c =
     (outside (g.I.Source.state c.solve.new.input) (g.O.Sink.state c.solve.new.out) (g.R.Sink.state c.solve.new.err) (g.S.Shelf.state c.args.shelf.now))
     c.solve.result
     (search rules)
-    (subst (λ options. EndsSolve options c.in-Some-Solve.size
-    (outside (g.I.Source.state c.args.input.now) (g.O.Sink.state c.args.out.now) (g.R.Sink.state c.args.err.now) (g.S.Shelf.state c.args.shelf.now))
-    (outside (g.I.Source.state c.solve.new.input) (g.O.Sink.state c.solve.new.out) (g.R.Sink.state c.solve.new.err) (g.S.Shelf.state c.args.shelf.now))
-    c.solve.result) c.options_from-in-Some-Solve.ensures (c.solve.ensures (g.S.Shelf.state c.args.shelf.now)))
+    (c.solve.ensures (g.S.Shelf.state c.args.shelf.now))
 
 pub returns-in-Some-Check-clause-checked : goal.returns-in-Some-Check-clause-checked
 returns-in-Some-Check-clause-checked g c =
@@ -114,10 +103,7 @@ returns-in-Some-Bb-clause-run g c =
     (outside (g.I.Source.state c.bb.new.input) (g.O.Sink.state c.bb.new.out) (g.R.Sink.state c.bb.new.err) (g.S.Shelf.state c.args.shelf.now))
     c.bb.result
     (search rules)
-    (subst (λ options. EndsBb options
-    (outside (g.I.Source.state c.args.input.now) (g.O.Sink.state c.args.out.now) (g.R.Sink.state c.args.err.now) (g.S.Shelf.state c.args.shelf.now))
-    (outside (g.I.Source.state c.bb.new.input) (g.O.Sink.state c.bb.new.out) (g.R.Sink.state c.bb.new.err) (g.S.Shelf.state c.args.shelf.now))
-    c.bb.result) c.options_from.ensures (c.bb.ensures (g.S.Shelf.state c.args.shelf.now)))
+    (c.bb.ensures (g.S.Shelf.state c.args.shelf.now))
 
 pub returns-in-Some-Bb-clause-built : goal.returns-in-Some-Bb-clause-built
 returns-in-Some-Bb-clause-built g c =
@@ -127,10 +113,7 @@ returns-in-Some-Bb-clause-built g c =
     (outside (g.I.Source.state c.bb.new.input) (g.O.Sink.state c.bb.new.out) (g.R.Sink.state c.bb.new.err) (g.S.Shelf.state c.args.shelf.now))
     c.bb.result
     (search rules)
-    (subst (λ options. EndsBb options
-    (outside (g.I.Source.state c.args.input.now) (g.O.Sink.state c.args.out.now) (g.R.Sink.state c.args.err.now) (g.S.Shelf.state c.args.shelf.now))
-    (outside (g.I.Source.state c.bb.new.input) (g.O.Sink.state c.bb.new.out) (g.R.Sink.state c.bb.new.err) (g.S.Shelf.state c.args.shelf.now))
-    c.bb.result) c.options_from.ensures (c.bb.ensures (g.S.Shelf.state c.args.shelf.now)))
+    (c.bb.ensures (g.S.Shelf.state c.args.shelf.now))
 
 pub returns-in-Some-Bb-clause-complete : goal.returns-in-Some-Bb-clause-complete
 returns-in-Some-Bb-clause-complete g c =
@@ -140,10 +123,7 @@ returns-in-Some-Bb-clause-complete g c =
     (outside (g.I.Source.state c.bb.new.input) (g.O.Sink.state c.bb.new.out) (g.R.Sink.state c.bb.new.err) (g.S.Shelf.state c.args.shelf.now))
     c.bb.result
     (search rules)
-    (subst (λ options. EndsBb options
-    (outside (g.I.Source.state c.args.input.now) (g.O.Sink.state c.args.out.now) (g.R.Sink.state c.args.err.now) (g.S.Shelf.state c.args.shelf.now))
-    (outside (g.I.Source.state c.bb.new.input) (g.O.Sink.state c.bb.new.out) (g.R.Sink.state c.bb.new.err) (g.S.Shelf.state c.args.shelf.now))
-    c.bb.result) c.options_from.ensures (c.bb.ensures (g.S.Shelf.state c.args.shelf.now)))
+    (c.bb.ensures (g.S.Shelf.state c.args.shelf.now))
 
 pub returns-in-Some-Points-clause-complete : goal.returns-in-Some-Points-clause-complete
 returns-in-Some-Points-clause-complete g c =

@@ -3,7 +3,7 @@ use Rattle.std.proofs.Common.{Ok, List, length, subst, sym, ◌∙◌}
 use Rattle.points_in.specs.declared.point.Point.{Point}
 use Rattle.fst_gen.specs.Joins.{JoinsAll}
 use Rattle.tree_inputs.specs.Generation.{GeneratesTrees, IsTreeList, most_members}
-use Rattle.search_tools.specs.Options.{usual_options}
+use Rattle.search_rules.specs.Options.{usual_options}
 use Rattle.trial_tools.specs.declared.trial_line.TrialLine.{TrialLine}
 use Rattle.trial_tools.specs.TrialLine.{trial_print}
 use Rattle.trial_tools.specs.Trial.{Tries}

@@ -1,7 +1,7 @@
 -- What is chosen of a search where no word asks for anything else.
-use Rattle.search_tools.specs.declared.options.AscentRule.TheVariants.{Least}
-use Rattle.search_tools.specs.declared.options.SplitRule.TheVariants.{Longest}
-use Rattle.search_tools.specs.declared.options.SearchOptions.{SearchOptions}
+use Rattle.search_rules.specs.declared.rules.AscentRule.TheVariants.{Least}
+use Rattle.search_rules.specs.declared.rules.SplitRule.TheVariants.{Longest}
+use Rattle.search_rules.specs.declared.options.SearchOptions.{SearchOptions}
 
 -- 100 openings, 4,000 splits of the search for a least concatenation, the rules `least` and `longest`
 abbrev pub usual_options : SearchOptions

@@ -1,24 +1,24 @@
 //! The rules that an option chooses by its name.
 
-ghost use Rattle.requests.specs.Names.{IsNamed, ascent_named, split_named};
+ghost use Rattle.search_rules.specs.Names.{IsNamed, ascent_named, split_named};
 
 use std::str::FromStr;
 
-/// The rule by which an ascent chooses the candidate that it cuts off next.
+/// Which candidate an ascent takes: a required vertex, with the number of the vertices of its cut as its size.
 #[derive(Clone, Copy, Debug, PartialEq, Eq)]
 pub enum AscentRule {
-    /// `least`: the candidate of the least size, and of these the lowest vertex.
+    /// `least`: the one of the smallest size, and of these the lowest vertex.
     Least,
     /// `first`: the lowest vertex.
     First,
 }
 
-/// The rule by which a search chooses the edge that it splits an open leaf on.
+/// Which edge a leaf is split on.
 #[derive(Clone, Copy, Debug, PartialEq, Eq)]
 pub enum SplitRule {
-    /// `longest`: the longest edge, and of these the lowest number.
+    /// `longest`: the longest one, and of these the one of the lowest number.
     Longest,
-    /// `first`: the lowest number.
+    /// `first`: the one of the lowest number.
     First,
 }
 

@@ -1,10 +1,10 @@
 -- The rules that words name.
 use Rattle.std.specs.Prelude.{◌≡◌, List, ℕ, Option, Some, None, Result, MatchResult, codes, if◌then◌else◌}
 use Rattle.std.specs.Str.{bytes_eq}
-use Rattle.requests.specs.declared.rules.AscentRule.{AscentRule}
-use Rattle.requests.specs.declared.rules.AscentRule.TheVariants as ascent
-use Rattle.requests.specs.declared.rules.SplitRule.{SplitRule}
-use Rattle.requests.specs.declared.rules.SplitRule.TheVariants as split
+use Rattle.search_rules.specs.declared.rules.AscentRule.{AscentRule}
+use Rattle.search_rules.specs.declared.rules.AscentRule.TheVariants as ascent
+use Rattle.search_rules.specs.declared.rules.SplitRule.{SplitRule}
+use Rattle.search_rules.specs.declared.rules.SplitRule.TheVariants as split
 
 -- the result is the value that the text names, and an error where it names none
 abbrev pub IsNamed : {T E : Type 0} → Option T → Result T E → Type 0
