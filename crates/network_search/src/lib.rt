@@ -1,4 +1,4 @@
-//! Shorter networks by local search: an untrusted search proposes, and what it proposes is judged.
+//! Shorter networks by local search. It proposes: what it finds is judged by `network_judge`.
 #![tactic(auto)]
 
 mod access;
@@ -14,4 +14,4 @@ mod shortening;
 mod shortest_paths;
 mod subgraph;
 
-pub use shortening::{cleaned, shortened};
+pub use shortening::{propose_cleaned, propose_shorter};

@@ -9,7 +9,7 @@ use fst_concat::{ChosenKind, ConcatFault, concat, trees_in_form_have_members};
 use full_tree::TreeList;
 use hanan_grid::Grid;
 use net_graph::EdgeSet;
-use network_search::shortened;
+use network_judge::shortened;
 use std::alloc::{AllocError, Global};
 use tree_network::network_of;
 

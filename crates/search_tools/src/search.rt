@@ -5,7 +5,7 @@ ghost use Rattle.net_graph.specs.Network.{length_of};
 ghost use Rattle.hanan_grid.specs.Grid.{hanan_grid_of};
 ghost use Rattle.cert_tree.specs.Preorder.{split_count};
 ghost use Rattle.dual_ascent.specs.Choosing.{IsCallableOnSome, AnswersAPlace};
-ghost use Rattle.tight_packing.specs.Bound.{IsBoundOf};
+ghost use Rattle.packing_judge.specs.Bound.{IsBoundOf};
 ghost use Rattle.branch.specs.States.{IsNetworkOf};
 ghost use Rattle.search_tools.specs.Steps.{IsTold};
 
@@ -14,10 +14,11 @@ use branch::{Search, Solved};
 use dual_ascent::{Candidate, Chooser, Rule};
 use hanan_grid::Grid;
 use net_graph::{EdgeSet, Packing, length};
-use network_search::shortened;
+use network_judge::shortened;
+use packing_judge::{Bound, Outcome, exchange};
 use search_rules::{SearchOptions, ascent_place, split_place};
 use std::alloc::{AllocError, Global};
-use tight_packing::{Bound, Budget, Exchanged, Outcome, exchange};
+use tight_packing::Budget;
 
 /// At most so many exchanges are made, each but the first from what the one before came to: against a shorter network, or
 /// with a new budget.
@@ -194,10 +195,7 @@ fn exchanged(
     requires { length network.now ≡ length (hanan_grid_of grid.now).edges }
     ensures { IfOk result (λ found. IfSome found.bound (IsBoundOf (hanan_grid_of grid.now))) }
 {
-    let Exchanged {
-        outcome,
-        shorter: _,
-    } = exchange(alloc, grid, network, start, budget)?;
+    let outcome = exchange(alloc, grid, network, start, budget)?;
     let is_spent = matches!(outcome, Outcome::Exhausted(_));
     let bound = match outcome {
         Outcome::Tight(bound) => Some(bound),

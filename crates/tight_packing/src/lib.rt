@@ -1,8 +1,7 @@
 //! Packings of whole-weighted directed cuts whose value is the length of a given network (the
-//! exchange method, this project's own). What is found is judged before it is handed out.
+//! exchange method, this project's own). It proposes: what it finds is judged by `packing_judge`.
 #![tactic(auto)]
 
-mod bound;
 mod budget;
 mod cells;
 mod clean;
@@ -31,6 +30,5 @@ mod unit_search;
 mod units;
 mod users;
 
-pub use bound::Bound;
 pub use budget::Budget;
-pub use method::{Exchanged, Outcome, exchange};
+pub use method::{Proposal, propose};

@@ -1,22 +1,20 @@
 //! Packings that were judged.
 
 ghost use Rattle.std.specs.Prelude.{◌≡◌, length, All, IfOk, IfSome};
-ghost use Rattle.tight_packing.specs.Bound.{IsBoundOf};
+ghost use Rattle.packing_judge.specs.Bound.{IsBoundOf};
 
 use net_graph::{Decision, NetGraph, Packing, feasible, value};
 use std::alloc::{AllocError, Global};
 
-/// A packing that is feasible where nothing is decided, with its value, which no network is shorter
-/// than.
+/// A packing that is feasible where nothing is decided, with its value, which no network is shorter than.
 #[derive(Debug, Drop)]
 pub struct Bound {
     pub packing: Packing,
     pub value: u128,
 }
 
-/// Judges a packing; `None` where it isn't feasible, or has more cuts than the graph has arcs. An
-/// `Err` is want of memory.
-pub fn judged(
+/// Judges a packing; `None` where it isn't feasible, or has more cuts than the graph has arcs. An `Err` is want of memory.
+pub(crate) fn judged(
     alloc: Global,
     graph: &NetGraph,
     packing: Packing,

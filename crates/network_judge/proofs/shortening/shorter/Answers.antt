@@ -1,7 +1,7 @@
 use Rattle.std.proofs.Common.{subst, sym}
 use Rattle.std.proofs.lemmas.Result.{IfOk-weaker}
 use Rattle.net_graph.specs.Network.{IsNetwork}
-use Rattle.network_search.proofs.shortening.shorter.Goals as goal
+use Rattle.network_judge.proofs.shortening.shorter.Goals as goal
 
 pub returns-else-length-clause-network : goal.returns-else-length-clause-network
 returns-else-length-clause-network c =
