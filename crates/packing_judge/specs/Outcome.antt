@@ -1,8 +1,8 @@
 -- How an exchange may end.
 use Rattle.std.specs.Prelude.{ℕ, ◌≡◌, ◌<◌, ◌≤◌, ◌^◌, IfSome}
 use Rattle.net_graph.specs.Graph.{Graph}
-use Rattle.packing_judge.specs.declared.exchange.Outcome.{Outcome}
-use Rattle.packing_judge.specs.declared.exchange.Outcome.TheVariants.{Tight, Impossible, Exhausted, TooLong}
+use Rattle.packing_judge.specs.declared.method.Outcome.{Outcome}
+use Rattle.packing_judge.specs.declared.method.Outcome.TheVariants.{Tight, Impossible, Exhausted, TooLong}
 use Rattle.packing_judge.specs.Bound.{IsBoundOf}
 
 -- how an exchange may end where the network aimed at has this length: every packing that is handed out was judged, a

@@ -2,7 +2,7 @@
 #![tactic(auto)]
 
 mod bound;
-mod exchange;
+mod method;
 
 pub use bound::Bound;
-pub use exchange::{Outcome, exchange};
+pub use method::{Outcome, exchange};

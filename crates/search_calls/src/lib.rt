@@ -1,12 +1,20 @@
-//! Rows of calls that search: branch and bound, local search. What a row gives and what comes of it: docs/ROWS.md.
+//! Rows of calls that search: branch and bound, networks of saturated arcs, local search. What a row gives and what comes of
+//! it: docs/ROWS.md.
 #![tactic(auto)]
+
+mod asked;
+mod searching;
+mod shortening;
+mod telling;
 
 use row_tables::{Call, Fault};
 use std::alloc::Global;
 
 /// Makes the call of a row, and writes what comes of it.
-pub fn answer(_alloc: Global, call: &Call, _answer: &mut String) -> Result<(), Fault> {
+pub fn answer(alloc: Global, call: &Call, answer: &mut String) -> Result<(), Fault> {
     match call.kind() {
+        "solve" | "steps" | "saturated" => searching::search(alloc, call, answer),
+        "shorter" => shortening::shorter(alloc, call, answer),
         _ => Err(Fault::UnknownSubject),
     }
 }

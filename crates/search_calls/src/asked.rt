@@ -1,0 +1,46 @@
+//! What a row asks of a search.
+
+ghost use Rattle.std.specs.Prelude.{IfOk};
+ghost use Rattle.branch.specs.States.{IsNetworkOf};
+
+use graph_calls::described::edges;
+use net_graph::{EdgeSet, NetGraph, joins};
+use row_tables::{Call, Fault};
+use search_rules::{AscentRule, SplitRule};
+use std::alloc::Global;
+use std::str::FromStr;
+
+/// The edges under the key `edges`, which are a network.
+pub fn network(alloc: Global, call: &Call, g: &NetGraph) -> Result<EdgeSet, Fault>
+    ensures { IfOk result (λ set. IsNetworkOf g.now set) }
+{
+    let set = edges(alloc, call, g, "edges")?;
+    if joins(alloc, g, &set)? {
+        Ok(set)
+    } else {
+        Err(Fault::NotAllowed)
+    }
+}
+
+/// The number of a key, below 256.
+pub fn small(call: &Call, key: &str) -> Result<u8, Fault> {
+    call.word(key)?.parse::<u8>().map_err(|_| Fault::BadNumber)
+}
+
+/// The rule of the ascents under the key `ascent`; `least` where there is none.
+pub fn ascent_rule(call: &Call) -> Result<AscentRule, Fault> {
+    if call.has("ascent") {
+        AscentRule::from_str(call.word("ascent")?).map_err(|_| Fault::NotAllowed)
+    } else {
+        Ok(AscentRule::Least)
+    }
+}
+
+/// The rule of the splits under the key `split`; `longest` where there is none.
+pub fn split_rule(call: &Call) -> Result<SplitRule, Fault> {
+    if call.has("split") {
+        SplitRule::from_str(call.word("split")?).map_err(|_| Fault::NotAllowed)
+    } else {
+        Ok(SplitRule::Longest)
+    }
+}

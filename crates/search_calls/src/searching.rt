@@ -1,0 +1,97 @@
+//! Searches by splits, whole and step by step, and networks of saturated arcs.
+
+ghost use Rattle.std.specs.Prelude.{◌<◌, length};
+
+use crate::asked::{ascent_rule, network, small, split_rule};
+use crate::telling::{tell_edges, tell_solved};
+use branch::{Search, Step, saturated_network, solve_graph};
+use dual_ascent::{Candidate, Chooser, Rule, ascend};
+use graph_calls::described::graph;
+use net_graph::{Decision, NetGraph, Packing};
+use row_tables::{Call, Fault};
+use search_rules::{ascent_place, split_place};
+use std::alloc::Global;
+
+/// Makes a call by the rules that the row names.
+pub fn search(alloc: Global, call: &Call, answer: &mut String) -> Result<(), Fault> {
+    let ascents = ascent_rule(call)?;
+    let splits = split_rule(call)?;
+    let g = graph(alloc, call)?;
+    let ascent = Chooser::new(|list: &[Candidate]| -> usize
+        requires { 0 < length list.now }
+        ensures { result < length list.now }
+    { ascent_place(ascents, list) });
+    let split = Chooser::new(|list: &[Candidate]| -> usize
+        requires { 0 < length list.now }
+        ensures { result < length list.now }
+    { split_place(splits, list) });
+    match call.kind() {
+        "solve" => solve(alloc, call, &g, ascent, split, answer),
+        "steps" => steps(alloc, call, &g, ascent, split, answer),
+        _ => saturated(alloc, &g, &ascent, answer),
+    }
+}
+
+// What a search finds that begins with the edges under `edges` and may make so many splits as stand under `openings`.
+fn solve<F: Rule, G: Rule>(
+    alloc: Global,
+    call: &Call,
+    g: &NetGraph,
+    ascent: Chooser<F>,
+    split: Chooser<G>,
+    answer: &mut String,
+) -> Result<(), Fault> {
+    let first = network(alloc, call, g)?;
+    let allowed = small(call, "openings")?;
+    let solved = solve_graph(alloc, g, first, allowed, ascent, split)?;
+    tell_solved(answer, &solved)
+}
+
+// The same step by step: what the first leaf shows, once no cuts raised it, and what comes of each of the steps whose number
+// stands under `steps`.
+fn steps<F: Rule, G: Rule>(
+    alloc: Global,
+    call: &Call,
+    g: &NetGraph,
+    ascent: Chooser<F>,
+    split: Chooser<G>,
+    answer: &mut String,
+) -> Result<(), Fault> {
+    let first = network(alloc, call, g)?;
+    let mut search = Search::start(alloc, g, first, ascent, split)?;
+    search.raise(Packing::empty(alloc))?;
+    if let Some(shown) = search.shown() {
+        tell_edges(answer, "shown", shown)?;
+    }
+    for _ in 0..small(call, "steps")? {
+        if search.splits() == 255 {
+            return Err(Fault::NotAllowed);
+        }
+        match search.split_one()? {
+            Step::Split => writeln!(answer, "split")?,
+            Step::Settled => writeln!(answer, "settled")?,
+        }
+    }
+    tell_edges(answer, "network", search.network())?;
+    writeln!(answer, "settled {}", search.is_settled())?;
+    writeln!(answer, "splits {}", search.splits())?;
+    writeln!(answer, "leaves {}", search.tree().leaves())?;
+    writeln!(answer, "bound {}", search.finish().bound)?;
+    Ok(())
+}
+
+// The network of saturated arcs of the ascent from no cut, where nothing is decided.
+fn saturated<F: Rule>(
+    alloc: Global,
+    g: &NetGraph,
+    ascent: &Chooser<F>,
+    answer: &mut String,
+) -> Result<(), Fault> {
+    let decision = Decision::none(alloc, g)?;
+    let made = ascend(alloc, g, &decision, Packing::empty(alloc), ascent)?;
+    if made.closed {
+        return Err(Fault::NotAllowed);
+    }
+    let set = saturated_network(alloc, g, &decision, &made.packing)?;
+    tell_edges(answer, "saturated", &set)
+}
