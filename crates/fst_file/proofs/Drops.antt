@@ -16,10 +16,6 @@ all_parts : (P : ℕ → Type 0) (xs : List ℕ) (x : ℕ) → AllByRecursion P 
 all_parts P [] x all = (tt, all.0)
 all_parts P (y ∷ xs) x all = let parts = all_parts P xs x all.1 in ((all.0, parts.0), parts.1)
 
--- none so far
-pub no_drops : StandForDrops [] []
-no_drops = record { few = omega arith; full = λ h. refl; many = λ h. absurd (omega arith); spelled = λ h a. refl; held = λ h a. refl }
-
 -- one more drop that is kept
 pub kept_drop : (kept ds : List ℕ) (k' k : ℕ) → StandForDrops kept ds → StandsFor k' k → length kept < 8
     → StandForDrops (kept ++ k' ∷ []) (ds ++ k ∷ [])

@@ -49,20 +49,6 @@ ends_short [] n one t is = absurd (omega arith)
 ends_short (last ∷ []) n one t is = ends_open t n last is
 ends_short (l ∷ m ∷ ls) n one t is = absurd (omega arith)
 
--- all was told, and nothing is left
-pub ends_well : (left : LinesLeft) (ps : List Point) (ts : List Tree) → left.lines ≡ empty_line ∷ []
-    → JudgesLeft (ended ps ts) left (Ok (record { points = ps; trees = ts }))
-ends_well left ps ts none =
-    let v : FstValue = record { points = ps; trees = ts } in
-    subst (λ ls. Judges (ended ps ts) left.number ls (Ok v)) (sym none) (inl (refl, refl))
-
--- all was told, and something is left
-pub goes_on : (ls : List (List (List ℕ))) (n : ℕ) (ps : List Point) (ts : List Tree) → 0 < length ls → ls ≢ empty_line ∷ []
-    → Judges (ended ps ts) n ls (Err (BadLine n))
-goes_on [] n ps ts some other = absurd (omega arith)
-goes_on (last ∷ []) n ps ts some other = inr (λ same. other (cc), refl)
-goes_on (l ∷ m ∷ ls) n ps ts some other = inl (BadLine n, refl, refl)
-
 -- a fault that is no want of memory
 pub fault_left : (t : Told) (left : LinesLeft) (f : FileFault) → JudgesLeft t left (Err f) → IsFaultLeft t left f
 fault_left t left (BadLine n) judged = judged
