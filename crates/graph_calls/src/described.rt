@@ -2,6 +2,7 @@
 
 ghost use Rattle.std.specs.Prelude.{◌≡◌, length, All, IfOk};
 ghost use Rattle.net_graph.specs.Decision.{IsDecisionFor};
+ghost use Rattle.dual_ascent.specs.Carried.{DecidesOneMore};
 
 use item_list::ItemList;
 use net_graph::{
@@ -74,7 +75,8 @@ pub fn decision(alloc: Global, call: &Call, g: &NetGraph) -> Result<Decision, Fa
 /// The decision with one more step, which a line says.
 pub fn decided(alloc: Global, g: &NetGraph, d: &Decision, line: &str) -> Result<Decision, Fault>
     requires { IsDecisionFor g.now d.now }
-    ensures { IfOk result (λ d. IsDecisionFor g.now d) }
+    ensures decision { IfOk result (λ now. IsDecisionFor g.now now) }
+    ensures one_more { IfOk result (DecidesOneMore g.now d.now) }
 {
     let (word, number) = line.split_once(' ').ok_or(Fault::NoArgument)?;
     let n = only(alloc, number)?;

@@ -1,0 +1,46 @@
+//! Decisions, and packings under them.
+
+ghost use Rattle.std.specs.Prelude.{◌≡◌, ◌≤◌, ◌^◌, length};
+
+use crate::described::{decision, graph, packing};
+use dual_ascent::maximal;
+use net_graph::{feasible, required, value, vertex_undecided};
+use row_tables::{Call, Fault};
+use std::alloc::Global;
+
+/// What a copy of the decision under `decided` says of a graph: the states of the edges, and which vertices are required
+/// and which undecided.
+pub fn decision_told(alloc: Global, call: &Call, answer: &mut String) -> Result<(), Fault> {
+    let g = graph(alloc, call)?;
+    let d = decision(alloc, call, &g)?.copy()?;
+    for state in &d.states(alloc, &g)? {
+        writeln!(answer, "{state:?}")?;
+    }
+    write!(answer, "required")?;
+    for v in 0..g.vertex_count() {
+        if required(&g, &d, v) {
+            write!(answer, " {v}")?;
+        }
+    }
+    write!(answer, "\nundecided")?;
+    for v in 0..g.vertex_count() {
+        if vertex_undecided(&g, &d, v) {
+            write!(answer, " {v}")?;
+        }
+    }
+    Ok(writeln!(answer)?)
+}
+
+/// What is told of a copy of the packing under `cuts`, under the decision of `decided`: whether it is feasible, its value,
+/// and whether saturated arcs lead to all required vertices.
+pub fn packing_told(alloc: Global, call: &Call, answer: &mut String) -> Result<(), Fault> {
+    let g = graph(alloc, call)?;
+    let d = decision(alloc, call, &g)?;
+    let p = packing(alloc, call, &g, "cuts")?.copy()?;
+    if p.len() > 1 << 32 {
+        return Err(Fault::NotAllowed);
+    }
+    writeln!(answer, "feasible {}", feasible(alloc, &g, &d, &p)?)?;
+    writeln!(answer, "value {}", value(&g, &d, &p))?;
+    Ok(writeln!(answer, "maximal {}", maximal(alloc, &g, &d, &p)?)?)
+}
