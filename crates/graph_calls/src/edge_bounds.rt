@@ -2,11 +2,12 @@
 
 ghost use Rattle.std.specs.Prelude.{◌<◌, length};
 ghost use Rattle.dual_ascent.specs.Choosing.{IsCallableOnSome, AnswersAPlace};
+ghost use Rattle.edge_slack.specs.EdgeBound.{IsInSomeNetwork};
 
 use crate::described::{edges, graph};
 use dual_ascent::{Candidate, Chooser, Rule};
 use edge_slack::{edge_bound, taking_in};
-use net_graph::{joins, root_part, value};
+use net_graph::{NetGraph, joins, root_part, value};
 use row_tables::{Call, Fault};
 use std::alloc::Global;
 
@@ -43,12 +44,28 @@ fn tell_bounds<F: Rule>(
     let chooser = Chooser::new(rule);
     for e in 0..g.edge_count() {
         if part.has(e) {
-            let packing = edge_bound(alloc, &g, e, &chooser)?;
-            let d = taking_in(alloc, &g, e)?;
-            writeln!(answer, "edge {e} bound {}", value(&g, &d, &packing))?;
+            tell_bound(alloc, &g, e, &chooser, answer)?;
         }
     }
     Ok(())
+}
+
+// Adds the line of one edge.
+fn tell_bound<F: Rule>(
+    alloc: Global,
+    g: &NetGraph,
+    e: u32,
+    chooser: &Chooser<F>,
+    answer: &mut String,
+) -> Result<(), Fault>
+    requires edge { e < length g.now.edges }
+    requires network { IsInSomeNetwork g.now e }
+{
+    let few = g.edge_count() <= 4900;
+    prove!(few);
+    let packing = edge_bound(alloc, g, e, chooser)?;
+    let d = taking_in(alloc, g, e)?;
+    Ok(writeln!(answer, "edge {e} bound {}", value(g, &d, &packing))?)
 }
 
 // The place of the candidate of the smallest size, and of these that of the lowest number.
