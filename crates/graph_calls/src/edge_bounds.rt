@@ -5,6 +5,7 @@ ghost use Rattle.dual_ascent.specs.Choosing.{IsCallableOnSome, AnswersAPlace};
 ghost use Rattle.edge_slack.specs.EdgeBound.{IsInSomeNetwork};
 
 use crate::described::{edges, graph};
+use crate::rules::{place_by, rule};
 use dual_ascent::{Candidate, Chooser, Rule};
 use edge_slack::{edge_bound, taking_in};
 use net_graph::{NetGraph, joins, root_part, value};
@@ -12,8 +13,9 @@ use row_tables::{Call, Fault};
 use std::alloc::Global;
 
 /// For each edge in the root part of the network under `edges`, the value of the packing that bounds the networks which
-/// use it, where each ascent takes the candidate of the smallest size, and of these that of the lowest number.
+/// use it, by the rule under `rule`.
 pub fn edge_bounds(alloc: Global, call: &Call, answer: &mut String) -> Result<(), Fault> {
+    let rule = rule(call.word("rule")?)?;
     tell_bounds(
         alloc,
         call,
@@ -21,7 +23,7 @@ pub fn edge_bounds(alloc: Global, call: &Call, answer: &mut String) -> Result<()
         |list: &[Candidate]| -> usize
             requires { 0 < length list.now }
             ensures { result < length list.now }
-        { least_place(list) },
+        { place_by(rule, list) },
     )
 }
 
@@ -66,15 +68,4 @@ fn tell_bound<F: Rule>(
     let packing = edge_bound(alloc, g, e, chooser)?;
     let d = taking_in(alloc, g, e)?;
     Ok(writeln!(answer, "edge {e} bound {}", value(g, &d, &packing))?)
-}
-
-// The place of the candidate of the smallest size, and of these that of the lowest number.
-fn least_place(list: &[Candidate]) -> usize
-    requires { 0 < length list.now }
-    ensures { result < length list.now }
-{
-    list.iter()
-        .enumerate()
-        .min_by_key(|(_, candidate)| (candidate.size, candidate.number))
-        .map_or(0, |(place, _)| place)
 }
