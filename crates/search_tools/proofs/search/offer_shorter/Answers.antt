@@ -7,7 +7,7 @@ use Rattle.search_tools.proofs.search.offer_shorter.Goals as goal
 pub shortened-requires-clause-network : goal.shortened-requires-clause-network
 shortened-requires-clause-network _ c =
     let same : c.args.search.now.graph ≡ c.graph.result.now = c.requires.graph ∙ sym c.graph.ensures.graph in
-    (subst (λ (g : Graph). IsNetworkOf g c.in-Some.shown.now) same c.in-Some.ensures).joins
+    (subst (λ (g : Graph). IsNetworkOf g c.in-Some.shown.now) same c.in-Some.ensures.network_of).joins
 
 pub offer-requires : goal.offer-requires
 offer-requires _ c =
