@@ -17,14 +17,18 @@ pub fn search(alloc: Global, call: &Call, answer: &mut String) -> Result<(), Fau
     let ascents = ascent_rule(call)?;
     let splits = split_rule(call)?;
     let g = graph(alloc, call)?;
-    let ascent = Chooser::new(|list: &[Candidate]| -> usize
-        requires { 0 < length list.now }
-        ensures { result < length list.now }
-    { ascent_place(ascents, list) });
-    let split = Chooser::new(|list: &[Candidate]| -> usize
-        requires { 0 < length list.now }
-        ensures { result < length list.now }
-    { split_place(splits, list) });
+    let ascent = Chooser::new(
+        |list: &[Candidate]| -> usize
+            requires { 0 < length list.now }
+            ensures { result < length list.now }
+        { ascent_place(ascents, list) },
+    );
+    let split = Chooser::new(
+        |list: &[Candidate]| -> usize
+            requires { 0 < length list.now }
+            ensures { result < length list.now }
+        { split_place(splits, list) },
+    );
     match call.kind() {
         "solve" => solve(alloc, call, &g, ascent, split, answer),
         "steps" => steps(alloc, call, &g, ascent, split, answer),

@@ -103,9 +103,7 @@ fn answer<I: Source, O: Sink, R: Sink, S: Shelf>(
             spelled_has_no_fault();
             bb(alloc, search, input, out, err)
         }
-        Some(Request::Solve { size, search }) => {
-            solve(alloc, search, size, input, out, err)
-        }
+        Some(Request::Solve { size, search }) => { solve(alloc, search, size, input, out, err) }
         Some(Request::Check { points }) => check(alloc, points, input, out, err, shelf),
         Some(Request::Dumpfst { pieces }) => {
             spelled_has_no_fault();
