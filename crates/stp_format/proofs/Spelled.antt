@@ -110,18 +110,6 @@ pub unsigned_parsed : (word : List ℕ) (n : ℕ) → IsNumeral 10 (without_lead
 unsigned_parsed word n fits is =
     ap Some is ∙ sym (ap (option_and_then weight_of) (spelled_plain word (numeral_no_minus word fits.0) fits.0) ∙ weight_some (digits_value 10 (without_leading_plus word)) fits.1)
 
--- a spelled 0
-pub zero_spelled : (o : Option ℤ) → option_and_then coordinate_of o ≡ Some (pos 0) → option_and_then weight_of o ≡ Some 0
-zero_spelled None e = absurd cc
-zero_spelled (Some (pos n)) e = elim (cases_Bool (nat_lt n (2 ^ 63))) [
-  | inl small ↦ let same : Some (pos n) ≡ Some (pos 0) = (let h : coordinate_of (pos n) ≡ Some (pos n) = rw small refl in sym h ∙ e) in let none : n ≡ 0 = cc in rw none refl
-  | inr big ↦ absurd (let h : coordinate_of (pos n) ≡ None = rw big refl in let f : None ≡ Some (pos 0) = sym h ∙ e in cc)
-]
-zero_spelled (Some (negsuc n)) e = elim (cases_Bool (nat_lt n (2 ^ 63))) [
-  | inl small ↦ absurd (let h : coordinate_of (negsuc n) ≡ Some (negsuc n) = rw small refl in let f : Some (negsuc n) ≡ Some (pos 0) = sym h ∙ e in cc)
-  | inr big ↦ absurd (let h : coordinate_of (negsuc n) ≡ None = rw big refl in let f : None ≡ Some (pos 0) = sym h ∙ e in cc)
-]
-
 -- a negative number is none without a sign
 negative_none : (n : ℕ) → option_and_then coordinate_of (Some (neg_ℤ (pos n))) ≢ Some (pos 0) → weight_of (neg_ℤ (pos n)) ≡ None
 negative_none zero other = absurd (other refl)
@@ -146,36 +134,3 @@ other_spelled word refused other = elim (cases_Bool (not (length (without_leadin
         ∙ negative_none (digits_value 10 (without_leading_sign word)) (λ e. other (ap (option_and_then coordinate_of) spelled ∙ e))
   ]
 ]
-
--- numbers of 32 bits among those of 64
-pub count_some : (o : Option ℤ) (n : ℕ) → option_and_then weight_of o ≡ Some n → n < 2 ^ 32 → option_and_then count_of o ≡ Some n
-count_some None n e small = absurd cc
-count_some (Some (pos k)) n e small = elim (cases_Bool (nat_lt k (2 ^ 64))) [
-  | inl fits ↦
-      let h : weight_of (pos k) ≡ Some k = rw fits refl in
-      let f : Some k ≡ Some n = sym h ∙ e in
-      let same : k ≡ n = cc in
-      let is : nat_lt k (2 ^ 32) ≡ true = (Decides-ltb k (2 ^ 32)).1 (omega arith) in rw is f
-  | inr big ↦ absurd (let h : weight_of (pos k) ≡ None = rw big refl in let f : None ≡ Some n = sym h ∙ e in cc)
-]
-count_some (Some (negsuc k)) n e small = absurd cc
-
-pub count_large : (o : Option ℤ) (n : ℕ) → option_and_then weight_of o ≡ Some n → 2 ^ 32 ≤ n → option_and_then count_of o ≡ None
-count_large None n e large = absurd cc
-count_large (Some (pos k)) n e large = elim (cases_Bool (nat_lt k (2 ^ 64))) [
-  | inl fits ↦
-      let h : weight_of (pos k) ≡ Some k = rw fits refl in
-      let f : Some k ≡ Some n = sym h ∙ e in
-      let same : k ≡ n = cc in
-      let is : nat_lt k (2 ^ 32) ≡ false = le-ltb k (2 ^ 32) (omega arith) in rw is refl
-  | inr big ↦ absurd (let h : weight_of (pos k) ≡ None = rw big refl in let f : None ≡ Some n = sym h ∙ e in cc)
-]
-count_large (Some (negsuc k)) n e large = absurd cc
-
-pub count_none : (o : Option ℤ) → option_and_then weight_of o ≡ None → option_and_then count_of o ≡ None
-count_none None e = refl
-count_none (Some (pos k)) e = elim (cases_Bool (nat_lt k (2 ^ 64))) [
-  | inl fits ↦ absurd (let h : weight_of (pos k) ≡ Some k = rw fits refl in let f : Some k ≡ None = sym h ∙ e in cc)
-  | inr big ↦ let is : nat_lt k (2 ^ 32) ≡ false = le-ltb k (2 ^ 32) (omega (arith, ltb-false k (2 ^ 64) big)) in rw is refl
-]
-count_none (Some (negsuc k)) e = refl
