@@ -5,39 +5,70 @@ use row_tables::{Call, Fault};
 use std::alloc::Global;
 use stp_format::{StpFault, read_stp};
 
+/// What is told of prefixes in a row, and of how many.
+#[derive(Drop)]
+struct Run {
+    told: String,
+    times: usize,
+}
+
+impl Run {
+    // Takes what is told of the next prefix. Where that is something else, the run is written and another one begins.
+    fn add(&mut self, told: String, answer: &mut String) -> Result<(), Fault> {
+        if self.told == told {
+            self.times = self.times.saturating_add(1);
+            return Ok(());
+        }
+        self.write(answer)?;
+        self.told = told;
+        self.times = 1;
+        Ok(())
+    }
+
+    // Writes the run, if it has begun.
+    fn write(&self, answer: &mut String) -> Result<(), Fault> {
+        if self.times > 0 {
+            writeln!(answer, "{} {}", self.times, self.told)?;
+        }
+        Ok(())
+    }
+}
+
 /// The faults of the proper prefixes of the text under `file`, from the shortest one on, each with how many prefixes
 /// in a row have it: of an STP file or of a file of full trees, as the word under `format` says.
 pub(crate) fn cuts(alloc: Global, call: &Call, answer: &mut String) -> Result<(), Fault> {
     let text = call.bytes("file")?;
-    let mut last = String::new(alloc);
-    let mut times: usize = 0;
+    let is_stp = call.word("format")? == "stp";
+    let mut run = Run {
+        told: String::new(alloc),
+        times: 0,
+    };
     for cut in 0..text.len() {
-        let told = told(alloc, call.word("format")?, &text[..cut])?;
-        if times > 0 && told != last {
-            writeln!(answer, "{times} {last}")?;
-            times = 0;
-        }
-        last = told;
-        times = times.saturating_add(1);
+        let front = &text[..cut];
+        let told = if is_stp {
+            told_of_stp(alloc, front)?
+        } else {
+            told_of_fst(alloc, front)?
+        };
+        run.add(told, answer)?;
     }
-    Ok(writeln!(answer, "{times} {last}")?)
+    run.write(answer)
 }
 
-// What is told of a text in a format.
-fn told(alloc: Global, format: &str, text: &[u8]) -> Result<String, Fault> {
-    let mut told = String::new(alloc);
-    match format {
-        "stp" => match read_stp(alloc, text) {
-            Ok(_) => write!(told, "a file")?,
-            Err(StpFault::Memory(error)) => return Err(Fault::from(error)),
-            Err(fault) => write!(told, "{fault}")?,
-        },
-        "fst" => match read_file(alloc, text) {
-            Ok(_) => write!(told, "a file")?,
-            Err(FileFault::Memory(error)) => return Err(Fault::from(error)),
-            Err(fault) => write!(told, "{fault}")?,
-        },
-        _ => return Err(Fault::UnknownSubject),
+// What is told of a text as an STP file.
+fn told_of_stp(alloc: Global, text: &[u8]) -> Result<String, Fault> {
+    match read_stp(alloc, text) {
+        Ok(_) => Ok(String::from_str(alloc, "a file")?),
+        Err(StpFault::Memory(error)) => Err(Fault::from(error)),
+        Err(fault) => Ok(format!(in alloc; "{fault}")?),
     }
-    Ok(told)
+}
+
+// What is told of a text as a file of full trees.
+fn told_of_fst(alloc: Global, text: &[u8]) -> Result<String, Fault> {
+    match read_file(alloc, text) {
+        Ok(_) => Ok(String::from_str(alloc, "a file")?),
+        Err(FileFault::Memory(error)) => Err(Fault::from(error)),
+        Err(fault) => Ok(format!(in alloc; "{fault}")?),
+    }
 }

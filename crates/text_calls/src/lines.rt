@@ -24,7 +24,10 @@ pub(crate) fn lines(call: &Call, answer: &mut String) -> Result<(), Fault> {
 
 // Tells the words of a line, each with the number that it spells as an unsigned one, as a count, and as a signed one.
 fn tell_words(mut words: LineWords<'_>, answer: &mut String) -> Result<(), Fault> {
-    while let Some(word) = words.next_word() {
+    for _ in 0..u64::MAX {
+        let Some(word) = words.next_word() else {
+            break;
+        };
         let unsigned = unsigned_spelled(word);
         let count = LineWords::of(word).next_count();
         let signed = signed_spelled(word);

@@ -1,7 +1,5 @@
 //! Sources that are taken and fed.
 
-ghost use Rattle.std.specs.Prelude.{Unit};
-
 use crate::given::{shown, source as given_source};
 use row_tables::{Call, Fault, number};
 use rst_outside::{

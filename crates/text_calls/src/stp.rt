@@ -13,10 +13,20 @@ pub(crate) fn stp(alloc: Global, call: &Call, answer: &mut String) -> Result<(),
         Err(fault) => return Ok(writeln!(answer, "{fault}")?),
     };
     tell_file(&file, answer)?;
+    tell_written(alloc, call, &file, answer)
+}
+
+// Tells what a sink has of the file as it is written.
+fn tell_written(
+    alloc: Global,
+    call: &Call,
+    file: &StpFile,
+    answer: &mut String,
+) -> Result<(), Fault> {
     let mut sink = given_sink(alloc, call)?;
-    let written = write_stp(&mut sink, &file);
+    let written = write_stp(&mut sink, file);
     writeln!(answer, "written {written:?}")?;
-    Ok(write!(answer, "{}", shown(sink.bytes())?)?)
+    Ok(answer.push_str(shown(sink.bytes())?)?)
 }
 
 // Tells the nodes of a file with their points, its edges and its terminals.
