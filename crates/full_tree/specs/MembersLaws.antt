@@ -1,5 +1,5 @@
 -- Ascending places: they climb, they are the places that were given, and they are what a sort makes.
-use Rattle.std.proofs.Common.{ℕ, zero, suc, ◌+◌, ◌≡◌, ◌≢◌, ◌<◌, ◌≤◌, true, false, List, [], ◌∷◌, length, refl, sym, subst, arith, inl, inr, ◌⊎◌}
+use Rattle.std.proofs.Common.{ℕ, suc, ◌+◌, ◌≡◌, ◌≢◌, ◌<◌, ◌≤◌, true, false, List, [], ◌∷◌, length, refl, sym, subst, arith, inl, inr, ◌⊎◌}
 use Rattle.std.specs.Prelude.{All, AllPairs, Contains, nat_lt, ◌==◌}
 use Rattle.std.specs.List.{AllByRecursion}
 use Rattle.std.specs.Ordering.{nat_cmp}
@@ -9,6 +9,7 @@ use Rattle.std.proofs.lemmas.Bool.Decides.{nat_tests, Decides-eqb}
 use Rattle.std.proofs.lemmas.List.Sorted.{IsPermutation-sym, Contains-permutation, IsNonDecreasingBy-from_sort}
 use Rattle.std.proofs.lemmas.Map.Keys.{IsDistinct-IsPermutation}
 use Rattle.std.proofs.lemmas.Map.Made.{AllPairs-from_IsDistinct, IsDistinct-from_AllPairs}
+use Rattle.hanan_grid.specs.ContainsLaws.{Contains-first, Contains-rest, Contains-cases, Contains-none}
 use Rattle.full_tree.specs.Code.{with_place, ascending_places}
 
 -- each place is below those after it
@@ -25,16 +26,19 @@ data Order (p q : ℕ) : Type 0 where
 order_of : (p q : ℕ) → Order p q
 order_of p q = elim (cases_order p q) [ inl same ↦ is_same same | inr (inl below) ↦ is_below below | inr (inr above) ↦ is_above above ]
 
-with_place-below : (p q : ℕ) (qs : List ℕ) → p < q → with_place p (q ∷ qs) ≡ p ∷ q ∷ qs
+-- a place below the first one of a list comes before it
+pub with_place-below : (p q : ℕ) (qs : List ℕ) → p < q → with_place p (q ∷ qs) ≡ p ∷ q ∷ qs
 with_place-below p q qs below = let test : nat_lt p q ≡ true = grind (arith, nat_tests) in rw test refl
 
-with_place-same : (p q : ℕ) (qs : List ℕ) → p ≡ q → with_place p (q ∷ qs) ≡ q ∷ qs
+-- one that is the first changes nothing
+pub with_place-same : (p q : ℕ) (qs : List ℕ) → p ≡ q → with_place p (q ∷ qs) ≡ q ∷ qs
 with_place-same p q qs same =
     let lower : nat_lt p q ≡ false = grind (arith, nat_tests) in
     let equal : (p == q) ≡ true = grind (arith, nat_tests) in
     rw (lower, equal) refl
 
-with_place-above : (p q : ℕ) (qs : List ℕ) → q < p → with_place p (q ∷ qs) ≡ q ∷ with_place p qs
+-- one above the first comes into the rest
+pub with_place-above : (p q : ℕ) (qs : List ℕ) → q < p → with_place p (q ∷ qs) ≡ q ∷ with_place p qs
 with_place-above p q qs above =
     let lower : nat_lt p q ≡ false = grind (arith, nat_tests) in
     let equal : (p == q) ≡ false = grind (arith, nat_tests) in
@@ -67,19 +71,6 @@ Climbs-ascending_places [] = tt
 Climbs-ascending_places (p ∷ ps) = Climbs-with_place p (ascending_places ps) (Climbs-ascending_places ps)
 
 -- ---- they are the places that were given
-
-Contains-first : (p : ℕ) (ps : List ℕ) → Contains (p ∷ ps) p
-Contains-first p ps = (0, omega arith, refl)
-
-Contains-rest : (q p : ℕ) (ps : List ℕ) → Contains ps p → Contains (q ∷ ps) p
-Contains-rest q p ps member = (suc member.0, omega arith, member.2)
-
-Contains-cases : (q p : ℕ) (ps : List ℕ) → Contains (q ∷ ps) p → (q ≡ p) ⊎ Contains ps p
-Contains-cases q p ps (zero, inside, is) = inl is
-Contains-cases q p ps (suc k, inside, is) = inr (k, omega arith, is)
-
-Contains-none : {P : Type 0} (p : ℕ) → Contains [] p → P
-Contains-none p (k, inside, is) = absurd (omega arith)
 
 Contains-with_place : (p : ℕ) (qs : List ℕ) → Contains (with_place p qs) p
 Contains-with_place p [] = Contains-first p []

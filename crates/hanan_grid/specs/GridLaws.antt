@@ -1,5 +1,5 @@
 -- Laws of Hanan's grid: how many edges it has, which edge stands at which number, and that it is a graph.
-use Rattle.std.specs.Prelude.{ℕ, ◌+◌, ◌-◌, ◌*◌, ◌^◌, ◌≡◌, ◌≤◌, ◌<◌, ℤ, List, ◌++◌, length, map, slice_get, Some, All, Contains}
+use Rattle.std.specs.Prelude.{ℕ, ◌+◌, ◌-◌, ◌*◌, ◌≡◌, ◌≤◌, ◌<◌, ℤ, List, ◌++◌, length, map, slice_get, Some, All, Contains}
 use Rattle.std.proofs.Common.{arith, get_or, ap, subst, ◌∙◌}
 use Rattle.std.proofs.lemmas.List.{length-append, length-map, get_or_append_left, get_or-append-add, get_or-map}
 use Rattle.std.proofs.lemmas.List.Elements.{All-append, All-map, Contains-get_or}
@@ -7,7 +7,7 @@ use Rattle.std.proofs.lemmas.Nat.{mul-le, mul-add-lt}
 use Rattle.std.proofs.lemmas.Option.{slice_get-get_or}
 use Rattle.points_in.specs.declared.point.Point.{Point}
 use Rattle.net_graph.specs.declared.edge.Edge.{Edge}
-use Rattle.net_graph.specs.Graph.{IsGraph, HasEndsBelow, total_of}
+use Rattle.net_graph.specs.Graph.{HasEndsBelow}
 use Rattle.hanan_grid.specs.Lines.{place_of}
 use Rattle.hanan_grid.specs.Grid.{xs_of, ys_of, vertex_number, horizontal, vertical, horizontals, verticals, vertex_of, hanan_grid_of}
 use Rattle.hanan_grid.specs.LinesLaws.{IsRising, IsRising-ascending, Contains-ascending, place_of-below, gap_after-positive, length-ascending-le, length-ascending-positive}
@@ -164,15 +164,3 @@ few_crossings_of ps few = few_crossings (length (xs_of ps)) (length (ys_of ps)) 
 pub few_edges_of : (ps : List Point) → length ps ≤ 50 → length (hanan_grid_of ps).edges ≤ 4900
 few_edges_of ps few =
     omega (arith, length-edges_of_lines (xs_of ps) (ys_of ps), few_edges (length (xs_of ps)) (length (ys_of ps)) (omega (arith, length-xs_of-le ps)) (omega (arith, length-ys_of-le ps)))
-
--- the grid of 1 to 50 points is a graph where its total is a signed 64-bit number
-pub IsGraph-hanan_grid_of : (ps : List Point) → 0 < length ps → length ps ≤ 50 → total_of (hanan_grid_of ps) < 2 ^ 63 → IsGraph (hanan_grid_of ps)
-IsGraph-hanan_grid_of ps some few total = record {
-  few_vertices = few_crossings_of ps few;
-  few_edges = few_edges_of ps few;
-  ends = ends_below (xs_of ps) (ys_of ps);
-  lengths = lengths_positive (xs_of ps) (ys_of ps) (IsRising-xs_of ps) (IsRising-ys_of ps);
-  terminal = omega (arith, length-map ps (vertex_of (xs_of ps) (ys_of ps)));
-  terminals = terminals_below ps;
-  total = total;
-}

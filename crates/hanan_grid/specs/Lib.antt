@@ -4,6 +4,7 @@ pub mod Names
 pub mod Neighbours
 pub mod Distance
 pub mod Fault
+pub mod ContainsLaws
 pub mod LinesLaws
 pub mod Tables
 pub mod GridLaws

@@ -1,10 +1,10 @@
 -- Laws of the lines of a grid.
-use Rattle.std.specs.Prelude.{ℕ, suc, ◌+◌, ◌^◌, ◌≡◌, ◌≤◌, ◌<◌, true, false, ℤ, pos, ◌+ℤ◌, ◌<ℤ◌, ◌≤ℤ◌, List, [], ◌∷◌, length, All, Contains, FitsSigned, int_lt, refl, ◌⊎◌}
+use Rattle.std.specs.Prelude.{ℕ, suc, ◌+◌, ◌≡◌, ◌≤◌, ◌<◌, true, false, ℤ, pos, ◌+ℤ◌, ◌<ℤ◌, ◌≤ℤ◌, List, [], ◌∷◌, length, Contains, int_lt, refl, ◌⊎◌}
 use Rattle.std.specs.List.{AllByRecursion}
-use Rattle.std.specs.Int.{w64}
 use Rattle.std.proofs.Common.{arith, ap, subst, inl, inr, ◌∙◌, sym, zero}
 use Rattle.std.proofs.lemmas.Int.{ints, by_lt_z}
 use Rattle.std.proofs.lemmas.List.Elements.{Contains-get_or}
+use Rattle.hanan_grid.specs.ContainsLaws.{Contains-first, Contains-rest, Contains-cases, Contains-none}
 use Rattle.hanan_grid.specs.Lines.{with_value, ascending, line_at, gap_after, place_of}
 
 -- each line is below those after it
@@ -72,23 +72,6 @@ IsRising-ascending [] = tt
 IsRising-ascending (z ∷ zs) = IsRising-with_value z (ascending zs) (IsRising-ascending zs)
 
 -- ---- members
-
--- the first of a list is a member
-Contains-first : {X : Type 0} (x : X) (xs : List X) → Contains (x ∷ xs) x
-Contains-first x xs = (0, omega arith, refl)
-
--- a member of the rest is a member
-Contains-rest : {X : Type 0} (y x : X) (xs : List X) → Contains xs x → Contains (y ∷ xs) x
-Contains-rest y x xs member = (suc member.0, omega arith, member.2)
-
--- a member is the first or one of the rest
-Contains-cases : {X : Type 0} (y x : X) (xs : List X) → Contains (y ∷ xs) x → (y ≡ x) ⊎ Contains xs x
-Contains-cases y x xs (zero, inside, is) = inl is
-Contains-cases y x xs (suc k, inside, is) = inr (k, omega arith, is)
-
--- nothing is a member of no list
-Contains-none : {X : Type 0} {P : Type 0} (x : X) → Contains [] x → P
-Contains-none x (k, inside, is) = absurd (omega arith)
 
 -- a member of a list that is above a value, which all are
 member_above : (x z : ℤ) (ys : List ℤ) → AllByRecursion (λ y. x <ℤ y) ys → Contains ys z → x <ℤ z
@@ -240,11 +223,6 @@ gap_after-is lines i inside rises =
 pub gap_after-positive : (lines : List ℤ) (i : ℕ) → i + 1 < length lines → IsRising lines → 0 < gap_after lines i
 gap_after-positive lines i inside rises =
     let rise = line_at-rises lines i (i + 1) (omega arith) inside rises in omega (arith, ints)
-
--- a gap between signed 64-bit numbers is an unsigned one
-pub gap_after-fits : (lines : List ℤ) (i : ℕ) → i + 1 < length lines → All (FitsSigned w64) lines → gap_after lines i < 2 ^ 64
-gap_after-fits lines i inside fit =
-    let low = fit i (pos 0) (omega arith) in let high = fit (i + 1) (pos 0) inside in omega (arith, ints)
 
 -- ---- lengths
 

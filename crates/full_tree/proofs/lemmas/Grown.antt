@@ -1,23 +1,14 @@
 -- How pieces grow from points that are reached, and where they end.
-use Rattle.std.proofs.Common.{ℕ, zero, suc, ◌≡◌, List, [], ◌∷◌, ◌++◌, get_or, map, refl, subst, ◌⊎◌, inl, inr, arith}
+use Rattle.std.proofs.Common.{ℕ, ◌≡◌, List, [], ◌∷◌, ◌++◌, get_or, map, subst, inl, inr, arith}
 use Rattle.std.specs.Prelude.{All, Contains}
 use Rattle.std.proofs.lemmas.List.Elements.{All-nil, All-cons, All-head, All-tail, All-weaker, All-contains, Contains-get_or, Contains-append_left, Contains-append_right}
 use Rattle.points_in.specs.declared.point.Point.{Point}
+use Rattle.hanan_grid.specs.ContainsLaws.{Contains-first, Contains-rest, Contains-cases}
 use Rattle.full_tree.specs.declared.straight.Piece.{Piece}
 use Rattle.full_tree.specs.Pieces.{piece_between, line_over}
 use Rattle.full_tree.specs.Joined.{GrowsFrom, ends_of}
 
 -- ---- lists
-
-pub Contains-first : {X : Type 0} (x : X) (xs : List X) → Contains (x ∷ xs) x
-Contains-first x xs = (0, omega arith, refl)
-
-pub Contains-rest : {X : Type 0} (y x : X) (xs : List X) → Contains xs x → Contains (y ∷ xs) x
-Contains-rest y x xs member = (suc member.0, omega arith, member.2)
-
-Contains-cases : {X : Type 0} (y x : X) (xs : List X) → Contains (y ∷ xs) x → (y ≡ x) ⊎ Contains xs x
-Contains-cases y x xs (zero, inside, is) = inl is
-Contains-cases y x xs (suc k, inside, is) = inr (k, omega arith, is)
 
 -- what holds of two lists joined holds of each
 pub All-first : {X : Type 0} (P : X → Type 0) (xs ys : List X) → All P (xs ++ ys) → All P xs

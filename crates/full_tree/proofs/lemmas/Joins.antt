@@ -19,7 +19,8 @@ use Rattle.full_tree.specs.Form.{across_of, IsOnShortLeg, IsCrossShape, IsInForm
 use Rattle.full_tree.specs.Pieces.{piece_between, line_over, foot, side_foot, long_leg, short_leg, drop_pieces, side_piece, crossing_of, pieces_of}
 use Rattle.full_tree.specs.Joined.{IsStraight, GrowsFrom, HangsTogether, ends_of, IsOnGrid, JoinsMembers}
 use Rattle.full_tree.proofs.lemmas.Meets.{ahead, aside, ahead-meet, aside-meet, point_seen-meet, point_seen-foot, straight_ahead, straight_across, same_seen, aside-across, IsCrossing-point_at, IsCrossing-meet}
-use Rattle.full_tree.proofs.lemmas.Grown.{Contains-first, Contains-rest, All-first, All-second, line_grows, hung_grow, GrowsFrom-append, tos_of_line, All-places, Contains-ends_to, Contains-line_to, hung_ends}
+use Rattle.hanan_grid.specs.ContainsLaws.{Contains-first, Contains-rest}
+use Rattle.full_tree.proofs.lemmas.Grown.{All-first, All-second, line_grows, hung_grow, GrowsFrom-append, tos_of_line, All-places, Contains-ends_to, Contains-line_to, hung_ends}
 
 -- ---- the points of a long code
 

@@ -1,5 +1,5 @@
 -- Which piece stands at which number.
-use Rattle.std.proofs.Common.{ℕ, zero, suc, ◌+◌, ◌≡◌, ◌<◌, true, false, List, [], ◌∷◌, ◌++◌, length, get_or, map, refl, sym, ap, subst, ◌∙◌, arith, length-append}
+use Rattle.std.proofs.Common.{ℕ, zero, suc, ◌+◌, ◌≡◌, ◌<◌, false, List, [], ◌∷◌, ◌++◌, length, get_or, map, refl, sym, ap, subst, ◌∙◌, arith, length-append}
 use Rattle.std.specs.Prelude.{pos, All, Option, None, Some, is_some, option_map, option_to_list, slice_get}
 use Rattle.std.specs.Ordering.{int_eq}
 use mir.Val.{bool_byte}
@@ -60,9 +60,6 @@ side_counts (Some q) = refl
 pub length-short_leg : (ps : List Point) (root : ℕ) (w : Way) (side : Option ℕ) (tip : ℕ) → int_eq (across_of ps root w tip) (pos 0) ≡ false → length (short_leg ps root w side tip) ≡ 1 + length (option_to_list side)
 length-short_leg ps root w None tip bent = rw bent refl
 length-short_leg ps root w (Some q) tip bent = rw bent refl
-
-pub length-no_leg : (ps : List Point) (root : ℕ) (w : Way) (side : Option ℕ) (tip : ℕ) → int_eq (across_of ps root w tip) (pos 0) ≡ true → length (short_leg ps root w side tip) ≡ 0
-length-no_leg ps root w side tip level = rw level refl
 
 pub length-pieces_of : (ps : List Point) (root : ℕ) (w : Way) (drops : List ℕ) (side : Option ℕ) (tip : ℕ) → length (pieces_of ps (Long root w drops side tip)) ≡ length drops + 1 + length (short_leg ps root w side tip) + length drops + length (option_to_list side)
 length-pieces_of ps root w drops side tip =

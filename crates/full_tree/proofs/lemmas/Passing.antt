@@ -23,13 +23,6 @@ pub record HasGoneBack (ps : List Point) (stations : List Station) (first last g
   pub most : IsMost stations first last greatest
   pub kept : (a : ℕ) → first ≤ a → a < last → KeepsBetween ps stations a last
 
-pub IsMost-start : (stations : List Station) (last : ℕ) → IsMost stations last last (station_at stations last).leg
-IsMost-start stations last = record {
-  leg = omega arith;
-  spine = λ c over under. absurd (omega arith);
-  least = λ most leg spine. leg;
-}
-
 pub IsMost-more : (stations : List Station) (first last greatest : ℕ) → IsMost stations (first + 1) last greatest → first + 1 ≤ last
     → IsMost stations first last (max greatest (station_at stations (first + 1)).before)
 IsMost-more stations first last greatest m inside =

@@ -48,13 +48,6 @@ less_from_lower z y lower = elim (stand z y) [
   | is_higher h is ↦ absurd (omega (arith, ints))
 ]
 
--- one more value that rises
-pub rises_more : {P : Type 0} (A : ℕ → ℤ) (z : ℤ) (ds ts : List ℕ) (i : ℕ) → i < length ds → (P ↔ RisesFrom z (map A (drop i ds ++ ts))) → z <ℤ A (get_or ds i 0) → P ↔ RisesFrom (A (get_or ds i 0)) (map A (drop (i + 1) ds ++ ts))
-rises_more {P} A z ds ts i inside whole lower =
-    let split : drop i ds ≡ get_or ds i 0 ∷ drop (i + 1) ds = rw (add-one, drop-cons ds i 0) in
-    let here = rw split at whole in
-    (λ p. (here.0 p).1, λ rest. here.1 (lower, rest))
-
 -- a value that doesn't rise
 pub rises_not : {P : Type 0} (A : ℕ → ℤ) (z : ℤ) (ds ts : List ℕ) (i : ℕ) → i < length ds → (P ↔ RisesFrom z (map A (drop i ds ++ ts))) → ¬ (z <ℤ A (get_or ds i 0)) → ¬ P
 rises_not {P} A z ds ts i inside whole lower p =

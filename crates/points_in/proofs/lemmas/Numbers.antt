@@ -25,10 +25,6 @@ pub record AreDigits (bytes : List ℕ) (len magnitude : ℕ) : Type 0 where
   pub digits : AllDigits 10 (take len bytes)
   pub value : magnitude ≡ min (digits_value 10 (take len bytes)) (2 ^ 64 - 1)
 
--- before the first of them
-pub no_digits_yet : (bytes : List ℕ) → AreDigits bytes 0 0
-no_digits_yet bytes = record { within = omega arith; digits = tt; value = refl }
-
 -- one more digit
 pub digit_more : (bytes : List ℕ) (len magnitude next : ℕ) → AreDigits bytes len magnitude → len < length bytes
     → IsInRange 48 57 (get_or bytes len 0) → next ≡ min (min (magnitude * 10) (2 ^ 64 - 1) + (get_or bytes len 0 - 48)) (2 ^ 64 - 1)
@@ -71,12 +67,6 @@ spoiled bytes len magnitude so_far inside word other numeral =
             | inr (inr after) ↦ omega arith
           ]
     ]
-
--- no digit at all
-pub none_front : (bytes : List ℕ) (magnitude : ℕ) → AreDigits bytes 0 magnitude → (0 < length bytes → is_blank (get_or bytes 0 0) ≡ true)
-    → ¬ IsNumeral 10 (front_word bytes)
-none_front bytes magnitude so_far stop numeral =
-    omega (arith, numeral.0, ap length (digits_front bytes 0 magnitude so_far stop))
 
 -- What a sign does: the digits come after it.
 pub record IsSigned (bytes : List ℕ) (sign : ℕ) : Type 0 where
@@ -169,17 +159,3 @@ number_found bytes magnitude has fits = record {
   spelled = spells_number bytes magnitude has;
   fits = subst (FitsSigned w64) (number_is bytes magnitude has fits) fits;
 }
-
--- and otherwise has more
-pub number_too_large : (bytes : List ℕ) (magnitude : ℕ) → HasMagnitude bytes magnitude → ¬ FitsSigned w64 (with_sign (starts_with_minus bytes) magnitude)
-    → ¬ FitsSigned w64 (number_of (front_word bytes))
-number_too_large bytes magnitude has large fits =
-    let same = number_of_front bytes in
-    let own = subst (FitsSigned w64) same fits in
-    let small = with_sign-le (starts_with_minus bytes) (digits_value 10 (front_word (drop (sign_of bytes) bytes))) own in
-    let exact : digits_value 10 (front_word (drop (sign_of bytes) bytes)) ≡ magnitude = omega (arith, has.value) in
-    large (subst (λ n. FitsSigned w64 (with_sign (starts_with_minus bytes) n)) exact own)
-
--- no number is spelled where no digits come after the sign
-pub spells_none : (bytes : List ℕ) → ¬ IsNumeral 10 (front_word (drop (sign_of bytes) bytes)) → ¬ IsNumberWord (front_word bytes)
-spells_none bytes none spelled = none (subst (IsNumeral 10) (signed_front bytes).digits spelled)

@@ -231,19 +231,6 @@ adding_has_cause bytes at points after next r add.Full fault so_far takes adds i
     rw (full refl) (read_full bytes at points after next r so_far takes adds is)
 adding_has_cause bytes at points after next r (add.Memory e) fault so_far takes adds is full memory = rw (memory e refl) tt
 
--- at the end the points are listed
-pub read_to_end : (bytes : List ℕ) (at : ℕ) (points : List Point) (so_far : HasRead bytes at points) → words_at bytes at ≡ []
-    → IsPointText bytes (points_of so_far.read)
-read_to_end bytes at points so_far end =
-    let words : words_of bytes ≡ so_far.read = so_far.parts ∙ ap (λ ws. so_far.read ++ ws) end ∙ append-nil so_far.read in
-    record {
-      numbers = subst AreNumbers (sym words) so_far.numbers;
-      points = ap points_of (sym words);
-      even = ap length words ∙ so_far.even;
-      some = so_far.some;
-      few = read_sound bytes at points so_far;
-    }
-
 -- the answer is the only one
 pub only_points : (bytes : List ℕ) (r : Result (List Point) PointFault) → AnswersPoints bytes r → (ps : List Point) → IsPointText bytes ps
     → MatchResult r (λ points. points ≡ terminals_of ps) IsMemory

@@ -1,12 +1,12 @@
 -- The steps of a loop that sums the lengths of a set's pairs.
 use Rattle.std.proofs.Common.{ℕ, ◌≡◌, ◌+◌, ◌<◌, Bool, true, false, List, length, get_or, take, map, ap, arith}
-use Rattle.std.proofs.lemmas.List.{length-map, take_all}
+use Rattle.std.proofs.lemmas.List.{length-map}
 use Rattle.std.proofs.lemmas.Option.{slice_get-get_or, get_or_from_slice_get}
 use Rattle.net_graph.specs.declared.edge.Edge.{Edge}
 use Rattle.net_graph.specs.LengthLaws.{length_of_edges-take_more}
 use Rattle.net_graph.specs.Network.{length_of_edges}
 use Rattle.spanning.specs.declared.pair.Pair.{Pair}
-use Rattle.spanning.specs.Joining.{edge_of, total_of}
+use Rattle.spanning.specs.Joining.{edge_of}
 use Rattle.spanning.specs.JoiningLaws.{slice_get-edges}
 
 -- the sum of what the set holds of the first n pairs
@@ -30,8 +30,3 @@ pub total-without : (pairs : List Pair) (set : List Bool) (n : ℕ) (d : Pair) �
 total-without pairs set n d within flag_in flag =
     let more = rw flag at (length_of_edges-take_more (map edge_of pairs) set n (edge_of d) (omega (arith, length-map pairs edge_of)) flag_in) in
     omega (arith, more)
-
--- all pairs are the whole sum
-pub total-all : (pairs : List Pair) (set : List Bool) (n : ℕ) → n ≡ length pairs →
-    total_so_far pairs set n ≡ total_of pairs set
-total-all pairs set n all = ap (λ edges. length_of_edges edges set) (take_all n (map edge_of pairs) (omega (arith, length-map pairs edge_of)))
