@@ -26,7 +26,7 @@ impl Model for Drawn {
 }
 
 impl Drawn {
-    /// The points in their order.
+    /// The points in their order. All else is asked of the slice.
     pub fn as_slice(&self) -> &[Point]
         ensures points { result.now ≡ self.now }
         ensures drawn { AreDrawn self.now }

@@ -1,11 +1,13 @@
 //! Hanan's grid of a list of points.
 
-ghost use Rattle.std.specs.Prelude.{◌≡◌, ℕ, ◌+◌, ◌<◌, ◌≤◌, ◌^◌, length, slice_get, Some, IfOk, IfErr, IfSome, IfNone, OnOk};
+ghost use Rattle.std.specs.Prelude.{◌≡◌, ℕ, ◌+◌, ◌<◌, ◌≤◌, ◌^◌, length, slice_get, Some, IfOk, IfErr, IfSome, IfNone};
+ghost use Rattle.std.specs.Prelude.{OnOk};
 ghost use Rattle.points_in.specs.declared.point.Point.{Point};
 ghost use Rattle.net_graph.specs.Graph.{IsGraph, total_of};
 ghost use Rattle.hanan_grid.specs.Grid.{xs_of, ys_of, vertex_number, vertex_of, horizontal, vertical, hanan_grid_of};
 ghost use Rattle.hanan_grid.specs.Lines.{place_of};
-ghost use Rattle.hanan_grid.specs.Names.{IsCrossing, crossing, point_of_vertex, name_of_edge, name_of_crossings, NamesNoEdge};
+ghost use Rattle.hanan_grid.specs.Names.{IsCrossing, crossing, point_of_vertex, name_of_edge, name_of_crossings};
+ghost use Rattle.hanan_grid.specs.Names.{NamesNoEdge};
 ghost use Rattle.hanan_grid.specs.Distance.{distance_of};
 ghost use Rattle.hanan_grid.specs.Fault.{IsFaultOf};
 
@@ -113,7 +115,7 @@ impl Grid {
         }
     }
 
-    /// The column and the row of the terminal at a place of the list, counted from 0.
+    /// The column and the row of the terminal at a place of the list, counted from 0. No tool asks for it.
     pub fn terminal_place(&self, terminal: usize) -> Place
         requires { terminal < length self.now }
         ensures column { result.column < length (xs_of self.now) }
@@ -208,7 +210,7 @@ impl Grid {
         }
     }
 
-    /// The vertex of a point, where it is a crossing.
+    /// The vertex of a point, where it is a crossing. No tool asks for it.
     pub fn vertex_at(&self, point: Point) -> Option<u32>
         ensures below { IfSome result (λ v. v < (hanan_grid_of self.now).vertices) }
         ensures vertex { IfSome result

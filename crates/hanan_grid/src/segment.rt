@@ -1,6 +1,7 @@
 //! Straight stretches of a grid.
 
-ghost use Rattle.std.specs.Prelude.{◌≡◌, ℕ, ◌<◌, ◌↔◌, List, [], ◌∷◌, true, length, slice_get, Some, All, IfOk, IfErr, OnOk, IsTrue};
+ghost use Rattle.std.specs.Prelude.{◌≡◌, ℕ, ◌<◌, ◌↔◌, List, [], ◌∷◌, true, length, slice_get, Some, All, IfOk, IfErr};
+ghost use Rattle.std.specs.Prelude.{OnOk, IsTrue};
 ghost use Rattle.points_in.specs.declared.point.Point.{Point};
 ghost use Rattle.net_graph.specs.Adds.{Adds};
 ghost use Rattle.net_graph.specs.Network.{Joins, length_of};
@@ -19,7 +20,8 @@ use std::alloc::Global;
 impl Grid {
     /// The edges of the straight stretch from one point to another: those with both ends on it. Points
     /// that are the same have none between them. An `Err` says that the points are on no common line, or
-    /// else that one of them is no crossing, or is want of memory.
+    /// else that one of them is no crossing, or is want of memory. No tool asks for it: `add_segment` is what
+    /// trees are laid out by.
     pub fn segment(&self, alloc: Global, from: Point, to: Point) -> Result<EdgeSet, SegmentFault>
         ensures size { IfOk result (λ set. length set ≡ length (hanan_grid_of self.now).edges) }
         ensures edges { IfOk result
