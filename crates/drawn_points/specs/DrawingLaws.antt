@@ -34,11 +34,15 @@ IsNear-point_of_words x y = record {
 near_points : (n : ℕ) (generator : Lcg) → AllByRecursion IsNear (next_points n generator)
 near_points zero generator = rw (next_points-zero generator) tt
 near_points (suc n) generator =
-    rw (next_points-suc n generator) (IsNear-point_of_words (pcg32 generator).0 (pcg32 (pcg32 generator).1).0, near_points n (pcg32 (pcg32 generator).1).1)
+    rw (next_points-suc n generator) (
+      IsNear-point_of_words (pcg32 generator).0 (pcg32 (pcg32 generator).1).0,
+      near_points n (pcg32 (pcg32 generator).1).1,
+    )
 
 pub length-next_points : (n : ℕ) (generator : Lcg) → length (next_points n generator) ≡ n
 length-next_points zero generator = rw (next_points-zero generator) refl
-length-next_points (suc n) generator = rw (next_points-suc n generator) (omega (arith, length-next_points n (pcg32 (pcg32 generator).1).1))
+length-next_points (suc n) generator =
+    rw (next_points-suc n generator) (omega (arith, length-next_points n (pcg32 (pcg32 generator).1).1))
 
 -- the points of a seed are drawn points
 pub AreDrawn-next_points : (n : ℕ) (generator : Lcg) → 0 < n → n ≤ 50 → AreDrawn (next_points n generator)

@@ -13,8 +13,8 @@ use std::alloc::{AllocError, Global};
 /// The stream of the generator.
 const STREAM: u64 = 54;
 
-/// Draws `n` points, 1 to 50, from a seed: the words of the generator PCG-XSH-RR 64/32 (O'Neill 2014) of this seed on stream
-/// 54 are x and y of the points in turn, each modulo 10000. An `Err` is want of memory.
+/// Draws `n` points, 1 to 50, from a seed: the words of the generator PCG-XSH-RR 64/32 (O'Neill 2014) of this seed
+/// on stream 54 are x and y of the points in turn, each modulo 10000. An `Err` is want of memory.
 pub fn draw_points(alloc: Global, n: u8, seed: u64) -> Result<Drawn, AllocError>
     requires some { 0 < n }
     requires few { n ≤ 50 }

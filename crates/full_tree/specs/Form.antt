@@ -1,5 +1,6 @@
 -- Which codes are in form: those that name a full tree of the points (the shapes: Hwang 1976).
-use Rattle.std.specs.Prelude.{ℕ, ◌≡◌, ◌≢◌, ◌<◌, ℤ, pos, ◌<ℤ◌, List, ◌∷◌, [], ◌++◌, length, map, All, Option, None, IfSome}
+use Rattle.std.specs.Prelude.{ℕ, ◌≡◌, ◌≢◌, ◌<◌, ℤ, pos, ◌<ℤ◌, List, ◌∷◌, [], ◌++◌, length, map, All, Option, None}
+use Rattle.std.specs.Prelude.{IfSome}
 use Rattle.std.specs.List.{last_or}
 use Rattle.points_in.specs.declared.point.Point.{Point}
 use Rattle.full_tree.specs.declared.way.Way.{Way}

@@ -52,7 +52,8 @@ long_names_few ps root toward drops side tip form =
     }
 
 -- .. where the code and its parts are told by equations
-pub long_names_few-at : (ps qs : List Point) (code : TreeCode) (root : ℕ) (toward : Way) (drops ds : List ℕ) (side : Option ℕ) (tip : ℕ)
+pub long_names_few-at : (ps qs : List Point) (code : TreeCode) (root : ℕ) (toward : Way) (drops ds : List ℕ)
+    (side : Option ℕ) (tip : ℕ)
     → code ≡ Long root toward drops side tip → qs ≡ ps → ds ≡ drops → IsInForm ps code → NamesFew qs root ds side tip
 long_names_few-at ps qs code root toward drops ds side tip is at e form =
     let there = subst (λ x. IsInForm x code) (sym at) form in

@@ -151,7 +151,8 @@ same_code (Cross w s e n) (Cross w' s' e' n') h =
 pub tree_cmp_total : IsTotalOrder tree_cmp
 tree_cmp_total = then_total (on_total (λ t. t.length) nat_cmp_total)
     (then_total (on_total (λ t. length (members_of t.code)) nat_cmp_total)
-    (then_total (on_total (λ t. members_of t.code) (lists_total nat_cmp_total)) (on_total (λ t. t.code) code_cmp_total)))
+    (then_total (on_total (λ t. members_of t.code) (lists_total nat_cmp_total))
+    (on_total (λ t. t.code) code_cmp_total)))
 
 -- only one tree is no earlier and no later than a tree
 pub same_tree : (a b : Tree) → tree_cmp a b ≡ Equal → a ≡ b
@@ -170,15 +171,19 @@ same_tree a b h =
 
 -- an earlier tree comes before a later one, where each comes before the next one
 far : (trees : List Tree) → AllAdjacentBelow (λ a b. tree_cmp a b ≡ Less) trees (length trees)
-    → (n i : ℕ) (d : Tree) → i + n + 1 < length trees → tree_cmp (slice_index_or trees i d) (slice_index_or trees (i + n + 1) d) ≡ Less
+    → (n i : ℕ) (d : Tree) → i + n + 1 < length trees
+    → tree_cmp (slice_index_or trees i d) (slice_index_or trees (i + n + 1) d) ≡ Less
 far trees adjacent zero i d inside =
     let next : i + zero + 1 ≡ i + 1 = omega arith in rw next (adjacent i d (omega arith))
 far trees adjacent (suc n) i d inside =
     let last : i + suc n + 1 ≡ (i + n + 1) + 1 = omega arith in
     let at = λ (k : ℕ). slice_index_or trees k d in
-    rw last (tree_cmp_total.trans (at i) (at (i + n + 1)) (at (i + n + 1 + 1)) (far trees adjacent n i d (omega arith)) (adjacent (i + n + 1) d (omega arith)))
+    rw last (tree_cmp_total.trans (at i) (at (i + n + 1)) (at (i + n + 1 + 1))
+    (far trees adjacent n i d (omega arith)) (adjacent (i + n + 1) d (omega arith)))
 
-pub in_file_order_by_neighbours : (trees : List Tree) → AllAdjacentBelow (λ a b. tree_cmp a b ≡ Less) trees (length trees) → IsInFileOrder trees
+pub in_file_order_by_neighbours : (trees : List Tree)
+    → AllAdjacentBelow (λ a b. tree_cmp a b ≡ Less) trees (length trees) → IsInFileOrder trees
 in_file_order_by_neighbours trees adjacent i j d before inside =
     let apart : j ≡ i + (j - i - 1) + 1 = omega arith in
-    subst (λ k. tree_cmp (slice_index_or trees i d) (slice_index_or trees k d) ≡ Less) (sym apart) (far trees adjacent (j - i - 1) i d (omega arith))
+    subst (λ k. tree_cmp (slice_index_or trees i d) (slice_index_or trees k d) ≡ Less) (sym apart)
+    (far trees adjacent (j - i - 1) i d (omega arith))

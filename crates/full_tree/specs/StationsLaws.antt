@@ -23,7 +23,8 @@ map-append (x ∷ xs) ys = ap (λ (rest : List ℕ). x.member ∷ rest) (map-app
 module _ (ps : List Point) (root : ℕ) (toward : Way) where
   drop_stations-members : (from : Point) (ds : List ℕ) → map member_of (drop_stations ps root toward from ds) ≡ ds
   drop_stations-members from [] = refl
-  drop_stations-members from (d ∷ ds) = ap (λ (rest : List ℕ). d ∷ rest) (drop_stations-members (foot ps root toward d) ds)
+  drop_stations-members from (d ∷ ds) =
+      ap (λ (rest : List ℕ). d ∷ rest) (drop_stations-members (foot ps root toward d) ds)
 
   end_stations-members : (from : Point) (side : Option ℕ) (tip : ℕ)
       → map member_of (end_stations ps root toward from side tip) ≡ option_to_list side ++ tip ∷ []
@@ -39,12 +40,14 @@ stations_of-members ps (Long root toward drops side tip) =
     let b = drop_stations-members ps root toward start drops in
     let c = end_stations-members ps root toward (last_foot ps root toward start drops) side tip in
     let d = append_assoc drops (option_to_list side) (tip ∷ []) in
-    let whole : map member_of (drop_stations ps root toward start drops ++ ends) ≡ (drops ++ option_to_list side) ++ tip ∷ [] = cc in
+    let whole : map member_of (drop_stations ps root toward start drops ++ ends)
+    ≡ (drops ++ option_to_list side) ++ tip ∷ [] = cc in
     ap (λ (rest : List ℕ). root ∷ rest) whole
 stations_of-members ps (Cross w s e n) = refl
 
 -- what holds of each place that a code names holds of each station's member
-pub All-stations : (P : ℕ → Type 0) (ps : List Point) (code : TreeCode) → All P (named_places code) → All (λ s. P s.member) (stations_of ps code)
+pub All-stations : (P : ℕ → Type 0) (ps : List Point) (code : TreeCode) → All P (named_places code)
+    → All (λ s. P s.member) (stations_of ps code)
 All-stations P ps code all k d inside =
     let is = stations_of-members ps code in
     let size = length-map (stations_of ps code) member_of in

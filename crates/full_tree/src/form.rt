@@ -1,6 +1,7 @@
 //! Which codes are in form.
 
-ghost use Rattle.std.specs.Prelude.{ℕ, ◌≡◌, ◌≢◌, ◌<◌, ◌≤◌, pos, ◌<ℤ◌, ◌∷◌, [], ◌++◌, length, map, All, AllPairs, IsTrue, ◌↔◌, IfSome};
+ghost use Rattle.std.specs.Prelude.{ℕ, ◌≡◌, ◌≢◌, ◌<◌, ◌≤◌, pos, ◌<ℤ◌, ◌∷◌, [], ◌++◌, length, map, All, AllPairs};
+ghost use Rattle.std.specs.Prelude.{IsTrue, ◌↔◌, IfSome};
 ghost use Rattle.full_tree.specs.Geometry.{point_at, RisesFrom};
 ghost use Rattle.full_tree.specs.Code.{named_places, HasFewMembers};
 ghost use Rattle.full_tree.specs.Form.{along_of, IsOnShortLeg, LieInTurn, IsLongShape, IsCrossShape, IsShape, IsInForm};

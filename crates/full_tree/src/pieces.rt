@@ -1,13 +1,15 @@
 //! The straight pieces of a tree, and its length.
 
-ghost use Rattle.std.specs.Prelude.{ℕ, ◌≡◌, ◌+◌, ◌<◌, ◌≤◌, ◌^◌, ◌∷◌, [], ◌++◌, length, map, All, slice_get, slice_index_or, Some, IfSome, option_to_list};
+ghost use Rattle.std.specs.Prelude.{ℕ, ◌≡◌, ◌+◌, ◌<◌, ◌≤◌, ◌^◌, ◌∷◌, [], ◌++◌, length, map, All, slice_get};
+ghost use Rattle.std.specs.Prelude.{slice_index_or, Some, IfSome, option_to_list};
 ghost use Rattle.net_graph.specs.Graph.{total_of};
 ghost use Rattle.hanan_grid.specs.Grid.{hanan_grid_of};
 ghost use Rattle.hanan_grid.specs.Distance.{origin};
 ghost use Rattle.full_tree.specs.Geometry.{point_at};
 ghost use Rattle.full_tree.specs.Form.{IsInForm};
 ghost use Rattle.full_tree.specs.Code.{named_places};
-ghost use Rattle.full_tree.specs.Pieces.{foot, side_foot, long_leg, short_leg, drop_pieces, side_piece, crossing_of, pieces_of, length_of_piece, code_length};
+ghost use Rattle.full_tree.specs.Pieces.{foot, side_foot, long_leg, short_leg, drop_pieces, side_piece, crossing_of};
+ghost use Rattle.full_tree.specs.Pieces.{pieces_of, length_of_piece, code_length};
 ghost use Rattle.full_tree.specs.Joined.{IsStraight, IsOnGrid, JoinsMembers};
 
 use crate::code::TreeCode;

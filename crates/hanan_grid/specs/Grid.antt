@@ -20,7 +20,11 @@ vertex_number nx i j = j * nx + i
 
 -- the edge from the crossing (i, j) to the next one to the right
 abbrev pub horizontal : List ℤ → ℕ → ℕ → Edge
-horizontal xs j i = record { a = vertex_number (length xs) i j; b = vertex_number (length xs) (i + 1) j; length = gap_after xs i }
+horizontal xs j i = record {
+  a = vertex_number (length xs) i j;
+  b = vertex_number (length xs) (i + 1) j;
+  length = gap_after xs i;
+}
 
 -- the edge from the crossing (i, j) to the next one above, where a row has nx crossings
 abbrev pub vertical : ℕ → List ℤ → ℕ → ℕ → Edge
@@ -28,10 +32,12 @@ vertical nx ys j i = record { a = vertex_number nx i j; b = vertex_number nx i (
 
 -- all of them, by row and then by column
 abbrev pub horizontals : List ℤ → List ℤ → List Edge
-horizontals xs ys = flat_map (λ j. map (horizontal xs j) (range_with_len 0 (length xs - 1))) (range_with_len 0 (length ys))
+horizontals xs ys =
+    flat_map (λ j. map (horizontal xs j) (range_with_len 0 (length xs - 1))) (range_with_len 0 (length ys))
 
 abbrev pub verticals : List ℤ → List ℤ → List Edge
-verticals xs ys = flat_map (λ j. map (vertical (length xs) ys j) (range_with_len 0 (length xs))) (range_with_len 0 (length ys - 1))
+verticals xs ys =
+    flat_map (λ j. map (vertical (length xs) ys j) (range_with_len 0 (length xs))) (range_with_len 0 (length ys - 1))
 
 -- the vertex of a point whose coordinates are lines
 abbrev pub vertex_of : List ℤ → List ℤ → Point → ℕ

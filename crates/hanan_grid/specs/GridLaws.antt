@@ -1,5 +1,6 @@
 -- Laws of Hanan's grid: how many edges it has, which edge stands at which number, and that it is a graph.
-use Rattle.std.specs.Prelude.{ℕ, ◌+◌, ◌-◌, ◌*◌, ◌≡◌, ◌≤◌, ◌<◌, ℤ, List, ◌++◌, length, map, slice_get, Some, All, Contains}
+use Rattle.std.specs.Prelude.{ℕ, ◌+◌, ◌-◌, ◌*◌, ◌≡◌, ◌≤◌, ◌<◌, ℤ, List, ◌++◌, length, map, slice_get, Some, All}
+use Rattle.std.specs.Prelude.{Contains}
 use Rattle.std.proofs.Common.{arith, get_or, ap, subst, ◌∙◌}
 use Rattle.std.proofs.lemmas.List.{length-append, length-map, get_or_append_left, get_or-append-add, get_or-map}
 use Rattle.std.proofs.lemmas.List.Elements.{All-append, All-map, Contains-get_or}
@@ -9,8 +10,10 @@ use Rattle.points_in.specs.declared.point.Point.{Point}
 use Rattle.net_graph.specs.declared.edge.Edge.{Edge}
 use Rattle.net_graph.specs.Graph.{HasEndsBelow}
 use Rattle.hanan_grid.specs.Lines.{place_of}
-use Rattle.hanan_grid.specs.Grid.{xs_of, ys_of, vertex_number, horizontal, vertical, horizontals, verticals, vertex_of, hanan_grid_of}
-use Rattle.hanan_grid.specs.LinesLaws.{IsRising, IsRising-ascending, Contains-ascending, place_of-below, gap_after-positive, length-ascending-le, length-ascending-positive}
+use Rattle.hanan_grid.specs.Grid.{xs_of, ys_of, vertex_number, horizontal, vertical, horizontals, verticals}
+use Rattle.hanan_grid.specs.Grid.{vertex_of, hanan_grid_of}
+use Rattle.hanan_grid.specs.LinesLaws.{IsRising, IsRising-ascending, Contains-ascending, place_of-below}
+use Rattle.hanan_grid.specs.LinesLaws.{gap_after-positive, length-ascending-le, length-ascending-positive}
 use Rattle.hanan_grid.specs.Tables.{length-table_from, get_or-table_from, All-table_from}
 
 -- ---- how many edges there are
@@ -28,7 +31,8 @@ abbrev pub edges_of_lines : List ℤ → List ℤ → List Edge
 edges_of_lines xs ys = horizontals xs ys ++ verticals xs ys
 
 -- there are no more edges
-pub length-edges_of_lines : (xs ys : List ℤ) → length (edges_of_lines xs ys) ≡ length ys * (length xs - 1) + (length ys - 1) * length xs
+pub length-edges_of_lines : (xs ys : List ℤ)
+    → length (edges_of_lines xs ys) ≡ length ys * (length xs - 1) + (length ys - 1) * length xs
 length-edges_of_lines xs ys =
     omega (arith, length-append (horizontals xs ys) (verticals xs ys), length-horizontals xs ys, length-verticals xs ys)
 
@@ -43,40 +47,52 @@ abbrev pub vertical_number : List ℤ → List ℤ → ℕ → ℕ → ℕ
 vertical_number xs ys j i = length ys * (length xs - 1) + j * length xs + i
 
 -- a horizontal edge's number is one
-pub horizontal_number-below : (xs ys : List ℤ) (j i : ℕ) → j < length ys → i + 1 < length xs → horizontal_number xs j i < length (edges_of_lines xs ys)
+pub horizontal_number-below : (xs ys : List ℤ) (j i : ℕ) → j < length ys → i + 1 < length xs
+    → horizontal_number xs j i < length (edges_of_lines xs ys)
 horizontal_number-below xs ys j i row column =
     omega (arith, length-edges_of_lines xs ys, mul-add-lt j (length xs - 1) i (length ys) row (omega arith))
 
 -- a vertical edge's number is one
-pub vertical_number-below : (xs ys : List ℤ) (j i : ℕ) → j + 1 < length ys → i < length xs → vertical_number xs ys j i < length (edges_of_lines xs ys)
+pub vertical_number-below : (xs ys : List ℤ) (j i : ℕ) → j + 1 < length ys → i < length xs
+    → vertical_number xs ys j i < length (edges_of_lines xs ys)
 vertical_number-below xs ys j i row column =
     omega (arith, length-edges_of_lines xs ys, mul-add-lt j (length xs) i (length ys - 1) (omega arith) column)
 
 -- the horizontal edge of row j and column i stands at its number
-pub get_or-horizontal : (xs ys : List ℤ) (j i : ℕ) (d : Edge) → j < length ys → i + 1 < length xs → get_or (edges_of_lines xs ys) (horizontal_number xs j i) d ≡ horizontal xs j i
+pub get_or-horizontal : (xs ys : List ℤ) (j i : ℕ) (d : Edge) → j < length ys → i + 1 < length xs
+    → get_or (edges_of_lines xs ys) (horizontal_number xs j i) d ≡ horizontal xs j i
 get_or-horizontal xs ys j i d row column =
     let inside = mul-add-lt j (length xs - 1) i (length ys) row (omega arith) in
     let here = get_or-table_from (horizontal xs) 0 (length ys) (length xs - 1) j i d row (omega arith) in
     let zeroth : 0 + j ≡ j = omega arith in
-    get_or_append_left (horizontals xs ys) (verticals xs ys) d (horizontal_number xs j i) (omega (arith, length-horizontals xs ys)) ∙ (rw zeroth at here)
+    get_or_append_left (horizontals xs ys) (verticals xs ys) d (horizontal_number xs j i)
+    (omega (arith, length-horizontals xs ys)) ∙ (rw zeroth at here)
 
 -- the vertical edge of row j and column i stands at its number
-pub get_or-vertical : (xs ys : List ℤ) (j i : ℕ) (d : Edge) → j + 1 < length ys → i < length xs → get_or (edges_of_lines xs ys) (vertical_number xs ys j i) d ≡ vertical (length xs) ys j i
+pub get_or-vertical : (xs ys : List ℤ) (j i : ℕ) (d : Edge) → j + 1 < length ys → i < length xs
+    → get_or (edges_of_lines xs ys) (vertical_number xs ys j i) d ≡ vertical (length xs) ys j i
 get_or-vertical xs ys j i d row column =
-    let at : vertical_number xs ys j i ≡ length (horizontals xs ys) + (j * length xs + i) = omega (arith, length-horizontals xs ys) in
+    let at : vertical_number xs ys j i ≡ length (horizontals xs ys) + (j * length xs + i) =
+    omega (arith, length-horizontals xs ys) in
     let here = get_or-table_from (vertical (length xs) ys) 0 (length ys - 1) (length xs) j i d (omega arith) column in
     let zeroth : 0 + j ≡ j = omega arith in
     rw at (get_or-append-add (horizontals xs ys) (verticals xs ys) (j * length xs + i) d ∙ (rw zeroth at here))
 
 -- the same as the list's answer
-pub slice_get-horizontal : (xs ys : List ℤ) (j i : ℕ) → j < length ys → i + 1 < length xs → slice_get (edges_of_lines xs ys) (horizontal_number xs j i) ≡ Some (horizontal xs j i)
+pub slice_get-horizontal : (xs ys : List ℤ) (j i : ℕ) → j < length ys → i + 1 < length xs
+    → slice_get (edges_of_lines xs ys) (horizontal_number xs j i) ≡ Some (horizontal xs j i)
 slice_get-horizontal xs ys j i row column =
-    slice_get-get_or (edges_of_lines xs ys) (horizontal_number xs j i) (horizontal xs j i) (horizontal_number-below xs ys j i row column) ∙ ap Some (get_or-horizontal xs ys j i (horizontal xs j i) row column)
+    slice_get-get_or (edges_of_lines xs ys) (horizontal_number xs j i) (horizontal xs j i)
+    (horizontal_number-below xs ys j i row column)
+    ∙ ap Some (get_or-horizontal xs ys j i (horizontal xs j i) row column)
 
 -- and for a vertical edge
-pub slice_get-vertical : (xs ys : List ℤ) (j i : ℕ) → j + 1 < length ys → i < length xs → slice_get (edges_of_lines xs ys) (vertical_number xs ys j i) ≡ Some (vertical (length xs) ys j i)
+pub slice_get-vertical : (xs ys : List ℤ) (j i : ℕ) → j + 1 < length ys → i < length xs
+    → slice_get (edges_of_lines xs ys) (vertical_number xs ys j i) ≡ Some (vertical (length xs) ys j i)
 slice_get-vertical xs ys j i row column =
-    slice_get-get_or (edges_of_lines xs ys) (vertical_number xs ys j i) (vertical (length xs) ys j i) (vertical_number-below xs ys j i row column) ∙ ap Some (get_or-vertical xs ys j i (vertical (length xs) ys j i) row column)
+    slice_get-get_or (edges_of_lines xs ys) (vertical_number xs ys j i) (vertical (length xs) ys j i)
+    (vertical_number-below xs ys j i row column)
+    ∙ ap Some (get_or-vertical xs ys j i (vertical (length xs) ys j i) row column)
 
 -- ---- a graph
 
@@ -87,11 +103,13 @@ vertex_number-below nx ny i j column row = mul-add-lt j nx i ny row column
 -- the ends of the edges are crossings
 pub ends_below : (xs ys : List ℤ) → All (HasEndsBelow (length xs * length ys)) (edges_of_lines xs ys)
 ends_below xs ys = All-append (HasEndsBelow (length xs * length ys)) (horizontals xs ys) (verticals xs ys)
-    (All-table_from (HasEndsBelow (length xs * length ys)) (horizontal xs) 0 (length ys) (length xs - 1) (λ j i row column. record {
+    (All-table_from (HasEndsBelow (length xs * length ys)) (horizontal xs) 0 (length ys) (length xs - 1)
+    (λ j i row column. record {
       a = vertex_number-below (length xs) (length ys) i j (omega arith) (omega arith);
       b = vertex_number-below (length xs) (length ys) (i + 1) j (omega arith) (omega arith);
     }))
-    (All-table_from (HasEndsBelow (length xs * length ys)) (vertical (length xs) ys) 0 (length ys - 1) (length xs) (λ j i row column. record {
+    (All-table_from (HasEndsBelow (length xs * length ys)) (vertical (length xs) ys) 0 (length ys - 1) (length xs)
+    (λ j i row column. record {
       a = vertex_number-below (length xs) (length ys) i j (omega arith) (omega arith);
       b = vertex_number-below (length xs) (length ys) i (j + 1) (omega arith) (omega arith);
     }))
@@ -99,8 +117,10 @@ ends_below xs ys = All-append (HasEndsBelow (length xs * length ys)) (horizontal
 -- the edges of rising lines have a length
 pub lengths_positive : (xs ys : List ℤ) → IsRising xs → IsRising ys → All (λ e. 0 < e.length) (edges_of_lines xs ys)
 lengths_positive xs ys rises rises' = All-append (λ e. 0 < e.length) (horizontals xs ys) (verticals xs ys)
-    (All-table_from (λ e. 0 < e.length) (horizontal xs) 0 (length ys) (length xs - 1) (λ j i row column. gap_after-positive xs i (omega arith) rises))
-    (All-table_from (λ e. 0 < e.length) (vertical (length xs) ys) 0 (length ys - 1) (length xs) (λ j i row column. gap_after-positive ys j (omega arith) rises'))
+    (All-table_from (λ e. 0 < e.length) (horizontal xs) 0 (length ys) (length xs - 1)
+    (λ j i row column. gap_after-positive xs i (omega arith) rises))
+    (All-table_from (λ e. 0 < e.length) (vertical (length xs) ys) 0 (length ys - 1) (length xs)
+    (λ j i row column. gap_after-positive ys j (omega arith) rises'))
 
 -- at most 50 lines each way make at most 2500 crossings
 pub few_crossings : (nx ny : ℕ) → nx ≤ 50 → ny ≤ 50 → nx * ny ≤ 2500
@@ -145,7 +165,8 @@ pub length-ys_of-positive : (ps : List Point) → 0 < length ps → 0 < length (
 length-ys_of-positive ps some = length-ascending-positive (map (λ p. p.y) ps) (omega (arith, length-map ps (λ p. p.y)))
 
 -- each terminal's vertex is one
-pub vertex_of-below : (ps : List Point) (k : ℕ) (d : Point) → k < length ps → vertex_of (xs_of ps) (ys_of ps) (get_or ps k d) < length (xs_of ps) * length (ys_of ps)
+pub vertex_of-below : (ps : List Point) (k : ℕ) (d : Point) → k < length ps
+    → vertex_of (xs_of ps) (ys_of ps) (get_or ps k d) < length (xs_of ps) * length (ys_of ps)
 vertex_of-below ps k d inside =
     let p = get_or ps k d in
     vertex_number-below (length (xs_of ps)) (length (ys_of ps)) (place_of p.x (xs_of ps)) (place_of p.y (ys_of ps))
@@ -153,14 +174,24 @@ vertex_of-below ps k d inside =
     (place_of-below p.y (ys_of ps) (Contains-ys_of ps k d inside) (IsRising-ys_of ps))
 
 -- the terminals' vertices are vertices
-pub terminals_below : (ps : List Point) → All (λ t. t < length (xs_of ps) * length (ys_of ps)) (hanan_grid_of ps).terminals
-terminals_below ps = All-map (λ t. t < length (xs_of ps) * length (ys_of ps)) (vertex_of (xs_of ps) (ys_of ps)) ps (λ k d inside. vertex_of-below ps k d inside)
+pub terminals_below : (ps : List Point)
+    → All (λ t. t < length (xs_of ps) * length (ys_of ps)) (hanan_grid_of ps).terminals
+terminals_below ps =
+    All-map (λ t. t < length (xs_of ps) * length (ys_of ps)) (vertex_of (xs_of ps) (ys_of ps)) ps
+    (λ k d inside. vertex_of-below ps k d inside)
 
 -- the grid of at most 50 points has at most 2500 crossings
 pub few_crossings_of : (ps : List Point) → length ps ≤ 50 → (hanan_grid_of ps).vertices ≤ 2500
-few_crossings_of ps few = few_crossings (length (xs_of ps)) (length (ys_of ps)) (omega (arith, length-xs_of-le ps)) (omega (arith, length-ys_of-le ps))
+few_crossings_of ps few =
+    few_crossings (length (xs_of ps)) (length (ys_of ps)) (omega (arith, length-xs_of-le ps))
+    (omega (arith, length-ys_of-le ps))
 
 -- and at most 4900 edges
 pub few_edges_of : (ps : List Point) → length ps ≤ 50 → length (hanan_grid_of ps).edges ≤ 4900
 few_edges_of ps few =
-    omega (arith, length-edges_of_lines (xs_of ps) (ys_of ps), few_edges (length (xs_of ps)) (length (ys_of ps)) (omega (arith, length-xs_of-le ps)) (omega (arith, length-ys_of-le ps)))
+    omega (
+      arith,
+      length-edges_of_lines (xs_of ps) (ys_of ps),
+      few_edges (length (xs_of ps)) (length (ys_of ps))
+          (omega (arith, length-xs_of-le ps)) (omega (arith, length-ys_of-le ps)),
+    )

@@ -1,5 +1,6 @@
 -- The lines of a grid: the ascending distinct values of a list of coordinates.
-use Rattle.std.specs.Prelude.{ℕ, suc, ◌+◌, ℤ, pos, ◌-ℤ◌, List, [], ◌∷◌, slice_index_or, if◌then◌else◌, unsigned_abs, int_lt}
+use Rattle.std.specs.Prelude.{ℕ, suc, ◌+◌, ℤ, pos, ◌-ℤ◌, List, [], ◌∷◌, slice_index_or, if◌then◌else◌, unsigned_abs}
+use Rattle.std.specs.Prelude.{int_lt}
 use Rattle.std.specs.Ordering.{int_eq}
 
 -- the list with one more value in its place, where it isn't there yet

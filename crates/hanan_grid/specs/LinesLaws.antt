@@ -1,5 +1,6 @@
 -- Laws of the lines of a grid.
-use Rattle.std.specs.Prelude.{ℕ, suc, ◌+◌, ◌≡◌, ◌≤◌, ◌<◌, true, false, ℤ, pos, ◌+ℤ◌, ◌<ℤ◌, ◌≤ℤ◌, List, [], ◌∷◌, length, Contains, int_lt, refl, ◌⊎◌}
+use Rattle.std.specs.Prelude.{ℕ, suc, ◌+◌, ◌≡◌, ◌≤◌, ◌<◌, true, false, ℤ, pos, ◌+ℤ◌, ◌<ℤ◌, ◌≤ℤ◌, List, [], ◌∷◌}
+use Rattle.std.specs.Prelude.{length, Contains, int_lt, refl, ◌⊎◌}
 use Rattle.std.specs.List.{AllByRecursion}
 use Rattle.std.proofs.Common.{arith, ap, subst, inl, inr, ◌∙◌, sym, zero}
 use Rattle.std.proofs.lemmas.Int.{ints, by_lt_z}
@@ -49,7 +50,8 @@ below_all x y [] first rest = tt
 below_all x y (z ∷ zs) first rest = (omega (arith, ints, rest.0), below_all x y zs first rest.1)
 
 -- what is below a value and all lines is below the lines with that value
-below_with_value : (x z : ℤ) (ys : List ℤ) → x <ℤ z → AllByRecursion (λ y. x <ℤ y) ys → AllByRecursion (λ y. x <ℤ y) (with_value z ys)
+below_with_value : (x z : ℤ) (ys : List ℤ) → x <ℤ z → AllByRecursion (λ y. x <ℤ y) ys
+    → AllByRecursion (λ y. x <ℤ y) (with_value z ys)
 below_with_value x z [] first rest = (first, tt)
 below_with_value x z (y ∷ ys) first rest = elim (order_of z y) [
   | is_below b ↦ rw (with_value-below z y ys b) (first, (rest.0, rest.1))
@@ -108,13 +110,14 @@ with_value-cases z x [] member = Contains-cases z x [] member
 with_value-cases z x (y ∷ ys) member = elim (order_of z y) [
   | is_below b ↦ Contains-cases z x (y ∷ ys) (subst (λ ws. Contains ws x) (with_value-below z y ys b) member)
   | is_same s ↦ inr (subst (λ ws. Contains ws x) (with_value-same z y ys s) member)
-  | is_above a ↦ elim (Contains-cases y x (with_value z ys) (subst (λ ws. Contains ws x) (with_value-above z y ys a) member)) [
-    | inl is ↦ inr (subst (λ w. Contains (y ∷ ys) w) is (Contains-first y ys))
-    | inr later ↦ elim (with_value-cases z x ys later) [
-      | inl is ↦ inl is
-      | inr old ↦ inr (Contains-rest y x ys old)
-    ]
-  ]
+  | is_above a ↦
+      elim (Contains-cases y x (with_value z ys) (subst (λ ws. Contains ws x) (with_value-above z y ys a) member)) [
+        | inl is ↦ inr (subst (λ w. Contains (y ∷ ys) w) is (Contains-first y ys))
+        | inr later ↦ elim (with_value-cases z x ys later) [
+          | inl is ↦ inl is
+          | inr old ↦ inr (Contains-rest y x ys old)
+        ]
+      ]
 ]
 
 -- each value of a list is one of its ascending values
@@ -134,7 +137,8 @@ Contains-from_ascending (z ∷ zs) x member = elim (with_value-cases z x (ascend
 ]
 
 -- the first lines of two rising lists with the same members are one
-same_first : (x y : ℤ) (xs ys : List ℤ) → IsRising (x ∷ xs) → IsRising (y ∷ ys) → Contains (y ∷ ys) x → Contains (x ∷ xs) y → x ≡ y
+same_first : (x y : ℤ) (xs ys : List ℤ) → IsRising (x ∷ xs) → IsRising (y ∷ ys) → Contains (y ∷ ys) x
+    → Contains (x ∷ xs) y → x ≡ y
 same_first x y xs ys rises rises' x_in y_in = elim (Contains-cases y x ys x_in) [
   | inl is ↦ sym is
   | inr later ↦ elim (Contains-cases x y xs y_in) [
@@ -144,20 +148,23 @@ same_first x y xs ys rises rises' x_in y_in = elim (Contains-cases y x ys x_in) 
 ]
 
 -- a member of the rest of rising lines is a member of the rest of others that have the same first line
-same_rest : (x y z : ℤ) (xs ys : List ℤ) → x ≡ y → IsRising (x ∷ xs) → ((w : ℤ) → Contains (x ∷ xs) w → Contains (y ∷ ys) w) → Contains xs z → Contains ys z
+same_rest : (x y z : ℤ) (xs ys : List ℤ) → x ≡ y → IsRising (x ∷ xs)
+    → ((w : ℤ) → Contains (x ∷ xs) w → Contains (y ∷ ys) w) → Contains xs z → Contains ys z
 same_rest x y z xs ys same rises into member = elim (Contains-cases y z ys (into z (Contains-rest x z xs member))) [
   | inl is ↦ absurd (omega (arith, ints, member_above x z xs rises.0 member))
   | inr later ↦ later
 ]
 
 -- two rising lists with the same members are one
-pub same_from_members : (xs ys : List ℤ) → IsRising xs → IsRising ys → ((z : ℤ) → Contains xs z → Contains ys z) → ((z : ℤ) → Contains ys z → Contains xs z) → xs ≡ ys
+pub same_from_members : (xs ys : List ℤ) → IsRising xs → IsRising ys → ((z : ℤ) → Contains xs z → Contains ys z)
+    → ((z : ℤ) → Contains ys z → Contains xs z) → xs ≡ ys
 same_from_members [] [] rises rises' into back = refl
 same_from_members [] (y ∷ ys) rises rises' into back = Contains-none y (back y (Contains-first y ys))
 same_from_members (x ∷ xs) [] rises rises' into back = Contains-none x (into x (Contains-first x xs))
 same_from_members (x ∷ xs) (y ∷ ys) rises rises' into back =
     let first = same_first x y xs ys rises rises' (into x (Contains-first x xs)) (back y (Contains-first y ys)) in
-    let rest = same_from_members xs ys rises.1 rises'.1 (λ z. same_rest x y z xs ys first rises into) (λ z. same_rest y x z ys xs (sym first) rises' back) in
+    let rest = same_from_members xs ys rises.1 rises'.1 (λ z. same_rest x y z xs ys first rises into)
+    (λ z. same_rest y x z ys xs (sym first) rises' back) in
     cc
 
 -- ---- places
@@ -175,7 +182,8 @@ place_of-below z (y ∷ ys) member rises = elim (order_of z y) [
 ]
 
 -- at the place of a member stands that member
-pub line_at-place_of : (z : ℤ) (lines : List ℤ) → Contains lines z → IsRising lines → line_at lines (place_of z lines) ≡ z
+pub line_at-place_of : (z : ℤ) (lines : List ℤ) → Contains lines z → IsRising lines
+    → line_at lines (place_of z lines) ≡ z
 line_at-place_of z [] member rises = Contains-none z member
 line_at-place_of z (y ∷ ys) member rises = elim (order_of z y) [
   | is_below b ↦ elim (Contains-cases y z ys member) [
@@ -194,7 +202,8 @@ pub Contains-line_at : (lines : List ℤ) (i : ℕ) → i < length lines → Con
 Contains-line_at lines i inside = Contains-get_or lines i (pos 0) inside
 
 -- the place of what stands at a place is that place
-pub place_of-line_at : (lines : List ℤ) (i : ℕ) → i < length lines → IsRising lines → place_of (line_at lines i) lines ≡ i
+pub place_of-line_at : (lines : List ℤ) (i : ℕ) → i < length lines → IsRising lines
+    → place_of (line_at lines i) lines ≡ i
 place_of-line_at [] i inside rises = absurd (omega arith)
 place_of-line_at (y ∷ ys) zero inside rises = rw (int_lt-not_below y y (omega (arith, ints))) refl
 place_of-line_at (y ∷ ys) (suc i) inside rises =
@@ -202,20 +211,25 @@ place_of-line_at (y ∷ ys) (suc i) inside rises =
     rw (int_lt-below y (line_at ys i) higher) (ap suc (place_of-line_at ys i (omega arith) rises.1))
 
 -- an earlier line is below a later one
-pub line_at-rises : (lines : List ℤ) (i j : ℕ) → i < j → j < length lines → IsRising lines → line_at lines i <ℤ line_at lines j
+pub line_at-rises : (lines : List ℤ) (i j : ℕ) → i < j → j < length lines → IsRising lines
+    → line_at lines i <ℤ line_at lines j
 line_at-rises [] i j earlier inside rises = absurd (omega arith)
 line_at-rises (y ∷ ys) i zero earlier inside rises = absurd (omega arith)
-line_at-rises (y ∷ ys) zero (suc j) earlier inside rises = member_above y (line_at ys j) ys rises.0 (Contains-line_at ys j (omega arith))
+line_at-rises (y ∷ ys) zero (suc j) earlier inside rises =
+    member_above y (line_at ys j) ys rises.0 (Contains-line_at ys j (omega arith))
 line_at-rises (y ∷ ys) (suc i) (suc j) earlier inside rises = line_at-rises ys i j (omega arith) (omega arith) rises.1
 
 -- two lines are one only at one place
-pub same_place : (lines : List ℤ) (i j : ℕ) → i < length lines → j < length lines → IsRising lines → line_at lines i ≡ line_at lines j → i ≡ j
-same_place lines i j inside inside' rises same = sym (place_of-line_at lines i inside rises) ∙ (ap (λ z. place_of z lines) same ∙ place_of-line_at lines j inside' rises)
+pub same_place : (lines : List ℤ) (i j : ℕ) → i < length lines → j < length lines → IsRising lines
+    → line_at lines i ≡ line_at lines j → i ≡ j
+same_place lines i j inside inside' rises same = sym (place_of-line_at lines i inside rises)
+    ∙ (ap (λ z. place_of z lines) same ∙ place_of-line_at lines j inside' rises)
 
 -- ---- gaps
 
 -- a line and the gap after it make the next line
-pub gap_after-is : (lines : List ℤ) (i : ℕ) → i + 1 < length lines → IsRising lines → line_at lines i +ℤ pos (gap_after lines i) ≡ line_at lines (i + 1)
+pub gap_after-is : (lines : List ℤ) (i : ℕ) → i + 1 < length lines → IsRising lines
+    → line_at lines i +ℤ pos (gap_after lines i) ≡ line_at lines (i + 1)
 gap_after-is lines i inside rises =
     let rise = line_at-rises lines i (i + 1) (omega arith) inside rises in omega (arith, ints)
 

@@ -38,7 +38,8 @@ name_of_edge ps e = name_of (xs_of ps) (ys_of ps) (slice_index_or (hanan_grid_of
 
 -- the name that an edge between two crossings would have
 abbrev pub name_of_crossings : List Point → Place → Place → EdgeName
-name_of_crossings ps p q = name_between (crossing (xs_of ps) (ys_of ps) p.column p.row) (crossing (xs_of ps) (ys_of ps) q.column q.row)
+name_of_crossings ps p q =
+    name_between (crossing (xs_of ps) (ys_of ps) p.column p.row) (crossing (xs_of ps) (ys_of ps) q.column q.row)
 
 -- no edge of the grid has this name
 abbrev pub NamesNoEdge : List Point → EdgeName → Type 0

@@ -1,5 +1,6 @@
 -- Laws of the edges of a row and of a column: how they add up in a set, and where they lead.
-use Rattle.std.proofs.Common.{ℕ, zero, suc, ◌≡◌, ◌+◌, ◌-◌, ◌<◌, ◌≤◌, min, max, Bool, true, List, length, slice_get, slice_set, Some, ◌⊎◌, inl, inr, ⊎_elim, sym, ap, ◌∙◌, subst, arith}
+use Rattle.std.proofs.Common.{ℕ, zero, suc, ◌≡◌, ◌+◌, ◌-◌, ◌<◌, ◌≤◌, min, max, Bool, true, List, length, slice_get}
+use Rattle.std.proofs.Common.{slice_set, Some, ◌⊎◌, inl, inr, ⊎_elim, sym, ap, ◌∙◌, subst, arith}
 use Rattle.std.proofs.lemmas.Bool.{cases_lt}
 use Rattle.std.proofs.lemmas.Option.{get_or_from_slice_get, slice_get_within}
 use Rattle.points_in.specs.declared.point.Point.{Point}
@@ -23,7 +24,8 @@ pub same_number : (ps : List Point) (e f : ℕ) (edge : Edge) →
 same_number ps e f edge at there =
     let edges = (hanan_grid_of ps).edges in
     same_edge ps e f (slice_get_within edges e edge at) (slice_get_within edges f edge there)
-    (ap (name_of (xs_of ps) (ys_of ps)) (get_or_from_slice_get edges e edge no_edge at ∙ sym (get_or_from_slice_get edges f edge no_edge there)))
+    (ap (name_of (xs_of ps) (ys_of ps)) (get_or_from_slice_get edges e edge no_edge at
+    ∙ sym (get_or_from_slice_get edges f edge no_edge there)))
 
 -- the number of a vertical edge
 pub IsVertical-from_edge : (ps : List Point) (e row column : ℕ) → row + 1 < length (ys_of ps) →
@@ -33,7 +35,9 @@ pub IsVertical-from_edge : (ps : List Point) (e row column : ℕ) → row + 1 < 
 IsVertical-from_edge ps e row column row_in column_in at = record {
   row = row_in;
   column = column_in;
-  number = same_number ps e (vertical_number (xs_of ps) (ys_of ps) row column) (vertical (length (xs_of ps)) (ys_of ps) row column) at (slice_get-vertical (xs_of ps) (ys_of ps) row column row_in column_in);
+  number = same_number ps e (vertical_number (xs_of ps) (ys_of ps) row column)
+      (vertical (length (xs_of ps)) (ys_of ps) row column) at
+      (slice_get-vertical (xs_of ps) (ys_of ps) row column row_in column_in);
 }
 
 -- the number of a horizontal edge
@@ -44,14 +48,16 @@ pub IsHorizontal-from_edge : (ps : List Point) (e row column : ℕ) → row < le
 IsHorizontal-from_edge ps e row column row_in column_in at = record {
   row = row_in;
   column = column_in;
-  number = same_number ps e (horizontal_number (xs_of ps) row column) (horizontal (xs_of ps) row column) at (slice_get-horizontal (xs_of ps) (ys_of ps) row column row_in column_in);
+  number = same_number ps e (horizontal_number (xs_of ps) row column) (horizontal (xs_of ps) row column) at
+      (slice_get-horizontal (xs_of ps) (ys_of ps) row column row_in column_in);
 }
 
 -- ---- sets
 
 -- the edges of a row from the lower of two columns to a column
 abbrev pub IsInRowBelow : List Point → ℕ → ℕ → ℕ → ℕ → Type 0
-IsInRowBelow ps row low bound e = (column : ℕ) × (low ≤ column) × (column < bound) × IsHorizontal (xs_of ps) (ys_of ps) e row column
+IsInRowBelow ps row low bound e = (column : ℕ) × (low ≤ column) × (column < bound)
+    × IsHorizontal (xs_of ps) (ys_of ps) e row column
 
 -- one edge more of a row
 pub row_more : (ps : List Point) (row low column n : ℕ) (old set : List Bool) → low ≤ column →
@@ -59,7 +65,8 @@ pub row_more : (ps : List Point) (row low column n : ℕ) (old set : List Bool) 
     Adds (IsInRowBelow ps row low column) old set →
     Adds (IsInRowBelow ps row low (column + 1)) old (slice_set set n true)
 row_more ps row low column n old set above within is adds =
-    Adds-then (IsInRowBelow ps row low column) (λ e. e ≡ n) (IsInRowBelow ps row low (column + 1)) old set (slice_set set n true) adds (Adds-one set n within)
+    Adds-then (IsInRowBelow ps row low column) (λ e. e ≡ n) (IsInRowBelow ps row low (column + 1)) old set
+    (slice_set set n true) adds (Adds-one set n within)
     (λ e below. (below.0, below.1, omega (arith, below.2), below.3))
     (λ e here. (column, above, omega arith, subst (λ m. IsHorizontal (xs_of ps) (ys_of ps) m row column) (sym here) is))
     (λ e one. elim (cases_lt one.0 column) [
@@ -75,7 +82,12 @@ pub row_all : (ps : List Point) (row from to bound : ℕ) (old set : List Bool) 
 row_all ps row from to bound old set top end adds = record {
   size = adds.size;
   kept = adds.kept;
-  put = λ e is. adds.put e (is.0, ⊎_elim (λ p. omega (arith, p.0)) (λ p. omega (arith, p.0)) is.2, ⊎_elim (λ p. omega (arith, p.1)) (λ p. omega (arith, p.1)) is.2, is.1);
+  put = λ e is. adds.put e (
+    is.0,
+    ⊎_elim (λ p. omega (arith, p.0)) (λ p. omega (arith, p.0)) is.2,
+    ⊎_elim (λ p. omega (arith, p.1)) (λ p. omega (arith, p.1)) is.2,
+    is.1,
+  );
   only = λ e inside. ⊎_elim (λ before. inl before) (λ is. inr (
     is.0,
     is.3,
@@ -88,7 +100,8 @@ row_all ps row from to bound old set top end adds = record {
 
 -- the edges of a column from the lower of two rows to a row
 abbrev pub IsInColumnPart : List Point → ℕ → ℕ → ℕ → ℕ → Type 0
-IsInColumnPart ps column low bound e = (row : ℕ) × (low ≤ row) × (row < bound) × IsVertical (xs_of ps) (ys_of ps) e row column
+IsInColumnPart ps column low bound e = (row : ℕ) × (low ≤ row) × (row < bound)
+    × IsVertical (xs_of ps) (ys_of ps) e row column
 
 -- one edge more of a column
 pub column_part_more : (ps : List Point) (column low row n : ℕ) (old set : List Bool) → low ≤ row →
@@ -96,7 +109,8 @@ pub column_part_more : (ps : List Point) (column low row n : ℕ) (old set : Lis
     Adds (IsInColumnPart ps column low row) old set →
     Adds (IsInColumnPart ps column low (row + 1)) old (slice_set set n true)
 column_part_more ps column low row n old set above within is adds =
-    Adds-then (IsInColumnPart ps column low row) (λ e. e ≡ n) (IsInColumnPart ps column low (row + 1)) old set (slice_set set n true) adds (Adds-one set n within)
+    Adds-then (IsInColumnPart ps column low row) (λ e. e ≡ n) (IsInColumnPart ps column low (row + 1)) old set
+    (slice_set set n true) adds (Adds-one set n within)
     (λ e below. (below.0, below.1, omega (arith, below.2), below.3))
     (λ e here. (row, above, omega arith, subst (λ m. IsVertical (xs_of ps) (ys_of ps) m row column) (sym here) is))
     (λ e one. elim (cases_lt one.0 row) [
@@ -113,7 +127,12 @@ pub column_part_all : (ps : List Point) (column from to bound : ℕ) (old set : 
 column_part_all ps column from to bound old set top end adds = record {
   size = adds.size;
   kept = adds.kept;
-  put = λ e is. adds.put e (is.0, ⊎_elim (λ p. omega (arith, p.0)) (λ p. omega (arith, p.0)) is.2, ⊎_elim (λ p. omega (arith, p.1)) (λ p. omega (arith, p.1)) is.2, is.1);
+  put = λ e is. adds.put e (
+    is.0,
+    ⊎_elim (λ p. omega (arith, p.0)) (λ p. omega (arith, p.0)) is.2,
+    ⊎_elim (λ p. omega (arith, p.1)) (λ p. omega (arith, p.1)) is.2,
+    is.1,
+  );
   only = λ e inside. ⊎_elim (λ before. inl before) (λ is. inr (
     is.0,
     is.3,
@@ -138,14 +157,18 @@ line_up Step f low zero steps =
 line_up Step f low (suc n) steps =
     let so_far = line_up Step f low n (λ t above below. steps t above (omega arith)) in
     let same : low + n + 1 ≡ low + suc n = omega arith in
-    subst (λ t. Leads Step (f low) (f t)) same (Leads-more Step (f low) (f (low + n)) (f (low + n + 1)) so_far (steps (low + n) (omega arith) (omega arith)))
+    subst (λ t. Leads Step (f low) (f t)) same (Leads-more Step (f low) (f (low + n)) (f (low + n + 1)) so_far
+    (steps (low + n) (omega arith) (omega arith)))
 
 -- steps that can be taken back lead from any place to any other
 pub line_leads : (Step : ℕ → ℕ → Type 0) (f : ℕ → ℕ) (from to : ℕ) → ((u w : ℕ) → Step u w → Step w u) →
     ((t : ℕ) → IsPassed from to t → Step (f t) (f (t + 1))) → Leads Step (f from) (f to)
 line_leads Step f from to back steps = elim (cases_lt from to) [
   | inl above ↦ let same : from + (to - from) ≡ to = omega arith in
-      subst (λ t. Leads Step (f from) (f t)) same (line_up Step f from (to - from) (λ t low high. steps t (inl (low, omega arith))))
+      subst (λ t. Leads Step (f from) (f t)) same
+      (line_up Step f from (to - from) (λ t low high. steps t (inl (low, omega arith))))
   | inr below ↦ let same : to + (from - to) ≡ from = omega arith in
-      Leads-back Step Step back (f to) (f from) (subst (λ t. Leads Step (f to) (f t)) same (line_up Step f to (from - to) (λ t low high. steps t (inr (low, omega arith)))))
+      Leads-back Step Step back (f to) (f from)
+      (subst (λ t. Leads Step (f to) (f t)) same
+      (line_up Step f to (from - to) (λ t low high. steps t (inr (low, omega arith)))))
 ]

@@ -1,5 +1,7 @@
 -- Laws of the stretches of a grid: which edges they have, how long they are, and where they lead.
-use Rattle.std.proofs.Common.{ℕ, zero, suc, ◌≡◌, ◌+◌, ◌-◌, ◌/◌, ◌%◌, ◌<◌, ◌≤◌, min, max, ℤ, pos, ◌+ℤ◌, ◌-ℤ◌, ◌≤ℤ◌, unsigned_abs, Bool, true, false, List, [], ◌∷◌, length, replicate, slice_get, slice_set, Some, ◌⊎◌, refl, inl, inr, ⊎_elim, sym, ap, ◌∙◌, subst, arith}
+use Rattle.std.proofs.Common.{ℕ, zero, suc, ◌≡◌, ◌+◌, ◌-◌, ◌/◌, ◌%◌, ◌<◌, ◌≤◌, min, max, ℤ, pos, ◌+ℤ◌, ◌-ℤ◌, ◌≤ℤ◌}
+use Rattle.std.proofs.Common.{unsigned_abs, Bool, true, false, List, [], ◌∷◌, length, replicate, slice_get, slice_set}
+use Rattle.std.proofs.Common.{Some, ◌⊎◌, refl, inl, inr, ⊎_elim, sym, ap, ◌∙◌, subst, arith}
 use Rattle.std.specs.Prelude.{All, ◌↔◌}
 use Rattle.std.proofs.lemmas.Bool.{cases_lt}
 use Rattle.std.proofs.lemmas.Int.{ints, by_lt_z}
@@ -12,18 +14,25 @@ use Rattle.net_graph.specs.declared.edge.Edge.{Edge}
 use Rattle.net_graph.specs.Adds.{Adds}
 use Rattle.net_graph.specs.AddsLaws.{Adds-nothing, Adds-iff, Adds-holds}
 use Rattle.net_graph.specs.JoinsLaws.{Links-back, Joins-from}
-use Rattle.net_graph.specs.LengthLaws.{length_of_edges-none, length_of_edges-add, length_of_edges-within, length_of_edges-union}
+use Rattle.net_graph.specs.LengthLaws.{length_of_edges-none, length_of_edges-add, length_of_edges-within}
+use Rattle.net_graph.specs.LengthLaws.{length_of_edges-union}
 use Rattle.net_graph.specs.Network.{Links, Joins, length_of}
 use Rattle.net_graph.specs.Search.{Leads}
 use Rattle.hanan_grid.specs.Distance.{distance_between}
 use Rattle.hanan_grid.specs.Grid.{xs_of, ys_of, vertex_number, vertex_of, horizontal, vertical, hanan_grid_of}
-use Rattle.hanan_grid.specs.GridLaws.{horizontal_number, vertical_number, horizontal_number-below, vertical_number-below, slice_get-horizontal, slice_get-vertical, IsRising-xs_of, IsRising-ys_of}
+use Rattle.hanan_grid.specs.GridLaws.{horizontal_number, vertical_number, horizontal_number-below}
+use Rattle.hanan_grid.specs.GridLaws.{vertical_number-below, slice_get-horizontal, slice_get-vertical, IsRising-xs_of}
+use Rattle.hanan_grid.specs.GridLaws.{IsRising-ys_of}
 use Rattle.hanan_grid.specs.Lines.{line_at, place_of}
-use Rattle.hanan_grid.specs.LinesLaws.{IsRising, place_of-below, line_at-place_of, line_at-rises, same_place, gap_after-is}
+use Rattle.hanan_grid.specs.LinesLaws.{IsRising, place_of-below, line_at-place_of, line_at-rises, same_place}
+use Rattle.hanan_grid.specs.LinesLaws.{gap_after-is}
 use Rattle.hanan_grid.specs.Names.{IsCrossing, crossing, point_of_vertex}
-use Rattle.hanan_grid.specs.NamesLaws.{IsHorizontal, IsVertical, edge_cases, point_of_vertex-at, vertex_number-parts, column_of-below, row_of-below, vertex_of-crossing-below, point_of_vertex-vertex_of}
+use Rattle.hanan_grid.specs.NamesLaws.{IsHorizontal, IsVertical, edge_cases, point_of_vertex-at, vertex_number-parts}
+use Rattle.hanan_grid.specs.NamesLaws.{column_of-below, row_of-below, vertex_of-crossing-below}
+use Rattle.hanan_grid.specs.NamesLaws.{point_of_vertex-vertex_of}
 use Rattle.hanan_grid.specs.Runs.{IsInRow, IsInColumnBetween}
-use Rattle.hanan_grid.specs.RunsLaws.{IsPassed, line_leads, IsInRowBelow, row_more, row_all, IsInColumnPart, column_part_more, column_part_all}
+use Rattle.hanan_grid.specs.RunsLaws.{IsPassed, line_leads, IsInRowBelow, row_more, row_all, IsInColumnPart}
+use Rattle.hanan_grid.specs.RunsLaws.{column_part_more, column_part_all}
 use Rattle.hanan_grid.specs.Stretch.{IsBetween, LiesBetween, IsOnStretch, IsVertexOnStretch, IsGridStretch}
 
 -- ---- lines between lines
@@ -46,7 +55,8 @@ line_le lines i j within rises no_later = elim (cases_lt i j) [
 
 -- nothing but the number itself is between a number and itself
 same_between : (c z : ℤ) → IsBetween c c z → z ≡ c
-same_between c z between = ⊎_elim (λ up. omega (arith, ints, up.0, up.1)) (λ down. omega (arith, ints, down.0, down.1)) between
+same_between c z between =
+    ⊎_elim (λ up. omega (arith, ints, up.0, up.1)) (λ down. omega (arith, ints, down.0, down.1)) between
 
 -- .. and that is
 between_same : (c : ℤ) → IsBetween c c c
@@ -70,14 +80,21 @@ passed_from_between lines a b t a_in b_in t_in rises (inr low) (inr high) =
 between_from_passed : (lines : List ℤ) (a b t : ℕ) → a < length lines → b < length lines →
     t + 1 < length lines → IsRising lines →
     IsPassed a b t →
-    IsBetween (line_at lines a) (line_at lines b) (line_at lines t) × IsBetween (line_at lines a) (line_at lines b) (line_at lines (t + 1))
+    IsBetween (line_at lines a) (line_at lines b) (line_at lines t)
+    × IsBetween (line_at lines a) (line_at lines b) (line_at lines (t + 1))
 between_from_passed lines a b t a_in b_in t_in rises (inl up) = (
   inl (line_le lines a t (omega arith) rises up.0, line_le lines t b b_in rises (omega (arith, up.1))),
-  inl (line_le lines a (t + 1) t_in rises (omega (arith, up.0)), line_le lines (t + 1) b b_in rises (omega (arith, up.1))),
+  inl (
+    line_le lines a (t + 1) t_in rises (omega (arith, up.0)),
+    line_le lines (t + 1) b b_in rises (omega (arith, up.1)),
+  ),
 )
 between_from_passed lines a b t a_in b_in t_in rises (inr down) = (
   inr (line_le lines b t (omega arith) rises down.0, line_le lines t a a_in rises (omega (arith, down.1))),
-  inr (line_le lines b (t + 1) t_in rises (omega (arith, down.0)), line_le lines (t + 1) a a_in rises (omega (arith, down.1))),
+  inr (
+    line_le lines b (t + 1) t_in rises (omega (arith, down.0)),
+    line_le lines (t + 1) a a_in rises (omega (arith, down.1)),
+  ),
 )
 
 -- what is passed on the way to a line between two is passed on the way between them
@@ -116,7 +133,13 @@ crossing-places : (ps : List Point) (p : Point) (x y : ℤ) → IsCrossing (xs_o
     y ≡ p.y →
     crossing (xs_of ps) (ys_of ps) (place_of x (xs_of ps)) (place_of y (ys_of ps)) ≡ p
 crossing-places ps p x y at same_x same_y =
-    rw (same_x, same_y, line_at-place_of p.x (xs_of ps) at.x (IsRising-xs_of ps), line_at-place_of p.y (ys_of ps) at.y (IsRising-ys_of ps)) refl
+    rw (
+      same_x,
+      same_y,
+      line_at-place_of p.x (xs_of ps) at.x (IsRising-xs_of ps),
+      line_at-place_of p.y (ys_of ps) at.y
+          (IsRising-ys_of ps),
+    ) refl
 
 -- crossings of one y are the ends of a stretch in a row
 pub IsRowStretch-from_same : (ps : List Point) (p q : Point) → IsCrossing (xs_of ps) (ys_of ps) p →
@@ -154,9 +177,12 @@ horizontal_ends ps p q e j i edge h at first second =
     let ys = ys_of ps in
     let column = h.column in
     let is : edge ≡ horizontal xs j i =
-    same_Some edge (horizontal xs j i) (sym at ∙ ap (slice_get (hanan_grid_of ps).edges) h.number ∙ slice_get-horizontal xs ys j i h.row h.column) in (
-      subst (LiesBetween p q) (ap (λ (x : Edge). point_of_vertex xs ys x.a) is ∙ point_of_vertex-at xs ys i j (omega arith)) first,
-      subst (LiesBetween p q) (ap (λ (x : Edge). point_of_vertex xs ys x.b) is ∙ point_of_vertex-at xs ys (i + 1) j column) second,
+    same_Some edge (horizontal xs j i) (sym at ∙ ap (slice_get (hanan_grid_of ps).edges) h.number
+    ∙ slice_get-horizontal xs ys j i h.row h.column) in (
+      subst (LiesBetween p q) (ap (λ (x : Edge). point_of_vertex xs ys x.a) is
+          ∙ point_of_vertex-at xs ys i j (omega arith)) first,
+      subst (LiesBetween p q) (ap (λ (x : Edge). point_of_vertex xs ys x.b) is
+          ∙ point_of_vertex-at xs ys (i + 1) j column) second,
     )
 
 -- a vertical edge's ends
@@ -170,9 +196,12 @@ vertical_ends ps p q e j i edge v at first second =
     let xs = xs_of ps in
     let ys = ys_of ps in
     let is : edge ≡ vertical (length xs) ys j i =
-    same_Some edge (vertical (length xs) ys j i) (sym at ∙ ap (slice_get (hanan_grid_of ps).edges) v.number ∙ slice_get-vertical xs ys j i v.row v.column) in (
-      subst (LiesBetween p q) (ap (λ (x : Edge). point_of_vertex xs ys x.a) is ∙ point_of_vertex-at xs ys i j v.column) first,
-      subst (LiesBetween p q) (ap (λ (x : Edge). point_of_vertex xs ys x.b) is ∙ point_of_vertex-at xs ys i (j + 1) v.column) second,
+    same_Some edge (vertical (length xs) ys j i) (sym at ∙ ap (slice_get (hanan_grid_of ps).edges) v.number
+    ∙ slice_get-vertical xs ys j i v.row v.column) in (
+      subst (LiesBetween p q) (ap (λ (x : Edge). point_of_vertex xs ys x.a) is
+          ∙ point_of_vertex-at xs ys i j v.column) first,
+      subst (LiesBetween p q) (ap (λ (x : Edge). point_of_vertex xs ys x.b) is
+          ∙ point_of_vertex-at xs ys i (j + 1) v.column) second,
     )
 
 -- an edge on a stretch in a row is one of the row's edges
@@ -187,12 +216,25 @@ IsInRow-from_crossings ps row a b e row_in a_in b_in (edge, at, first, second) =
     let q = crossing xs ys b row in
     elim (edge_cases xs ys e (slice_get_within (hanan_grid_of ps).edges e edge at)) [
       | inl h ↦ let ends = horizontal_ends ps p q e h.0 h.1 edge h.2 at first second in
-          let same : h.0 ≡ row = same_place ys h.0 row h.2.row row_in (IsRising-ys_of ps) (same_between (line_at ys row) (line_at ys h.0) ends.0.y) in
-          (h.1, subst (λ j. IsHorizontal xs ys e j h.1) same h.2, passed_from_between xs a b h.1 a_in b_in h.2.column (IsRising-xs_of ps) ends.0.x ends.1.x)
+          let same : h.0 ≡ row =
+          same_place ys h.0 row h.2.row row_in (IsRising-ys_of ps)
+          (same_between (line_at ys row) (line_at ys h.0) ends.0.y) in (
+            h.1,
+            subst (λ j. IsHorizontal xs ys e j h.1) same h.2,
+            passed_from_between xs a b h.1 a_in b_in h.2.column
+                (IsRising-xs_of ps) ends.0.x ends.1.x,
+          )
       | inr v ↦ let ends = vertical_ends ps p q e v.0 v.1 edge v.2 at first second in
           let here = same_between (line_at ys row) (line_at ys v.0) ends.0.y in
           let there = same_between (line_at ys row) (line_at ys (v.0 + 1)) ends.1.y in
-          absurd (omega (arith, ints, here, there, line_at-rises ys v.0 (v.0 + 1) (omega arith) v.2.row (IsRising-ys_of ps)))
+          absurd (omega (
+            arith,
+            ints,
+            here,
+            there,
+            line_at-rises ys v.0 (v.0 + 1) (omega arith) v.2.row
+                (IsRising-ys_of ps),
+          ))
     ]
 
 -- .. and one of the row's edges is on the stretch
@@ -207,7 +249,8 @@ IsOnStretch-in_row ps row a b e a_in b_in (i, h, passed) =
     let column = h.column in
     let across = between_from_passed xs a b i a_in b_in column (IsRising-xs_of ps) passed in
     let first : LiesBetween p q (crossing xs ys i row) = record { x = across.0; y = between_same (line_at ys row) } in
-    let second : LiesBetween p q (crossing xs ys (i + 1) row) = record { x = across.1; y = between_same (line_at ys row) } in (
+    let second : LiesBetween p q (crossing xs ys (i + 1) row) =
+    record { x = across.1; y = between_same (line_at ys row) } in (
       horizontal xs row i,
       ap (slice_get (hanan_grid_of ps).edges) h.number ∙ slice_get-horizontal xs ys row i h.row column,
       subst (LiesBetween p q) (sym (point_of_vertex-at xs ys i row (omega arith))) first,
@@ -228,10 +271,23 @@ IsInColumn-from_crossings ps column a b e column_in a_in b_in (edge, at, first, 
       | inl h ↦ let ends = horizontal_ends ps p q e h.0 h.1 edge h.2 at first second in
           let here = same_between (line_at xs column) (line_at xs h.1) ends.0.x in
           let there = same_between (line_at xs column) (line_at xs (h.1 + 1)) ends.1.x in
-          absurd (omega (arith, ints, here, there, line_at-rises xs h.1 (h.1 + 1) (omega arith) h.2.column (IsRising-xs_of ps)))
+          absurd (omega (
+            arith,
+            ints,
+            here,
+            there,
+            line_at-rises xs h.1 (h.1 + 1) (omega arith) h.2.column
+                (IsRising-xs_of ps),
+          ))
       | inr v ↦ let ends = vertical_ends ps p q e v.0 v.1 edge v.2 at first second in
-          let same : v.1 ≡ column = same_place xs v.1 column v.2.column column_in (IsRising-xs_of ps) (same_between (line_at xs column) (line_at xs v.1) ends.0.x) in
-          (v.0, subst (λ i. IsVertical xs ys e v.0 i) same v.2, passed_from_between ys a b v.0 a_in b_in v.2.row (IsRising-ys_of ps) ends.0.y ends.1.y)
+          let same : v.1 ≡ column =
+          same_place xs v.1 column v.2.column column_in (IsRising-xs_of ps)
+          (same_between (line_at xs column) (line_at xs v.1) ends.0.x) in (
+            v.0,
+            subst (λ i. IsVertical xs ys e v.0 i) same v.2,
+            passed_from_between ys a b v.0 a_in b_in v.2.row
+                (IsRising-ys_of ps) ends.0.y ends.1.y,
+          )
     ]
 
 -- .. and one of the column's edges is on the stretch
@@ -245,7 +301,8 @@ IsOnStretch-in_column ps column a b e a_in b_in (j, v, passed) =
     let q = crossing xs ys column b in
     let up = between_from_passed ys a b j a_in b_in v.row (IsRising-ys_of ps) passed in
     let first : LiesBetween p q (crossing xs ys column j) = record { x = between_same (line_at xs column); y = up.0 } in
-    let second : LiesBetween p q (crossing xs ys column (j + 1)) = record { x = between_same (line_at xs column); y = up.1 } in (
+    let second : LiesBetween p q (crossing xs ys column (j + 1)) =
+    record { x = between_same (line_at xs column); y = up.1 } in (
       vertical (length xs) ys j column,
       ap (slice_get (hanan_grid_of ps).edges) v.number ∙ slice_get-vertical xs ys j column v.row v.column,
       subst (LiesBetween p q) (sym (point_of_vertex-at xs ys column j v.column)) first,
@@ -257,8 +314,10 @@ pub Adds-row_stretch : (ps : List Point) (p q : Point) (row a b : ℕ) (old new 
     IsRowStretch ps p q row a b →
     Adds (IsInRow ps row a b) old new → Adds (IsOnStretch ps p q) old new
 Adds-row_stretch ps p q row a b old new is adds =
-    let at = Adds-iff (IsInRow ps row a b) (IsOnStretch ps (crossing (xs_of ps) (ys_of ps) a row) (crossing (xs_of ps) (ys_of ps) b row)) old new
-    (λ e. IsOnStretch-in_row ps row a b e is.a_in is.b_in) (λ e. IsInRow-from_crossings ps row a b e is.row_in is.a_in is.b_in) adds in
+    let at = Adds-iff (IsInRow ps row a b) (IsOnStretch ps (crossing (xs_of ps) (ys_of ps) a row)
+    (crossing (xs_of ps) (ys_of ps) b row)) old new
+    (λ e. IsOnStretch-in_row ps row a b e is.a_in is.b_in)
+    (λ e. IsInRow-from_crossings ps row a b e is.row_in is.a_in is.b_in) adds in
     subst (λ z. Adds (IsOnStretch ps p z) old new) is.to
     (subst (λ z. Adds (IsOnStretch ps z (crossing (xs_of ps) (ys_of ps) b row)) old new) is.from at)
 
@@ -267,8 +326,10 @@ pub Adds-column_stretch : (ps : List Point) (p q : Point) (column a b : ℕ) (ol
     IsColumnStretch ps p q column a b →
     Adds (IsInColumnBetween ps column a b) old new → Adds (IsOnStretch ps p q) old new
 Adds-column_stretch ps p q column a b old new is adds =
-    let at = Adds-iff (IsInColumnBetween ps column a b) (IsOnStretch ps (crossing (xs_of ps) (ys_of ps) column a) (crossing (xs_of ps) (ys_of ps) column b)) old new
-    (λ e. IsOnStretch-in_column ps column a b e is.a_in is.b_in) (λ e. IsInColumn-from_crossings ps column a b e is.column_in is.a_in is.b_in) adds in
+    let at = Adds-iff (IsInColumnBetween ps column a b) (IsOnStretch ps (crossing (xs_of ps) (ys_of ps) column a)
+    (crossing (xs_of ps) (ys_of ps) column b)) old new
+    (λ e. IsOnStretch-in_column ps column a b e is.a_in is.b_in)
+    (λ e. IsInColumn-from_crossings ps column a b e is.column_in is.a_in is.b_in) adds in
     subst (λ z. Adds (IsOnStretch ps p z) old new) is.to
     (subst (λ z. Adds (IsOnStretch ps z (crossing (xs_of ps) (ys_of ps) column b)) old new) is.from at)
 
@@ -311,12 +372,19 @@ row_set ps row low (suc n) row_in within =
     let before = row_set ps row low n row_in (omega arith) in
     let column : low + n + 1 < length xs = omega arith in
     let e = horizontal_number xs row (low + n) in
-    let inside : e < length before.set = omega (arith, before.adds.size, length-replicate (length edges) false, horizontal_number-below xs ys row (low + n) row_in column) in
+    let inside : e < length before.set =
+    omega (
+      arith,
+      before.adds.size,
+      length-replicate (length edges) false,
+      horizontal_number-below xs ys row (low + n) row_in column,
+    ) in
     let is : IsHorizontal xs ys e row (low + n) = record { row = row_in; column = column; number = refl } in
     let absent : slice_get before.set e ≡ Some true → ⊥ = λ there.
     let other = Adds-holds (IsInRowBelow ps row low (low + n)) (length edges) before.set before.adds e there in
     omega (arith, other.2, other.3.number) in
-    let longer = length_of_edges-add edges before.set e (horizontal xs row (low + n)) (slice_get-absent before.set e inside absent)
+    let longer = length_of_edges-add edges before.set e (horizontal xs row (low + n))
+    (slice_get-absent before.set e inside absent)
     (slice_get-horizontal xs ys row (low + n) row_in column) in
     let more : RowSet ps row low (low + n + 1) = record {
       set = slice_set before.set e true;
@@ -351,12 +419,19 @@ column_set ps column low (suc n) column_in within =
     let before = column_set ps column low n column_in (omega arith) in
     let row : low + n + 1 < length ys = omega arith in
     let e = vertical_number xs ys (low + n) column in
-    let inside : e < length before.set = omega (arith, before.adds.size, length-replicate (length edges) false, vertical_number-below xs ys (low + n) column row column_in) in
+    let inside : e < length before.set =
+    omega (
+      arith,
+      before.adds.size,
+      length-replicate (length edges) false,
+      vertical_number-below xs ys (low + n) column row column_in,
+    ) in
     let is : IsVertical xs ys e (low + n) column = record { row = row; column = column_in; number = refl } in
     let absent : slice_get before.set e ≡ Some true → ⊥ = λ there.
     let other = Adds-holds (IsInColumnPart ps column low (low + n)) (length edges) before.set before.adds e there in
     omega (arith, other.2, other.3.number, mul-add-lt other.0 (length xs) column (low + n) other.2 column_in) in
-    let longer = length_of_edges-add edges before.set e (vertical (length xs) ys (low + n) column) (slice_get-absent before.set e inside absent)
+    let longer = length_of_edges-add edges before.set e (vertical (length xs) ys (low + n) column)
+    (slice_get-absent before.set e inside absent)
     (slice_get-vertical xs ys (low + n) column row column_in) in
     let more : ColumnSet ps column low (low + n + 1) = record {
       set = slice_set before.set e true;
@@ -404,7 +479,8 @@ row_stretch_set ps p q row a b is =
     record {
       set = part.set;
       adds = Adds-row_stretch ps p q row a b (no_edges ps) part.set is
-          (row_all ps row a b (min a b + (max a b - min a b)) (no_edges ps) part.set (omega arith) (omega arith) part.adds);
+          (row_all ps row a b (min a b + (max a b - min a b)) (no_edges ps) part.set (omega arith)
+          (omega arith) part.adds);
       long = omega (arith, ints, x, x', y, y', apart);
     }
 
@@ -423,15 +499,18 @@ column_stretch_set ps p q column a b is =
     record {
       set = part.set;
       adds = Adds-column_stretch ps p q column a b (no_edges ps) part.set is
-          (column_part_all ps column a b (min a b + (max a b - min a b)) (no_edges ps) part.set (omega arith) (omega arith) part.adds);
+          (column_part_all ps column a b (min a b + (max a b - min a b)) (no_edges ps) part.set (omega arith)
+          (omega arith) part.adds);
       long = omega (arith, ints, x, x', y, y', apart);
     }
 
 -- .. and so for any
 pub stretch_set : (ps : List Point) (p q : Point) → IsGridStretch ps p q → StretchSet ps p q
 stretch_set ps p q is = elim is.straight [
-  | inl same ↦ column_stretch_set ps p q (place_of p.x (xs_of ps)) (place_of p.y (ys_of ps)) (place_of q.y (ys_of ps)) (IsColumnStretch-from_same ps p q is.from is.to same)
-  | inr same ↦ row_stretch_set ps p q (place_of p.y (ys_of ps)) (place_of p.x (xs_of ps)) (place_of q.x (xs_of ps)) (IsRowStretch-from_same ps p q is.from is.to same)
+  | inl same ↦ column_stretch_set ps p q (place_of p.x (xs_of ps)) (place_of p.y (ys_of ps)) (place_of q.y (ys_of ps))
+      (IsColumnStretch-from_same ps p q is.from is.to same)
+  | inr same ↦ row_stretch_set ps p q (place_of p.y (ys_of ps)) (place_of p.x (xs_of ps)) (place_of q.x (xs_of ps))
+      (IsRowStretch-from_same ps p q is.from is.to same)
 ]
 
 -- a set of just the edges of a stretch is as long as its ends are apart
@@ -467,14 +546,21 @@ row_leads : (ps : List Point) (set : List Bool) (row a b t : ℕ) → row < leng
     b < length (xs_of ps) → t < length (xs_of ps) →
     IsBetween (line_at (xs_of ps) a) (line_at (xs_of ps) b) (line_at (xs_of ps) t) →
     ((e : ℕ) → IsInRow ps row a b e → slice_get set e ≡ Some true) →
-    Leads (Links (hanan_grid_of ps) set) (vertex_number (length (xs_of ps)) a row) (vertex_number (length (xs_of ps)) t row)
+    Leads (Links (hanan_grid_of ps) set) (vertex_number (length (xs_of ps)) a row)
+    (vertex_number (length (xs_of ps)) t row)
 row_leads ps set row a b t row_in a_in b_in t_in between holds =
     let xs = xs_of ps in
-    line_leads (Links (hanan_grid_of ps) set) (λ i. vertex_number (length xs) i row) a t (Links-back (hanan_grid_of ps) set) (λ i passed.
-    let column : i + 1 < length xs = ⊎_elim (λ right. omega (arith, right.1)) (λ left. omega (arith, left.1)) passed in (
+    line_leads (Links (hanan_grid_of ps) set) (λ i. vertex_number (length xs) i row) a t
+    (Links-back (hanan_grid_of ps) set) (λ i passed.
+    let column : i + 1 < length xs =
+    ⊎_elim (λ right. omega (arith, right.1)) (λ left. omega (arith, left.1)) passed in (
       horizontal_number xs row i,
       horizontal xs row i,
-      holds (horizontal_number xs row i) (i, record { row = row_in; column = column; number = refl }, passed_further xs a b t i a_in b_in t_in (IsRising-xs_of ps) between passed),
+      holds (horizontal_number xs row i) (
+        i,
+        record { row = row_in; column = column; number = refl },
+        passed_further xs a b t i a_in b_in t_in (IsRising-xs_of ps) between passed,
+      ),
       slice_get-horizontal xs (ys_of ps) row i row_in column,
       inl (refl, refl),
     ))
@@ -485,15 +571,21 @@ column_leads : (ps : List Point) (set : List Bool) (column a b t : ℕ) → colu
     b < length (ys_of ps) → t < length (ys_of ps) →
     IsBetween (line_at (ys_of ps) a) (line_at (ys_of ps) b) (line_at (ys_of ps) t) →
     ((e : ℕ) → IsInColumnBetween ps column a b e → slice_get set e ≡ Some true) →
-    Leads (Links (hanan_grid_of ps) set) (vertex_number (length (xs_of ps)) column a) (vertex_number (length (xs_of ps)) column t)
+    Leads (Links (hanan_grid_of ps) set) (vertex_number (length (xs_of ps)) column a)
+    (vertex_number (length (xs_of ps)) column t)
 column_leads ps set column a b t column_in a_in b_in t_in between holds =
     let xs = xs_of ps in
     let ys = ys_of ps in
-    line_leads (Links (hanan_grid_of ps) set) (λ j. vertex_number (length xs) column j) a t (Links-back (hanan_grid_of ps) set) (λ j passed.
+    line_leads (Links (hanan_grid_of ps) set) (λ j. vertex_number (length xs) column j) a t
+    (Links-back (hanan_grid_of ps) set) (λ j passed.
     let row : j + 1 < length ys = ⊎_elim (λ up. omega (arith, up.1)) (λ down. omega (arith, down.1)) passed in (
       vertical_number xs ys j column,
       vertical (length xs) ys j column,
-      holds (vertical_number xs ys j column) (j, record { row = row; column = column_in; number = refl }, passed_further ys a b t j a_in b_in t_in (IsRising-ys_of ps) between passed),
+      holds (vertical_number xs ys j column) (
+        j,
+        record { row = row; column = column_in; number = refl },
+        passed_further ys a b t j a_in b_in t_in (IsRising-ys_of ps) between passed,
+      ),
       slice_get-vertical xs ys j column row column_in,
       inl (refl, refl),
     ))
@@ -503,14 +595,16 @@ IsOnStretch-row : (ps : List Point) (p q : Point) (row a b e : ℕ) → IsRowStr
     IsInRow ps row a b e → IsOnStretch ps p q e
 IsOnStretch-row ps p q row a b e is on =
     subst (λ z. IsOnStretch ps p z e) is.to
-    (subst (λ z. IsOnStretch ps z (crossing (xs_of ps) (ys_of ps) b row) e) is.from (IsOnStretch-in_row ps row a b e is.a_in is.b_in on))
+    (subst (λ z. IsOnStretch ps z (crossing (xs_of ps) (ys_of ps) b row) e) is.from
+    (IsOnStretch-in_row ps row a b e is.a_in is.b_in on))
 
 -- an edge of the column is on the stretch
 IsOnStretch-column : (ps : List Point) (p q : Point) (column a b e : ℕ) →
     IsColumnStretch ps p q column a b → IsInColumnBetween ps column a b e → IsOnStretch ps p q e
 IsOnStretch-column ps p q column a b e is on =
     subst (λ z. IsOnStretch ps p z e) is.to
-    (subst (λ z. IsOnStretch ps z (crossing (xs_of ps) (ys_of ps) column b) e) is.from (IsOnStretch-in_column ps column a b e is.a_in is.b_in on))
+    (subst (λ z. IsOnStretch ps z (crossing (xs_of ps) (ys_of ps) column b) e) is.from
+    (IsOnStretch-in_column ps column a b e is.a_in is.b_in on))
 
 -- a number that is between two is between what these are equal to
 IsBetween-same : (a b a' b' z : ℤ) → a' ≡ a → b' ≡ b → IsBetween a b z → IsBetween a' b' z
@@ -538,9 +632,11 @@ Leads-stretch ps p q set v is holds on =
           let y : line_at ys (place_of p.y ys) ≡ p.y = ap (λ (z : Point). z.y) at.from in
           let y' : line_at ys (place_of q.y ys) ≡ q.y = ap (λ (z : Point). z.y) at.to in
           let column : i ≡ c = same_place xs i c i_in at.column_in (IsRising-xs_of ps)
-          (same_between (line_at xs c) (line_at xs i) (IsBetween-same p.x q.x (line_at xs c) (line_at xs c) (line_at xs i) x x' on.between.x)) in
+          (same_between (line_at xs c) (line_at xs i) (IsBetween-same p.x q.x (line_at xs c) (line_at xs c)
+          (line_at xs i) x x' on.between.x)) in
           let led = column_leads ps set c (place_of p.y ys) (place_of q.y ys) j at.column_in at.a_in at.b_in j_in
-          (IsBetween-same p.y q.y (line_at ys (place_of p.y ys)) (line_at ys (place_of q.y ys)) (line_at ys j) y y' on.between.y)
+          (IsBetween-same p.y q.y (line_at ys (place_of p.y ys)) (line_at ys (place_of q.y ys))
+          (line_at ys j) y y' on.between.y)
           (λ e inside. holds e (IsOnStretch-column ps p q c (place_of p.y ys) (place_of q.y ys) e at inside)) in
           subst (λ w. Leads Step (vertex_of xs ys p) w) (ap (λ k. vertex_number nx k j) (sym column) ∙ parts) led
       | inr same ↦ let r = place_of p.y ys in
@@ -550,9 +646,11 @@ Leads-stretch ps p q set v is holds on =
           let y : line_at ys r ≡ p.y = ap (λ (z : Point). z.y) at.from in
           let y' : line_at ys r ≡ q.y = ap (λ (z : Point). z.y) at.to in
           let row : j ≡ r = same_place ys j r j_in at.row_in (IsRising-ys_of ps)
-          (same_between (line_at ys r) (line_at ys j) (IsBetween-same p.y q.y (line_at ys r) (line_at ys r) (line_at ys j) y y' on.between.y)) in
+          (same_between (line_at ys r) (line_at ys j) (IsBetween-same p.y q.y (line_at ys r) (line_at ys r)
+          (line_at ys j) y y' on.between.y)) in
           let led = row_leads ps set r (place_of p.x xs) (place_of q.x xs) i at.row_in at.a_in at.b_in i_in
-          (IsBetween-same p.x q.x (line_at xs (place_of p.x xs)) (line_at xs (place_of q.x xs)) (line_at xs i) x x' on.between.x)
+          (IsBetween-same p.x q.x (line_at xs (place_of p.x xs)) (line_at xs (place_of q.x xs))
+          (line_at xs i) x x' on.between.x)
           (λ e inside. holds e (IsOnStretch-row ps p q r (place_of p.x xs) (place_of q.x xs) e at inside)) in
           subst (λ w. Leads Step (vertex_of xs ys p) w) (ap (λ k. vertex_number nx i k) (sym row) ∙ parts) led
     ]
@@ -568,7 +666,8 @@ Joins-stretch ps p q set vertices is holds on =
 
 -- of two numbers one is no more than the other
 either_le : (a b : ℤ) → (a ≤ℤ b) ⊎ (b ≤ℤ a)
-either_le a b = by_lt_z a b (λ below. inl (omega (arith, ints, below))) (λ not_below. inr (omega (arith, ints, not_below)))
+either_le a b =
+    by_lt_z a b (λ below. inl (omega (arith, ints, below))) (λ not_below. inr (omega (arith, ints, not_below)))
 
 -- a number is between itself and another
 first_between : (a b : ℤ) → IsBetween a b a
@@ -589,7 +688,8 @@ pub IsVertexOnStretch-from : (ps : List Point) (p q : Point) → IsGridStretch p
     IsVertexOnStretch ps p q (vertex_of (xs_of ps) (ys_of ps) p)
 IsVertexOnStretch-from ps p q is = record {
   below = vertex_of-crossing-below (xs_of ps) (ys_of ps) p (IsRising-xs_of ps) (IsRising-ys_of ps) is.from;
-  between = subst (LiesBetween p q) (sym (point_of_vertex-vertex_of (xs_of ps) (ys_of ps) p (IsRising-xs_of ps) (IsRising-ys_of ps) is.from))
+  between = subst (LiesBetween p q)
+      (sym (point_of_vertex-vertex_of (xs_of ps) (ys_of ps) p (IsRising-xs_of ps) (IsRising-ys_of ps) is.from))
       (record { x = first_between p.x q.x; y = first_between p.y q.y });
 }
 
@@ -598,6 +698,7 @@ pub IsVertexOnStretch-to : (ps : List Point) (p q : Point) → IsGridStretch ps 
     IsVertexOnStretch ps p q (vertex_of (xs_of ps) (ys_of ps) q)
 IsVertexOnStretch-to ps p q is = record {
   below = vertex_of-crossing-below (xs_of ps) (ys_of ps) q (IsRising-xs_of ps) (IsRising-ys_of ps) is.to;
-  between = subst (LiesBetween p q) (sym (point_of_vertex-vertex_of (xs_of ps) (ys_of ps) q (IsRising-xs_of ps) (IsRising-ys_of ps) is.to))
+  between = subst (LiesBetween p q)
+      (sym (point_of_vertex-vertex_of (xs_of ps) (ys_of ps) q (IsRising-xs_of ps) (IsRising-ys_of ps) is.to))
       (record { x = last_between p.x q.x; y = last_between p.y q.y });
 }

@@ -14,4 +14,3 @@ pub use fault::{GridFault, SegmentFault};
 pub use grid::Grid;
 pub use name::EdgeName;
 pub use place::Place;
-

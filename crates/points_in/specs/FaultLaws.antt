@@ -4,18 +4,25 @@ use Rattle.std.proofs.Common.{arith, refl, sym, ap, subst, ◌∙◌, inl, inr}
 use Rattle.std.proofs.lemmas.List.{append_assoc, append-nil, length-append}
 use Rattle.points_in.specs.declared.point.Point.{Point}
 use Rattle.points_in.specs.declared.fault.PointFault.{PointFault}
-use Rattle.points_in.specs.declared.fault.PointFault.TheVariants.{BadNumber, NumberTooLarge, TooManyPoints, OddCount, NoPoints, Memory}
+use Rattle.points_in.specs.declared.fault.PointFault.TheVariants.{BadNumber, NumberTooLarge, TooManyPoints, OddCount}
+use Rattle.points_in.specs.declared.fault.PointFault.TheVariants.{NoPoints, Memory}
 use Rattle.points_in.specs.Number.{IsNumber}
 use Rattle.points_in.specs.Terminals.{terminals_of}
 use Rattle.points_in.specs.TerminalLaws.{length-terminals_of-push}
-use Rattle.points_in.specs.Text.{AreNumbers, point_of, points_of, IsPointText, AreSound, FailsAt, FirstFailure, EndsWithoutY, PointFaultOf}
+use Rattle.points_in.specs.Text.{AreNumbers, point_of, points_of, IsPointText, AreSound, FailsAt, FirstFailure}
+use Rattle.points_in.specs.Text.{EndsWithoutY, PointFaultOf}
 use Rattle.points_in.specs.Words.{Word, words_of}
 
 -- more points have no fewer terminals
 pub length-terminals_of-append : (ps qs : List Point) → length (terminals_of ps) ≤ length (terminals_of (ps ++ qs))
 length-terminals_of-append ps [] = omega (arith, ap (λ rs. length (terminals_of rs)) (append-nil ps))
 length-terminals_of-append ps (q ∷ qs) =
-    omega (arith, length-terminals_of-push ps q, length-terminals_of-append (ps ++ q ∷ []) qs, ap (λ rs. length (terminals_of rs)) (append_assoc ps (q ∷ []) qs))
+    omega (
+      arith,
+      length-terminals_of-push ps q,
+      length-terminals_of-append (ps ++ q ∷ []) qs,
+      ap (λ rs. length (terminals_of rs)) (append_assoc ps (q ∷ []) qs),
+    )
 
 -- more words list the same points and more
 pub points_of-append : (xs ys : List Word) → (more : List Point) × (points_of (xs ++ ys) ≡ points_of xs ++ more)
@@ -41,16 +48,25 @@ sound_front xs ys sound =
     let more = points_of-append xs ys in
     record {
       numbers = numbers_front xs ys sound.numbers;
-      few = omega (arith, sound.few, length-terminals_of-append (points_of xs) more.0, ap (λ ps. length (terminals_of ps)) more.1);
+      few = omega (
+        arith,
+        sound.few,
+        length-terminals_of-append (points_of xs) more.0,
+        ap (λ ps. length (terminals_of ps)) more.1,
+      );
     }
 
 -- a word that fails raises one
-pub fails_not_sound : (before : List Word) (word : Word) (after : List Word) (fault : PointFault) → FailsAt before word fault
+pub fails_not_sound : (before : List Word) (word : Word) (after : List Word) (fault : PointFault)
+    → FailsAt before word fault
     → AreSound (before ++ word ∷ after) → ⊥
-fails_not_sound before word after (BadNumber at) fails sound = fails.1 (number_among before word after sound.numbers).spelled
-fails_not_sound before word after (NumberTooLarge at) fails sound = fails.2 (number_among before word after sound.numbers).fits
+fails_not_sound before word after (BadNumber at) fails sound =
+    fails.1 (number_among before word after sound.numbers).spelled
+fails_not_sound before word after (NumberTooLarge at) fails sound =
+    fails.2 (number_among before word after sound.numbers).fits
 fails_not_sound before word after (TooManyPoints at) fails sound =
-    let front = sound_front (before ++ word ∷ []) after (subst AreSound (sym (append_assoc before (word ∷ []) after)) sound) in
+    let front = sound_front (before ++ word ∷ []) after
+    (subst AreSound (sym (append_assoc before (word ∷ []) after)) sound) in
     omega (arith, front.few, fails.many)
 fails_not_sound before word after OddCount fails sound = fails
 fails_not_sound before word after NoPoints fails sound = fails
@@ -64,8 +80,10 @@ pub record IsLater (xs : List Word) (x : Word) (ys : List Word) : Type 0 where
 two_places : (xs ys : List Word) (x y : Word) (us vs : List Word) → xs ++ x ∷ us ≡ ys ++ y ∷ vs
     → ((xs ≡ ys) × (x ≡ y)) ⊎ (IsLater xs x ys ⊎ IsLater ys y xs)
 two_places [] [] x y us vs e = inl (refl, cc)
-two_places [] (z ∷ ys) x y us vs e = let same : x ≡ z = cc in inr (inl (record { between = ys; is = ap (λ w. w ∷ ys) (sym same) }))
-two_places (z ∷ xs) [] x y us vs e = let same : z ≡ y = cc in inr (inr (record { between = xs; is = ap (λ w. w ∷ xs) same }))
+two_places [] (z ∷ ys) x y us vs e = let same : x ≡ z = cc in
+    inr (inl (record { between = ys; is = ap (λ w. w ∷ ys) (sym same) }))
+two_places (z ∷ xs) [] x y us vs e = let same : z ≡ y = cc in
+    inr (inr (record { between = xs; is = ap (λ w. w ∷ xs) same }))
 two_places (a ∷ xs) (b ∷ ys) x y us vs e =
     let head : a ≡ b = cc in
     let tail : xs ++ x ∷ us ≡ ys ++ y ∷ vs = cc in
@@ -104,7 +122,8 @@ one_way before word (Memory e) g p q = absurd p
 -- there is one first word that fails
 one_first : (words : List Word) (f g : PointFault) → FirstFailure words f → FirstFailure words g → f ≡ g
 one_first words f g p q = elim (two_places p.before q.before p.word q.word p.after q.after (sym p.parts ∙ q.parts)) [
-  | inl same ↦ one_way q.before q.word f g (subst (λ w. FailsAt q.before w f) same.1 (subst (λ ws. FailsAt ws p.word f) same.0 p.fails)) q.fails
+  | inl same ↦ one_way q.before q.word f g
+      (subst (λ w. FailsAt q.before w f) same.1 (subst (λ ws. FailsAt ws p.word f) same.0 p.fails)) q.fails
   | inr (inl later) ↦ absurd (fails_not_sound p.before p.word later.between f p.fails (subst AreSound later.is q.sound))
   | inr (inr later) ↦ absurd (fails_not_sound q.before q.word later.between g q.fails (subst AreSound later.is p.sound))
 ]
@@ -125,10 +144,12 @@ kind_of bytes (Memory e) fails = absurd fails
 
 -- words that raise no fault have no first that fails
 first_not_sound : (words : List Word) (fault : PointFault) → FirstFailure words fault → AreSound words → ⊥
-first_not_sound words fault p sound = fails_not_sound p.before p.word p.after fault p.fails (subst AreSound p.parts sound)
+first_not_sound words fault p sound =
+    fails_not_sound p.before p.word p.after fault p.fails (subst AreSound p.parts sound)
 
 no_words_no_first : (words : List Word) (fault : PointFault) → FirstFailure words fault → words ≡ [] → ⊥
-no_words_no_first words fault p none = omega (arith, ap length none, ap length p.parts, length-append p.before (p.word ∷ p.after))
+no_words_no_first words fault p none =
+    omega (arith, ap length none, ap length p.parts, length-append p.before (p.word ∷ p.after))
 
 no_words_not_odd : (words : List Word) → EndsWithoutY words → words ≡ [] → ⊥
 no_words_not_odd words odd none = omega (arith, ap length none, odd.odd)
@@ -148,14 +169,19 @@ one_kind words f g (at_nothing p) (at_nothing q) = refl
 pub one_fault : (bytes : List ℕ) (f g : PointFault) → PointFaultOf bytes f → PointFaultOf bytes g → f ≡ g
 one_fault bytes f g p q = one_kind (words_of bytes) f g (kind_of bytes f p) (kind_of bytes g q)
 
-listed_no_kind : (bytes : List ℕ) (ps : List Point) (fault : PointFault) → IsPointText bytes ps → IsKind (words_of bytes) fault → ⊥
+listed_no_kind : (bytes : List ℕ) (ps : List Point) (fault : PointFault) → IsPointText bytes ps
+    → IsKind (words_of bytes) fault → ⊥
 listed_no_kind bytes ps fault lists (at_word p) =
-    first_not_sound (words_of bytes) fault p (record { numbers = lists.numbers; few = subst (λ qs. length (terminals_of qs) ≤ 50) lists.points lists.few })
+    first_not_sound (words_of bytes) fault p (record {
+      numbers = lists.numbers;
+      few = subst (λ qs. length (terminals_of qs) ≤ 50) lists.points lists.few;
+    })
 listed_no_kind bytes ps fault lists (at_end p) = omega (arith, p.odd, lists.even, ap length lists.points)
 listed_no_kind bytes ps fault lists (at_nothing p) = omega (arith, ap length p, lists.even, lists.some)
 
 -- and none where it lists points
-pub listed_no_fault : (bytes : List ℕ) (ps : List Point) (fault : PointFault) → IsPointText bytes ps → PointFaultOf bytes fault → ⊥
+pub listed_no_fault : (bytes : List ℕ) (ps : List Point) (fault : PointFault) → IsPointText bytes ps
+    → PointFaultOf bytes fault → ⊥
 listed_no_fault bytes ps fault lists p = listed_no_kind bytes ps fault lists (kind_of bytes fault p)
 
 -- it lists one list of points

@@ -1,7 +1,8 @@
 -- What a step of the reader takes from the words that are left.
 use Rattle.std.specs.Prelude.{ℕ, ◌≡◌, ◌<◌, ◌≤◌, List, [], ◌∷◌, ◌++◌, length, drop, Option, None, Some, Result, Ok, Err}
 use Rattle.points_in.specs.declared.fault.PointFault.{PointFault}
-use Rattle.points_in.specs.declared.fault.PointFault.TheVariants.{BadNumber, NumberTooLarge, TooManyPoints, OddCount, NoPoints, Memory}
+use Rattle.points_in.specs.declared.fault.PointFault.TheVariants.{BadNumber, NumberTooLarge, TooManyPoints, OddCount}
+use Rattle.points_in.specs.declared.fault.PointFault.TheVariants.{NoPoints, Memory}
 use Rattle.points_in.specs.declared.point.Point.{Point}
 use Rattle.points_in.specs.declared.read.NextNumber.{NextNumber}
 use Rattle.points_in.specs.declared.read.NextPoint.{NextPoint}

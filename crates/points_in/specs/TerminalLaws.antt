@@ -1,5 +1,6 @@
 -- What one more point does to the terminals.
-use Rattle.std.specs.Prelude.{◌≡◌, ◌≤◌, Bool, true, false, cond, ◌||◌, not, List, [], ◌∷◌, ◌++◌, length, filter, Any, Contains, ◌≢◌, ◌↔◌}
+use Rattle.std.specs.Prelude.{◌≡◌, ◌≤◌, Bool, true, false, cond, ◌||◌, not, List, [], ◌∷◌, ◌++◌, length, filter, Any}
+use Rattle.std.specs.Prelude.{Contains, ◌≢◌, ◌↔◌}
 use Rattle.std.specs.List.{list_any}
 use Rattle.std.specs.Bool.{Decides}
 use Rattle.std.proofs.Common.{arith, refl, ap, sym, ◌∙◌, subst, inl, inr}
@@ -19,7 +20,8 @@ holds p ps = list_any (λ q. same_point q p) ps
 
 -- a list in which a point passes the test contains it
 contains_from_any : (p : Point) (ps : List Point) → Any (λ q. same_point q p ≡ true) ps → Contains ps p
-contains_from_any p ps (k, q, within, is, same) = (k, within, get_or_default ps k p q within ∙ is ∙ (same_point_decides q p).0 same)
+contains_from_any p ps (k, q, within, is, same) =
+    (k, within, get_or_default ps k p q within ∙ is ∙ (same_point_decides q p).0 same)
 
 -- the test tells whether the list contains the point
 holds_decides : (p : Point) (ps : List Point) → Decides (holds p ps) (Contains ps p)
@@ -29,7 +31,8 @@ holds_decides p ps = (
 )
 
 -- leaving one point out doesn't change whether another is held
-holds-filter : (a p : Point) → same_point a p ≡ false → (ps : List Point) → holds p (filter (λ q. not (same_point a q)) ps) ≡ holds p ps
+holds-filter : (a p : Point) → same_point a p ≡ false → (ps : List Point)
+    → holds p (filter (λ q. not (same_point a q)) ps) ≡ holds p ps
 holds-filter a p apart [] = refl
 holds-filter a p apart (q ∷ ps) = elim (cases_Bool (same_point a q)) [
   | inl same ↦
@@ -41,7 +44,13 @@ holds-filter a p apart (q ∷ ps) = elim (cases_Bool (same_point a q)) [
 -- the length of the terminals is at most the list's
 pub length-terminals_of-le : (ps : List Point) → length (terminals_of ps) ≤ length ps
 length-terminals_of-le [] = omega arith
-length-terminals_of-le (p ∷ ps) = omega (arith, length-terminals_of-le ps, length-filter (λ q. not (same_point p q)) (terminals_of ps), count_by-le-length (λ q. not (same_point p q)) (terminals_of ps))
+length-terminals_of-le (p ∷ ps) =
+    omega (
+      arith,
+      length-terminals_of-le ps,
+      length-filter (λ q. not (same_point p q)) (terminals_of ps),
+      count_by-le-length (λ q. not (same_point p q)) (terminals_of ps),
+    )
 
 -- one more point is appended where it is new
 terminals_of_push : (ps : List Point) (p : Point)
@@ -50,7 +59,13 @@ terminals_of_push [] p = refl
 terminals_of_push (a ∷ ps) p = rw (terminals_of_push ps p) (elim (cases_Bool (same_point a p)) [
   | inl same ↦ elim (cases_Bool (holds p (terminals_of ps))) [
     | inl held ↦ rw (same, held)
-    | inr new ↦ rw (same, new, filter-append (λ q. not (same_point a q)) (terminals_of ps) (p ∷ []), same, append-nil (filter (λ q. not (same_point a q)) (terminals_of ps)))
+    | inr new ↦ rw (
+      same,
+      new,
+      filter-append (λ q. not (same_point a q)) (terminals_of ps) (p ∷ []),
+      same,
+      append-nil (filter (λ q. not (same_point a q)) (terminals_of ps)),
+    )
   ]
   | inr apart ↦ rw (apart, holds-filter a p apart (terminals_of ps)) (elim (cases_Bool (holds p (terminals_of ps))) [
     | inl held ↦ rw held
@@ -59,21 +74,24 @@ terminals_of_push (a ∷ ps) p = rw (terminals_of_push ps p) (elim (cases_Bool (
 ])
 
 -- one more point takes no terminal away
-pub length-terminals_of-push : (ps : List Point) (p : Point) → length (terminals_of ps) ≤ length (terminals_of (ps ++ p ∷ []))
+pub length-terminals_of-push : (ps : List Point) (p : Point)
+    → length (terminals_of ps) ≤ length (terminals_of (ps ++ p ∷ []))
 length-terminals_of-push ps p = elim (cases_Bool (holds p (terminals_of ps))) [
   | inl held ↦ rw (terminals_of_push ps p, held) (omega arith)
   | inr new ↦ rw (terminals_of_push ps p, new) (omega (arith, length-append (terminals_of ps) (p ∷ [])))
 ]
 
 -- a repeat changes nothing
-pub terminals_of_repeat : (ps : List Point) (p : Point) → Contains (terminals_of ps) p → terminals_of (ps ++ p ∷ []) ≡ terminals_of ps
+pub terminals_of_repeat : (ps : List Point) (p : Point) → Contains (terminals_of ps) p
+    → terminals_of (ps ++ p ∷ []) ≡ terminals_of ps
 terminals_of_repeat ps p held = rw (terminals_of_push ps p, (holds_decides p (terminals_of ps)).1 held)
 
 -- a new point comes last
 pub terminals_of_new : (ps : List Point) (p : Point) → ¬ Contains (terminals_of ps) p
     → terminals_of (ps ++ p ∷ []) ≡ terminals_of ps ++ p ∷ []
 terminals_of_new ps p new =
-    let apart : holds p (terminals_of ps) ≡ false = false_from_ne_true _ (λ h. new ((holds_decides p (terminals_of ps)).0 h)) in
+    let apart : holds p (terminals_of ps) ≡ false =
+    false_from_ne_true _ (λ h. new ((holds_decides p (terminals_of ps)).0 h)) in
     rw (terminals_of_push ps p, apart)
 
 -- a point is among the terminals where it is among the points
@@ -98,5 +116,6 @@ terminals_of_distinct (p ∷ ps) =
     AllPairs-cons (λ q r. q ≢ r) p (filter (λ q. not (same_point p q)) (terminals_of ps))
     (All-weaker (λ q. not (same_point p q) ≡ true) (λ q. p ≢ q)
     (λ q other same. true≢false (sym ((same_point_decides p q).1 same) ∙ not-true (same_point p q) other))
-    (filter (λ q. not (same_point p q)) (terminals_of ps)) (filter_passes (λ q. not (same_point p q)) (terminals_of ps)))
+    (filter (λ q. not (same_point p q)) (terminals_of ps))
+    (filter_passes (λ q. not (same_point p q)) (terminals_of ps)))
     (AllPairs-filter (λ q r. q ≢ r) (λ q. not (same_point p q)) (terminals_of ps) (terminals_of_distinct ps))

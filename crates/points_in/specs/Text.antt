@@ -5,7 +5,8 @@ use Rattle.std.specs.Fmt.{signed_decimal}
 use Rattle.std.specs.List.{AllByRecursion}
 use Rattle.points_in.specs.declared.point.Point.{Point}
 use Rattle.points_in.specs.declared.fault.PointFault.{PointFault}
-use Rattle.points_in.specs.declared.fault.PointFault.TheVariants.{BadNumber, NumberTooLarge, TooManyPoints, OddCount, NoPoints, Memory}
+use Rattle.points_in.specs.declared.fault.PointFault.TheVariants.{BadNumber, NumberTooLarge, TooManyPoints, OddCount}
+use Rattle.points_in.specs.declared.fault.PointFault.TheVariants.{NoPoints, Memory}
 use Rattle.points_in.specs.Number.{IsNumberWord, IsNumber, number_of}
 use Rattle.points_in.specs.Terminals.{terminals_of}
 use Rattle.points_in.specs.Words.{Word, words_of}

@@ -1,7 +1,8 @@
 //! Freely spelled numbers: a plus, a minus or neither, and then digits, of which the first may be zeros.
 
 ghost use Rattle.std.specs.Prelude.{ℕ, ℤ, ◌≡◌, ◌<◌, ◌≤◌, ◌-◌, ◌^◌, ◌↔◌, ◌==◌, min, pos, neg_ℤ};
-ghost use Rattle.std.specs.Prelude.{if◌then◌else◌, length, slice_index, IfOk, IfSome, IfNone, IsErrOf, IsTrue, FitsSigned};
+ghost use Rattle.std.specs.Prelude.{if◌then◌else◌, length, slice_index, IfOk, IfSome, IfNone, IsErrOf, IsTrue};
+ghost use Rattle.std.specs.Prelude.{FitsSigned};
 ghost use Rattle.std.specs.Int.{w64};
 ghost use Rattle.std.specs.Str.Parse.{IsNumeral, digits_value, starts_with_minus};
 ghost use Rattle.points_in.specs.Words.{is_blank, front_word};

@@ -1,6 +1,7 @@
 //! Lists of distinct points.
 
-ghost use Rattle.std.specs.Prelude.{◌≡◌, ◌<◌, ◌≤◌, [], ◌∷◌, ◌++◌, length, slice_get, All, Contains, IfOk, OnErr, IsErrOf};
+ghost use Rattle.std.specs.Prelude.{◌≡◌, ◌<◌, ◌≤◌, [], ◌∷◌, ◌++◌, length, slice_get, All, Contains, IfOk, OnErr};
+ghost use Rattle.std.specs.Prelude.{IsErrOf};
 ghost use Rattle.points_in.specs.Text.{IsPoint};
 ghost use Rattle.points_in.specs.Terminals.{AreDistinct};
 

@@ -1,6 +1,7 @@
 -- Bottlenecks as distances: two terminals have one, it is at most the rectilinear distance, and a way by a third
 -- terminal is no narrower.
-use Rattle.std.specs.Prelude.{ℕ, ◌≡◌, ◌<◌, ◌≤◌, ℤ, pos, negsuc, ◌-ℤ◌, List, length, max, suc, zero, unsigned_abs, slice_index_or}
+use Rattle.std.specs.Prelude.{ℕ, ◌≡◌, ◌<◌, ◌≤◌, ℤ, pos, negsuc, ◌-ℤ◌, List, length, max, suc, zero, unsigned_abs}
+use Rattle.std.specs.Prelude.{slice_index_or}
 use Rattle.std.proofs.Common.{arith, ap, ◌∙◌, sym, refl, neg_ℤ}
 use Rattle.std.proofs.Math.IntN.{+ℤ_invr, +ℤ_comm, neg_ℤ-+ℤ, neg_ℤ-neg_ℤ, ◌+ℤ◌}
 use Rattle.points_in.specs.declared.point.Point.{Point}
@@ -21,7 +22,8 @@ unsigned_abs-neg (negsuc n) = refl
 
 same_way : (y z : ℤ) → unsigned_abs (y -ℤ z) ≡ unsigned_abs (z -ℤ y)
 same_way y z =
-    let turned : neg_ℤ (z -ℤ y) ≡ y -ℤ z = neg_ℤ-+ℤ z (neg_ℤ y) ∙ ap (λ v. neg_ℤ z +ℤ v) (neg_ℤ-neg_ℤ y) ∙ +ℤ_comm (neg_ℤ z) y in
+    let turned : neg_ℤ (z -ℤ y) ≡ y -ℤ z = neg_ℤ-+ℤ z (neg_ℤ y) ∙ ap (λ v. neg_ℤ z +ℤ v) (neg_ℤ-neg_ℤ y)
+    ∙ +ℤ_comm (neg_ℤ z) y in
     ap unsigned_abs (sym turned) ∙ unsigned_abs-neg (z -ℤ y)
 
 -- a point is no distance from itself
@@ -31,24 +33,34 @@ distance_of-same ps i = let p = slice_index_or ps i origin in omega (arith, no_w
 -- .. and as far from another as that one from it
 pub distance_of-back : (ps : List Point) (i j : ℕ) → distance_of ps i j ≡ distance_of ps j i
 distance_of-back ps i j =
-    let p = slice_index_or ps i origin in let q = slice_index_or ps j origin in omega (arith, same_way p.x q.x, same_way p.y q.y)
+    let p = slice_index_or ps i origin in let q = slice_index_or ps j origin in
+    omega (arith, same_way p.x q.x, same_way p.y q.y)
 
 -- longer hops lead at least as far
 pub Leads-longer : (ps : List Point) (least most i j : ℕ) → least ≤ most → Leads (IsHop ps least) i j →
     Leads (IsHop ps most) i j
 Leads-longer ps least most i j longer led =
-    Leads-weaker (IsHop ps least) (IsHop ps most) (λ u w hop. record { from = hop.from; to = hop.to; short = omega (arith, hop.short, longer) }) i j led
+    Leads-weaker (IsHop ps least) (IsHop ps most) (λ u w hop. record {
+      from = hop.from;
+      to = hop.to;
+      short = omega (arith, hop.short, longer);
+    }) i j led
 
 -- one hop
 pub Leads-hop : (ps : List Point) (i j : ℕ) → i < length ps → j < length ps →
     Leads (IsHop ps (distance_of ps i j)) i j
 Leads-hop ps i j i_in j_in =
-    Leads-more (IsHop ps (distance_of ps i j)) i i j (Leads-start (IsHop ps (distance_of ps i j)) i) record { from = i_in; to = j_in; short = omega arith }
+    Leads-more (IsHop ps (distance_of ps i j)) i i j (Leads-start (IsHop ps (distance_of ps i j)) i)
+    record { from = i_in; to = j_in; short = omega arith }
 
 -- chains lead back
 pub Leads-hops_back : (ps : List Point) (most i j : ℕ) → Leads (IsHop ps most) i j → Leads (IsHop ps most) j i
 Leads-hops_back ps most i j led =
-    Leads-back (IsHop ps most) (IsHop ps most) (λ u w hop. record { from = hop.to; to = hop.from; short = omega (arith, hop.short, distance_of-back ps u w) }) i j led
+    Leads-back (IsHop ps most) (IsHop ps most) (λ u w hop. record {
+      from = hop.to;
+      to = hop.from;
+      short = omega (arith, hop.short, distance_of-back ps u w);
+    }) i j led
 
 -- two terminals have one bottleneck
 pub IsBottleneck-one : (ps : List Point) (i j b c : ℕ) → IsBottleneck ps i j b → IsBottleneck ps i j c → b ≡ c
@@ -74,4 +86,6 @@ IsBottleneck-direct ps i j b i_in j_in is = is.least (distance_of ps i j) (Leads
 pub IsBottleneck-between : (ps : List Point) (i k j a b c : ℕ) → IsBottleneck ps i k a →
     IsBottleneck ps k j b → IsBottleneck ps i j c → c ≤ max a b
 IsBottleneck-between ps i k j a b c first second direct =
-    direct.least (max a b) (Leads-trans (IsHop ps (max a b)) i k j (Leads-longer ps a (max a b) i k (omega arith) first.chain) (Leads-longer ps b (max a b) k j (omega arith) second.chain))
+    direct.least (max a b)
+    (Leads-trans (IsHop ps (max a b)) i k j (Leads-longer ps a (max a b) i k (omega arith) first.chain)
+    (Leads-longer ps b (max a b) k j (omega arith) second.chain))

@@ -22,7 +22,8 @@ pub record IsClosedBelow (ps : List Point) (k : ℕ) (d : ℕ → ℕ → ℕ) :
 pub closed-at_first : (ps : List Point) (d : ℕ → ℕ → ℕ) →
     ((i j : ℕ) → i < length ps → j < length ps → d i j ≡ distance_of ps i j) → IsClosedBelow ps 0 d
 closed-at_first ps d is = record {
-  chains = λ i j i_in j_in. subst (λ most. Leads (IsHop ps most) i j) (sym (is i j i_in j_in)) (Leads-hop ps i j i_in j_in);
+  chains = λ i j i_in j_in. subst (λ most. Leads (IsHop ps most) i j) (sym (is i j i_in j_in))
+      (Leads-hop ps i j i_in j_in);
   direct = λ i j i_in j_in. omega (arith, is i j i_in j_in);
   closed = λ m i j below. absurd (omega arith);
 }
@@ -59,13 +60,15 @@ closed-more ps k d e k_in closed is = record {
   direct = λ i j i_in j_in. omega (arith, is i j i_in j_in, closed.direct i j i_in j_in);
   closed = λ m i j below m_in i_in j_in. elim (cases_eq m k) [
     | inl same ↦
-        let at_k : e i j ≤ max (e i k) (e k j) = rw (is i j i_in j_in, is i k i_in k_in, is k j k_in j_in) (closed_at_it (d i j) (d i k) (d k j) (d k k)) in
+        let at_k : e i j ≤ max (e i k) (e k j) =
+        rw (is i j i_in j_in, is i k i_in k_in, is k j k_in j_in) (closed_at_it (d i j) (d i k) (d k j) (d k k)) in
         subst (λ v. e i j ≤ max (e i v) (e v j)) (sym same) at_k
     | inr apart ↦
         let less : m < k = omega arith in
         rw (is i j i_in j_in, is i m i_in m_in, is m j m_in j_in)
         (stays_closed (d i j) (d i k) (d k j) (d i m) (d m j) (d k m) (d m k)
-        (closed.closed m i j less m_in i_in j_in) (closed.closed m i k less m_in i_in k_in) (closed.closed m k j less m_in k_in j_in))
+        (closed.closed m i j less m_in i_in j_in) (closed.closed m i k less m_in i_in k_in)
+        (closed.closed m k j less m_in k_in j_in))
   ];
 }
 
@@ -77,7 +80,16 @@ IsBottleneck-from_closed ps d closed i j i_in j_in = record {
   least = λ most led.
       (Leads-keeps (IsHop ps most) (λ v. (v < length ps) × (d i v ≤ most)) i j
       (i_in, omega (arith, closed.direct i i i_in i_in, distance_of-same ps i))
-      (λ u w so_far hop. (hop.to, omega (arith, so_far.1, closed.closed u i w hop.from hop.from i_in hop.to, closed.direct u w hop.from hop.to, hop.short))) led).1;
+      (λ u w so_far hop. (
+        hop.to,
+        omega (
+          arith,
+          so_far.1,
+          closed.closed u i w hop.from hop.from i_in hop.to,
+          closed.direct u w hop.from hop.to,
+          hop.short,
+        ),
+      )) led).1;
 }
 
 -- the distances, made shorter by way of the first k terminals
@@ -91,10 +103,14 @@ unfolding closure
 closure-closed ps zero few = closed-at_first ps (closure ps zero) (λ i j i_in j_in. refl)
 closure-closed ps (suc k) few =
     subst (λ n. IsClosedBelow ps n (closure ps (suc k))) (add-one k)
-    (closed-more ps k (closure ps k) (closure ps (suc k)) (omega arith) (closure-closed ps k (omega arith)) (λ i j i_in j_in. refl))
+    (closed-more ps k (closure ps k) (closure ps (suc k)) (omega arith) (closure-closed ps k (omega arith))
+    (λ i j i_in j_in. refl))
 
 -- each two terminals have a bottleneck
 pub some_bottleneck : (ps : List Point) (i j : ℕ) → i < length ps → j < length ps →
     (b : ℕ) × IsBottleneck ps i j b
-some_bottleneck ps i j i_in j_in =
-    (closure ps (length ps) i j, IsBottleneck-from_closed ps (closure ps (length ps)) (closure-closed ps (length ps) (omega arith)) i j i_in j_in)
+some_bottleneck ps i j i_in j_in = (
+  closure ps (length ps) i j,
+  IsBottleneck-from_closed ps (closure ps (length ps))
+      (closure-closed ps (length ps) (omega arith)) i j i_in j_in,
+)

@@ -32,7 +32,13 @@ pub Leads-hops_more : (pairs : List Pair) (small large : List Bool) → IsSubset
     (i j : ℕ) → Leads (Hop pairs small) i j → Leads (Hop pairs large) i j
 Leads-hops_more pairs small large within i j led =
     Leads-weaker (Hop pairs small) (Hop pairs large)
-    (λ u w (k, pair, inside, at, ends). (k, pair, slice_get-has large k (within k (has-slice_get small k inside)), at, ends)) i j led
+    (λ u w (k, pair, inside, at, ends). (
+      k,
+      pair,
+      slice_get-has large k (within k (has-slice_get small k inside)),
+      at,
+      ends,
+    )) i j led
 
 -- each pair is in the set of all
 pub all_of-has : (pairs : List Pair) (k : ℕ) → k < length pairs → has (all_of pairs) k ≡ true
@@ -44,7 +50,11 @@ pub JoinsBelow-all : (n : ℕ) (pairs : List Pair) (set : List Bool) → JoinsBe
 JoinsBelow-all n pairs set joins = record {
   size = length-replicate (length pairs) true;
   chains = λ i below. Leads-hops_more pairs set (all_of pairs)
-      (λ k inside. all_of-has pairs k (omega (arith, slice_get_within set k true (slice_get-has set k inside), joins.size)))
+      (λ k inside. all_of-has pairs k (omega (
+        arith,
+        slice_get_within set k true (slice_get-has set k inside),
+        joins.size,
+      )))
       0 i (joins.chains i below);
 }
 
@@ -57,13 +67,15 @@ slice_get-edges pairs k pair at = slice_get-map edge_of pairs k ∙ ap (option_m
 pub total_of-add : (pairs : List Pair) (set : List Bool) (k : ℕ) (pair : Pair) →
     slice_get set k ≡ Some false →
     slice_get pairs k ≡ Some pair → total_of pairs (slice_set set k true) ≡ total_of pairs set + pair.length
-total_of-add pairs set k pair outside at = length_of_edges-add (map edge_of pairs) set k (edge_of pair) outside (slice_get-edges pairs k pair at)
+total_of-add pairs set k pair outside at =
+    length_of_edges-add (map edge_of pairs) set k (edge_of pair) outside (slice_get-edges pairs k pair at)
 
 -- a pair that is taken out takes its length with it
 pub total_of-remove : (pairs : List Pair) (set : List Bool) (k : ℕ) (pair : Pair) →
     slice_get set k ≡ Some true →
     slice_get pairs k ≡ Some pair → total_of pairs (slice_set set k false) + pair.length ≡ total_of pairs set
-total_of-remove pairs set k pair inside at = length_of_edges-remove (map edge_of pairs) set k (edge_of pair) inside (slice_get-edges pairs k pair at)
+total_of-remove pairs set k pair inside at =
+    length_of_edges-remove (map edge_of pairs) set k (edge_of pair) inside (slice_get-edges pairs k pair at)
 
 -- a set within another has no greater sum
 pub total_of-within : (pairs : List Pair) (small large : List Bool) → IsSubset small large →

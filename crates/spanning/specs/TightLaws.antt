@@ -21,7 +21,12 @@ joined_below ps (suc m) i j b is below =
           let some : (c : ℕ) × IsBottleneck ps u w c = some_bottleneck ps u w hop.from hop.to in
           elim (cases_eq some.0 (distance_of ps u w)) [
             | inl tight ↦ Leads-more (IsTight ps) u u w (Leads-start (IsTight ps) u)
-                record { from = hop.from; to = hop.to; apart = apart; bottleneck = subst (λ c. IsBottleneck ps u w c) tight some.1 }
+                record {
+                  from = hop.from;
+                  to = hop.to;
+                  apart = apart;
+                  bottleneck = subst (λ c. IsBottleneck ps u w c) tight some.1;
+                }
             | inr wide ↦
                 let direct : some.0 ≤ distance_of ps u w = IsBottleneck-direct ps u w some.0 hop.from hop.to some.1 in
                 joined_below ps m u w some.0 some.1 (omega (arith, direct, hop.short, below, wide))

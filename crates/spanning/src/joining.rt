@@ -1,6 +1,7 @@
 //! The shortest set of pairs that joins numbers.
 
-ghost use Rattle.std.specs.Prelude.{◌≡◌, ◌<◌, ◌≤◌, ◌^◌, ℕ, Bool, true, length, All, IfOk, IfSome, IfNone, OnSome, IsTrue, ◌↔◌};
+ghost use Rattle.std.specs.Prelude.{◌≡◌, ◌<◌, ◌≤◌, ◌^◌, ℕ, Bool, true, length, All, IfOk, IfSome, IfNone, OnSome};
+ghost use Rattle.std.specs.Prelude.{IsTrue, ◌↔◌};
 ghost use Rattle.net_graph.specs.Flags.{has};
 ghost use Rattle.net_graph.specs.Members.{members_of};
 ghost use Rattle.spanning.specs.Joining.{JoinsBelow, IsLeastJoining, all_of, total_of};

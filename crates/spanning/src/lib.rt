@@ -11,4 +11,3 @@ pub use joining::{Joined, least_joining};
 pub use laws::{bottlenecks_are_distances, tight_pairs_join};
 pub use pair::{Pair, PlaceList};
 pub use table::{Table, bottlenecks};
-

@@ -1,6 +1,8 @@
 //! The part that a least joining grows in.
 
-ghost use Rattle.std.specs.Prelude.{◌≡◌, ◌≢◌, ◌⊎◌, ◌<◌, ◌≤◌, ◌+◌, ℕ, Bool, true, false, not, length, replicate, All, IfOk, IfSome, IfNone, IsTrue, ◌↔◌, MatchOption, Some, slice_get, slice_index_or, count_by};
+ghost use Rattle.std.specs.Prelude.{◌≡◌, ◌≢◌, ◌⊎◌, ◌<◌, ◌≤◌, ◌+◌, ℕ, Bool, true, false, not, length, replicate, All};
+ghost use Rattle.std.specs.Prelude.{IfOk, IfSome, IfNone, IsTrue, ◌↔◌, MatchOption, Some, slice_get, slice_index_or};
+ghost use Rattle.std.specs.Prelude.{count_by};
 ghost use Rattle.net_graph.specs.Flags.{has};
 ghost use Rattle.spanning.specs.declared.pair.Pair.{Pair};
 ghost use Rattle.spanning.specs.Leaving.{HasNumbersBelow, leaves, NoneLeaves, IsShortestLeaving};
