@@ -49,7 +49,8 @@ pub fn tree_length(grid: &Grid, code: &TreeCode) -> u64
     ensures within { result ≤ total_of (hanan_grid_of grid.now) }
     ensures fits { result < 2 ^ 63 }
 {
-    let _total = grid.graph().total();
+    // No piece is longer than the grid's edges together, so that no sum wraps.
+    prove!(grid.graph().total() < 1 << 63);
     let mut length = 0;
     for n in 0..piece_count(grid, code) {
         length += piece_length(piece(grid, code, n));
