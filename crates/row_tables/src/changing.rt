@@ -6,8 +6,8 @@ use crate::section::Section;
 use crate::text::Text;
 use std::alloc::Global;
 
-/// Changes a text as a section says: other lines in place of one, a line feed more or less at its end, or the text several
-/// times.
+/// Changes a text as a section says: other lines in place of one, a line feed more or less at its end, or the text
+/// several times.
 pub fn change(alloc: Global, text: &mut Text, section: Section<'_>) -> Result<(), Fault> {
     match section.key {
         "line" => {
@@ -15,11 +15,12 @@ pub fn change(alloc: Global, text: &mut Text, section: Section<'_>) -> Result<()
         }
         "times" => text.times = count(section.argument)?,
         "line_feed" => text.bytes.push(b'\n')?,
-        _ => {
+        "no_line_feed" => {
             if text.bytes.pop() != Some(b'\n') {
                 return Err(Fault::NoSuchLine);
             }
         }
+        _ => return Err(Fault::UnknownMarker),
     }
     Ok(())
 }
