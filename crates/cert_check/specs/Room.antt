@@ -6,8 +6,8 @@ use Rattle.net_graph.specs.declared.state.EdgeState.TheVariants.{Undecided, Insi
 use Rattle.cert_check.specs.declared.turn.Turn.{Turn}
 use Rattle.cert_check.specs.Listed.{IsList}
 
--- what stands in a room for a graph with so many vertices: the load of each edge's arc from its end a to its end b, that
--- of the arc back, the state of each edge, and the way of splits to a node, the lowest of them first
+-- what stands in a room for a graph with so many vertices: the load of each edge's arc from its end a to its end b,
+-- that of the arc back, the state of each edge, and the way of splits to a node, the lowest of them first
 pub record Kept : Type 0 where
   pub there : List ℕ
   pub back : List ℕ

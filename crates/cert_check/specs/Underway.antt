@@ -18,7 +18,8 @@ IsReading V reader = ∥ ((bytes : List ℕ) × (events : List AnswerEvent) × R
 
 -- the judge was made for the terminals' grid; no more bytes were read than were fed; and as long as no line was wrong
 -- the reader stands for some bytes
-pub record IsUnderway (ps : List Point) (reader : EventReader) (judge : Judge) (fault : Option Cause) (count : ℕ) : Type 0 where
+pub record IsUnderway (ps : List Point) (reader : EventReader) (judge : Judge) (fault : Option Cause) (count : ℕ)
+    : Type 0 where
   pub sizes : IsJudgeOn ps judge
   pub few : bytes_fed reader ≤ count
   pub reads : IfNone fault (IsReading (hanan_grid_of ps).vertices reader)

@@ -20,7 +20,8 @@ use Rattle.cert_check.specs.Underway.{IsUnderway}
 IsWay-prop : (top : Decided) (path : List Turn) → IsProp (IsWay top path)
 IsWay-prop top [] = Unit-prop
 IsWay-prop top (t ∷ above) =
-    let here : IsProp (slice_get (decision_along top above).edges t.edge ≡ Some Undecided) = hlevel (codes, Coded-set) in
+    let here : IsProp (slice_get (decision_along top above).edges t.edge ≡ Some Undecided) =
+    hlevel (codes, Coded-set) in
     ×_prop here (IsWay-prop top above)
 
 HasRows-prop : (g : Graph) (kept : Kept) → IsProp (HasRows g kept)
@@ -36,5 +37,6 @@ IfNone-prop : {X P : Type 0} (x : Option X) → IsProp P → IsProp (IfNone x P)
 IfNone-prop None is = is
 IfNone-prop (Some x) is = Unit-prop
 
-pub IsUnderway-prop : (ps : List Point) (reader : EventReader) (judge : Judge) (fault : Option Cause) (count : ℕ) → IsProp (IsUnderway ps reader judge fault count)
+pub IsUnderway-prop : (ps : List Point) (reader : EventReader) (judge : Judge) (fault : Option Cause) (count : ℕ) →
+    IsProp (IsUnderway ps reader judge fault count)
 IsUnderway-prop ps reader judge fault count = hlevel (le_prop, IsJudgeOn-prop, IfNone-prop, ∥∥₁_prop)

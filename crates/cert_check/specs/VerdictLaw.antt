@@ -6,4 +6,5 @@ use Rattle.cert_check.specs.Verdicts.{IsVerdict}
 
 -- terminals and bytes have one verdict at most, and one set of edges that came before it
 abbrev pub OneVerdict : Type 0
-OneVerdict = (ps : List Point) (bytes : List ℕ) (f f' : Finished) → IsVerdict ps bytes f → IsVerdict ps bytes f' → f ≡ f'
+OneVerdict =
+    (ps : List Point) (bytes : List ℕ) (f f' : Finished) → IsVerdict ps bytes f → IsVerdict ps bytes f' → f ≡ f'

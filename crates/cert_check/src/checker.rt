@@ -1,6 +1,7 @@
 //! The checker of an answer that is fed in pieces.
 
-ghost use Rattle.std.specs.Prelude.{◌≡◌, ◌*◌, ◌+◌, ◌-◌, ◌^◌, ◌<◌, ◌≤◌, ◌↔◌, ◌⊎◌, ℕ, IsTrue, IsSome, None, List, [], ◌∷◌, ◌++◌, Bool, false, length, replicate, take};
+ghost use Rattle.std.specs.Prelude.{ℕ, ◌≡◌, ◌+◌, ◌-◌, ◌*◌, ◌^◌, ◌<◌, ◌≤◌, ◌↔◌, ◌⊎◌, Bool, false, IsTrue, List, [], ◌∷◌};
+ghost use Rattle.std.specs.Prelude.{◌++◌, length, replicate, take, IsSome, None};
 ghost use Rattle.points_in.specs.declared.point.Point.{Point};
 ghost use Rattle.net_graph.specs.Network.{IsLowerBound};
 ghost use Rattle.hanan_grid.specs.Grid.{hanan_grid_of};
@@ -39,8 +40,8 @@ impl<'a> Checker<'a> {
     ghost use Rattle.cert_check.specs.Checking.{StandsForBytes};
 
     /// A checker that was fed no byte. The room that it is handed: an empty set of the grid's E edges for the network,
-    /// an empty set of its V vertices for the cut that is read, and a row of 3 E + 3 V + 512 numbers, whatever they are.
-    /// A `Workroom` has these.
+    /// an empty set of its V vertices for the cut that is read, and a row of 3 E + 3 V + 512 numbers, whatever they
+    /// are. A `Workroom` has these.
     pub fn begin(grid: &'a Grid, network: EdgeSet, members: VertexSet, work: Row) -> Checker<'a>
         requires network { network ≡ replicate (length (hanan_grid_of grid.now).edges) false }
         requires members { members ≡ replicate (hanan_grid_of grid.now).vertices false }

@@ -3,7 +3,6 @@
 ghost use Rattle.std.specs.Prelude.{◌≡◌, ◌+◌, ◌*◌, List, [], Bool, Option, Some, IfSome, IfNone, false, length, replicate};
 ghost use Rattle.points_in.specs.declared.point.Point.{Point};
 ghost use Rattle.hanan_grid.specs.Grid.{hanan_grid_of};
-ghost use Rattle.cut_cert.specs.Events.{no_head};
 ghost use Rattle.cert_check.specs.Lines.Behind.{Ended};
 ghost use Rattle.cert_check.specs.Judged.{SoFar, Passes, Fails, Judges, IsNetworkRight, IsNetworkWrong, nothing_told, with_cuts_due};
 ghost use Rattle.cert_check.specs.Standing.{StandsFor, IsJudgeOn};
@@ -16,7 +15,7 @@ use crate::network::network_fault;
 use crate::room::Room;
 use crate::verdict::{Cause, Finished, Verdict};
 use crate::way::{go_on, go_outside, length_inside};
-use cut_cert::{AnswerHead, ConcatNote, Event, Row};
+use cut_cert::{AnswerHead, Event, Row};
 use hanan_grid::{EdgeName, Grid};
 use net_graph::{EdgeSet, VertexSet};
 
@@ -54,7 +53,7 @@ impl Judge {
     {
         let g = grid.graph();
         Judge {
-            head: empty_head(),
+            head: AnswerHead::default(),
             edges_due: 0,
             edges: EdgesRead::begin(network),
             splits: 0,
@@ -231,21 +230,5 @@ impl Judge {
             verdict: end_verdict(&self.head, found),
             network: self.edges.into_network(),
         }
-    }
-}
-
-// A head of which nothing was told.
-fn empty_head() -> AnswerHead
-    ensures { result ≡ no_head }
-{
-    AnswerHead {
-        length: 0,
-        bound: 0,
-        optimal: false,
-        openings: 0,
-        concat: ConcatNote {
-            least: false,
-            total: 0,
-        },
     }
 }

@@ -15,7 +15,8 @@ use Rattle.cut_cert.specs.Spelling.{FitsName, FitsCut}
 
 -- the four words of a name
 abbrev pub name_words : EdgeName → List ℕ
-name_words e = signed_decimal e.x1 ++ codes " " ++ signed_decimal e.y1 ++ codes " " ++ signed_decimal e.x2 ++ codes " " ++ signed_decimal e.y2
+name_words e = signed_decimal e.x1 ++ codes " " ++ signed_decimal e.y1 ++ codes " " ++ signed_decimal e.x2 ++ codes " "
+    ++ signed_decimal e.y2
 
 -- the bytes of a line
 abbrev pub line_bytes : Line → List ℕ
@@ -63,7 +64,8 @@ tree_lines (Split e outside inside) = line.Split e ∷ (tree_lines outside ++ tr
 
 -- the lines of a head, and of what follows it
 abbrev pub head_lines : AnswerHead → List Line
-head_lines h = line.Title ∷ line.Length h.length ∷ line.Bound h.bound ∷ line.Status h.optimal ∷ line.Openings h.openings ∷ line.Concat h.concat ∷ []
+head_lines h = line.Title ∷ line.Length h.length ∷ line.Bound h.bound ∷ line.Status h.optimal
+    ∷ line.Openings h.openings ∷ line.Concat h.concat ∷ []
 
 abbrev pub body_lines : WrittenAnswer → List Line
 body_lines a = line.Count (length a.edges) ∷ (map line.Edge a.edges ++ line.Tree ∷ (tree_lines a.tree ++ line.End ∷ []))

@@ -9,7 +9,8 @@ use Rattle.cut_cert.specs.Lines.{lines_text, FitsLine, run}
 use Rattle.cut_cert.specs.Events.{events_from, no_head, head_from}
 
 -- the lines that were read, and what is kept of them
-pub record ReadSoFar (V : ℕ) (bytes rest : List ℕ) (s : Stage) (head : AnswerHead) (number : ℕ) (events : List AnswerEvent) : Type 0 where
+pub record ReadSoFar (V : ℕ) (bytes rest : List ℕ) (s : Stage) (head : AnswerHead) (number : ℕ)
+    (events : List AnswerEvent) : Type 0 where
   pub lines : List Line
   pub fits : All (FitsLine V) lines
   pub due : run stage.Title lines ≡ Some s

@@ -33,4 +33,5 @@ pub record StopsAt (V : ℕ) (bytes : List ℕ) (n : ℕ) (events : List AnswerE
   pub begins : BeginsAnswer V front
   pub last : (longer rest : List ℕ) → bytes ≡ longer ++ rest → BeginsAnswer V longer → line_feeds longer < n
   pub unspelled : (answer : WrittenAnswer) → SpellsAnswer V bytes answer → ⊥
-  pub told : (rest : List ℕ) (answer : WrittenAnswer) → SpellsAnswer V (front ++ rest) answer → events ≡ take (n - 6) (events_of answer)
+  pub told : (rest : List ℕ) (answer : WrittenAnswer) → SpellsAnswer V (front ++ rest) answer →
+      events ≡ take (n - 6) (events_of answer)

@@ -270,7 +270,8 @@ pub record IsRun (k : Kept) (s : Scan) (bytes : List ℕ) (k' : Kept) (s' : Scan
   pub size : length k'.members ≡ length k.members
 
 -- The end of a line makes this line of what was read, and its event is the one that is told.
-pub record Closes (k : Kept) (s : Scan) (h : AnswerHead) (k' : Kept) (h' : AnswerHead) (told : Option Event) : Type 0 where
+pub record Closes (k : Kept) (s : Scan) (h : AnswerHead) (k' : Kept) (h' : AnswerHead) (told : Option Event)
+    : Type 0 where
   pub line : Line
   pub left : Left k s [] line
   pub stage : (s' : Stage) → step k.stage line ≡ Some s' → k'.stage ≡ s'

@@ -34,7 +34,8 @@ cut_line c = codes "cut " ++ decimal c.weight ++ codes " " ++ set_text c.members
 
 -- an edge by its ends, and the end of the line
 abbrev pub edge_line : EdgeName → List ℕ
-edge_line e = signed_decimal e.x1 ++ codes " " ++ signed_decimal e.y1 ++ codes " " ++ signed_decimal e.x2 ++ codes " " ++ signed_decimal e.y2 ++ codes "\n"
+edge_line e = signed_decimal e.x1 ++ codes " " ++ signed_decimal e.y1 ++ codes " " ++ signed_decimal e.x2 ++ codes " "
+    ++ signed_decimal e.y2 ++ codes "\n"
 
 -- the lines of cuts
 abbrev pub cut_lines : List Cut → List ℕ
@@ -62,11 +63,13 @@ concat_word least = if least then codes "least" else codes "spent"
 
 -- the first four lines
 abbrev pub result_text : AnswerHead → List ℕ
-result_text h = codes "rst answer 1\nlength " ++ decimal h.length ++ codes "\nbound " ++ decimal h.bound ++ codes "\nstatus " ++ status_word h.optimal ++ codes "\n"
+result_text h = codes "rst answer 1\nlength " ++ decimal h.length ++ codes "\nbound " ++ decimal h.bound
+    ++ codes "\nstatus " ++ status_word h.optimal ++ codes "\n"
 
 -- the next two
 abbrev pub search_text : AnswerHead → List ℕ
-search_text h = codes "openings " ++ decimal h.openings ++ codes "\nconcat " ++ concat_word h.concat.least ++ codes " " ++ decimal h.concat.total ++ codes "\n"
+search_text h = codes "openings " ++ decimal h.openings ++ codes "\nconcat " ++ concat_word h.concat.least ++ codes " "
+    ++ decimal h.concat.total ++ codes "\n"
 
 -- the first six lines
 abbrev pub head_text : AnswerHead → List ℕ

@@ -21,8 +21,11 @@ use text_out::{Block, finish, literal, number};
 /// An answer on a grid.
 #[derive(Debug, Drop)]
 pub struct Answer {
+    /// What it says of itself.
     pub head: AnswerHead,
+    /// The edges of its network.
     pub network: EdgeSet,
+    /// The cuts that bound every network from below.
     pub tree: CertTree,
 }
 

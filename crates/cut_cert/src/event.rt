@@ -28,7 +28,9 @@ pub enum Event {
 /// An event, with the number of the line that ends it, counted from 1, and the members of a cut.
 #[derive(Debug, Drop)]
 pub struct AnswerEvent {
+    /// The line, counted from 1.
     pub line: u64,
+    /// What it tells.
     pub event: Event,
     /// The members of the cut where the event is one, and None else.
     pub members: Option<VertexSet>,

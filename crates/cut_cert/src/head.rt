@@ -1,8 +1,5 @@
 //! What the first lines of an answer tell.
 
-ghost use Rattle.std.specs.Prelude.{◌≡◌};
-ghost use Rattle.cut_cert.specs.Events.{no_head};
-
 /// What is told of the concatenation: the full Steiner trees that were chosen to join all terminals together.
 #[derive(Clone, Copy, Debug, PartialEq, Eq)]
 pub struct ConcatNote {
@@ -27,18 +24,23 @@ pub struct AnswerHead {
     pub concat: ConcatNote,
 }
 
-// A head of which nothing was told.
-pub(crate) fn empty_head() -> AnswerHead
-    ensures { result ≡ no_head }
-{
-    AnswerHead {
-        length: 0,
-        bound: 0,
-        optimal: false,
-        openings: 0,
-        concat: ConcatNote {
-            least: false,
-            total: 0,
-        },
+impl Default for AnswerHead {
+    ghost use Rattle.std.specs.Prelude.{◌≡◌};
+    ghost use Rattle.cut_cert.specs.Events.{no_head};
+
+    ghost is_default = { λ head. head ≡ no_head };
+
+    /// A head of which nothing was told.
+    fn default() -> AnswerHead {
+        AnswerHead {
+            length: 0,
+            bound: 0,
+            optimal: false,
+            openings: 0,
+            concat: ConcatNote {
+                least: false,
+                total: 0,
+            },
+        }
     }
 }

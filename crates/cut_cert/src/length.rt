@@ -11,7 +11,7 @@ ghost use Rattle.cut_cert.specs.Answers.{IsAnswerOn, IsNodeOn, IsPackingOn, name
 
 use crate::answer::{Answer, count_of, split_name};
 use crate::head::AnswerHead;
-use crate::write::{kind_of, status_of};
+use crate::write::{kind_of, status_word};
 use cert_tree::CertTree;
 use hanan_grid::{EdgeName, Grid};
 use itoa::Buffer;
@@ -106,7 +106,7 @@ fn head_len(head: &AnswerHead) -> u64
         + number_len(u128::from(head.bound))
         + number_len(u128::from(head.openings))
         + number_len(head.concat.total);
-    let words = status_of(head.optimal).len() as u64 + kind_of(head.concat.least).len() as u64;
+    let words = status_word(head.optimal).len() as u64 + kind_of(head.concat.least).len() as u64;
     55 + numbers + words
 }
 

@@ -19,3 +19,4 @@ pub use length::answer_len;
 pub use reader::{EventReader, Spelling};
 pub use reading::{one_reading, reads_beginnings};
 pub use row::Row;
+pub use write::status_word;

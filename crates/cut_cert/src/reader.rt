@@ -4,7 +4,7 @@ ghost use Rattle.std.specs.Prelude.{◌≤◌, ◌+◌};
 ghost use Rattle.cut_cert.specs.Lines.{nodes_due};
 
 use crate::event::Event;
-use crate::head::{AnswerHead, empty_head};
+use crate::head::AnswerHead;
 use crate::line::Stage;
 use crate::scan::byte::scan_byte;
 use crate::scan::close::{close_line, first_scan};
@@ -32,7 +32,8 @@ pub struct EventReader {
 }
 
 impl EventReader {
-    ghost use Rattle.std.specs.Prelude.{◌≡◌, ℕ, ◌+◌, ◌-◌, ◌<◌, ◌^◌, ◌≢◌, ◌∷◌, ◌++◌, [], List, length, take, replicate, false, ◌≤◌, MatchBool, Err, IfOk, IfErr, None, IfSome, IfNone};
+    ghost use Rattle.std.specs.Prelude.{ℕ, ◌≡◌, ◌≢◌, ◌+◌, ◌-◌, ◌<◌, ◌≤◌, ◌^◌, false, List, [], ◌∷◌, ◌++◌, length};
+    ghost use Rattle.std.specs.Prelude.{take, replicate, MatchBool, Err, IfOk, IfErr, None, IfSome, IfNone};
     ghost use Rattle.cut_cert.specs.declared.event.AnswerEvent.{AnswerEvent};
     ghost use Rattle.cut_cert.specs.Reading.{IsReadWhole, StopsAt, line_feeds};
     ghost use Rattle.cut_cert.specs.Given.{given};
@@ -59,7 +60,7 @@ impl EventReader {
                 members,
             },
             scan: Scan::Word(Word::Title, 0),
-            head: empty_head(),
+            head: AnswerHead::default(),
             line: 1,
             fed: 0,
         }
@@ -154,13 +155,6 @@ impl EventReader {
         &self.kept.members
     }
 
-    /// The reader's set, whatever it holds.
-    pub fn into_members(self) -> VertexSet
-        ensures { result ≡ set_read self }
-    {
-        self.kept.members
-    }
-
     /// The line of the next byte, counted from 1.
     pub fn line(&self) -> u64
         ensures line { result ≡ line_due self.now }
@@ -170,7 +164,7 @@ impl EventReader {
         self.line
     }
 
-    /// How many bytes were fed.
+    /// How many bytes were fed. No tool asks for it.
     pub fn fed(&self) -> u64
         ensures fed { result ≡ bytes_fed self.now }
         ensures length { (V : ℕ) (bytes : List ℕ) (events : List AnswerEvent) → Reads V bytes events self.now →

@@ -24,7 +24,7 @@ impl Model for Row {
 }
 
 impl Row {
-    /// A row of so many zeros. An error comes where memory is short.
+    /// A row of so many zeros. An `Err` is want of memory.
     pub fn zeros(alloc: Global, len: u32) -> Result<Row, AllocError>
         ensures { IfOk result (λ row. row ≡ replicate len 0) }
     {
@@ -32,7 +32,7 @@ impl Row {
         Ok(Row { numbers })
     }
 
-    /// How many numbers there are.
+    /// How many numbers there are. No tool asks for it.
     pub fn len(&self) -> u32
         ensures { result ≡ length self.now }
     {

@@ -36,7 +36,7 @@ fn write_result<S: Sink>(block: &mut Block, sink: &mut S, head: &AnswerHead)
     literal(block, sink, b"\nbound ");
     number(block, sink, head.bound);
     literal(block, sink, b"\nstatus ");
-    literal(block, sink, status_of(head.optimal));
+    literal(block, sink, status_word(head.optimal));
     literal(block, sink, b"\n");
 }
 
@@ -56,8 +56,8 @@ fn write_search<S: Sink>(block: &mut Block, sink: &mut S, head: &AnswerHead)
     literal(block, sink, b"\n");
 }
 
-// The word of a status.
-pub(crate) fn status_of(optimal: bool) -> &'static [u8]
+/// The word of an answer's status: `optimal` where bound and length agree, else `stopped`.
+pub fn status_word(optimal: bool) -> &'static [u8]
     ensures { result.now ≡ status_word optimal }
 {
     if optimal { b"optimal" } else { b"stopped" }

@@ -9,6 +9,5 @@ pub mod FlagWords
 pub mod FlagFours
 pub mod LengthLemmas
 pub mod DecisionLemmas
-pub mod PackingLemmas
 pub mod RootedLemmas
 pub mod FeasibleLemmas

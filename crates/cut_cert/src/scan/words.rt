@@ -11,7 +11,8 @@ use crate::scan::{Closed, Corner, Field, Scan, Word};
 pub(crate) fn word_byte(word: Word, place: u8, byte: u8) -> Option<Scan>
     ensures leads { IfSome result (λ next. (k : Kept) → LeadsTo k (scan.Word word place) byte k next) }
     ensures sound { IfSome result (λ next. (k : Kept) → IsUnderway k next) }
-    ensures dead { IfNone result (place < length (word_bytes word) → (k : Kept) → IsDead k (scan.Word word place) byte) }
+    ensures dead { IfNone result (place < length (word_bytes word)
+        → (k : Kept) → IsDead k (scan.Word word place) byte) }
 {
     let bytes = bytes_of(word);
     let at = place as usize;

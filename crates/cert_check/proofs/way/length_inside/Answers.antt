@@ -3,7 +3,7 @@ use Rattle.std.proofs.lemmas.Bool.{iff_false}
 use Rattle.std.proofs.lemmas.Option.{get_or_from_slice_get}
 use Rattle.net_graph.specs.declared.edge.Edge.{Edge}
 use Rattle.net_graph.specs.declared.state.EdgeState.TheVariants.{Inside}
-use Rattle.cert_check.proofs.lemmas.Values.{inside_length_yes, inside_length_no, inside_length_yes-le-sum}
+use Rattle.net_graph.specs.PackingLaws.{inside_length_yes, inside_length_no, inside_length_yes-le-sum}
 use Rattle.cert_check.proofs.way.length_inside.Goals as goal
 use Rattle.cert_check.proofs.way.length_inside.Goals.{then-is_inside, else-is_inside}
 

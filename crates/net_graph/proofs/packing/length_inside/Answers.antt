@@ -2,7 +2,7 @@ use Rattle.std.proofs.Common.{◌≡◌, ◌<◌, length, slice_get, Some, arith
 use Rattle.std.proofs.lemmas.Bool.{iff_false}
 use Rattle.net_graph.specs.declared.edge.Edge.{Edge}
 use Rattle.net_graph.specs.declared.state.EdgeState.TheVariants.{Inside}
-use Rattle.net_graph.proofs.PackingLemmas.{inside_length_yes, inside_length_no, inside_length_yes-le-sum}
+use Rattle.net_graph.specs.PackingLaws.{inside_length_yes, inside_length_no, inside_length_yes-le-sum}
 use Rattle.net_graph.proofs.packing.length_inside.Goals as goal
 use Rattle.net_graph.proofs.packing.length_inside.Goals.{then-is_inside, else-is_inside}
 
