@@ -1,5 +1,5 @@
-//! Makes the calls that its tables describe, and prints a line a row: `ok`, or what differs. It ends with status 1 where a
-//! row differs or a table has a fault. How a table is written: docs/ROWS.md.
+//! Makes the calls that its tables describe, and prints a line a row: `ok`, or what differs. It ends with status 1
+//! where a row differs or a table has a fault. How a table is written: docs/ROWS.md.
 #![tactic(auto)]
 
 mod session;

@@ -4,8 +4,8 @@ use row_tables::{Asked, Call, CallReader, Fault, TableFault, first_difference, s
 use std::alloc::Global;
 use std::str::from_utf8;
 
-/// Makes the calls of a table, adds a line a row to the report, `ok` or what differs, and tells whether nothing does. The
-/// first fault of the table, or of a call, ends the run; the rows before it are in the report.
+/// Makes the calls of a table, adds a line a row to the report, `ok` or what differs, and tells whether nothing does.
+/// The first fault of the table, or of a call, ends the run; the rows before it are in the report.
 pub fn make_calls(
     alloc: Global,
     reader: &mut CallReader,
