@@ -7,7 +7,6 @@ ghost use Rattle.net_graph.specs.Flags.{has};
 ghost use Rattle.net_graph.specs.Graph.{HasEndsBelow};
 ghost use Rattle.net_graph.specs.Decision.{Decided, EndsInside, decided_of};
 ghost use Rattle.net_graph.specs.Packing.{IsCut, room_of};
-ghost use Rattle.net_graph.specs.Packing as packing;
 ghost use Rattle.cert_check.specs.Cuts.{PacksCut, CutFault, cut_of};
 ghost use Rattle.cert_check.specs.Loads.{HasRows, IsLeafOf, IsOverload, KeepsDecision, KeepsLoads, LoadsBelow, LoadsOnly, SameWay};
 ghost use Rattle.cert_check.specs.Strips.{IsLaidOut, IsStrip};
@@ -16,7 +15,7 @@ ghost use Rattle.cert_check.specs.Ways.{StandsOnWay};
 use crate::border::{Layout, Strip, parted_in, strip_at};
 use crate::room::Room;
 use crate::verdict::Cause;
-use net_graph::{Edge, EdgeState, NetGraph, VertexSet};
+use net_graph::{Edge, EdgeState, NetGraph, VertexSet, enters, holds_terminal};
 
 /// A load that is above its room.
 #[derive(Clone, Copy, Debug, PartialEq, Eq)]
@@ -189,15 +188,6 @@ fn with_weight(load: u64, weight: u64, room: u64) -> Result<u64, Excess>
     Ok(sum as u64)
 }
 
-// Whether the arc from `u` to `v` enters the set.
-fn enters(members: &VertexSet, u: u32, v: u32) -> bool
-    requires from { u < length members.now }
-    requires to { v < length members.now }
-    ensures { result ≡ packing.enters members.now u v }
-{
-    members.has(v) && !members.has(u)
-}
-
 // Why the set is no cut, if it is none.
 fn set_fault(room: &Room, g: &NetGraph, line: u64, members: &VertexSet) -> Option<Cause>
     requires on_way { StandsOnWay g.now room.now }
@@ -223,14 +213,6 @@ fn holds_required(room: &Room, g: &NetGraph, members: &VertexSet) -> bool
         ⊎ EndsInside g.now (decided_of room.now.states []) v) × (has members.now v ≡ true)) }
 {
     holds_terminal(g, members) || holds_inside_end(room, g, members)
-}
-
-// Whether the set holds a terminal.
-fn holds_terminal(g: &NetGraph, members: &VertexSet) -> bool
-    requires { length members.now ≡ g.now.vertices }
-    ensures { IsTrue result ↔ ((v : ℕ) × Contains g.now.terminals v × (has members.now v ≡ true)) }
-{
-    g.terminals().iter().any(|v| members.has(*v))
 }
 
 // Whether the set holds an end of an inside edge. Each inside edge has its split on the way.

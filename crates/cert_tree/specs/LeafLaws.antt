@@ -127,19 +127,6 @@ IsLeafAt-found d t k below = (
   },
 )
 
--- a place with a packing has a leaf with it
-pub IsLeafAt-from_packing : (d : Decided) (t : Tree SplitOn) (k : ℕ) (cuts : List Cut) →
-    slice_get (packings_of t) k ≡ Some cuts →
-    (dk : Decided) × IsLeafAt d t k dk cuts
-IsLeafAt-from_packing d t k cuts at =
-    let within : k < length (packings_of t) = slice_get_within (packings_of t) k cuts at in (
-      _,
-      record {
-        decision = slice_get-get_or (decisions_of d t) k d (omega (arith, length-decisions_of d t));
-        packing = at;
-      },
-    )
-
 -- a leaf's place is below the number of leaves
 pub IsLeafAt-below : (d : Decided) (t : Tree SplitOn) (k : ℕ) (dk : Decided) (cuts : List Cut) →
     IsLeafAt d t k dk cuts → k < length (packings_of t)

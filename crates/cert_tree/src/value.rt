@@ -13,10 +13,11 @@ ghost use Rattle.cert_tree.specs.Way.{IsTurnIn, inside_part, inside_parts, way_t
 use crate::split::SplitOn;
 use crate::tree::CertTree;
 use crate::way::{Turn, turn_at};
-use net_graph::{Cut, NetGraph};
+use net_graph::{NetGraph, total_weight};
 
 impl CertTree {
-    /// The value of the tree where nothing is decided at its top: the least value of its leaves.
+    /// The value of the tree where nothing is decided at its top: the least value of its leaves. No tool asks for it:
+    /// a tool has the bound that a search or the checker tells.
     pub fn value(&self, g: &NetGraph) -> u128
         requires { HasUndecidedSplits g.now (nothing_decided g.now) self.now }
         ensures { result ≡ tree_value g.now (nothing_decided g.now) self.now }
@@ -71,16 +72,4 @@ fn inside_part(g: &NetGraph, turn: Turn) -> u64
         } => g.edge(e).length,
         _ => 0,
     }
-}
-
-// The sum of the weights.
-fn total_weight(cuts: &[Cut]) -> u128
-    ensures sum { result ≡ sum_by (λ c. c.weight) cuts.now }
-    ensures small { result < 2 ^ 127 }
-{
-    let mut sum = 0;
-    for cut in cuts {
-        sum += u128::from(cut.weight);
-    }
-    sum
 }

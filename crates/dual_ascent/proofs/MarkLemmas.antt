@@ -1,12 +1,11 @@
 -- The marks of a set's members in a word: which vertices lie before the next mark and behind the last one.
-use Rattle.std.proofs.Common.{ℕ, ◌≡◌, ◌+◌, ◌-◌, ◌*◌, ◌/◌, ◌%◌, ◌^◌, ◌<◌, ◌≤◌, Bool, true, false, eqb, List, length, ap, sym, subst, ◌∙◌, ⊎_elim, arith, w64}
+use Rattle.std.proofs.Common.{ℕ, ◌≡◌, ◌+◌, ◌-◌, ◌/◌, ◌^◌, ◌<◌, ◌≤◌, Bool, true, false, eqb, List, length, ap, sym, subst, ◌∙◌, ⊎_elim, arith, w64}
 use Rattle.std.specs.Int.{bit_at, trailing_zeros}
-use Rattle.std.proofs.Math.Nat.{div-div-eq-div-mul}
-use Rattle.std.proofs.lemmas.Nat.{pow-add, pow_pos, div_below}
-use Rattle.std.proofs.lemmas.Nat.Bits.{bit_at-zero, bit_at_above, bit_at-trailing_zeros}
+use Rattle.std.proofs.lemmas.Nat.Bits.{bit_at-zero, bit_at-trailing_zeros}
 use Rattle.std.proofs.lemmas.Bool.{cases_lt}
 use Rattle.std.proofs.lemmas.List.{get_or_past}
 use Rattle.net_graph.specs.Flags.{has}
+use Rattle.net_graph.specs.MarkLaws.{next_mark-below, marks_behind-below, bit_at-behind}
 
 -- the bits of the marks are the flags of the vertices from v on, up to an end; what they say past the size tells nothing
 pub record MarksMembers (members : List Bool) (marks v end : ℕ) : Type 0 where
@@ -25,23 +24,12 @@ unmarked members marks v end u is from below none =
     (λ past. get_or_past members u false past)
     (cases_lt u (length members))
 
--- the bits of a word moved down
-bit_at-shr : (n k i : ℕ) → bit_at (n / 2 ^ k) i ≡ bit_at n (k + i)
-bit_at-shr n k i = ap (λ m. m % 2) (div-div-eq-div-mul n (2 ^ k) (2 ^ i) ∙ ap (λ m. n / m) (sym (pow-add 2 k i)))
-
 -- ---- the next mark
 
 -- it is below the end
 pub mark_within : (members : List Bool) (marks v end : ℕ) → MarksMembers members marks v end → 0 < marks → marks < 2 ^ 64 →
     v + trailing_zeros w64 marks < end
-mark_within members marks v end is some fits =
-    let lowest = bit_at-trailing_zeros w64 marks some fits in
-    ⊎_elim
-    (λ (below : v + trailing_zeros w64 marks < end). below)
-    (λ (above : end ≤ v + trailing_zeros w64 marks).
-    let none = bit_at_above marks (end - v) (trailing_zeros w64 marks) is.below (omega (arith, is.within)) in
-    absurd (omega (arith, none, lowest.1)))
-    (cases_lt (v + trailing_zeros w64 marks) end)
+mark_within members marks v end is some fits = next_mark-below marks v end is.within is.below some fits
 
 -- .. and that of a member
 pub mark_is_member : (members : List Bool) (marks v end : ℕ) → MarksMembers members marks v end → 0 < marks → marks < 2 ^ 64 →
@@ -61,22 +49,14 @@ none_before members marks v end is some fits u from below =
 -- the marks behind it
 pub marks_behind : (members : List Bool) (marks v end gap : ℕ) → MarksMembers members marks v end → v + gap < end →
     MarksMembers members (marks / 2 ^ gap / 2) (v + gap + 1) end
-marks_behind members marks v end gap is inside =
-    let once : marks / 2 ^ gap / 2 ≡ marks / 2 ^ (gap + 1) =
-    div-div-eq-div-mul marks (2 ^ gap) 2 ∙ ap (λ m. marks / m) (sym (pow-add 2 gap 1)) in record {
-      within = omega arith;
-      below =
-          let rest : end - v ≡ end - (v + gap + 1) + (gap + 1) = omega arith in
-          let room : 2 ^ (end - v) ≡ 2 ^ (end - (v + gap + 1)) * 2 ^ (gap + 1) =
-          ap (λ k. 2 ^ k) rest ∙ pow-add 2 (end - (v + gap + 1)) (gap + 1) in
-          rw once (div_below marks (2 ^ (gap + 1)) (2 ^ (end - (v + gap + 1))) (pow_pos (gap + 1)) (rw (← room) is.below));
-      flags = λ i low within.
-          let bit : bit_at (marks / 2 ^ gap / 2) i ≡ bit_at marks (gap + 1 + i) =
-          ap (λ m. bit_at m i) once ∙ bit_at-shr marks (gap + 1) i in
-          let at : v + (gap + 1 + i) ≡ v + gap + 1 + i = omega arith in
-          subst (λ k. has members k ≡ eqb (bit_at marks (gap + 1 + i)) 1) at (is.flags (gap + 1 + i) (omega arith) (omega arith))
-          ∙ ap (λ b. eqb b 1) (sym bit);
-    }
+marks_behind members marks v end gap is inside = record {
+  within = omega arith;
+  below = marks_behind-below marks v end gap is.below inside;
+  flags = λ i low within.
+      let at : v + (gap + 1 + i) ≡ v + gap + 1 + i = omega arith in
+      subst (λ k. has members k ≡ eqb (bit_at marks (gap + 1 + i)) 1) at (is.flags (gap + 1 + i) (omega arith) (omega arith))
+      ∙ ap (λ b. eqb b 1) (sym (bit_at-behind marks gap i));
+}
 
 -- ---- behind the last mark
 

@@ -17,15 +17,6 @@ pub record RequiredBelow (g : Graph) (decision : Decided) (bound : ℕ) (list : 
   pub every : (v : ℕ) → v < bound → IsRequired g decision v → Contains list v
   pub ascending : IsStrictlyIncreasing list
 
--- no vertices
-pub RequiredBelow-none : (g : Graph) (decision : Decided) → RequiredBelow g decision 0 []
-RequiredBelow-none g decision = record {
-  each = All-nil (IsRequired g decision);
-  below = All-nil (λ v. v < 0);
-  every = λ v low required. absurd (omega arith);
-  ascending = λ k low. absurd (omega arith);
-}
-
 -- a number above all numbers of a rising list
 IsStrictlyIncreasing-push : (list : List ℕ) (v : ℕ) → IsStrictlyIncreasing list → All (λ w. w < v) list → IsStrictlyIncreasing (list ++ v ∷ [])
 IsStrictlyIncreasing-push list v rises below k within =

@@ -15,10 +15,3 @@ IsWithinRoom-nothing : (state : EdgeState) (e : Edge) (u v : ℕ) → IsWithinRo
 IsWithinRoom-nothing Undecided e u v = omega arith
 IsWithinRoom-nothing Inside e u v = omega arith
 IsWithinRoom-nothing Outside e u v = tt
-
--- the packing with no cut is feasible
-pub IsFeasible-nothing : (g : Graph) (d : Decided) → IsFeasible g d []
-IsFeasible-nothing g d = record {
-  cuts = All-nil (λ (c : Cut). (0 < c.weight) × IsCut g d c.members);
-  room = λ n e state at decided. (IsWithinRoom-nothing state e e.a e.b, IsWithinRoom-nothing state e e.b e.a);
-}

@@ -30,8 +30,8 @@ unentered edges packing = filter (λ c. not (list_any (is_entered_along c.member
 abbrev pub at_most_twice : Graph → List Cut → List Cut
 at_most_twice g packing = if nat_le (length packing) (2 * length g.edges) then packing else []
 
--- The packing that a packing carries to a decision: its cuts, in order, that no arc of an inside edge enters; where more
--- than two for each edge remain, no cut.
+-- The packing that a packing carries to a decision: its cuts, in order, that no arc of an inside edge enters; where
+-- more than two for each edge remain, no cut.
 abbrev pub carried : Graph → Decided → List Cut → List Cut
 carried g d packing = at_most_twice g (unentered (inside_edges g.edges d.edges) packing)
 

@@ -9,4 +9,5 @@ IsCallableOnSome may_choose = (list : Bor (List Candidate)) → 0 < length list.
 
 -- what it answers there is a place in the list
 abbrev pub AnswersAPlace : (Bor (List Candidate) → ℕ → Type 0) → Type 0
-AnswersAPlace chooses = (list : Bor (List Candidate)) (place : ℕ) → 0 < length list.now → chooses list place → place < length list.now
+AnswersAPlace chooses = (list : Bor (List Candidate)) (place : ℕ) → 0 < length list.now → chooses list place →
+    place < length list.now

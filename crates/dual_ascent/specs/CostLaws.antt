@@ -33,21 +33,26 @@ left_after-none (Some room) amount none =
     (cases_lt room amount)
 
 -- the room of an edge
-pub slice_get-costs_of : (edges : List Edge) (decision : List EdgeState) (packing : List Cut) (n : ℕ) (e : Edge) (state : EdgeState) →
-    slice_get edges n ≡ Some e → slice_get decision n ≡ Some state → slice_get (costs_of edges decision packing) n ≡ Some (left_of e state packing)
+pub slice_get-costs_of : (edges : List Edge) (decision : List EdgeState) (packing : List Cut) (n : ℕ) (e : Edge)
+    (state : EdgeState) → slice_get edges n ≡ Some e →
+    slice_get decision n ≡ Some state → slice_get (costs_of edges decision packing) n ≡
+    Some (left_of e state packing)
 slice_get-costs_of [] decision packing n e state at decided = absurd cc
 slice_get-costs_of (x ∷ edges) [] packing n e state at decided = absurd cc
 slice_get-costs_of (x ∷ edges) (s ∷ decision) packing zero e state at decided =
     let same_edge : x ≡ e = same_Some x e at in
     let same_state : s ≡ state = same_Some s state decided in
     cc
-slice_get-costs_of (x ∷ edges) (s ∷ decision) packing (suc n) e state at decided = slice_get-costs_of edges decision packing n e state at decided
+slice_get-costs_of (x ∷ edges) (s ∷ decision) packing (suc n) e state at decided =
+    slice_get-costs_of edges decision packing n e state at decided
 
 -- there are as many costs as edges
-pub length-costs_of : (edges : List Edge) (decision : List EdgeState) (packing : List Cut) → length decision ≡ length edges → length (costs_of edges decision packing) ≡ length edges
+pub length-costs_of : (edges : List Edge) (decision : List EdgeState) (packing : List Cut) → length decision ≡
+    length edges → length (costs_of edges decision packing) ≡ length edges
 length-costs_of [] decision packing size = refl
 length-costs_of (e ∷ edges) [] packing size = absurd (omega arith)
-length-costs_of (e ∷ edges) (state ∷ decision) packing size = ap suc (length-costs_of edges decision packing (omega arith))
+length-costs_of (e ∷ edges) (state ∷ decision) packing size =
+    ap suc (length-costs_of edges decision packing (omega arith))
 
 -- nothing is left exactly where the amount left is 0
 pub is_used_up-some : (left : Option ℕ) → is_used_up left ≡ true → left ≡ Some 0

@@ -19,7 +19,11 @@ weight_on cut u v = if enters cut.members u v then cut.weight else 0
 
 -- what a packing leaves of the room of an edge's two arcs
 abbrev pub left_of : Edge → EdgeState → List Cut → EdgeCosts
-left_of e state packing = record { edge = e; there = left_after (room_of state e) (load packing e.a e.b); back = left_after (room_of state e) (load packing e.b e.a) }
+left_of e state packing = record {
+  edge = e;
+  there = left_after (room_of state e) (load packing e.a e.b);
+  back = left_after (room_of state e) (load packing e.b e.a);
+}
 
 -- .. of all arcs, by edges
 abbrev pub costs_of : List Edge → List EdgeState → List Cut → List EdgeCosts
@@ -96,7 +100,8 @@ unsaturated costs = sum_by unsaturated_of costs
 
 -- an arc of the edge enters the set, and this much of its room is left
 abbrev pub EntersWith : List Bool → EdgeCosts → ℕ → Type 0
-EntersWith members room left = ((enters members room.edge.a room.edge.b ≡ true) × (room.there ≡ Some left)) ⊎ ((enters members room.edge.b room.edge.a ≡ true) × (room.back ≡ Some left))
+EntersWith members room left = ((enters members room.edge.a room.edge.b ≡ true) × (room.there ≡ Some left)) ⊎
+    ((enters members room.edge.b room.edge.a ≡ true) × (room.back ≡ Some left))
 
 -- an arc enters the set, and this much of its room is left
 abbrev pub Entering : List EdgeCosts → List Bool → ℕ → Type 0

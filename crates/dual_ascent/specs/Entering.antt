@@ -24,7 +24,8 @@ pub record AreEntering (costs : List EdgeCosts) (members : List Bool) (list : Li
       cost_of costs arc.number ≡ Some left → Contains list (record { arc = arc; left = left })
 
 -- the arcs enter the set, with what is left of each, and those are among them that lead to vertices below a bound
-pub record AreEnteringBelow (costs : List EdgeCosts) (members : List Bool) (bound : ℕ) (list : List EnteringArc) : Type 0 where
+pub record AreEnteringBelow (costs : List EdgeCosts) (members : List Bool) (bound : ℕ)
+    (list : List EnteringArc) : Type 0 where
   pub each : All (EntersLeft costs members) list
   pub every : (arc : Arc) (left : ℕ) → arc.to < bound → IsArcOf (edges_of costs) arc →
       enters members arc.from arc.to ≡ true → cost_of costs arc.number ≡ Some left →

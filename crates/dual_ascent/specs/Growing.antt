@@ -18,12 +18,14 @@ pub record MayGrow (g : Graph) (costs : List EdgeCosts) (arcs : List Arc) (a : A
 pub record IsGrown (g : Graph) (costs : List EdgeCosts) (before after : ActiveVertex) : Type 0 where
   pub vertex : after.vertex ≡ before.vertex
   pub size : after.leading.size ≡ before.leading.size
-  pub leading : (u : ℕ) → Contains after.leading.order u ↔ LeadsToOne (OpenStep g.edges (is_saturated costs)) before.leading.order u
+  pub leading : (u : ℕ) → Contains after.leading.order u ↔
+      LeadsToOne (OpenStep g.edges (is_saturated costs)) before.leading.order u
 
 -- each was grown
 pub record AreGrown (g : Graph) (costs : List EdgeCosts) (before after : List ActiveVertex) : Type 0 where
   pub count : length after ≡ length before
-  pub each : (k : ℕ) (d : ActiveVertex) → k < length before → IsGrown g costs (slice_index_or before k d) (slice_index_or after k d)
+  pub each : (k : ℕ) (d : ActiveVertex) → k < length before →
+      IsGrown g costs (slice_index_or before k d) (slice_index_or after k d)
 
 -- the list without some of its items, in order, of which P holds
 pub record LeavesOut (P : ActiveVertex → Type 0) (before after : List ActiveVertex) : Type 0 where

@@ -3,18 +3,18 @@
 ghost use Rattle.std.specs.Prelude.{◌≡◌, ◌||◌, IfOk};
 ghost use Rattle.std.specs.List.{list_any};
 ghost use Rattle.net_graph.specs.Decision.{IsDecisionFor, states_of};
-ghost use Rattle.net_graph.specs.Packing.{IsFeasible, enters};
+ghost use Rattle.net_graph.specs.Packing.{IsFeasible};
 ghost use Rattle.dual_ascent.specs.Costs.{costs_of};
 ghost use Rattle.dual_ascent.specs.Carried.{DecidesOneMore, carried, inside_edges, is_entered_along, unentered};
 
 use crate::costs::ReducedCosts;
-use crate::entering::{holds, list_entering};
-use net_graph::{Cut, Decision, Edge, EdgeState, NetGraph, Packing, VertexSet};
+use crate::entering::list_entering;
+use net_graph::{Cut, Decision, Edge, EdgeState, NetGraph, Packing, VertexSet, enters};
 use std::alloc::{AllocError, Global};
 
 /// The packing that a packing carries to a decision, which decides one more edge or vertex than the one under which it
-/// is feasible: its cuts, in order, that no arc of an inside edge enters. Where more than two for each edge remain, it is
-/// the empty packing. An `Err` is want of memory.
+/// is feasible: its cuts, in order, that no arc of an inside edge enters. Where more than two for each edge remain, it
+/// is the empty packing. An `Err` is want of memory.
 pub fn carry(
     alloc: Global,
     g: &NetGraph,
@@ -38,8 +38,8 @@ pub fn carry(
     }
 }
 
-/// What the carried packing leaves of the rooms under the further decision, from what the packing of which it is carried
-/// leaves of them before: only the cuts that are lost are gone over. An `Err` is want of memory.
+/// What the carried packing leaves of the rooms under the further decision, from what the packing of which it is
+/// carried leaves of them before: only the cuts that are lost are gone over. An `Err` is want of memory.
 pub fn carry_costs(
     alloc: Global,
     g: &NetGraph,
@@ -132,11 +132,4 @@ fn is_entered(members: &VertexSet, edges: &[Edge]) -> bool
         }
     }
     false
-}
-
-// Whether the arc between these vertices enters the set.
-fn enters(members: &VertexSet, from: u32, to: u32) -> bool
-    ensures { result ≡ enters members.now from to }
-{
-    holds(members, to) && !holds(members, from)
 }

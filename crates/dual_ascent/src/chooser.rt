@@ -8,8 +8,8 @@ ghost use Rattle.dual_ascent.specs.Choosing.{IsCallableOnSome, AnswersAPlace};
 use crate::candidate::Candidate;
 use std::marker::Model;
 
-/// What is asked for a place in a list of candidates: every `Fn(&[Candidate]) -> usize` is a rule, and is asked by its call.
-/// It is a trait of its own since an `impl Model` cannot cite a bound on `Fn`.
+/// What is asked for a place in a list of candidates: every `Fn(&[Candidate]) -> usize` is a rule, and is asked by its
+/// call. It is a trait of its own since an `impl Model` cannot cite a bound on `Fn`.
 pub trait Rule: Drop {
     // The rule may be asked at the list.
     ghost may_choose: { Self → Bor (List Candidate) → Type 0 };
@@ -33,8 +33,8 @@ impl<F: Fn(&[Candidate]) -> usize> Rule for F {
     }
 }
 
-/// A rule beside the fact that it may be called on every list with a candidate and answers a place in the list. Contracts
-/// see the rule.
+/// A rule beside the fact that it may be called on every list with a candidate and answers a place in the list.
+/// Contracts see the rule.
 #[derive(Drop)]
 pub struct Chooser<F: Rule> {
     rule: F,
@@ -45,11 +45,13 @@ impl<F: Rule> Model for Chooser<F> {
 
     ghost view = { λ chooser. chooser.rule };
 
-    ghost invariant = { λ chooser. IsCallableOnSome (F.may_choose chooser.rule) × AnswersAPlace (F.chooses chooser.rule) };
+    ghost invariant = { λ chooser. IsCallableOnSome (F.may_choose chooser.rule) ×
+        AnswersAPlace (F.chooses chooser.rule) };
 }
 
 impl<F: Rule> Chooser<F> {
-    /// Keeps a rule that may be called on every list with a candidate and answers a place in the list. It takes no memory.
+    /// Keeps a rule that may be called on every list with a candidate and answers a place in the list. It takes no
+    /// memory.
     pub fn new(rule: F) -> Chooser<F>
         requires callable { IsCallableOnSome (F.may_choose rule) }
         requires place { AnswersAPlace (F.chooses rule) }

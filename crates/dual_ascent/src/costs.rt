@@ -11,8 +11,8 @@ use net_graph::{Cut, Decision, Edge, EdgeState, NetGraph, Packing, Passage};
 use std::alloc::{AllocError, Global};
 use std::marker::Model;
 
-/// What is left of the room of an edge's two arcs, which are their reduced costs. `None` is left of an arc that can't be
-/// saturated: its edge is outside, or it is loaded above its room.
+/// What is left of the room of an edge's two arcs, which are their reduced costs. `None` is left of an arc that can't
+/// be saturated: its edge is outside, or it is loaded above its room.
 #[derive(Clone, Copy, Debug, PartialEq, Eq)]
 pub(crate) struct EdgeCosts {
     pub edge: Edge,
@@ -89,8 +89,8 @@ fn whole_costs(
         .collect(alloc)
 }
 
-/// What packed cuts leave of the room of all arcs, which are the arcs' reduced costs (after Wong 1984). As a passage it opens
-/// the saturated arcs, of which nothing is left. Contracts see it by edges.
+/// What packed cuts leave of the room of all arcs, which are the arcs' reduced costs (after Wong 1984). As a passage
+/// it opens the saturated arcs, of which nothing is left. Contracts see it by edges.
 #[derive(Debug, Drop)]
 pub struct ReducedCosts {
     edges: Vec<EdgeCosts>,

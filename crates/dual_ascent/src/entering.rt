@@ -98,7 +98,7 @@ fn entering_against(costs: &ReducedCosts, members: &VertexSet, along: Arc) -> Op
         → cost_of costs.now (partner_of along.number) ≡ Some left
         → result ≡ Some (record { arc = turned along; left = left }) }
 {
-    if holds(members, along.to) {
+    if members.holds(along.to) {
         return None;
     }
     let number = partner(along.number);
@@ -109,13 +109,6 @@ fn entering_against(costs: &ReducedCosts, members: &VertexSet, along: Arc) -> Op
         to: along.from,
     };
     Some(EnteringArc { arc, left })
-}
-
-/// Whether the vertex is in the set; one past its size isn't.
-pub(crate) fn holds(members: &VertexSet, vertex: u32) -> bool
-    ensures { result ≡ has members.now vertex }
-{
-    vertex < members.len() && members.has(vertex)
 }
 
 /// The least that is left of one of the arcs.

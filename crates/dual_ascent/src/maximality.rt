@@ -7,10 +7,11 @@ ghost use Rattle.net_graph.specs.Saturation.{IsMaximal};
 
 use crate::costs::ReducedCosts;
 use crate::required::required_vertices;
-use net_graph::{Decision, NetGraph, Packing, VertexSet, reached_from};
+use net_graph::{Decision, NetGraph, Packing, has_all, reached_from};
 use std::alloc::{AllocError, Global};
 
-/// Whether saturated arcs lead from the root to every required vertex. An `Err` is want of memory.
+/// Whether saturated arcs lead from the root to every required vertex. An `Err` is want of memory. No tool asks for
+/// it: an ascent tells whether its packing is closed or maximal.
 pub fn maximal(
     alloc: Global,
     g: &NetGraph,
@@ -24,12 +25,4 @@ pub fn maximal(
     let costs = ReducedCosts::of(alloc, g, d, packing)?;
     let reached = reached_from(alloc, g, g.root(), &costs)?;
     Ok(has_all(&reached, &required))
-}
-
-// Whether each of the vertices is in the set.
-fn has_all(set: &VertexSet, vertices: &[u32]) -> bool
-    requires { All (λ v. v < length set.now) vertices.now }
-    ensures { IsTrue result ↔ All (λ v. has set.now v ≡ true) vertices.now }
-{
-    vertices.iter().all(|v| set.has(*v))
 }

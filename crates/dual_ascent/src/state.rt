@@ -61,7 +61,8 @@ impl AscentState {
         requires edges { edges_of self.old.costs ≡ g.now.edges }
         requires active { (vertices : List ℕ) × AreActive g.now vertices self.old.costs self.old.active.items }
         ensures next { IfOk result (λ step. (vertices : List ℕ) →
-            AreActive g.now vertices self.old.costs self.old.active.items → IsNextStep g.now vertices self.old.costs step) }
+            AreActive g.now vertices self.old.costs self.old.active.items →
+            IsNextStep g.now vertices self.old.costs step) }
         ensures costs { IfOk result (λ step. IsLoweredBy step self.old.costs self.new.costs) }
         ensures active { OnOk result ((vertices : List ℕ) →
             AreActive g.now vertices self.old.costs self.old.active.items →

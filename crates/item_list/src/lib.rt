@@ -37,14 +37,6 @@ impl<T> ItemList<T> {
         ItemList { items }
     }
 
-    /// The vector of the list's items. It takes no memory.
-    pub fn into_vec(self) -> Vec<T>
-        ensures { result.items ≡ self }
-    {
-        let ItemList { items } = self;
-        items
-    }
-
     /// How many items there are.
     pub fn len(&self) -> usize
         ensures { result ≡ length self.now }

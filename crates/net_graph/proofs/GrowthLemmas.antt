@@ -41,13 +41,6 @@ pub record AddsTails (size : ℕ) (arcs : List Arc) (n : ℕ) (old now : List �
   pub more : Extends (λ u. (u < size) × LeadsToOne (HasArc arcs) old u) old now
   pub every : (k : ℕ) (arc : Arc) → k < n → slice_get arcs k ≡ Some arc → Contains old arc.to → Contains now arc.from
 
--- at the start
-pub AddsTails-none : (size : ℕ) (arcs : List Arc) (old : List ℕ) → AddsTails size arcs 0 old old
-AddsTails-none size arcs old = record {
-  more = Extends-none (λ u. (u < size) × LeadsToOne (HasArc arcs) old u) old;
-  every = λ k arc lt at listed. absurd (omega arith);
-}
-
 -- an arc that doesn't lead to a found vertex
 pub AddsTails-apart : (size : ℕ) (arcs : List Arc) (n : ℕ) (old now : List ℕ) (arc : Arc) → AddsTails size arcs n old now → slice_get arcs n ≡ Some arc → (Contains now arc.to → ⊥) → AddsTails size arcs (n + 1) old now
 AddsTails-apart size arcs n old now arc adds at apart = record {

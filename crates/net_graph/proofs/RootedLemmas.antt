@@ -13,14 +13,6 @@ pub record HoldsBelow (P : ℕ → Type 0) (bound : ℕ) (set : List Bool) : Typ
 none_inside : (size k : ℕ) → slice_get (replicate size false) k ≡ Some true → ⊥
 none_inside size k inside = let same : false ≡ true = slice_get-replicate size k false true inside in cc
 
--- no number was looked at
-pub HoldsBelow-none : (P : ℕ → Type 0) (size : ℕ) → HoldsBelow P 0 (replicate size false)
-HoldsBelow-none P size = record {
-  put = λ k low is. absurd (omega arith);
-  below = λ k inside. absurd (none_inside size k inside);
-  only = λ k inside. absurd (none_inside size k inside);
-}
-
 -- the next number has P and was put in
 pub HoldsBelow-yes : (P : ℕ → Type 0) (n : ℕ) (set : List Bool) → n < length set → P n → HoldsBelow P n set → HoldsBelow P (n + 1) (slice_set set n true)
 HoldsBelow-yes P n set within is so_far = record {

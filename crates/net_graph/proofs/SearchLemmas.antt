@@ -32,10 +32,6 @@ pub record AddsHeads (P : ℕ → Type 0) (opens : ℕ → Bool) (arcs : List Ar
   pub more : Extends P old now
   pub every : (k : ℕ) (arc : Arc) → k < n → slice_get arcs k ≡ Some arc → opens arc.number ≡ true → Contains now arc.to
 
--- at the start
-pub AddsHeads-none : (P : ℕ → Type 0) (opens : ℕ → Bool) (arcs : List Arc) (old : List ℕ) → AddsHeads P opens arcs 0 old old
-AddsHeads-none P opens arcs old = record { more = Extends-none P old; every = λ k arc lt at is_open. absurd (omega arith) }
-
 -- a shut arc
 pub AddsHeads-shut : (P : ℕ → Type 0) (opens : ℕ → Bool) (arcs : List Arc) (n : ℕ) (old now : List ℕ) (arc : Arc) → AddsHeads P opens arcs n old now → slice_get arcs n ≡ Some arc → opens arc.number ≡ false → AddsHeads P opens arcs (n + 1) old now
 AddsHeads-shut P opens arcs n old now arc adds at shut = record {

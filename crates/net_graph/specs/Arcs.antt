@@ -18,7 +18,8 @@ partner_of arc = if arc % 2 == 0 then arc + 1 else arc - 1
 
 -- it is one of the two arcs of one of the edges
 abbrev pub IsArcOf : List Edge → Arc → Type 0
-IsArcOf edges arc = (n : ℕ) × (e : Edge) × (slice_get edges n ≡ Some e) × ((arc ≡ forward_arc n e) ⊎ (arc ≡ backward_arc n e))
+IsArcOf edges arc = (n : ℕ) × (e : Edge) × (slice_get edges n ≡ Some e) ×
+    ((arc ≡ forward_arc n e) ⊎ (arc ≡ backward_arc n e))
 
 -- the arcs before this place lead from lesser vertices, and the others don't
 pub record IsSplitAt (arcs : List Arc) (vertex place : ℕ) : Type 0 where

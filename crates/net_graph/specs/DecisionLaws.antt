@@ -69,8 +69,8 @@ state_at_ends-undecided vertices e Undecided is = (refl, cases (has_missed_end v
     cases true is = cc
     cases false is = refl
 
-states_at_ends-at : (es : List Edge) (states : List EdgeState) (vertices : List VertexState) (n : ℕ) (e : Edge) (state : EdgeState) →
-    slice_get es n ≡ Some e → slice_get states n ≡ Some state →
+states_at_ends-at : (es : List Edge) (states : List EdgeState) (vertices : List VertexState) (n : ℕ) (e : Edge)
+    (state : EdgeState) → slice_get es n ≡ Some e → slice_get states n ≡ Some state →
     slice_get (states_at_ends es states vertices) n ≡ Some (state_at_ends vertices e state)
 states_at_ends-at [] states vertices n e state at decided = cc
 states_at_ends-at (d ∷ es) [] vertices n e state at decided = cc
@@ -84,8 +84,8 @@ pub states_of-at : (g : Graph) (d : Decided) (n : ℕ) (e : Edge) (state : EdgeS
     slice_get d.edges n ≡ Some state → slice_get (states_of g d) n ≡ Some (state_at_ends d.vertices e state)
 states_of-at g d n e state at decided = states_at_ends-at g.edges d.edges d.vertices n e state at decided
 
-states_at_ends-parts : (es : List Edge) (states : List EdgeState) (vertices : List VertexState) (n : ℕ) (state : EdgeState) →
-    slice_get (states_at_ends es states vertices) n ≡ Some state →
+states_at_ends-parts : (es : List Edge) (states : List EdgeState) (vertices : List VertexState) (n : ℕ)
+    (state : EdgeState) → slice_get (states_at_ends es states vertices) n ≡ Some state →
     (e : Edge) × (bare : EdgeState) × (slice_get es n ≡ Some e) × (slice_get states n ≡ Some bare) ×
     (state_at_ends vertices e bare ≡ state)
 states_at_ends-parts [] states vertices n state is = cc
@@ -130,17 +130,6 @@ inside-not_missed g d n e decision inside at missed =
     (λ (a : IsMissed d e.a). decision.missed e.a a (inr (inl (n, e, inside, at, inl refl))))
     (λ (b : IsMissed d e.b). decision.missed e.b b (inr (inl (n, e, inside, at, inr refl))))
     missed
-
--- no inside edge is free
-pub inside-not_free : (g : Graph) (d : Decided) (n : ℕ) → IsDecisionFor g d →
-    slice_get d.edges n ≡ Some Inside → IsFree g d n → ⊥
-inside-not_free g d n decision inside free =
-    ⊎_elim
-    (λ (outside : slice_get d.edges n ≡ Some Outside). let same : Inside ≡ Outside =
-    same_Some _ _ (sym inside ∙ outside) in cc)
-    (λ (missed : (e : Edge) × (slice_get g.edges n ≡ Some e) × (IsMissed d e.a ⊎ IsMissed d e.b)).
-    inside-not_missed g d n missed.0 decision inside missed.1 missed.2)
-    free
 
 -- an edge's state is Inside where it is inside
 pub states_of-inside : (g : Graph) (d : Decided) (n : ℕ) → slice_get (states_of g d) n ≡ Some Inside →
@@ -219,20 +208,6 @@ IsUndecided-parts g d n decision undecided =
           let same : Undecided ≡ Outside = same_Some _ _ (sym undecided ∙ outside) in cc,
     )
 
--- .. and every other edge is one or the other
-pub IsUndecided-from : (g : Graph) (d : Decided) (n : ℕ) → IsDecisionFor g d → n < length g.edges →
-    (slice_get d.edges n ≡ Some Inside → ⊥) → (IsFree g d n → ⊥) → IsUndecided g d n
-IsUndecided-from g d n decision within not_inside not_free =
-    let (e, state, at, decided) = decided_at g d n decision within in
-    let here : slice_get (states_of g d) n ≡ Some (state_at_ends d.vertices e state) =
-    states_of-at g d n e state at decided in
-    cases (state_at_ends d.vertices e state) here
-  where
-    cases : (state : EdgeState) → slice_get (states_of g d) n ≡ Some state → IsUndecided g d n
-    cases Undecided is = is
-    cases Inside is = absurd (not_inside (states_of-inside g d n is))
-    cases Outside is = absurd (not_free (states_of-free g d n is))
-
 -- no end of an undecided edge is missed
 pub undecided-not_missed : (g : Graph) (d : Decided) (n : ℕ) (e : Edge) → IsDecisionFor g d → IsUndecided g d n →
     slice_get g.edges n ≡ Some e → IsMissed d e.a ⊎ IsMissed d e.b → ⊥
@@ -265,18 +240,6 @@ Agrees-nothing g set = record {
   missed = λ v missed reached. let same : vertex.Undecided ≡ Missed = no_vertex_decided g v Missed missed in cc;
 }
 
--- .. under which the terminals alone are required
-pub IsRequired-nothing : (g : Graph) (v : ℕ) → IsRequired g (nothing_decided g) v → Contains g.terminals v
-IsRequired-nothing g v required =
-    ⊎_elim
-    (λ (terminal : Contains g.terminals v). terminal)
-    (λ (rest : EndsInside g (nothing_decided g) v ⊎ IsMet (nothing_decided g) v). ⊎_elim
-    (λ (ends : EndsInside g (nothing_decided g) v). let same : Undecided ≡ Inside =
-    no_edge_decided g ends.0 Inside ends.2 in cc)
-    (λ (met : IsMet (nothing_decided g) v). let same : vertex.Undecided ≡ Met = no_vertex_decided g v Met met in cc)
-    rest)
-    required
-
 -- .. and every edge is undecided
 pub states_of-nothing : (g : Graph) → states_of g (nothing_decided g) ≡ replicate (length g.edges) Undecided
 states_of-nothing g = each g.edges
@@ -286,7 +249,9 @@ states_of-nothing g = each g.edges
     none_missed (suc size) zero = refl
     none_missed (suc size) (suc v) = none_missed size v
 
-    each : (es : List Edge) → states_at_ends es (replicate (length es) Undecided) (replicate g.vertices vertex.Undecided) ≡ replicate (length es) Undecided
+    each : (es : List Edge) →
+        states_at_ends es (replicate (length es) Undecided) (replicate g.vertices vertex.Undecided) ≡
+        replicate (length es) Undecided
     each [] = refl
     each (e ∷ es) = rw (none_missed g.vertices e.a, none_missed g.vertices e.b) (ap (λ xs. Undecided ∷ xs) (each es))
 
@@ -336,7 +301,9 @@ IsDecisionFor-with_inside g d n decision undecided = record {
             (λ (a : ends.1.a ≡ v). inl (ap (slice_get d.vertices) a ∙ missed))
             (λ (b : ends.1.b ≡ v). inr (ap (slice_get d.vertices) b ∙ missed))
             ends.4)
-        | inr apart ↦ decision.missed v missed (inr (inl (ends.0, ends.1, edge_before d n ends.0 Inside apart ends.2, ends.3, ends.4)))
+        | inr apart ↦
+            decision.missed v missed (inr (inl
+            (ends.0, ends.1, edge_before d n ends.0 Inside apart ends.2, ends.3, ends.4)))
       ])
       (λ (met : IsMet d v). decision.missed v missed (inr (inr met)))
       rest)
@@ -349,7 +316,8 @@ pub IsDecisionFor-with_outside : (g : Graph) (d : Decided) (n : ℕ) → IsDecis
 IsDecisionFor-with_outside g d n decision within = record {
   edges = length-set d.edges n Outside ∙ decision.edges;
   vertices = decision.vertices;
-  missed = λ v missed required. decision.missed v missed (IsRequired-fewer g (with_edge d n Outside) d v inside_before (λ met. met) required);
+  missed = λ v missed required.
+      decision.missed v missed (IsRequired-fewer g (with_edge d n Outside) d v inside_before (λ met. met) required);
 }
   where
     inside_before : (k : ℕ) → slice_get (with_edge d n Outside).edges k ≡ Some Inside →
@@ -395,7 +363,3 @@ IsDecisionFor-with_missed g d v decision undecided = record {
         | inr apart ↦ decision.missed w (sym (slice_get-set_other d.vertices v w Missed apart) ∙ missed) before
       ];
 }
-
--- the root is required, being a terminal
-pub IsRequired-root : (g : Graph) (d : Decided) → IsGraph g → IsRequired g d (root_of g)
-IsRequired-root g d graph = inl (Contains-get_or g.terminals 0 0 graph.terminal)

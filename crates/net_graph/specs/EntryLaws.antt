@@ -9,13 +9,15 @@ use Rattle.std.proofs.lemmas.List.{get_or-set_same, get_or-set_other}
 pub slice_get-set_same : {A : Type 0} (xs : List A) (n : ℕ) (x : A) → n < length xs →
     slice_get (slice_set xs n x) n ≡ Some x
 slice_get-set_same xs n x within =
-    slice_get-get_or (slice_set xs n x) n x (omega (arith, length-set xs n x)) ∙ ap Some (get_or-set_same xs n x x within)
+    slice_get-get_or (slice_set xs n x) n x (omega (arith, length-set xs n x))
+    ∙ ap Some (get_or-set_same xs n x x within)
 
 -- an entry that was not
 pub slice_get-set_other : {A : Type 0} (xs : List A) (n k : ℕ) (x : A) → k ≢ n →
     slice_get (slice_set xs n x) k ≡ slice_get xs k
 slice_get-set_other xs n k x apart = elim (cases_lt k (length xs)) [
-  | inl within ↦ slice_get-get_or (slice_set xs n x) k x (omega (arith, length-set xs n x)) ∙ ap Some (get_or-set_other xs n k x x apart) ∙ sym (slice_get-get_or xs k x within)
+  | inl within ↦ slice_get-get_or (slice_set xs n x) k x (omega (arith, length-set xs n x))
+      ∙ ap Some (get_or-set_other xs n k x x apart) ∙ sym (slice_get-get_or xs k x within)
   | inr past ↦ slice_get_past (slice_set xs n x) k (omega (arith, length-set xs n x)) ∙ sym (slice_get_past xs k past)
 ]
 

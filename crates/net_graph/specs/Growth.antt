@@ -23,7 +23,8 @@ abbrev pub HasArc : List Arc → ℕ → ℕ → Type 0
 HasArc arcs u v = (arc : Arc) × Contains arcs arc × (arc.from ≡ u) × (arc.to ≡ v)
 
 -- Each open arc that leads to one of the vertices leads from one of them or is among these arcs, which may be walked.
-pub record IsClosedBut (vertices : ℕ) (edges : List Edge) (opens : ℕ → Bool) (arcs : List Arc) (order : List ℕ) : Type 0 where
+pub record IsClosedBut (vertices : ℕ) (edges : List Edge) (opens : ℕ → Bool) (arcs : List Arc)
+    (order : List ℕ) : Type 0 where
   pub below : All (λ arc. (arc.from < vertices) × (arc.to < vertices)) arcs
   pub steps : All (λ arc. OpenStep edges opens arc.from arc.to) arcs
   pub closed : (u v : ℕ) → Contains order v → OpenStep edges opens u v → Contains order u ⊎ HasArc arcs u v

@@ -18,7 +18,8 @@ opens_edges set arc = has set (arc / 2)
 -- the flag of a number that is in the set
 pub slice_get-has : (set : List Bool) (n : ℕ) → has set n ≡ true → slice_get set n ≡ Some true
 slice_get-has set n is =
-    let within : n < length set = ⊎_elim (λ lt. lt) (λ past. let out : has set n ≡ false = get_or_past set n false past in absurd cc) (cases_lt n (length set)) in
+    let within : n < length set = ⊎_elim (λ lt. lt)
+    (λ past. let out : has set n ≡ false = get_or_past set n false past in absurd cc) (cases_lt n (length set)) in
     slice_get-get_or set n false within ∙ ap (λ flag. Some flag) is
 
 -- .. and back
@@ -26,26 +27,37 @@ pub has-slice_get : (set : List Bool) (n : ℕ) → slice_get set n ≡ Some tru
 has-slice_get set n is = get_or_from_slice_get set n true false is
 
 -- an edge of the set is an open arc from each of its ends to the other
-pub OpenStep-from_links : (g : Graph) (set : List Bool) (v w : ℕ) → Links g set v w → OpenStep g.edges (opens_edges set) v w
+pub OpenStep-from_links : (g : Graph) (set : List Bool) (v w : ℕ) → Links g set v w →
+    OpenStep g.edges (opens_edges set) v w
 OpenStep-from_links g set v w (n, e, inside, at, ends) =
     let marked : has set n ≡ true = has-slice_get set n inside in
     let even : 2 * n / 2 ≡ n = omega arith in
     let odd : (2 * n + 1) / 2 ≡ n = omega arith in
-    ⊎_elim (λ (along : (e.a ≡ v) × (e.b ≡ w)). (forward_arc n e, (n, e, at, inl refl), ap (has set) even ∙ marked, along.0, along.1))
-    (λ (against : (e.a ≡ w) × (e.b ≡ v)). (backward_arc n e, (n, e, at, inr refl), ap (has set) odd ∙ marked, against.1, against.0)) ends
+    ⊎_elim (λ (along : (e.a ≡ v) × (e.b ≡ w)).
+    (forward_arc n e, (n, e, at, inl refl), ap (has set) even ∙ marked, along.0, along.1))
+    (λ (against : (e.a ≡ w) × (e.b ≡ v)).
+    (backward_arc n e, (n, e, at, inr refl), ap (has set) odd ∙ marked, against.1, against.0)) ends
 
 -- an open arc is an edge of the set with the arc's ends
 pub Links-from_open : (g : Graph) (set : List Bool) (v w : ℕ) → OpenStep g.edges (opens_edges set) v w → Links g set v w
 Links-from_open g set v w (arc, (n, e, at, way), is_open, leaves, comes) =
     let even : 2 * n / 2 ≡ n = omega arith in
     let odd : (2 * n + 1) / 2 ≡ n = omega arith in
-    ⊎_elim (λ (is : arc ≡ forward_arc n e). let marked : has set n ≡ true = ap (has set) (sym even ∙ ap (λ x. x.number / 2) (sym is)) ∙ is_open in
+    ⊎_elim (λ (is : arc ≡ forward_arc n e). let marked : has set n ≡ true =
+    ap (has set) (sym even ∙ ap (λ x. x.number / 2) (sym is)) ∙ is_open in
     (n, e, slice_get-has set n marked, at, inl (ap (λ x. x.from) (sym is) ∙ leaves, ap (λ x. x.to) (sym is) ∙ comes)))
-    (λ (is : arc ≡ backward_arc n e). let marked : has set n ≡ true = ap (has set) (sym odd ∙ ap (λ x. x.number / 2) (sym is)) ∙ is_open in
-    (n, e, slice_get-has set n marked, at, inr (ap (λ x. x.to) (sym is) ∙ comes, ap (λ x. x.from) (sym is) ∙ leaves))) way
+    (λ (is : arc ≡ backward_arc n e). let marked : has set n ≡ true =
+    ap (has set) (sym odd ∙ ap (λ x. x.number / 2) (sym is)) ∙ is_open in (
+      n,
+      e,
+      slice_get-has set n marked,
+      at,
+      inr (ap (λ x. x.to) (sym is) ∙ comes, ap (λ x. x.from) (sym is) ∙ leaves),
+    )) way
 
 -- the set reaches the vertices that walks over its open arcs lead to from the root
-pub Reaches-iff_leads : (g : Graph) (set : List Bool) (v : ℕ) → Reaches g set v ↔ Leads (OpenStep g.edges (opens_edges set)) (root_of g) v
+pub Reaches-iff_leads : (g : Graph) (set : List Bool) (v : ℕ) → Reaches g set v ↔
+    Leads (OpenStep g.edges (opens_edges set)) (root_of g) v
 Reaches-iff_leads g set v = (
   Leads-weaker (Links g set) (OpenStep g.edges (opens_edges set)) (OpenStep-from_links g set) (root_of g) v,
   Leads-weaker (OpenStep g.edges (opens_edges set)) (Links g set) (Links-from_open g set) (root_of g) v,

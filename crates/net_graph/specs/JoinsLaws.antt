@@ -44,12 +44,6 @@ pub Joins-from : (g : Graph) (set : List Bool) (start : ℕ) (vertices : List �
 Joins-from g set start vertices led v w first second =
     Leads-trans (Links g set) v start w (Leads-links_back g set start v (led v first)) (led w second)
 
--- fewer vertices are joined as well
-pub Joins-fewer : (g : Graph) (set : List Bool) (more fewer : List ℕ) → All (Contains more) fewer →
-    Joins g set more → Joins g set fewer
-Joins-fewer g set more fewer among joins v w first second =
-    joins v w (All-contains (Contains more) fewer v among first) (All-contains (Contains more) fewer w among second)
-
 -- two joined lists that share a vertex are joined
 pub Joins-append : (g : Graph) (set : List Bool) (vs ws : List ℕ) (shared : ℕ) → Contains vs shared →
     Contains ws shared → Joins g set vs → Joins g set ws → Joins g set (vs ++ ws)
@@ -74,9 +68,3 @@ Joins-meeting g set before (vs ∷ rest) first joins ((shared, in_before, in_her
     (Joins-meeting g set (before ++ vs) rest
     (Joins-append g set before vs shared in_before in_here first (All-head (Joins g set) vs rest joins))
     (All-tail (Joins g set) vs rest joins) meets)
-
--- a set that joins the root and every terminal is a network
-pub IsNetwork-from_joins : (g : Graph) (set : List Bool) (vertices : List ℕ) →
-    Contains vertices (root_of g) → All (Contains vertices) g.terminals → Joins g set vertices → IsNetwork g set
-IsNetwork-from_joins g set vertices root terminals joins k d within =
-    joins (root_of g) _ root (terminals k d within)

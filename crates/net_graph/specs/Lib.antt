@@ -1,4 +1,5 @@
 pub mod Flags
+pub mod MarkLaws
 pub mod Adds
 pub mod AddsLaws
 pub mod Members

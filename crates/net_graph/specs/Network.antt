@@ -1,5 +1,5 @@
--- Walks, reached vertices, networks, terminals apart, lengths and bounds on them. An edge set is the list of its flags: one
--- for each edge, true where the edge is in it.
+-- Walks, reached vertices, networks, terminals apart, lengths and bounds on them. An edge set is the list of its
+-- flags: one for each edge, true where the edge is in it.
 use Rattle.std.specs.Prelude.{ℕ, ◌≡◌, ◌+◌, ◌<◌, ◌≤◌, Bool, true, List, [], ◌∷◌, slice_get, Some, ◌⊎◌, All, Contains, if◌then◌else◌}
 use Rattle.net_graph.specs.declared.edge.Edge.{Edge}
 use Rattle.net_graph.specs.Graph.{Graph, root_of}

@@ -16,7 +16,8 @@ pub partner_of-odd : (n : ℕ) → partner_of (2 * n + 1) ≡ 2 * n
 partner_of-odd n = grind (arith, common_steps)
 
 -- an arc whose partner is open is a step back along the partner
-pub OpenStep-turned : (edges : List Edge) (opens : ℕ → Bool) (v w : ℕ) → OpenStep edges (λ arc. opens (partner_of arc)) v w → OpenStep edges opens w v
+pub OpenStep-turned : (edges : List Edge) (opens : ℕ → Bool) (v w : ℕ) →
+    OpenStep edges (λ arc. opens (partner_of arc)) v w → OpenStep edges opens w v
 OpenStep-turned edges opens v w (arc, (n, e, at, way), is_open, leaves, comes) =
     ⊎_elim (λ (is : arc ≡ forward_arc n e). (
       backward_arc n e,
@@ -34,7 +35,8 @@ OpenStep-turned edges opens v w (arc, (n, e, at, way), is_open, leaves, comes) =
     )) way
 
 -- .. and a step along an open arc is a step back along an arc whose partner is open
-pub OpenStep-turned_back : (edges : List Edge) (opens : ℕ → Bool) (v w : ℕ) → OpenStep edges opens v w → OpenStep edges (λ arc. opens (partner_of arc)) w v
+pub OpenStep-turned_back : (edges : List Edge) (opens : ℕ → Bool) (v w : ℕ) → OpenStep edges opens v w →
+    OpenStep edges (λ arc. opens (partner_of arc)) w v
 OpenStep-turned_back edges opens v w (arc, (n, e, at, way), is_open, leaves, comes) =
     ⊎_elim (λ (is : arc ≡ forward_arc n e). (
       backward_arc n e,
@@ -52,8 +54,10 @@ OpenStep-turned_back edges opens v w (arc, (n, e, at, way), is_open, leaves, com
     )) way
 
 -- arcs whose partners are open lead from v to w where open arcs lead from w to v
-pub Leads-turned : (edges : List Edge) (opens : ℕ → Bool) (v w : ℕ) → Leads (OpenStep edges (λ arc. opens (partner_of arc))) v w ↔ Leads (OpenStep edges opens) w v
+pub Leads-turned : (edges : List Edge) (opens : ℕ → Bool) (v w : ℕ) →
+    Leads (OpenStep edges (λ arc. opens (partner_of arc))) v w ↔ Leads (OpenStep edges opens) w v
 Leads-turned edges opens v w = (
   Leads-back (OpenStep edges (λ arc. opens (partner_of arc))) (OpenStep edges opens) (OpenStep-turned edges opens) v w,
-  Leads-back (OpenStep edges opens) (OpenStep edges (λ arc. opens (partner_of arc))) (OpenStep-turned_back edges opens) w v,
+  Leads-back (OpenStep edges opens) (OpenStep edges (λ arc. opens (partner_of arc)))
+      (OpenStep-turned_back edges opens) w v,
 )

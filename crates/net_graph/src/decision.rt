@@ -186,7 +186,8 @@ pub fn required(g: &NetGraph, d: &Decision, v: u32) -> bool
     g.terminals().contains(&v) || ends_inside(g, d, v) || d.is_met(v)
 }
 
-/// Whether the vertex `v` is neither the root nor required nor missed.
+/// Whether the vertex `v` is neither the root nor required nor missed. No tool asks for it: its searches split on edges
+/// alone.
 pub fn vertex_undecided(g: &NetGraph, d: &Decision, v: u32) -> bool
     requires { v < g.now.vertices }
     ensures { IsTrue result ↔ IsVertexUndecided g.now d.now v }

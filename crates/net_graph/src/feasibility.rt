@@ -65,8 +65,8 @@ fn holds_required(g: &NetGraph, d: &Decision, members: &VertexSet) -> bool
     holds_terminal(g, members) || holds_inside_end(g, d, members) || holds_met(d, members)
 }
 
-// Whether the set holds a terminal.
-fn holds_terminal(g: &NetGraph, members: &VertexSet) -> bool
+/// Whether the set of vertices of a graph, of its size, holds a terminal.
+pub fn holds_terminal(g: &NetGraph, members: &VertexSet) -> bool
     requires { length members.now ≡ g.now.vertices }
     ensures { IsTrue result ↔ ((v : ℕ) × Contains g.now.terminals v × (has members.now v ≡ true)) }
 {
@@ -158,11 +158,10 @@ fn load(cuts: &[Cut], u: u32, v: u32) -> u128
     sum
 }
 
-// Whether the arc from `u` to `v` enters the set.
-fn enters(members: &VertexSet, u: u32, v: u32) -> bool
-    requires from { u < length members.now }
-    requires to { v < length members.now }
+/// Whether an arc from `u` to `v` enters the set: it leads to a member, and from a vertex that is none. One past the
+/// set's size is none.
+pub fn enters(members: &VertexSet, u: u32, v: u32) -> bool
     ensures { result ≡ packing.enters members.now u v }
 {
-    members.has(v) && !members.has(u)
+    members.holds(v) && !members.holds(u)
 }

@@ -25,7 +25,8 @@ impl Model for Found {
 
     ghost view = { λ f. record { size = length f.marks; order = f.order.items } };
 
-    ghost invariant = { λ f. AreMarksOf f.order.items f.marks × (vec_len f.order ≡ length f.order.items) × (length f.marks ≤ vec_capacity f.order) };
+    ghost invariant = { λ f. AreMarksOf f.order.items f.marks × (vec_len f.order ≡ length f.order.items) ×
+        (length f.marks ≤ vec_capacity f.order) };
 }
 
 impl Found {
@@ -52,7 +53,7 @@ impl Found {
     pub fn has(&self, vertex: u32) -> bool
         ensures { IsTrue result ↔ Contains self.now.order vertex }
     {
-        vertex < self.marks.len() && self.marks.has(vertex)
+        self.marks.holds(vertex)
     }
 
     /// The set of the vertices that were found so far.
@@ -74,7 +75,8 @@ impl Found {
     pub fn add(&mut self, vertex: u32)
         requires { vertex < self.old.size }
         ensures size { self.new.size ≡ self.old.size }
-        ensures order { (self.new.order ≡ self.old.order ++ vertex ∷ []) ⊎ (Contains self.old.order vertex × (self.new.order ≡ self.old.order)) }
+        ensures order { (self.new.order ≡ self.old.order ++ vertex ∷ []) ⊎
+            (Contains self.old.order vertex × (self.new.order ≡ self.old.order)) }
     {
         if !self.marks.has(vertex) {
             self.marks.add(vertex);

@@ -57,7 +57,9 @@ impl Model for NetGraph {
 
     ghost view = { λ g. graph_of g.vertices g.edges g.terminals };
 
-    ghost invariant = { λ g. IsGraph (graph_of g.vertices g.edges g.terminals) × (g.total ≡ total_of (graph_of g.vertices g.edges g.terminals)) × AreArcsOfGraph (graph_of g.vertices g.edges g.terminals) g.arcs };
+    ghost invariant = { λ g. IsGraph (graph_of g.vertices g.edges g.terminals) ×
+        (g.total ≡ total_of (graph_of g.vertices g.edges g.terminals)) ×
+        AreArcsOfGraph (graph_of g.vertices g.edges g.terminals) g.arcs };
 }
 
 impl NetGraph {
@@ -155,7 +157,8 @@ impl NetGraph {
     pub fn arcs_from(&self, vertex: u32) -> &[Arc]
         requires { vertex < self.now.vertices }
         ensures arcs { AreArcsFrom (IsArcOf self.now.edges) vertex result.now }
-        ensures bounds { All (λ arc. (arc.to < self.now.vertices) × (arc.number < 2 * length self.now.edges)) result.now }
+        ensures bounds { All (λ arc. (arc.to < self.now.vertices) ×
+            (arc.number < 2 * length self.now.edges)) result.now }
     {
         self.arcs.leaving(vertex)
     }
@@ -173,7 +176,8 @@ impl NetGraph {
 fn judged_total(vertices: u32, edges: &[Edge], terminals: &[u32]) -> Result<u64, GraphFault>
     requires few_vertices { vertices ≤ 2500 }
     requires few_edges { length edges.now ≤ 4900 }
-    ensures ok { IfOk result (λ total. IsGraph (graph_of vertices edges.now terminals.now) × (total ≡ total_of (graph_of vertices edges.now terminals.now))) }
+    ensures ok { IfOk result (λ total. IsGraph (graph_of vertices edges.now terminals.now) ×
+        (total ≡ total_of (graph_of vertices edges.now terminals.now))) }
     ensures fault { IfErr result (IsFirstFault (graph_of vertices edges.now terminals.now)) }
 {
     if let Some(e) = first_loose_end(edges, vertices) {

@@ -84,8 +84,8 @@ pub fn reached(alloc: Global, graph: &NetGraph, set: &EdgeSet) -> Result<VertexS
     reached_from(alloc, graph, graph.root(), set)
 }
 
-// Whether each of the vertices is in the set.
-fn has_all(set: &VertexSet, vertices: &[u32]) -> bool
+/// Whether each of the vertices is in the set.
+pub fn has_all(set: &VertexSet, vertices: &[u32]) -> bool
     requires { All (λ v. v < length set.now) vertices.now }
     ensures { IsTrue result ↔ All (λ v. has set.now v ≡ true) vertices.now }
 {

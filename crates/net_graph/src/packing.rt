@@ -121,11 +121,11 @@ fn length_inside(edges: &[Edge], d: &Decision) -> u64
     sum
 }
 
-// The sum of the weights.
-fn total_weight(cuts: &[Cut]) -> u128
-    requires { length cuts.now ≤ 2 ^ 32 }
+/// The sum of the weights of cuts, below 2^127, and below 2^96 where there are at most 2^32 of them.
+pub fn total_weight(cuts: &[Cut]) -> u128
     ensures sum { result ≡ sum_by (λ c. c.weight) cuts.now }
-    ensures small { result < 2 ^ 96 }
+    ensures small { result < 2 ^ 127 }
+    ensures few { length cuts.now ≤ 2 ^ 32 → result < 2 ^ 96 }
 {
     let mut sum = 0;
     for cut in cuts {

@@ -11,6 +11,7 @@ use crate::sets::{EdgeSet, VertexSet};
 use std::alloc::{AllocError, Global};
 
 /// The root part of an edge set: its edges with an end that it joins to the root. An `Err` is want of memory.
+/// No tool asks for it: it shows what a decision speaks of.
 pub fn root_part(alloc: Global, g: &NetGraph, set: &EdgeSet) -> Result<EdgeSet, AllocError>
     requires { length set.now ≡ length g.now.edges }
     ensures size { IfOk result (λ part. length part ≡ length g.now.edges) }

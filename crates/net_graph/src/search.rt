@@ -36,7 +36,8 @@ pub fn reached_from<P: Passage>(
     requires start { start < graph.now.vertices }
     requires edges { P.edges passage.now ≡ length graph.now.edges }
     ensures size { IfOk result (λ marks. length marks ≡ graph.now.vertices) }
-    ensures reached { IfOk result (λ marks. (v : ℕ) → (has marks v ≡ true) ↔ Leads (OpenStep graph.now.edges (P.opens passage.now)) start v) }
+    ensures reached { IfOk result (λ marks. (v : ℕ) → (has marks v ≡ true) ↔
+        Leads (OpenStep graph.now.edges (P.opens passage.now)) start v) }
 {
     let found = found_from(alloc, graph, start, passage)?;
     Ok(found.into_set())
@@ -52,7 +53,8 @@ pub(crate) fn found_from<P: Passage>(
     requires start { start < graph.now.vertices }
     requires edges { P.edges passage.now ≡ length graph.now.edges }
     ensures size { IfOk result (λ found. found.size ≡ graph.now.vertices) }
-    ensures found { IfOk result (λ found. (v : ℕ) → Contains found.order v ↔ Leads (OpenStep graph.now.edges (P.opens passage.now)) start v) }
+    ensures found { IfOk result (λ found. (v : ℕ) → Contains found.order v ↔
+        Leads (OpenStep graph.now.edges (P.opens passage.now)) start v) }
 {
     let mut found = Found::nothing(alloc, graph.vertex_count())?;
     found.add(start);
@@ -103,7 +105,8 @@ fn add_next<P: Passage>(graph: &NetGraph, vertex: u32, passage: &P, found: &mut 
     requires edges { P.edges passage.now ≡ length graph.now.edges }
     requires size { found.old.size ≡ graph.now.vertices }
     ensures size { found.new.size ≡ found.old.size }
-    ensures more { Extends (λ w. (w < graph.now.vertices) × OpenStep graph.now.edges (P.opens passage.now) vertex w) found.old.order found.new.order }
+    ensures more { Extends (λ w. (w < graph.now.vertices) ×
+        OpenStep graph.now.edges (P.opens passage.now) vertex w) found.old.order found.new.order }
     ensures every { (w : ℕ) → OpenStep graph.now.edges (P.opens passage.now) vertex w → Contains found.new.order w }
 {
     for arc in graph.arcs_from(vertex) {

@@ -118,6 +118,13 @@ impl VertexSet {
         self.flags.has(n)
     }
 
+    /// Whether the vertex is in the set; one past its size isn't.
+    pub fn holds(&self, vertex: u32) -> bool
+        ensures { result ≡ has self.now vertex }
+    {
+        vertex < self.flags.len() && self.flags.has(vertex)
+    }
+
     /// Puts the vertex `n` into the set.
     pub fn add(&mut self, n: u32)
         requires { n < length self.old }

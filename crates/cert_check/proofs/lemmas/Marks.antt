@@ -1,13 +1,10 @@
 -- The marks of the edges that a set parts: which edges lie before the next mark and behind the last one.
-use Rattle.std.proofs.Common.{ℕ, ◌≡◌, ◌+◌, ◌-◌, ◌*◌, ◌/◌, ◌^◌, ◌<◌, ◌≤◌, Bool, List, ap, sym, subst, ◌∙◌, ⊎_elim, arith, w64}
+use Rattle.std.proofs.Common.{ℕ, ◌≡◌, ◌+◌, ◌-◌, ◌/◌, ◌^◌, ◌<◌, ◌≤◌, Bool, List, ap, sym, subst, ◌∙◌, arith, w64}
 use Rattle.std.specs.Int.{bit_at, trailing_zeros}
-use Rattle.std.proofs.Math.Nat.{div-div-eq-div-mul}
-use Rattle.std.proofs.lemmas.Nat.{pow-add, pow_pos, div_below}
-use Rattle.std.proofs.lemmas.Nat.Bits.{bit_at-zero, bit_at_above, bit_at-trailing_zeros}
-use Rattle.std.proofs.lemmas.Bool.{cases_lt}
+use Rattle.std.proofs.lemmas.Nat.Bits.{bit_at-zero, bit_at-trailing_zeros}
 use Rattle.net_graph.specs.Graph.{Graph}
+use Rattle.net_graph.specs.MarkLaws.{next_mark-below, marks_behind-below, bit_at-behind}
 use Rattle.cert_check.specs.Strips.{IsWhole, MarksParted}
-use Rattle.cert_check.proofs.lemmas.WordBits.{bit_at-shr}
 
 -- ---- the next mark
 
@@ -15,14 +12,7 @@ use Rattle.cert_check.proofs.lemmas.WordBits.{bit_at-shr}
 pub mark_within : (g : Graph) (members : List Bool) (marks n end : ℕ) → MarksParted g members marks n end → 0 < marks →
     marks < 2 ^ 64 →
     n + trailing_zeros w64 marks < end
-mark_within g members marks n end is some fits =
-    let lowest = bit_at-trailing_zeros w64 marks some fits in
-    ⊎_elim
-    (λ (below : n + trailing_zeros w64 marks < end). below)
-    (λ (above : end ≤ n + trailing_zeros w64 marks).
-    let none = bit_at_above marks (end - n) (trailing_zeros w64 marks) is.below (omega (arith, is.within)) in
-    absurd (omega (arith, none, lowest.1)))
-    (cases_lt (n + trailing_zeros w64 marks) end)
+mark_within g members marks n end is some fits = next_mark-below marks n end is.within is.below some fits
 
 -- the edges before it are whole
 pub whole_before : (g : Graph) (members : List Bool) (marks n end : ℕ) → MarksParted g members marks n end → 0 < marks →
@@ -40,18 +30,10 @@ pub marks_behind : (g : Graph) (members : List Bool) (marks n end gap : ℕ) →
     MarksParted g members (marks / 2 ^ gap / 2) (n + gap + 1) end
 marks_behind g members marks n end gap is inside = record {
   within = omega arith;
-  below =
-      let once : marks / 2 ^ gap / 2 ≡ marks / 2 ^ (gap + 1) =
-      div-div-eq-div-mul marks (2 ^ gap) 2 ∙ ap (λ m. marks / m) (sym (pow-add 2 gap 1)) in
-      let rest : end - n ≡ end - (n + gap + 1) + (gap + 1) = omega arith in
-      let room : 2 ^ (end - n) ≡ 2 ^ (end - (n + gap + 1)) * 2 ^ (gap + 1) =
-      ap (λ k. 2 ^ k) rest ∙ pow-add 2 (end - (n + gap + 1)) (gap + 1) in
-      rw once (div_below marks (2 ^ (gap + 1)) (2 ^ (end - (n + gap + 1))) (pow_pos (gap + 1)) (rw (← room) is.below));
+  below = marks_behind-below marks n end gap is.below inside;
   others = λ i low none.
-      let bit : bit_at (marks / 2 ^ gap / 2) i ≡ bit_at marks (gap + (1 + i)) =
-      bit_at-shr (marks / 2 ^ gap) 1 i ∙ bit_at-shr marks gap (1 + i) in
-      let at : n + (gap + (1 + i)) ≡ n + gap + 1 + i = omega arith in
-      subst (IsWhole g members) at (is.others (gap + (1 + i)) (omega arith) (sym bit ∙ none));
+      let at : n + (gap + 1 + i) ≡ n + gap + 1 + i = omega arith in
+      subst (IsWhole g members) at (is.others (gap + 1 + i) (omega arith) (sym (bit_at-behind marks gap i) ∙ none));
 }
 
 -- ---- behind the last mark
