@@ -1,12 +1,23 @@
 //! Rows of calls on lists of full Steiner trees. What a row gives and what comes of it: docs/ROWS.md.
 #![tactic(auto)]
 
+mod chosen;
+mod fitting;
+mod generated;
+mod network;
+mod places;
+mod proposal;
+
 use row_tables::{Call, Fault};
 use std::alloc::Global;
 
 /// Makes the call of a row, and writes what comes of it.
-pub fn answer(_alloc: Global, call: &Call, _answer: &mut String) -> Result<(), Fault> {
+pub fn answer(alloc: Global, call: &Call, answer: &mut String) -> Result<(), Fault> {
     match call.kind() {
+        "generated" => generated::generated(alloc, call, answer),
+        "chosen" => chosen::chosen(alloc, call, answer),
+        "network" => network::network(alloc, call, answer),
+        "proposal" => proposal::proposal(alloc, call, answer),
         _ => Err(Fault::UnknownSubject),
     }
 }
