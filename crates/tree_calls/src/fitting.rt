@@ -1,10 +1,9 @@
 //! Trees that fit the points of a row.
 
-ghost use Rattle.std.specs.Prelude.{◌≡◌, length, IfOk, IsTrue};
+ghost use Rattle.std.specs.Prelude.{◌≡◌, length, All, IfOk, IsTrue};
 ghost use Rattle.full_tree.specs.Form.{IsInForm};
 ghost use Rattle.full_tree.specs.Pieces.{code_length};
 ghost use Rattle.fst_concat.specs.Chosen.{HasMembersBelow};
-ghost use Rattle.tree_calls.specs.Fitting.{AreFitting};
 
 use fst_concat::trees_in_form_have_members;
 use full_tree::{Tree, TreeList, in_form, tree_length};
@@ -15,7 +14,9 @@ use std::alloc::Global;
 
 /// The trees under the key `trees`, each of which is in form among the terminals of a grid and has its length.
 pub fn fitting(alloc: Global, call: &Call, grid: &Grid) -> Result<TreeList, Fault>
-    ensures { IfOk result (AreFitting grid.now) }
+    ensures form { IfOk result (λ trees. All (λ tree. IsInForm grid.now tree.code) trees) }
+    ensures lengths { IfOk result (λ trees. All (λ tree. tree.length ≡ code_length grid.now tree.code) trees) }
+    ensures members { IfOk result (λ trees. All (HasMembersBelow (length grid.now)) trees) }
 {
     let trees = trees(alloc, call, "trees")?;
     if !are_fitting(grid, trees.as_slice()) {
@@ -26,7 +27,9 @@ pub fn fitting(alloc: Global, call: &Call, grid: &Grid) -> Result<TreeList, Faul
 
 // Whether all trees fit.
 fn are_fitting(grid: &Grid, trees: &[Tree]) -> bool
-    ensures { IsTrue result → AreFitting grid.now trees.now }
+    ensures form { IsTrue result → All (λ tree. IsInForm grid.now tree.code) trees.now }
+    ensures lengths { IsTrue result → All (λ tree. tree.length ≡ code_length grid.now tree.code) trees.now }
+    ensures members { IsTrue result → All (HasMembersBelow (length grid.now)) trees.now }
 {
     for tree in trees {
         if !is_fitting(grid, tree) {
