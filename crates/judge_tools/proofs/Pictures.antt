@@ -5,8 +5,8 @@ use Rattle.net_graph.specs.Network.{IsLowerBound}
 use Rattle.frame.specs.Outside.{Readable}
 use Rattle.frame.specs.Points.{grid_of_points}
 use Rattle.judge_tools.specs.declared.judge.Judgement.{Judgement}
-use Rattle.judge_tools.specs.declared.verdict_line.VerdictLine.TheVariants as said
-use Rattle.judge_tools.specs.Verdicts.{verdict_told}
+use Rattle.verdict_line.specs.declared.line.VerdictLine.TheVariants as said
+use Rattle.verdict_line.specs.Verdicts.{verdict_told}
 use Rattle.judge_tools.specs.CheckLaws.{shortest_where_optimal}
 use Rattle.judge_tools.specs.Judging.{FindsJudgement}
 use Rattle.judge_tools.specs.Plot.{plot_print, Plots}

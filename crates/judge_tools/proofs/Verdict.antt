@@ -1,5 +1,5 @@
 -- From the steps of the judge to what is found, and to how a run ends.
-use Rattle.std.proofs.Common.{ℕ, ◌≡◌, List, Some, None, Result, Ok, Err, refl, subst, arith}
+use Rattle.std.proofs.Common.{ℕ, ◌≡◌, List, Some, None, Result, Ok, Err, subst, arith}
 use Rattle.std.specs.Prelude.{OnErr}
 use Rattle.rst_outside.specs.Source.{SourceState}
 use Rattle.points_in.specs.declared.point.Point.{Point}
@@ -15,11 +15,8 @@ use Rattle.frame.specs.Points.{ReadsPointsFile}
 use Rattle.frame.specs.Taking.{IsWholeInput, IsInputFault}
 use Rattle.judge_tools.specs.declared.judge.TheConstants.{ANSWER_LIMIT}
 use Rattle.judge_tools.specs.declared.judge.CheckFault.TheVariants.{Input}
-use Rattle.judge_tools.specs.declared.judge.Judgement.{Judgement}
 use Rattle.judge_tools.specs.declared.judging.Judged.{Judged}
-use Rattle.judge_tools.specs.Verdicts.{line_print}
-use Rattle.judge_tools.specs.Judging.{finished_of, TellsVerdict, JudgesInput, IsCheckFault, FindsJudgement}
-use Rattle.judge_tools.specs.Check.{Checks}
+use Rattle.judge_tools.specs.Judging.{TellsVerdict, JudgesInput, IsCheckFault, FindsJudgement}
 
 -- what is found of the bytes of an input that was read to its end is found of the input
 pub judges_whole : (terminals : List Point) (before after : SourceState) (bytes : List ℕ)
@@ -36,13 +33,6 @@ pub found_judgement : (name : List ℕ) (before after : Readable) (grid : List P
 found_judgement name before after grid judged (ps, lists, is) found =
     let (bytes, whole, judges) = subst (λ h. JudgesInput h before.input after.input (Ok judged)) is found in
     (ps, bytes, record { points = lists; input = whole; judges = judges }, is)
-
--- the line of the verdict that was found
-pub found_line : (name : List ℕ) (before after : Readable) (judgement : Judgement) →
-    FindsJudgement name before after (Ok judgement) →
-    Checks name before after (Ok (line_print judgement.judged.line))
-found_line name before after judgement (ps, bytes, checked, is) =
-    (ps, bytes, finished_of judgement.judged, judgement.judged.line, checked, refl, refl)
 
 -- a fault of the input, where the file has a grid
 pub found_fault : (name : List ℕ) (before after : Readable) (grid : List Point) (fault : InputFault) →

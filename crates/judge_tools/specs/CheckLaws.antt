@@ -14,27 +14,33 @@ use Rattle.cert_check.specs.Accepted.{Accepts, IsAccepting}
 use Rattle.frame.specs.Statuses.{answer_code}
 use Rattle.frame.specs.Outside.{Outside}
 use Rattle.frame.specs.Points.{grid_of_points}
-use Rattle.judge_tools.specs.declared.verdict_line.VerdictLine.{VerdictLine}
-use Rattle.judge_tools.specs.declared.verdict_line.VerdictLine.TheVariants as said
-use Rattle.judge_tools.specs.Verdicts.{accepted_line, verdict_told, line_text, line_status}
+use Rattle.verdict_line.specs.declared.line.VerdictLine.{VerdictLine}
+use Rattle.verdict_line.specs.declared.line.VerdictLine.TheVariants as said
+use Rattle.verdict_line.specs.Verdicts.{accepted_line, verdict_told, line_text, line_status}
 use Rattle.judge_tools.specs.Judging.{IsChecked}
 use Rattle.judge_tools.specs.Truth.{ChecksTruly}
 
 -- The network of an accepted answer that says optimal is a shortest one.
-pub shortest_where_optimal : (terminals : List Point) (bytes : List ℕ) (answer : WrittenAnswer) (network : List Bool) (tree : Tree SplitOn) → Accepts terminals bytes answer network tree →
-    IsLowerBound (hanan_grid_of terminals) answer.head.bound → answer.head.optimal ≡ true → IsShortest (hanan_grid_of terminals) network
+pub shortest_where_optimal : (terminals : List Point) (bytes : List ℕ) (answer : WrittenAnswer) (network : List Bool)
+    (tree : Tree SplitOn) → Accepts terminals bytes answer network tree →
+    IsLowerBound (hanan_grid_of terminals) answer.head.bound → answer.head.optimal ≡ true →
+    IsShortest (hanan_grid_of terminals) network
 shortest_where_optimal terminals bytes answer network tree accepts below marked =
     let same : answer.head.bound ≡ answer.head.length = eqb-true answer.head.bound answer.head.length (sym accepts.status ∙ marked) in
     (accepts.joins, subst (λ b. IsLowerBound (hanan_grid_of terminals) b) (same ∙ accepts.plain_length) below)
 
 -- Where the line of the verdict was written, what it tells is true.
-pub checks_truly : (name : List ℕ) (before after : Outside) (ps : List Point) (bytes : List ℕ) (f : Finished) (line : VerdictLine) (status : ℕ) → f.verdict ≡ verdict_told line →
-    IsChecked name before.read after.read ps bytes f → Appended before.written.out.taken (line_text line) after.written.out.taken → status ≡ answer_code (line_status line) →
+pub checks_truly : (name : List ℕ) (before after : Outside) (ps : List Point) (bytes : List ℕ) (f : Finished)
+    (line : VerdictLine) (status : ℕ) → f.verdict ≡ verdict_told line →
+    IsChecked name before.read after.read ps bytes f →
+    Appended before.written.out.taken (line_text line) after.written.out.taken →
+    status ≡ answer_code (line_status line) →
     ChecksTruly name before after status
 checks_truly name before after ps bytes f (said.Accepted length bound optimal) status is checked told ends =
     let (answer, tree, accepts, length_is, bound_is, optimal_is) = checked.judges.accepted length bound optimal is in
     let line : accepted_line length bound optimal ≡ accepted_line answer.head.length answer.head.bound answer.head.optimal =
-    ap (λ l. accepted_line l bound optimal) length_is ∙ ap (λ b. accepted_line answer.head.length b optimal) bound_is ∙ ap (λ o. accepted_line answer.head.length answer.head.bound o) optimal_is in
+    ap (λ l. accepted_line l bound optimal) length_is ∙ ap (λ b. accepted_line answer.head.length b optimal) bound_is
+    ∙ ap (λ o. accepted_line answer.head.length answer.head.bound o) optimal_is in
     let below : IsLowerBound (grid_of_points ps) answer.head.bound =
     subst (λ b. IsLowerBound (grid_of_points ps) b) bound_is (checked.judges.bound length bound optimal is) in (
       ps,

@@ -20,7 +20,7 @@ use Rattle.judge_tools.specs.declared.judge.CheckFault.{CheckFault}
 use Rattle.judge_tools.specs.declared.judge.CheckFault.TheVariants.{Points, Input}
 use Rattle.judge_tools.specs.declared.judge.Judgement.{Judgement}
 use Rattle.judge_tools.specs.declared.judging.Judged.{Judged}
-use Rattle.judge_tools.specs.Verdicts.{verdict_told}
+use Rattle.verdict_line.specs.Verdicts.{verdict_told}
 
 -- The verdict on bytes for terminals, with what follows of it: of bytes that aren't too many it accepts exactly those
 -- that should be accepted, it says what the answer says, and no network of the grid is shorter than the bound.

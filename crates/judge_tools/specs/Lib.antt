@@ -1,4 +1,3 @@
-pub mod Verdicts
 pub mod Judging
 pub mod Check
 pub mod Truth

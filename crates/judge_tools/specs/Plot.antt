@@ -24,7 +24,7 @@ use Rattle.frame.specs.Points.{FileLists, grid_of_points}
 use Rattle.judge_tools.specs.declared.judge.TheConstants.{ANSWER_LIMIT}
 use Rattle.judge_tools.specs.declared.plotting.PlotFault.{PlotFault}
 use Rattle.judge_tools.specs.declared.plotting.PlotFault.TheVariants.{Unjudged, Refused}
-use Rattle.judge_tools.specs.Verdicts.{refusal}
+use Rattle.verdict_line.specs.Verdicts.{refusal}
 use Rattle.judge_tools.specs.Judging.{IsChecked, IsCheckFault}
 use Rattle.judge_tools.specs.Check.{check_fault_text, check_fault_status}
 

@@ -12,19 +12,20 @@ use Rattle.cert_check.specs.Accepted.{Accepts, IsAccepted}
 use Rattle.frame.specs.declared.take.TheConstants.{TEXT_LIMIT}
 use Rattle.frame.specs.Outside.{Outside}
 use Rattle.frame.specs.Points.{FileLists, grid_of_points}
-use Rattle.judge_tools.specs.Verdicts.{accepted_line}
+use Rattle.verdict_line.specs.Verdicts.{accepted_line}
 
--- `out` gained the line of an answer that is accepted, no network of the points' grid is shorter than its bound, and where it
--- says optimal its network is a shortest one.
+-- `out` gained the line of an answer that is accepted, no network of the points' grid is shorter than its bound, and
+-- where it says optimal its network is a shortest one.
 abbrev pub TellsAccepted : List Point → List ℕ → SinkState → SinkState → Type 0
 TellsAccepted ps bytes out out' =
-    (answer : WrittenAnswer) × (network : List Bool) × (tree : Tree SplitOn) × Accepts (terminals_of ps) bytes answer network tree
+    (answer : WrittenAnswer) × (network : List Bool) × (tree : Tree SplitOn)
+    × Accepts (terminals_of ps) bytes answer network tree
     × Appended out.taken (accepted_line answer.head.length answer.head.bound answer.head.optimal) out'.taken
     × IsLowerBound (grid_of_points ps) answer.head.bound
     × (answer.head.optimal ≡ true → IsShortest (grid_of_points ps) network)
 
--- The file lists points and the input was read to its end; the status is 0 exactly where its bytes are accepted as an answer
--- for the points, and then `out` gained the line that says so.
+-- The file lists points and the input was read to its end; the status is 0 exactly where its bytes are accepted as an
+-- answer for the points, and then `out` gained the line that says so.
 abbrev pub ChecksTruly : List ℕ → Outside → Outside → ℕ → Type 0
 ChecksTruly name before after status =
     (ps : List Point) × (bytes : List ℕ) × FileLists TEXT_LIMIT before.read.shelf name ps

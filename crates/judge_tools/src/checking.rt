@@ -4,14 +4,14 @@ ghost use Rattle.std.specs.Prelude.{◌≡◌, IfOk, OnErr};
 ghost use Rattle.frame.specs.Outside.{readable, outside};
 ghost use Rattle.frame.specs.Ends.{print_of};
 ghost use Rattle.frame.specs.Leaves.{LeavesFiles};
-ghost use Rattle.judge_tools.specs.Verdicts.{line_text, line_status};
+ghost use Rattle.verdict_line.specs.Verdicts.{line_text, line_status};
 ghost use Rattle.judge_tools.specs.Check.{Checks, EndsCheck};
 
 use crate::judge::{CheckFault, judge};
-use crate::verdict_line::VerdictLine;
 use frame::conclude;
 use rst_outside::{Shelf, Sink, Source};
 use std::alloc::{AllocError, Global};
+use verdict_line::VerdictLine;
 
 /// Runs `check`: reads the points of a file, then judges an answer as it comes from the input, and prints the line of
 /// the verdict. Gives the status that the program ends with. Memory is taken before the input is touched alone.

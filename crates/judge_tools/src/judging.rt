@@ -6,7 +6,6 @@ ghost use Rattle.frame.specs.Taking.{TakesSome};
 ghost use Rattle.judge_tools.specs.Judging.{TellsVerdict, JudgesInput};
 
 use crate::judge::ANSWER_LIMIT;
-use crate::verdict_line::VerdictLine;
 use cert_check::{Checker, Workroom};
 use frame::{InputFault, feed_input};
 use hanan_grid::Grid;
@@ -14,6 +13,7 @@ use net_graph::EdgeSet;
 use rst_outside::{Consumer, Source};
 use std::alloc::{AllocError, Global};
 use std::marker::{Brand, PhantomData};
+use verdict_line::VerdictLine;
 
 /// How many bytes of an answer are asked for at once.
 const BLOCK: usize = 1 << 16;

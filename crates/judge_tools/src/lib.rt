@@ -6,7 +6,6 @@ mod judge;
 mod judging;
 mod picture;
 mod plotting;
-mod verdict_line;
 
 pub use checking::check;
 pub use judge::{ANSWER_LIMIT, CheckFault};

@@ -11,12 +11,12 @@ ghost use Rattle.judge_tools.specs.Plot.{Plots, EndsPlot, plot_fault_text, plot_
 
 use crate::judge::{CheckFault, judge};
 use crate::picture::Picture;
-use crate::verdict_line::{VerdictLine, write_refusal};
 use cert_check::Cause;
 use frame::{Fault, FaultStatus, conclude};
 use rst_outside::{Shelf, Sink, Source};
 use std::alloc::{AllocError, Global};
 use text_out::Block;
+use verdict_line::{VerdictLine, write_refusal};
 
 /// Why `plot` refuses.
 #[derive(Clone, Copy, Debug, PartialEq, Eq)]

@@ -29,9 +29,9 @@ use Rattle.search_tools.specs.Solve.{Solves, EndsSolve}
 use Rattle.judge_tools.specs.declared.judge.TheConstants.{ANSWER_LIMIT}
 use Rattle.judge_tools.specs.declared.judge.CheckFault.{CheckFault}
 use Rattle.judge_tools.specs.declared.judge.CheckFault.TheVariants as check_fault
-use Rattle.judge_tools.specs.declared.verdict_line.VerdictLine.{VerdictLine}
-use Rattle.judge_tools.specs.declared.verdict_line.VerdictLine.TheVariants as said
-use Rattle.judge_tools.specs.Verdicts.{line_status}
+use Rattle.verdict_line.specs.declared.line.VerdictLine.{VerdictLine}
+use Rattle.verdict_line.specs.declared.line.VerdictLine.TheVariants as said
+use Rattle.verdict_line.specs.Verdicts.{line_status}
 use Rattle.judge_tools.specs.declared.plotting.PlotFault.{PlotFault}
 use Rattle.judge_tools.specs.declared.plotting.PlotFault.TheVariants as plot_fault
 use Rattle.judge_tools.specs.Check.{Checks, EndsCheck, check_fault_text, check_fault_status}

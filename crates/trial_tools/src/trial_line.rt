@@ -3,10 +3,10 @@
 ghost use Rattle.std.specs.Prelude.{◌≡◌};
 ghost use Rattle.rst_outside.specs.Sink.{Writes};
 ghost use Rattle.text_out.specs.Gathers.{Gathers};
-ghost use Rattle.cut_cert.specs.Text.{status_word};
 ghost use Rattle.trial_tools.specs.TrialLine.{answer_part, drawing_part, status_part, trial_text, trial_status};
 ghost use Rattle.trial_tools.specs.Steps.{line_of};
 
+use cut_cert::status_word;
 use frame::{Answer, AnswerStatus};
 use rst_outside::{PutFault, Sink};
 use search_tools::Solution;
@@ -116,12 +116,5 @@ fn write_status<O: Sink>(block: &mut Block, out: &mut O, optimal: bool)
     ensures { Gathers (O.state out.old) block.old (status_part optimal) (O.state out.new) block.new }
 {
     literal(block, out, b" ");
-    literal(block, out, word_of(optimal));
-}
-
-// The word of an answer's status.
-fn word_of(optimal: bool) -> &'static [u8]
-    ensures { result.now ≡ status_word optimal }
-{
-    if optimal { b"optimal" } else { b"stopped" }
+    literal(block, out, status_word(optimal));
 }

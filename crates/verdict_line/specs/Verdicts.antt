@@ -8,8 +8,8 @@ use Rattle.cert_check.specs.declared.verdict.Verdict.TheVariants as verdict
 use Rattle.frame.specs.declared.status.AnswerStatus.{AnswerStatus}
 use Rattle.frame.specs.declared.status.AnswerStatus.TheVariants as ends
 use Rattle.frame.specs.Ends.{Print}
-use Rattle.judge_tools.specs.declared.verdict_line.VerdictLine.{VerdictLine}
-use Rattle.judge_tools.specs.declared.verdict_line.VerdictLine.TheVariants.{Accepted, Refused}
+use Rattle.verdict_line.specs.declared.line.VerdictLine.{VerdictLine}
+use Rattle.verdict_line.specs.declared.line.VerdictLine.TheVariants.{Accepted, Refused}
 
 -- what is said of a line
 abbrev pub about_line : ℕ → List ℕ → List ℕ
@@ -29,7 +29,8 @@ about_decided line edge = about_line line (codes " decides edge ") ++ decimal ed
 
 -- what is said of a line whose cut loads an edge above its room
 abbrev pub about_load : ℕ → ℕ → ℕ → ℕ → List ℕ
-about_load line edge load room = about_line line (codes " loads edge ") ++ decimal edge ++ codes " with " ++ decimal load ++ codes " of " ++ decimal room
+about_load line edge load room = about_line line (codes " loads edge ") ++ decimal edge
+    ++ codes " with " ++ decimal load ++ codes " of " ++ decimal room
 
 -- why an answer is refused
 abbrev pub cause_text : Cause → List ℕ
@@ -48,7 +49,8 @@ cause_text WrongStatus = codes "status"
 
 -- what is said of an answer that is accepted
 abbrev pub accepted_line : ℕ → ℕ → Bool → List ℕ
-accepted_line length bound optimal = codes "accepted length " ++ decimal length ++ codes " bound " ++ decimal bound ++ codes " " ++ status_word optimal ++ codes "\n"
+accepted_line length bound optimal = codes "accepted length " ++ decimal length ++ codes " bound " ++ decimal bound
+    ++ codes " " ++ status_word optimal ++ codes "\n"
 
 -- what is said of an answer that is refused: without the line feed, and as a line
 abbrev pub refusal : Cause → List ℕ

@@ -1,12 +1,13 @@
-//! The line that tells a verdict.
+//! The line of a verdict.
 
 ghost use Rattle.std.specs.Prelude.{◌≡◌, IfSome, IfNone};
 ghost use Rattle.rst_outside.specs.Sink.{Writes};
 ghost use Rattle.text_out.specs.Gathers.{Gathers};
-ghost use Rattle.cut_cert.specs.Text.{status_word};
-ghost use Rattle.judge_tools.specs.Verdicts.{accepted_line, cause_text, refusal, refused_line, about_line, about_point, about_number, about_decided, about_load, verdict_told, line_text, line_status};
+ghost use Rattle.verdict_line.specs.Verdicts.{accepted_line, refused_line, verdict_told, line_text, line_status};
 
+use crate::cause::write_refusal;
 use cert_check::{Cause, Verdict};
+use cut_cert::status_word;
 use frame::{Answer, AnswerStatus};
 use rst_outside::{PutFault, Sink};
 use text_out::{Block, finish, literal, number};
@@ -26,7 +27,7 @@ pub enum VerdictLine {
 
 impl VerdictLine {
     /// The line that tells a verdict. None where the answer is too long.
-    pub(crate) fn of(verdict: Verdict) -> Option<VerdictLine>
+    pub fn of(verdict: Verdict) -> Option<VerdictLine>
         ensures line { IfSome result (λ line. verdict ≡ verdict_told line) }
         ensures none { IfNone result (verdict ≡ Verdict.TooLong) }
     {
@@ -101,15 +102,8 @@ fn write_accepted<O: Sink>(block: &mut Block, out: &mut O, length: u64, bound: u
     literal(block, out, b" bound ");
     number(block, out, bound);
     literal(block, out, b" ");
-    literal(block, out, word_of(optimal));
+    literal(block, out, status_word(optimal));
     literal(block, out, b"\n");
-}
-
-// The word of an answer's status.
-fn word_of(optimal: bool) -> &'static [u8]
-    ensures { result.now ≡ status_word optimal }
-{
-    if optimal { b"optimal" } else { b"stopped" }
 }
 
 // The line of an answer that is refused.
@@ -119,112 +113,4 @@ fn write_refused<O: Sink>(block: &mut Block, out: &mut O, cause: Cause)
 {
     write_refusal(block, out, cause);
     literal(block, out, b"\n");
-}
-
-/// Writes what is said of an answer that is refused, without the line feed.
-#[tactic(auto, using(text_out::specs::GatherLaws::pieces))]
-pub(crate) fn write_refusal<O: Sink>(block: &mut Block, out: &mut O, cause: Cause)
-    ensures { Gathers (O.state out.old) block.old (refusal cause) (O.state out.new) block.new }
-{
-    literal(block, out, b"refused ");
-    write_cause(block, out, cause);
-}
-
-// Why an answer is refused.
-fn write_cause<O: Sink>(block: &mut Block, out: &mut O, cause: Cause)
-    ensures { Gathers (O.state out.old) block.old (cause_text cause) (O.state out.new) block.new }
-{
-    match cause {
-        Cause::NotAnswer(line) => write_about_line(block, out, line, b" is not in the format"),
-        Cause::OffGrid(line) => write_about_line(block, out, line, b" names no grid edge"),
-        Cause::EdgeOrder(line) => write_about_line(block, out, line, b" is out of order"),
-        Cause::NotJoined(point) => write_about_point(block, out, point),
-        Cause::WrongLength { printed, found } => {
-            write_about_number(block, out, b"length", printed, found)
-        }
-        Cause::Decided { line, edge } => write_about_decided(block, out, line, edge),
-        Cause::TooDeep(line) => write_about_line(block, out, line, b" is split 256"),
-        Cause::RootInCut(line) => write_about_line(block, out, line, b" has the root in its cut"),
-        Cause::IdleCut(line) => {
-            write_about_line(block, out, line, b" cuts off no required vertex")
-        }
-        Cause::Overload {
-            line,
-            edge,
-            load,
-            room,
-        } => write_about_load(block, out, line, edge, load, room),
-        Cause::WrongBound { printed, found } => {
-            write_about_number(block, out, b"bound", printed, found)
-        }
-        Cause::WrongStatus => literal(block, out, b"status"),
-    }
-}
-
-// What is said of a line.
-#[tactic(auto, using(text_out::specs::GatherLaws::pieces))]
-fn write_about_line<O: Sink>(block: &mut Block, out: &mut O, line: u64, fault: &[u8])
-    ensures { Gathers (O.state out.old) block.old (about_line line fault.now) (O.state out.new) block.new }
-{
-    literal(block, out, b"line ");
-    number(block, out, line);
-    literal(block, out, fault);
-}
-
-// What is said of a point that isn't joined.
-#[tactic(auto, using(text_out::specs::GatherLaws::pieces))]
-fn write_about_point<O: Sink>(block: &mut Block, out: &mut O, point: u8)
-    ensures { Gathers (O.state out.old) block.old (about_point point) (O.state out.new) block.new }
-{
-    literal(block, out, b"point ");
-    number(block, out, point);
-    literal(block, out, b" is not joined");
-}
-
-// What is said of a number that the answer tells wrongly.
-#[tactic(auto, using(text_out::specs::GatherLaws::pieces))]
-fn write_about_number<O: Sink>(
-    block: &mut Block,
-    out: &mut O,
-    name: &[u8],
-    printed: u64,
-    found: u64,
-)
-    ensures { Gathers (O.state out.old) block.old (about_number name.now printed found) (O.state out.new) block.new }
-{
-    literal(block, out, name);
-    literal(block, out, b" says ");
-    number(block, out, printed);
-    literal(block, out, b", found ");
-    number(block, out, found);
-}
-
-// What is said of a line that decides an edge which a split above it decides.
-#[tactic(auto, using(text_out::specs::GatherLaws::pieces))]
-fn write_about_decided<O: Sink>(block: &mut Block, out: &mut O, line: u64, edge: u32)
-    ensures { Gathers (O.state out.old) block.old (about_decided line edge) (O.state out.new) block.new }
-{
-    write_about_line(block, out, line, b" decides edge ");
-    number(block, out, edge);
-    literal(block, out, b" again");
-}
-
-// What is said of a line whose cut loads an edge above its room.
-#[tactic(auto, using(text_out::specs::GatherLaws::pieces))]
-fn write_about_load<O: Sink>(
-    block: &mut Block,
-    out: &mut O,
-    line: u64,
-    edge: u32,
-    load: u128,
-    room: u64,
-)
-    ensures { Gathers (O.state out.old) block.old (about_load line edge load room) (O.state out.new) block.new }
-{
-    write_about_line(block, out, line, b" loads edge ");
-    number(block, out, edge);
-    literal(block, out, b" with ");
-    number(block, out, load);
-    literal(block, out, b" of ");
-    number(block, out, room);
 }

@@ -3,7 +3,7 @@ use Rattle.std.proofs.Common.{◌≡◌, codes}
 use Rattle.frame.specs.Outside.{writable, outside}
 use Rattle.frame.specs.Leaves.{LeavesFiles}
 use Rattle.frame.specs.EndLaws.{ends_with}
-use Rattle.judge_tools.specs.Verdicts.{line_text, line_status}
+use Rattle.verdict_line.specs.Verdicts.{line_text, line_status}
 use Rattle.judge_tools.specs.Check.{Checks, check_fault_text, check_fault_status}
 use Rattle.judge_tools.proofs.Verdict.{without_memory}
 use Rattle.judge_tools.proofs.checking.check.Goals as goal

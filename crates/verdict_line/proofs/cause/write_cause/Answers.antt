@@ -1,5 +1,5 @@
 -- In each arm the text of the cause is the one that was written.
-use Rattle.judge_tools.proofs.verdict_line.write_cause.Goals as goal
+use Rattle.verdict_line.proofs.cause.write_cause.Goals as goal
 
 pub returns-in-OffGrid : goal.returns-in-OffGrid
 returns-in-OffGrid g c = rw c.in-OffGrid.is c.write_about_line-in-OffGrid.ensures
