@@ -19,6 +19,10 @@ use tree_inputs::spelled_has_no_fault;
 use tree_tools::{dumpfst, fst2graph, prunefst, rfst};
 use trial_tools::trial;
 
+/// What is said where the words ask for no tool.
+const USAGE_LINE: &[u8] =
+    b"usage: rst points|stp2points|rfst|prunefst|bb|solve|check|dumpfst|fst2graph|plot|trial [WORDS]\n";
+
 /// Runs the tool that the words after the program's name ask for, and gives the status that the program ends with.
 ///
 /// The order of work is: words, the file that they name, input (read to its end), computing, writing. Statuses and texts
@@ -119,10 +123,7 @@ fn answer<I: Source, O: Sink, R: Sink, S: Shelf>(
             trial(alloc, drawing.count, drawing.seed, out, err)
         }
         None => {
-            report(
-                err,
-                b"usage: rst points|stp2points|rfst|prunefst|bb|solve|check|dumpfst|fst2graph|plot|trial [WORDS]\n",
-            );
+            report(err, USAGE_LINE);
             MISUSED
         }
     }
