@@ -1,6 +1,7 @@
 //! Searches by splits, whole and step by step, and networks of saturated arcs.
 
 ghost use Rattle.std.specs.Prelude.{◌<◌, length};
+ghost use Rattle.dual_ascent.specs.Choosing.{IsCallableOnSome, AnswersAPlace};
 
 use crate::asked::{ascent_rule, network, small, split_rule};
 use crate::telling::{tell_edges, tell_solved};
@@ -16,19 +17,37 @@ use std::alloc::Global;
 pub fn search(alloc: Global, call: &Call, answer: &mut String) -> Result<(), Fault> {
     let ascents = ascent_rule(call)?;
     let splits = split_rule(call)?;
-    let g = graph(alloc, call)?;
-    let ascent = Chooser::new(
+    search_by(
+        alloc,
+        call,
         |list: &[Candidate]| -> usize
             requires { 0 < length list.now }
             ensures { result < length list.now }
         { ascent_place(ascents, list) },
-    );
-    let split = Chooser::new(
         |list: &[Candidate]| -> usize
             requires { 0 < length list.now }
             ensures { result < length list.now }
         { split_place(splits, list) },
-    );
+        answer,
+    )
+}
+
+// The same by any rules.
+fn search_by<F: Rule, G: Rule>(
+    alloc: Global,
+    call: &Call,
+    ascent: F,
+    split: G,
+    answer: &mut String,
+) -> Result<(), Fault>
+    requires ascent_callable { IsCallableOnSome (F.may_choose ascent) }
+    requires ascent_place { AnswersAPlace (F.chooses ascent) }
+    requires split_callable { IsCallableOnSome (G.may_choose split) }
+    requires split_place { AnswersAPlace (G.chooses split) }
+{
+    let g = graph(alloc, call)?;
+    let ascent = Chooser::new(ascent);
+    let split = Chooser::new(split);
     match call.kind() {
         "solve" => solve(alloc, call, &g, ascent, split, answer),
         "steps" => steps(alloc, call, &g, ascent, split, answer),
