@@ -32,7 +32,12 @@ pub fn ascents(alloc: Global, call: &Call, answer: &mut String) -> Result<(), Fa
 }
 
 // The same by any rule.
-fn tell_ascent<F: Rule>(alloc: Global, call: &Call, answer: &mut String, rule: F) -> Result<(), Fault>
+fn tell_ascent<F: Rule>(
+    alloc: Global,
+    call: &Call,
+    answer: &mut String,
+    rule: F,
+) -> Result<(), Fault>
     requires callable { IsCallableOnSome (F.may_choose rule) }
     requires place { AnswersAPlace (F.chooses rule) }
 {
@@ -53,7 +58,10 @@ fn tell_ascent<F: Rule>(alloc: Global, call: &Call, answer: &mut String, rule: F
         writeln!(answer, "carried")?;
         tell_cuts(answer, &kept)?;
         writeln!(answer, "on")?;
-        tell_cuts(answer, &ascend_with(alloc, &g, &now, kept, costs, &chooser)?.packing)?;
+        tell_cuts(
+            answer,
+            &ascend_with(alloc, &g, &now, kept, costs, &chooser)?.packing,
+        )?;
     }
     Ok(())
 }

@@ -36,5 +36,9 @@ pub fn ways(alloc: Global, call: &Call, answer: &mut String) -> Result<(), Fault
         edges: g.edge_count(),
     };
     tell_vertices(answer, "reached", &reached_from(alloc, &g, v, &way)?)?;
-    tell_vertices(answer, "leading", found_leading_to(alloc, &g, v, &way)?.set())
+    tell_vertices(
+        answer,
+        "leading",
+        found_leading_to(alloc, &g, v, &way)?.set(),
+    )
 }

@@ -35,7 +35,10 @@ pub fn fours(alloc: Global, call: &Call, answer: &mut String) -> Result<(), Faul
     let mut set = VertexSet::empty(alloc, size)?;
     for line in call.text("fours")?.lines() {
         match small_numbers(alloc, line)?.as_slice() {
-            [place, value] if *value < 16 && *place < size / 4 => set.add_four(*place, *value as u8),
+            [place, value] if *value < 16 && *place < size / 4 => set.add_four(
+                *place,
+                *value as u8,
+            ),
             _ => return Err(Fault::NotAllowed),
         }
     }
