@@ -1,12 +1,17 @@
 //! Ascents and choices, by a rule that a word names.
 
-ghost use Rattle.std.specs.Prelude.{◌<◌, length};
+ghost use Rattle.std.specs.Prelude.{◌≡◌, ◌<◌, length, IfOk};
+ghost use Rattle.net_graph.specs.Decision.{IsDecisionFor, states_of};
+ghost use Rattle.net_graph.specs.Packing.{IsFeasible};
+ghost use Rattle.dual_ascent.specs.Costs.{costs_of};
 ghost use Rattle.dual_ascent.specs.Choosing.{IsCallableOnSome, AnswersAPlace};
 
 use crate::described::{decided, decision, graph, narrow};
 use crate::rules::{RowRule, place_by, rule};
 use crate::told::tell_cuts;
-use dual_ascent::{Ascent, Candidate, Chooser, Rule, ascend, ascend_with, carry, carry_costs};
+use dual_ascent::{
+    Ascent, Candidate, Chooser, ReducedCosts, Rule, ascend, ascend_with, carry, carry_costs,
+};
 use net_graph::{Decision, NetGraph, Packing};
 use row_tables::{Call, Fault, numbers};
 use std::alloc::Global;
@@ -47,23 +52,82 @@ fn tell_ascent<F: Rule>(
     let ascent = ascend(alloc, &g, &d, Packing::empty(alloc), &chooser)?;
     tell_cuts(answer, &ascent.packing)?;
     if ascent.closed {
-        writeln!(answer, "closed")?;
-    } else if call.has("more") {
-        let now = decided(alloc, &g, &d, call.text("more")?.trim_end())?;
-        let kept = carry(alloc, &g, &d, &now, &ascent.packing)?;
-        let costs = carry_costs(alloc, &g, &d, &now, &ascent.packing, &ascent.costs, &kept)?;
-        if kept.len() > 2 * g.edge_count() as usize {
-            return Err(Fault::NotAllowed);
-        }
-        writeln!(answer, "carried")?;
-        tell_cuts(answer, &kept)?;
-        writeln!(answer, "on")?;
-        tell_cuts(
-            answer,
-            &ascend_with(alloc, &g, &now, kept, costs, &chooser)?.packing,
-        )?;
+        return Ok(writeln!(answer, "closed")?);
+    }
+    if call.has("more") {
+        let line = call.text("more")?.trim_end();
+        let kept = carried(alloc, &g, &d, line, &ascent)?;
+        tell_carried(alloc, &g, kept, &chooser, answer)?;
     }
     Ok(())
+}
+
+// What is carried to a further decision, and what it leaves of the rooms there.
+#[derive(Drop)]
+struct FurtherStart {
+    decision: Decision,
+    packing: Packing,
+    costs: ReducedCosts,
+}
+
+// What an ascent carries to the decision with one more step, which a line says.
+fn carried(
+    alloc: Global,
+    g: &NetGraph,
+    d: &Decision,
+    line: &str,
+    ascent: &Ascent,
+) -> Result<FurtherStart, Fault>
+    requires decision { IsDecisionFor g.now d.now }
+    requires feasible { IsFeasible g.now d.now ascent.now.packing }
+    requires costs { ascent.now.costs ≡ costs_of g.now.edges (states_of g.now d.now) ascent.now.packing }
+    ensures decision { IfOk result (λ c. IsDecisionFor g.now c.decision) }
+    ensures feasible { IfOk result (λ c. IsFeasible g.now c.decision c.packing) }
+    ensures costs { IfOk result (λ c. c.costs ≡ costs_of g.now.edges (states_of g.now c.decision) c.packing) }
+{
+    let decision = decided(alloc, g, d, line)?;
+    let packing = carry(alloc, g, d, &decision, &ascent.packing)?;
+    let costs = carry_costs(
+        alloc,
+        g,
+        d,
+        &decision,
+        &ascent.packing,
+        &ascent.costs,
+        &packing,
+    )?;
+    Ok(FurtherStart {
+        decision,
+        packing,
+        costs,
+    })
+}
+
+// Tells of it, and of the ascent that goes on with it.
+fn tell_carried<F: Rule>(
+    alloc: Global,
+    g: &NetGraph,
+    carried: FurtherStart,
+    chooser: &Chooser<F>,
+    answer: &mut String,
+) -> Result<(), Fault>
+    requires decision { IsDecisionFor g.now carried.decision }
+    requires feasible { IsFeasible g.now carried.decision carried.packing }
+    requires costs { carried.costs ≡ costs_of g.now.edges (states_of g.now carried.decision) carried.packing }
+{
+    let FurtherStart {
+        decision,
+        packing,
+        costs,
+    } = carried;
+    if packing.len() > 2 * g.edge_count() as usize {
+        return Err(Fault::NotAllowed);
+    }
+    writeln!(answer, "carried")?;
+    tell_cuts(answer, &packing)?;
+    writeln!(answer, "on")?;
+    let ascent = ascend_with(alloc, g, &decision, packing, costs, chooser)?;
+    tell_cuts(answer, &ascent.packing)
 }
 
 /// The place of the candidate that the rule under `rule` chooses, once it is kept. Each line under `candidates` has the number

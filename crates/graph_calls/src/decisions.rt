@@ -3,10 +3,11 @@
 ghost use Rattle.std.specs.Prelude.{◌≡◌, ◌≤◌, ◌^◌, length};
 
 use crate::described::{decision, graph, packing};
+use crate::told::tell_vertices;
 use dual_ascent::maximal;
-use net_graph::{feasible, required, value, vertex_undecided};
+use net_graph::{Decision, NetGraph, VertexSet, feasible, required, value, vertex_undecided};
 use row_tables::{Call, Fault};
-use std::alloc::Global;
+use std::alloc::{AllocError, Global};
 
 /// What a copy of the decision under `decided` says of a graph: the states of the edges, and which vertices are required
 /// and which undecided.
@@ -16,19 +17,30 @@ pub fn decision_told(alloc: Global, call: &Call, answer: &mut String) -> Result<
     for state in &d.states(alloc, &g)? {
         writeln!(answer, "{state:?}")?;
     }
-    write!(answer, "required")?;
-    for v in 0..g.vertex_count() {
-        if required(&g, &d, v) {
-            write!(answer, " {v}")?;
+    tell_vertices(answer, "required", &required_vertices(alloc, &g, &d)?)?;
+    tell_vertices(answer, "undecided", &undecided_vertices(alloc, &g, &d)?)
+}
+
+// The vertices that are required.
+fn required_vertices(alloc: Global, g: &NetGraph, d: &Decision) -> Result<VertexSet, AllocError> {
+    let mut set = VertexSet::empty(alloc, g.vertex_count())?;
+    for v in 0..set.len() {
+        if required(g, d, v) && v < set.len() {
+            set.add(v);
         }
     }
-    write!(answer, "\nundecided")?;
+    Ok(set)
+}
+
+// The vertices that are undecided.
+fn undecided_vertices(alloc: Global, g: &NetGraph, d: &Decision) -> Result<VertexSet, AllocError> {
+    let mut set = VertexSet::empty(alloc, g.vertex_count())?;
     for v in 0..g.vertex_count() {
-        if vertex_undecided(&g, &d, v) {
-            write!(answer, " {v}")?;
+        if vertex_undecided(g, d, v) && v < set.len() {
+            set.add(v);
         }
     }
-    Ok(writeln!(answer)?)
+    Ok(set)
 }
 
 /// What is told of a copy of the packing under `cuts`, under the decision of `decided`: whether it is feasible, its value,
