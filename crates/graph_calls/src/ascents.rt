@@ -1,6 +1,6 @@
 //! Ascents and choices, by a rule that a word names.
 
-ghost use Rattle.std.specs.Prelude.{◌≡◌, ◌<◌, length, IfOk};
+ghost use Rattle.std.specs.Prelude.{◌≡◌, ◌<◌, false, length, IfOk};
 ghost use Rattle.net_graph.specs.Decision.{IsDecisionFor, states_of};
 ghost use Rattle.net_graph.specs.Packing.{IsFeasible};
 ghost use Rattle.dual_ascent.specs.Costs.{costs_of};
@@ -14,7 +14,7 @@ use dual_ascent::{
 };
 use net_graph::{Decision, NetGraph, Packing};
 use row_tables::{Call, Fault, numbers};
-use std::alloc::Global;
+use std::alloc::{AllocError, Global};
 
 /// For each word under `rule`: the cuts of the ascent from no cut by this rule, under the decision of `decided`, and whether
 /// it is closed. With one more step of the decision under `more`: the cuts that are carried to that decision too, and those
@@ -49,17 +49,63 @@ fn tell_ascent<F: Rule>(
     let g = graph(alloc, call)?;
     let d = decision(alloc, call, &g)?;
     let chooser = Chooser::new(rule);
-    let ascent = ascend(alloc, &g, &d, Packing::empty(alloc), &chooser)?;
+    tell_ascent_under(alloc, call, &g, &d, &chooser, answer)
+}
+
+// The same under a decision.
+fn tell_ascent_under<F: Rule>(
+    alloc: Global,
+    call: &Call,
+    g: &NetGraph,
+    d: &Decision,
+    chooser: &Chooser<F>,
+    answer: &mut String,
+) -> Result<(), Fault>
+    requires { IsDecisionFor g.now d.now }
+{
+    let ascent = ascent_from_none(alloc, g, d, chooser)?;
     tell_cuts(answer, &ascent.packing)?;
+    tell_rest(alloc, call, g, d, &ascent, chooser, answer)
+}
+
+// What is told behind the cuts of an ascent.
+fn tell_rest<F: Rule>(
+    alloc: Global,
+    call: &Call,
+    g: &NetGraph,
+    d: &Decision,
+    ascent: &Ascent,
+    chooser: &Chooser<F>,
+    answer: &mut String,
+) -> Result<(), Fault>
+    requires decision { IsDecisionFor g.now d.now }
+    requires feasible { IsFeasible g.now d.now ascent.now.packing }
+    requires costs { ascent.now.closed ≡ false
+        → ascent.now.costs ≡ costs_of g.now.edges (states_of g.now d.now) ascent.now.packing }
+{
     if ascent.closed {
         return Ok(writeln!(answer, "closed")?);
     }
-    if call.has("more") {
-        let line = call.text("more")?.trim_end();
-        let kept = carried(alloc, &g, &d, line, &ascent)?;
-        tell_carried(alloc, &g, kept, &chooser, answer)?;
+    if !call.has("more") {
+        return Ok(());
     }
-    Ok(())
+    let further = carried(alloc, g, d, call.text("more")?, ascent)?;
+    tell_carried(alloc, g, further, chooser, answer)
+}
+
+// The ascent from no cut.
+fn ascent_from_none<F: Rule>(
+    alloc: Global,
+    g: &NetGraph,
+    d: &Decision,
+    chooser: &Chooser<F>,
+) -> Result<Ascent, AllocError>
+    requires decision { IsDecisionFor g.now d.now }
+    ensures feasible { IfOk result (λ a. IsFeasible g.now d.now a.packing) }
+    ensures costs { IfOk result (λ a. a.closed ≡ false
+        → a.costs ≡ costs_of g.now.edges (states_of g.now d.now) a.packing) }
+{
+    ascend(alloc, g, d, Packing::empty(alloc), chooser)
 }
 
 // What is carried to a further decision, and what it leaves of the rooms there.

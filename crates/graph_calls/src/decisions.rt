@@ -1,11 +1,14 @@
 //! Decisions, and packings under them.
 
-ghost use Rattle.std.specs.Prelude.{◌≡◌, ◌≤◌, ◌^◌, length};
+ghost use Rattle.std.specs.Prelude.{◌≡◌, length, All};
+ghost use Rattle.net_graph.specs.Decision.{IsDecisionFor};
 
 use crate::described::{decision, graph, packing};
 use crate::told::tell_vertices;
 use dual_ascent::maximal;
-use net_graph::{Decision, NetGraph, VertexSet, feasible, required, value, vertex_undecided};
+use net_graph::{
+    Decision, NetGraph, Packing, VertexSet, feasible, required, value, vertex_undecided,
+};
 use row_tables::{Call, Fault};
 use std::alloc::{AllocError, Global};
 
@@ -14,11 +17,19 @@ use std::alloc::{AllocError, Global};
 pub fn decision_told(alloc: Global, call: &Call, answer: &mut String) -> Result<(), Fault> {
     let g = graph(alloc, call)?;
     let d = decision(alloc, call, &g)?.copy()?;
-    for state in &d.states(alloc, &g)? {
-        writeln!(answer, "{state:?}")?;
-    }
+    tell_states(alloc, &g, &d, answer)?;
     tell_vertices(answer, "required", &required_vertices(alloc, &g, &d)?)?;
     tell_vertices(answer, "undecided", &undecided_vertices(alloc, &g, &d)?)
+}
+
+// Tells of the states of the edges.
+fn tell_states(alloc: Global, g: &NetGraph, d: &Decision, answer: &mut String) -> Result<(), Fault>
+    requires { IsDecisionFor g.now d.now }
+{
+    for state in &d.states(alloc, g)? {
+        writeln!(answer, "{state:?}")?;
+    }
+    Ok(())
 }
 
 // The vertices that are required.
@@ -49,10 +60,24 @@ pub fn packing_told(alloc: Global, call: &Call, answer: &mut String) -> Result<(
     let g = graph(alloc, call)?;
     let d = decision(alloc, call, &g)?;
     let p = packing(alloc, call, &g, "cuts")?.copy()?;
+    tell_packing(alloc, &g, &d, &p, answer)
+}
+
+// What is told of the packing.
+fn tell_packing(
+    alloc: Global,
+    g: &NetGraph,
+    d: &Decision,
+    p: &Packing,
+    answer: &mut String,
+) -> Result<(), Fault>
+    requires decision { IsDecisionFor g.now d.now }
+    requires members { All (λ c. length c.members ≡ g.now.vertices) p.now }
+{
     if p.len() > 1 << 32 {
         return Err(Fault::NotAllowed);
     }
-    writeln!(answer, "feasible {}", feasible(alloc, &g, &d, &p)?)?;
-    writeln!(answer, "value {}", value(&g, &d, &p))?;
-    Ok(writeln!(answer, "maximal {}", maximal(alloc, &g, &d, &p)?)?)
+    writeln!(answer, "feasible {}", feasible(alloc, g, d, p)?)?;
+    writeln!(answer, "value {}", value(g, d, p))?;
+    Ok(writeln!(answer, "maximal {}", maximal(alloc, g, d, p)?)?)
 }

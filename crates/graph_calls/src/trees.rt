@@ -2,15 +2,15 @@
 
 ghost use Rattle.std.specs.Prelude.{◌<◌, length, IfOk};
 ghost use Rattle.net_graph.specs.Decision.{nothing_decided};
-ghost use Rattle.cert_tree.specs.Preorder.{nodes_of, packings_of};
+ghost use Rattle.cert_tree.specs.Preorder.{packings_of};
 ghost use Rattle.cert_tree.specs.Decisions.{HasUndecidedSplits};
 
 use crate::described::{graph, only, packing};
 use crate::told::tell_cuts;
 use cert_tree::{CertTree, SplitOn};
-use net_graph::{Decision, EdgeState, NetGraph, Packing};
+use net_graph::{EdgeState, NetGraph, Packing};
 use row_tables::{Call, Fault};
-use std::alloc::Global;
+use std::alloc::{AllocError, Global};
 
 /// A certificate tree of one split, on the edge under `split`, whose children have the packings under `outside` and `inside`:
 /// how many splits and leaves it has, its nodes, its value, and of each leaf its cuts and the state of the edge.
@@ -23,17 +23,68 @@ pub fn tree(alloc: Global, call: &Call, answer: &mut String) -> Result<(), Fault
     let outside = packing(alloc, call, &g, "outside")?;
     let inside = packing(alloc, call, &g, "inside")?;
     let tree = split_tree(alloc, &g, e, outside, inside)?;
-    writeln!(answer, "splits {}, leaves {}", tree.splits(), tree.leaves())?;
+    tell_tree(alloc, &g, e, &tree, answer)
+}
+
+// What is told of the tree.
+fn tell_tree(
+    alloc: Global,
+    g: &NetGraph,
+    e: u32,
+    tree: &CertTree,
+    answer: &mut String,
+) -> Result<(), Fault>
+    requires edge { e < length g.now.edges }
+    requires splits { HasUndecidedSplits g.now (nothing_decided g.now) tree.now }
+{
+    tell_shape(answer, tree)?;
+    writeln!(answer, "value {}", tree.value(g))?;
+    tell_leaves(alloc, g, e, tree, answer)
+}
+
+// Tells of the nodes.
+fn tell_shape(answer: &mut String, tree: &CertTree) -> Result<(), Fault> {
+    let (splits, leaves) = (tree.splits(), tree.leaves());
+    writeln!(answer, "splits {splits}, leaves {leaves}")?;
     for node in tree.nodes() {
         writeln!(answer, "{node:?}")?;
     }
-    writeln!(answer, "value {}", tree.value(&g))?;
+    Ok(())
+}
+
+// Tells of each leaf the state of the edge, and the cuts.
+fn tell_leaves(
+    alloc: Global,
+    g: &NetGraph,
+    e: u32,
+    tree: &CertTree,
+    answer: &mut String,
+) -> Result<(), Fault>
+    requires edge { e < length g.now.edges }
+    requires splits { HasUndecidedSplits g.now (nothing_decided g.now) tree.now }
+{
     for leaf in 0..tree.leaves() {
-        let state = tree.decision_of(alloc, &g, leaf)?.state(&g, e);
+        let state = state_at(alloc, g, e, tree, leaf)?;
         writeln!(answer, "leaf {leaf} {state:?}")?;
         tell_cuts(answer, tree.packing(leaf))?;
     }
     Ok(())
+}
+
+// The state of the edge at a leaf.
+fn state_at(
+    alloc: Global,
+    g: &NetGraph,
+    e: u32,
+    tree: &CertTree,
+    leaf: u32,
+) -> Result<EdgeState, AllocError>
+    requires edge { e < length g.now.edges }
+    requires leaf { leaf < length (packings_of tree.now) }
+    requires splits { HasUndecidedSplits g.now (nothing_decided g.now) tree.now }
+{
+    let d = tree.decision_of(alloc, g, leaf)?;
+    Ok(d.state(g, e))
 }
 
 // A leaf without cuts that is then split on the edge.
