@@ -16,8 +16,8 @@ use Rattle.net_graph.specs.Graph.{Graph, root_of, total_of}
 use Rattle.net_graph.specs.LengthLaws.{length_of_edges-le-sum}
 use Rattle.net_graph.specs.Network.{Links, Reaches}
 use Rattle.net_graph.specs.SearchLaws.{Leads-keeps}
-use Rattle.net_graph.specs.Decision.{Decided, Agrees, InRootPart, IsFree, IsMissed, IsUndecided, IsLowerBoundUnder, nothing_decided}
-use Rattle.net_graph.specs.DecisionLaws.{IsDecisionFor-nothing, IsUndecided-from}
+use Rattle.net_graph.specs.Decision.{Decided, Agrees, InRootPart, IsDecisionFor, IsFree, IsMissed, IsUndecided, IsLowerBoundUnder, nothing_decided, state_at_ends, states_of}
+use Rattle.net_graph.specs.DecisionLaws.{IsDecisionFor-nothing, decided_at, states_of-at, states_of-free, states_of-inside}
 use Rattle.net_graph.specs.Packing.{enters}
 use Rattle.net_graph.specs.Saturation.{IsMaximal}
 use Rattle.duality.specs.AgreeingLaws.{Reaches-from_required}
@@ -27,6 +27,20 @@ use Rattle.edge_slack.specs.EdgeBound.{edge_taken_in, IsInSomeNetwork, IsLowerBo
 -- an edge of the root part is one of the graph's edges
 within-from_root_part : (g : Graph) (set : List Bool) (e : ℕ) → InRootPart g set e → e < length g.edges
 within-from_root_part g set e (edge, in_set, at, reached) = slice_get_within g.edges e edge at
+
+-- an edge that is neither inside nor free is undecided
+IsUndecided-from : (g : Graph) (d : Decided) (n : ℕ) → IsDecisionFor g d → n < length g.edges →
+    (slice_get d.edges n ≡ Some Inside → ⊥) → (IsFree g d n → ⊥) → IsUndecided g d n
+IsUndecided-from g d n decision within not_inside not_free =
+    let (e, state, at, decided) = decided_at g d n decision within in
+    let here : slice_get (states_of g d) n ≡ Some (state_at_ends d.vertices e state) =
+    states_of-at g d n e state at decided in
+    cases (state_at_ends d.vertices e state) here
+  where
+    cases : (state : EdgeState) → slice_get (states_of g d) n ≡ Some state → IsUndecided g d n
+    cases Undecided is = is
+    cases Inside is = absurd (not_inside (states_of-inside g d n is))
+    cases Outside is = absurd (not_free (states_of-free g d n is))
 
 -- where nothing is decided an edge is undecided
 pub IsUndecided-nothing : (g : Graph) (e : ℕ) → e < length g.edges → IsUndecided g (nothing_decided g) e
