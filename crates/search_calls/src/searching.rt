@@ -86,21 +86,36 @@ fn steps<F: Rule, G: Rule>(
     if let Some(shown) = search.shown() {
         tell_edges(answer, "shown", shown)?;
     }
-    for _ in 0..small(call, "steps")? {
-        if search.splits() == 255 {
+    take_steps(&mut search, small(call, "steps")?, answer)?;
+    tell_search(answer, &search)?;
+    Ok(writeln!(answer, "bound {}", search.finish().bound)?)
+}
+
+// Takes so many steps, and tells what comes of each.
+fn take_steps<F: Rule, G: Rule>(
+    search: &mut Search<F, G>,
+    count: u8,
+    answer: &mut String,
+) -> Result<(), Fault> {
+    for _ in 0..count {
+        if search.splits() >= 255 {
             return Err(Fault::NotAllowed);
         }
-        match search.split_one()? {
-            Step::Split => writeln!(answer, "split")?,
-            Step::Settled => writeln!(answer, "settled")?,
-        }
+        let word = match search.split_one()? {
+            Step::Split => "split",
+            Step::Settled => "settled",
+        };
+        writeln!(answer, "{word}")?;
     }
+    Ok(())
+}
+
+// Tells the network, and how far the search is.
+fn tell_search<F: Rule, G: Rule>(answer: &mut String, search: &Search<F, G>) -> Result<(), Fault> {
     tell_edges(answer, "network", search.network())?;
     writeln!(answer, "settled {}", search.is_settled())?;
     writeln!(answer, "splits {}", search.splits())?;
-    writeln!(answer, "leaves {}", search.tree().leaves())?;
-    writeln!(answer, "bound {}", search.finish().bound)?;
-    Ok(())
+    Ok(writeln!(answer, "leaves {}", search.tree().leaves())?)
 }
 
 // The network of saturated arcs of the ascent from no cut, where nothing is decided.
