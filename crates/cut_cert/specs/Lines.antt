@@ -45,9 +45,9 @@ lines_text ls = flat_map line_text ls
 
 -- the line of a split in a text of a version; version 1 has none for a vertex
 abbrev pub split_line : Version → SplitName → Line
+split_line v (name.Vertex p) = line.SplitVertex p
 split_line version.One (name.Edge e) = line.Split e
 split_line version.Two (name.Edge e) = line.SplitEdge e
-split_line v (name.Vertex p) = line.SplitVertex p
 
 -- the lines of a leaf: how many cuts it has, and the cuts
 abbrev pub leaf_lines : List Cut → List Line
@@ -58,10 +58,15 @@ abbrev pub tree_lines : Version → Tree SplitName → List Line
 tree_lines v (Leaf cuts) = leaf_lines cuts
 tree_lines v (Split on outside inside) = split_line v on ∷ (tree_lines v outside ++ tree_lines v inside)
 
--- the lines of a head
+-- the lines of a head: the result, and the search
+abbrev pub result_lines : Version → AnswerHead → List Line
+result_lines v h = line.Title v ∷ line.Length h.length ∷ line.Bound h.bound ∷ line.Status h.optimal ∷ []
+
+abbrev pub search_lines : AnswerHead → List Line
+search_lines h = line.Openings h.openings ∷ line.Concat h.concat ∷ []
+
 abbrev pub head_lines : Version → AnswerHead → List Line
-head_lines v h = line.Title v ∷ line.Length h.length ∷ line.Bound h.bound ∷ line.Status h.optimal
-    ∷ line.Openings h.openings ∷ line.Concat h.concat ∷ []
+head_lines v h = result_lines v h ++ search_lines h
 
 -- the lines of a network: how many edges it has, and the edges
 abbrev pub network_lines : List EdgeName → List Line

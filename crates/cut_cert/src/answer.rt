@@ -61,7 +61,7 @@ fn write_network<S: Sink>(block: &mut Block, sink: &mut S, grid: &Grid, network:
     ensures count { length (names_of grid.now (members_of network.now)) < 2 ^ 32 }
     ensures names { All FitsName (names_of grid.now (members_of network.now)) }
 {
-    write_number(block, sink, b"edges ", u128::from(count_of(network)));
+    write_number(block, sink, b"edges ", count_of(network));
     write_edges(block, sink, grid, network);
 }
 

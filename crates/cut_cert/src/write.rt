@@ -2,12 +2,11 @@
 
 ghost use Rattle.std.specs.Prelude.{ℕ, ◌≡◌, ◌+◌, ◌*◌, ◌==◌, ◌<◌, ◌^◌, ◌++◌, length, map, slice_get, All, Some, codes};
 ghost use Rattle.std.specs.Int.{bit_at};
-ghost use Rattle.std.specs.Fmt.{decimal};
 ghost use Rattle.text_out.specs.Gathers.{Gathers};
 ghost use Rattle.net_graph.specs.Flags.{has};
 ghost use Rattle.cut_cert.specs.declared.version.Version.TheVariants as version_of;
 ghost use Rattle.cut_cert.specs.LineKinds as line_of;
-ghost use Rattle.cut_cert.specs.Lines.{head_lines, leaf_lines, line_text, lines_text, split_line};
+ghost use Rattle.cut_cert.specs.Lines.{head_lines, leaf_lines, line_text, lines_text, result_lines, search_lines, split_line};
 ghost use Rattle.cut_cert.specs.SetLaws.{digit_in_word};
 ghost use Rattle.cut_cert.specs.Spelling.{FitsHead, FitsWeight};
 ghost use Rattle.cut_cert.specs.Words.{concat_word, set_text, status_word};
@@ -15,6 +14,7 @@ ghost use Rattle.cut_cert.specs.Words.{concat_word, set_text, status_word};
 use crate::head::{AnswerHead, ConcatNote};
 use crate::split::SplitName;
 use hanan_grid::EdgeName;
+use itoa::Integer;
 use net_graph::{Cut, Packing, VertexSet};
 use points_in::Point;
 use rst_outside::Sink;
@@ -28,19 +28,51 @@ pub(crate) fn write_head<S: Sink>(block: &mut Block, sink: &mut S, head: &Answer
         (S.state sink.new) block.new }
     ensures fits { FitsHead head.now }
 {
+    write_result(block, sink, head);
+    write_search(block, sink, head);
+}
+
+// The first four lines.
+#[tactic(auto, using(text_out::specs::GatherLaws::pieces))]
+fn write_result<S: Sink>(block: &mut Block, sink: &mut S, head: &AnswerHead)
+    ensures text { Gathers (S.state sink.old) block.old
+        (lines_text (result_lines version_of.Two head.now))
+        (S.state sink.new) block.new }
+    ensures length { head.now.length < 2 ^ 64 }
+    ensures bound { head.now.bound < 2 ^ 64 }
+{
+    let length = head.length;
+    let bound = head.bound;
     literal(block, sink, b"rst answer 2\n");
-    write_number(block, sink, b"length ", u128::from(head.length));
-    write_number(block, sink, b"bound ", u128::from(head.bound));
+    write_number(block, sink, b"length ", length);
+    write_number(block, sink, b"bound ", bound);
     write_status(block, sink, head.optimal);
-    write_number(block, sink, b"openings ", u128::from(head.openings));
+}
+
+// The next two lines.
+#[tactic(auto, using(text_out::specs::GatherLaws::pieces))]
+fn write_search<S: Sink>(block: &mut Block, sink: &mut S, head: &AnswerHead)
+    ensures text { Gathers (S.state sink.old) block.old
+        (lines_text (search_lines head.now))
+        (S.state sink.new) block.new }
+    ensures openings { head.now.openings < 2 ^ 8 }
+    ensures total { head.now.concat.total < 2 ^ 128 }
+{
+    let openings = head.openings;
+    write_number(block, sink, b"openings ", openings);
     write_concat(block, sink, &head.concat);
 }
 
 // A line of a word and a number.
 #[tactic(auto, using(text_out::specs::GatherLaws::pieces))]
-pub(crate) fn write_number<S: Sink>(block: &mut Block, sink: &mut S, word: &[u8], value: u128)
+pub(crate) fn write_number<I: Integer, S: Sink>(
+    block: &mut Block,
+    sink: &mut S,
+    word: &[u8],
+    value: I,
+)
     ensures { Gathers (S.state sink.old) block.old
-        (word.now ++ decimal value ++ codes "\n")
+        (word.now ++ I.text value ++ codes "\n")
         (S.state sink.new) block.new }
 {
     literal(block, sink, word);
@@ -138,7 +170,7 @@ pub(crate) fn write_leaf<S: Sink>(block: &mut Block, sink: &mut S, packing: &Pac
         (S.state sink.new) block.new }
     ensures weights { All FitsWeight packing.now }
 {
-    write_number(block, sink, b"leaf ", packing.len() as u128);
+    write_number(block, sink, b"leaf ", packing.len());
     write_cuts(block, sink, packing.cuts());
 }
 

@@ -2,7 +2,7 @@
 
 ghost use Rattle.std.specs.Prelude.{◌≡◌, ℕ, Bool, None, IfSome, IfNone};
 ghost use Rattle.cut_cert.specs.declared.scan.Corner.{Corner};
-ghost ghost use Rattle.cut_cert.specs.declared.scan.Field.TheVariants as field_of;
+ghost use Rattle.cut_cert.specs.declared.scan.Field.TheVariants as field_of;
 ghost use Rattle.cut_cert.specs.declared.scan.Scan.TheVariants as scan_of;
 ghost use Rattle.cut_cert.specs.Scanning.{IsNext, IsSound, IsDead, IsInField, IsLast, signed};
 ghost use Rattle.cut_cert.specs.Spelling.{FitsName};
