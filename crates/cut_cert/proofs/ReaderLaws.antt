@@ -111,9 +111,11 @@ reads_run V bytes events more old new r on line fed =
       lines = lines;
       unended = All-append (λ c. c ≢ 10) r.begun more r.unended run.within;
       due = λ rest l h.
-          let read = r.due (more ++ rest) l (run.leads.back rest l h) in
-          (read.0, subst (λ x. Read new.kept.version new.kept.stage x l read.0) (sym (append_assoc r.begun more rest))
-          (subst (λ v. Read v new.kept.stage (r.begun ++ (more ++ rest)) l read.0) (sym run.version) (subst (λ s. Read old.kept.version s (r.begun ++ (more ++ rest)) l read.0) (sym run.stage) read.1)));
+          let read = r.due (more ++ rest) l (run.leads.back rest l h) in (
+            read.0,
+            subst (λ x. Read new.kept.version new.kept.stage x l read.0) (sym (append_assoc r.begun more rest))
+                (subst (λ v. Read v new.kept.stage (r.begun ++ (more ++ rest)) l read.0) (sym run.version) (subst (λ s. Read old.kept.version s (r.begun ++ (more ++ rest)) l read.0) (sym run.stage) read.1)),
+          );
       left = λ rest l s' read.
           run.leads.on rest l (r.left (more ++ rest) l s' (subst (λ s. Read old.kept.version s (r.begun ++ (more ++ rest)) l s') run.stage
           (subst (λ v. Read v new.kept.stage (r.begun ++ (more ++ rest)) l s') run.version (subst (λ x. Read new.kept.version new.kept.stage x l s') (append_assoc r.begun more rest) read))));
