@@ -10,7 +10,7 @@ ghost use Rattle.branch.specs.States.{IsNetworkOf};
 ghost use Rattle.search_tools.specs.Steps.{IsTold};
 
 use crate::network::DESCENTS;
-use branch::{Search, Solved};
+use branch::{Search, Solved, SplitKind};
 use dual_ascent::{Candidate, Chooser, Rule};
 use hanan_grid::Grid;
 use net_graph::{EdgeSet, Packing, length};
@@ -93,7 +93,7 @@ fn searched_by<F: Rule, G: Rule>(
     search.solve(openings)
 }
 
-// The search with its first leaf. An `Err` is want of memory.
+// The search with its first leaf. It splits on edges, as the text of an answer does. An `Err` is want of memory.
 fn begun<'a, F: Rule, G: Rule>(
     alloc: Global,
     grid: &'a Grid,
@@ -103,10 +103,12 @@ fn begun<'a, F: Rule, G: Rule>(
 ) -> Result<Search<'a, F, G>, AllocError>
     requires { IsNetworkOf (hanan_grid_of grid.now) first }
     ensures graph { IfOk result (λ s. s.graph ≡ hanan_grid_of grid.now) }
+    ensures kind { IfOk result (λ s. s.kind ≡ SplitKind.Edges) }
     ensures first { IfOk result (λ s. s.first_length ≡ length_of (hanan_grid_of grid.now) first) }
     ensures leaf { IfOk result (λ s. split_count s.tree ≡ 0) }
 {
-    let mut search = Search::start(alloc, grid.graph(), first, ascent, split)?;
+    let kind = SplitKind::Edges;
+    let mut search = Search::start(alloc, grid.graph(), first, ascent, split, kind)?;
     for exchange in 0..MOST_EXCHANGES {
         let budget = if exchange == 0 {
             Budget::USUAL
@@ -133,6 +135,7 @@ fn raise_by_exchange<F: Rule, G: Rule>(
     ensures further { IfOk result (λ further.
         length_of search.old.graph search.new.network < length_of search.old.graph search.old.network → IsTrue further) }
     ensures graph { OnOk result (search.new.graph ≡ search.old.graph) }
+    ensures kind { OnOk result (search.new.kind ≡ search.old.kind) }
     ensures first { OnOk result (search.new.first_length ≡ search.old.first_length) }
     ensures leaf { OnOk result (split_count search.new.tree ≡ 0) }
 {
@@ -167,6 +170,7 @@ fn offer_shorter<F: Rule, G: Rule>(
 ) -> Result<(), AllocError>
     requires graph { search.old.graph ≡ hanan_grid_of grid.now }
     ensures graph { OnOk result (search.new.graph ≡ search.old.graph) }
+    ensures kind { OnOk result (search.new.kind ≡ search.old.kind) }
     ensures first { OnOk result (search.new.first_length ≡ search.old.first_length) }
     ensures tree { OnOk result (search.new.tree ≡ search.old.tree) }
 {
