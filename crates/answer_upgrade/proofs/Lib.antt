@@ -1,0 +1,2 @@
+pub mod LineChanges
+pub mod UpgradedLines

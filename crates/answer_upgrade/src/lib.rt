@@ -1,0 +1,9 @@
+//! Whether bytes are an answer's text, and the text of the same answer in version 2.
+#![tactic(auto)]
+
+mod change;
+mod spelling;
+mod upgrade;
+
+pub use spelling::{Spelled, spelled};
+pub use upgrade::write_upgraded;
