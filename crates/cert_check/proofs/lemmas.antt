@@ -2,7 +2,7 @@ pub mod Tables
 pub mod Rooms
 pub mod Pigeons
 pub mod Listed
-pub mod States
+pub mod Turns
 pub mod WordBits
 pub mod Layouts
 pub mod Marks

@@ -1,6 +1,7 @@
 -- Which split may stand under a decision, and why a line of a split is wrong.
 use Rattle.std.specs.Prelude.{ℕ, ◌≡◌, ◌<◌, ◌≤◌, List, length}
 use Rattle.points_in.specs.declared.point.Point.{Point}
+use Rattle.net_graph.specs.Graph.{Graph}
 use Rattle.net_graph.specs.Decision.{Decided}
 use Rattle.hanan_grid.specs.declared.name.EdgeName.{EdgeName}
 use Rattle.hanan_grid.specs.Grid.{hanan_grid_of}
@@ -11,32 +12,43 @@ use Rattle.cert_tree.specs.Decisions.{IsUndecidedSplit}
 use Rattle.cert_check.specs.declared.verdict.Cause.{Cause}
 use Rattle.cert_check.specs.declared.verdict.Cause.TheVariants as cause
 
+-- what the split is on is undecided, and fewer than 255 splits stand before it
+pub record MaySplitOn (g : Graph) (d : Decided) (splits : ℕ) (on : SplitOn) : Type 0 where
+  pub undecided : IsUndecidedSplit g d on
+  pub few : splits < 255
+
+-- what the split is on is undecided, and 255 splits stand before it
+pub record IsTooDeep (g : Graph) (d : Decided) (splits : ℕ) (on : SplitOn) : Type 0 where
+  pub undecided : IsUndecidedSplit g d on
+  pub many : 255 ≤ splits
+
+-- why the line n with a split on this is wrong under a decision, behind so many splits
+abbrev pub SplitOnFault : Graph → Decided → ℕ → SplitOn → ℕ → Cause → Type 0
+SplitOnFault g d splits on n (cause.Decided line edge) =
+    (line ≡ n) × (on ≡ split.Edge edge) × (IsUndecidedSplit g d on → ⊥)
+SplitOnFault g d splits on n (cause.DecidedVertex line vertex) =
+    (line ≡ n) × (on ≡ split.Vertex vertex) × (IsUndecidedSplit g d on → ⊥)
+SplitOnFault g d splits on n (cause.TooDeep line) = (line ≡ n) × IsTooDeep g d splits on
+SplitOnFault g d splits on n cause = ⊥
+
 -- the name is that of what the split is on; an answer's text names edges alone
 abbrev pub IsNameOfSplit : List Point → EdgeName → SplitOn → Type 0
 IsNameOfSplit ps name (split.Edge e) = (e < length (hanan_grid_of ps).edges) × (name_of_edge ps e ≡ name)
 IsNameOfSplit ps name (split.Vertex v) = ⊥
 
--- the name is that of an edge of the grid, which is undecided, and fewer than 255 splits stand before it
+-- the name is that of what the split is on, which may stand there
 pub record MaySplit (ps : List Point) (d : Decided) (splits : ℕ) (name : EdgeName) (on : SplitOn) : Type 0 where
   pub named : IsNameOfSplit ps name on
-  pub undecided : IsUndecidedSplit (hanan_grid_of ps) d on
-  pub few : splits < 255
+  pub may : MaySplitOn (hanan_grid_of ps) d splits on
 
--- the name is that of an edge of the grid, which is decided
-pub record IsDecidedBefore (ps : List Point) (d : Decided) (name : EdgeName) (edge : ℕ) : Type 0 where
-  pub named : IsNameOfSplit ps name (split.Edge edge)
-  pub decided : IsUndecidedSplit (hanan_grid_of ps) d (split.Edge edge) → ⊥
-
--- the name is that of an undecided edge of the grid, and 255 splits stand before it
-pub record IsTooDeep (ps : List Point) (d : Decided) (splits : ℕ) (name : EdgeName) : Type 0 where
+-- the name is that of what the split is on, and for this cause it may not stand there
+pub record IsNamedFault (ps : List Point) (d : Decided) (splits : ℕ) (name : EdgeName) (n : ℕ) (is : Cause)
+    : Type 0 where
   pub on : SplitOn
   pub named : IsNameOfSplit ps name on
-  pub undecided : IsUndecidedSplit (hanan_grid_of ps) d on
-  pub many : 255 ≤ splits
+  pub fault : SplitOnFault (hanan_grid_of ps) d splits on n is
 
 -- why the line n with a split of this name is wrong under a decision, behind so many splits
 abbrev pub SplitFault : List Point → Decided → ℕ → EdgeName → ℕ → Cause → Type 0
 SplitFault ps d splits name n (cause.OffGrid line) = (line ≡ n) × NamesNoEdge ps name
-SplitFault ps d splits name n (cause.Decided line edge) = (line ≡ n) × IsDecidedBefore ps d name edge
-SplitFault ps d splits name n (cause.TooDeep line) = (line ≡ n) × IsTooDeep ps d splits name
-SplitFault ps d splits name n cause = ⊥
+SplitFault ps d splits name n cause = IsNamedFault ps d splits name n cause

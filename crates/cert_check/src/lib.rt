@@ -3,6 +3,8 @@
 
 mod border;
 mod checker;
+mod code;
+mod decided;
 mod edges;
 mod end;
 mod judge;

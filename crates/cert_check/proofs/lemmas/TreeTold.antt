@@ -71,9 +71,9 @@ TellsTree-from_runs ps V s s' (Split name outside inside) (m, (on, may, is), run
       named_tree = ap (λ n. Split n outside inside) (sym names) ∙ ap (λ t. Split (split_name ps on) t inside) first.named_tree ∙ ap (λ t. Split (split_name ps on) (named ps first.tree) t) second.named_tree;
       splits = All-cons (IsNodeOn g) (Some on) (nodes_of first.tree ++ nodes_of second.tree) (on_of_name ps name on may.named)
           (All-append (IsNodeOn g) (nodes_of first.tree) (nodes_of second.tree) first.splits second.splits);
-      valid = (may.undecided, first.valid, subst (λ d. IsValidTree g d second.tree) (tree_read-inside ps s on first.tree) second.valid);
+      valid = (may.may.undecided, first.valid, subst (λ d. IsValidTree g d second.tree) (tree_read-inside ps s on first.tree) second.valid);
       read = second.read;
-      few = λ before. second.few (omega (arith, first.few (omega (arith, may.few)), ap (λ (x : SoFar). x.splits) first.read));
+      few = λ before. second.few (omega (arith, first.few (omega (arith, may.may.few)), ap (λ (x : SoFar). x.splits) first.read));
     }
 
 -- the name of a split's edge is its name
@@ -92,8 +92,7 @@ tree_passes ps s (Split on outside inside) nodes valid few are =
     let s1 = with_split ps s on in
     let may : MaySplit ps (decision_due ps s) s.splits (split_name ps on) on = record {
       named = named_on ps on here;
-      undecided = valid.0;
-      few = omega arith;
+      may = record { undecided = valid.0; few = omega arith };
     } in
     let s2 = tree_read ps s1 outside in
     let first = tree_passes ps s1 outside (All-front (IsNodeOn g) (nodes_of outside) (nodes_of inside) behind) valid.1 (omega arith) are in
