@@ -2,7 +2,7 @@
 use Rattle.std.proofs.Common.{ℕ, ◌≡◌, ◌<◌, ◌≤◌, Bool, true, false, List, [], ◌∷◌, ◌++◌, length, refl, arith}
 use Rattle.std.specs.Fmt.{digit_glyph}
 use Rattle.std.proofs.lemmas.Bool.Decides.{nat_tests}
-use Rattle.cut_cert.specs.Text.{flag_value, four_value, four_digit, set_text}
+use Rattle.cut_cert.specs.Words.{flag_value, four_value, four_digit, set_text}
 
 -- a digit tells its value
 digit_one : (m n : ℕ) → m < 16 → n < 16 → digit_glyph false m ≡ digit_glyph false n → m ≡ n

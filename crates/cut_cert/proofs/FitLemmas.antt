@@ -9,6 +9,7 @@ use Rattle.net_graph.specs.Graph.{Graph}
 use Rattle.cert_tree.specs.declared.split.SplitOn.{SplitOn}
 use Rattle.cert_tree.specs.Tree.{Tree}
 use Rattle.cert_tree.specs.Tree.Tree.{Leaf, Split}
+use Rattle.cut_cert.specs.declared.version.Version.TheVariants as version
 use Rattle.cut_cert.specs.Spelling.{FitsWeight, FitsLeaf, FitsTree}
 use Rattle.cert_tree.specs.Preorder.{nodes_of, packings_of}
 use Rattle.cut_cert.specs.Answers.{FitsNode, IsPackingOn, named}
@@ -29,7 +30,7 @@ leaf-fits g cuts few packing weights = record {
 
 -- a tree of fit packings, whose splits have fit names
 pub tree-fits : (ps : List Point) (g : Graph) (t : Tree SplitOn) → length g.edges ≤ 4900 → All (IsPackingOn g) (packings_of t) → All (FitsNode ps) (nodes_of t)
-    → All (All FitsWeight) (packings_of t) → FitsTree g.vertices (named ps t)
+    → All (All FitsWeight) (packings_of t) → FitsTree version.Two g.vertices (named ps t)
 tree-fits ps g (Leaf cuts) few packings names weights =
     leaf-fits g cuts few (All-head (IsPackingOn g) cuts [] packings) (All-head (All FitsWeight) cuts [] weights)
 tree-fits ps g (Split e o i) few packings names weights =

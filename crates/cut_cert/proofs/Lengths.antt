@@ -1,42 +1,84 @@
--- The lengths of the parts of an answer's text.
-use Rattle.std.proofs.Common.{ℕ, ◌≡◌, ◌+◌, List, ◌++◌, length, ap, ◌∙◌, arith, length-append}
+-- The texts of lines one after another, and the lengths of lines.
+use Rattle.std.proofs.Common.{ℕ, ◌≡◌, ◌+◌, ◌<◌, List, [], ◌∷◌, ◌++◌, length, map, take, get_or, sym, ap, ◌∙◌, arith, length-append}
 use Rattle.std.specs.Prelude.{codes}
 use Rattle.std.specs.Fmt.{decimal, signed_decimal}
+use Rattle.std.proofs.lemmas.List.{append-nil, map-append, take_more}
+use Rattle.std.proofs.lemmas.List.Concat.{flat_map-append}
+use Rattle.points_in.specs.declared.point.Point.{Point}
 use Rattle.net_graph.specs.declared.packing.Cut.{Cut}
 use Rattle.hanan_grid.specs.declared.name.EdgeName.{EdgeName}
 use Rattle.cut_cert.specs.declared.head.AnswerHead.{AnswerHead}
+use Rattle.cut_cert.specs.declared.version.Version.TheVariants as version
 use Rattle.cut_cert.specs.Value.{WrittenAnswer}
-use Rattle.cert_tree.specs.Tree.{Tree}
-use Rattle.cut_cert.specs.Text.{set_text, cut_line, cut_lines, leaf_text, edge_line, split_line, status_word, concat_word, result_text, search_text, head_text, network_text, tree_text, proof_text, answer_text}
+use Rattle.cut_cert.specs.AnswerLine.{Line}
+use Rattle.cut_cert.specs.LineKinds as line
+use Rattle.cut_cert.specs.Words.{set_text, status_word, concat_word, version_word, name_words, point_words}
+use Rattle.cut_cert.specs.Lines.{line_bytes, line_text, lines_text, head_lines, network_lines, proof_lines, tree_lines, answer_lines}
 
--- the first four lines
-length-result_text : (h : AnswerHead) → length (result_text h) ≡ 36 + length (decimal h.length) + length (decimal h.bound) + length (status_word h.optimal)
-length-result_text h = simp length-append (omega arith)
+-- the text of lines and of one more
+pub lines_text-push : (ls : List Line) (l : Line) → lines_text (ls ++ l ∷ []) ≡ lines_text ls ++ line_text l
+lines_text-push ls l = flat_map-append line_text ls (l ∷ []) ∙ ap (λ x. lines_text ls ++ x) (append-nil (line_text l))
 
--- the next two
-length-search_text : (h : AnswerHead) → length (search_text h) ≡ 19 + length (decimal h.openings) + length (concat_word h.concat.least) + length (decimal h.concat.total)
-length-search_text h = simp length-append (omega arith)
+-- the lines of some cuts and of the next one
+pub cut_lines-more : (cuts : List Cut) (i : ℕ) (d : Cut) → i < length cuts → lines_text (map line.Cut (take i cuts)) ++ line_text (line.Cut (get_or cuts i d)) ≡ lines_text (map line.Cut (take (i + 1) cuts))
+cut_lines-more cuts i d inside =
+    sym (lines_text-push (map line.Cut (take i cuts)) (line.Cut (get_or cuts i d)))
+    ∙ ap lines_text (sym (map-append line.Cut (take i cuts) (get_or cuts i d ∷ [])) ∙ ap (map line.Cut) (sym (take_more cuts i d inside)))
+
+-- the length of lines and of one before them
+pub length-line : (l : Line) (ls : List Line) → length (lines_text (l ∷ ls)) ≡ length (line_bytes l) + 1 + length (lines_text ls)
+length-line l ls = omega (arith, length-append (line_text l) (lines_text ls), length-append (line_bytes l) (10 ∷ []))
+
+-- a word and a number
+word_number : (word : List ℕ) (n : ℕ) → length (word ++ decimal n) ≡ length word + length (decimal n)
+word_number word n = length-append word (decimal n)
+
+-- the note on the concatenation
+length-concat : (h : AnswerHead) → length (line_bytes (line.Concat h.concat)) ≡ 8 + length (concat_word h.concat.least) + length (decimal h.concat.total)
+length-concat h = simp length-append (omega arith)
 
 -- the first six lines
-pub length-head_text : (h : AnswerHead) → length (head_text h)
+pub length-head_lines : (h : AnswerHead) → length (lines_text (head_lines version.Two h))
     ≡ 55 + length (decimal h.length) + length (decimal h.bound) + length (decimal h.openings) + length (decimal h.concat.total) + length (status_word h.optimal) + length (concat_word h.concat.least)
-length-head_text h = omega (arith, length-append (result_text h) (search_text h), length-result_text h, length-search_text h)
+length-head_lines h =
+    let openings_on : List Line = line.Openings h.openings ∷ line.Concat h.concat ∷ [] in
+    let status_on : List Line = line.Status h.optimal ∷ openings_on in
+    let bound_on : List Line = line.Bound h.bound ∷ status_on in
+    let length_on : List Line = line.Length h.length ∷ bound_on in
+    omega (
+      arith,
+      length-line (line.Title version.Two) length_on,
+      length-line (line.Length h.length) bound_on,
+      length-line (line.Bound h.bound) status_on,
+      length-line (line.Status h.optimal) openings_on,
+      length-line (line.Openings h.openings) (line.Concat h.concat ∷ []),
+      length-line (line.Concat h.concat) [],
+      word_number (codes "length ") h.length,
+      word_number (codes "bound ") h.bound,
+      length-append (codes "status ") (status_word h.optimal),
+      word_number (codes "openings ") h.openings,
+      length-concat h,
+    )
 
 -- the line of an edge
-pub length-edge_line : (e : EdgeName) → length (edge_line e) ≡ 4 + length (signed_decimal e.x1) + length (signed_decimal e.y1) + length (signed_decimal e.x2) + length (signed_decimal e.y2)
-length-edge_line e = simp length-append (omega arith)
+pub length-edge : (e : EdgeName) → length (line_text (line.Edge e)) ≡ 4 + length (signed_decimal e.x1) + length (signed_decimal e.y1) + length (signed_decimal e.x2) + length (signed_decimal e.y2)
+length-edge e = simp length-append (omega arith)
 
--- the line of a split
-pub length-split_line : (e : EdgeName) → length (split_line e) ≡ 6 + length (edge_line e)
-length-split_line e = omega (arith, length-append (codes "split ") (edge_line e))
+-- the line of a split on an edge
+pub length-split_edge : (e : EdgeName) → length (line_text (line.SplitEdge e)) ≡ 11 + length (line_text (line.Edge e))
+length-split_edge e = omega (arith, length-append (codes "split edge ") (name_words e), length-append (codes "split edge " ++ name_words e) (10 ∷ []), length-append (name_words e) (10 ∷ []))
+
+-- the line of a split on a vertex
+pub length-split_vertex : (p : Point) → length (line_text (line.SplitVertex p)) ≡ 15 + length (signed_decimal p.x) + length (signed_decimal p.y)
+length-split_vertex p = simp length-append (omega arith)
 
 -- the line of a cut
-pub length-cut_line : (c : Cut) → length (cut_line c) ≡ 6 + length (decimal c.weight) + length (set_text c.members)
-length-cut_line c = simp length-append (omega arith)
+pub length-cut : (c : Cut) → length (line_text (line.Cut c)) ≡ 6 + length (decimal c.weight) + length (set_text c.members)
+length-cut c = simp length-append (omega arith)
 
--- a leaf
-pub length-leaf_text : (cuts : List Cut) → length (leaf_text cuts) ≡ 6 + length (decimal (length cuts)) + length (cut_lines cuts)
-length-leaf_text cuts = simp length-append (omega arith)
+-- a word's line with a number, and lines behind it
+pub length-number : (word : List ℕ) (n : ℕ) (l : Line) (ls : List Line) → line_bytes l ≡ word ++ decimal n → length (lines_text (l ∷ ls)) ≡ length word + 1 + length (decimal n) + length (lines_text ls)
+length-number word n l ls is = omega (arith, length-line l ls, ap length is, word_number word n)
 
 -- one more piece adds its length
 pub sum_more : (front piece whole : List ℕ) (sum more : ℕ) → sum ≡ length front → more ≡ length piece → front ++ piece ≡ whole → sum + more ≡ length whole
@@ -45,13 +87,22 @@ sum_more front piece whole sum more so_far next parts =
     both ∙ ap length parts
 
 -- the tree between the lines before it and after it
-length-proof_text : (t : Tree EdgeName) → length (proof_text t) ≡ 9 + length (tree_text t)
-length-proof_text t = simp length-append (omega arith)
-
--- a whole answer, where the text of the head and of the network are any
-any_length : (head network : List ℕ) (t : Tree EdgeName) → length (head ++ network ++ proof_text t) ≡ length head + length network + 9 + length (tree_text t)
-any_length head network t = omega (arith, length-append (head ++ network) (proof_text t), length-append head network, length-proof_text t)
+length-proof : (lines : List Line) → length (lines_text (line.Tree ∷ (lines ++ line.End ∷ []))) ≡ 9 + length (lines_text lines)
+length-proof lines =
+    omega (arith, length-line line.Tree (lines ++ line.End ∷ []), ap length (flat_map-append line_text lines (line.End ∷ [])), length-append (lines_text lines) (lines_text (line.End ∷ [])))
 
 -- a whole answer
-pub length-answer_text : (a : WrittenAnswer) → length (answer_text a) ≡ length (head_text a.head) + length (network_text a.edges) + 9 + length (tree_text a.tree)
-length-answer_text a = any_length (head_text a.head) (network_text a.edges) a.tree
+pub length-answer_lines : (a : WrittenAnswer) → length (lines_text (answer_lines a))
+    ≡ length (lines_text (head_lines a.version a.head)) + length (lines_text (network_lines a.edges)) + 9 + length (lines_text (tree_lines a.version a.tree))
+length-answer_lines a =
+    let head = head_lines a.version a.head in
+    let network = network_lines a.edges in
+    let proof = proof_lines a.version a.tree in
+    omega (
+      arith,
+      ap length (flat_map-append line_text head (network ++ proof)),
+      ap length (flat_map-append line_text network proof),
+      length-append (lines_text head) (lines_text (network ++ proof)),
+      length-append (lines_text network) (lines_text proof),
+      length-proof (tree_lines a.version a.tree),
+    )

@@ -4,7 +4,7 @@ pub mod Lines
 pub mod Readings
 pub mod Lengths
 pub mod NetworkLemmas
-pub mod NodesText
+pub mod NodeLines
 pub mod PackingLemmas
 pub mod FitLemmas
 pub mod Machine

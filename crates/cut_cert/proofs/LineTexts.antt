@@ -1,30 +1,30 @@
--- The bytes of lines: none holds a line feed, they tell the line, and an answer's lines have an answer's text.
+-- The bytes of lines: none holds a line feed, and they tell the line.
 use Rattle.std.proofs.Common.{ℕ, suc, zero, ◌≡◌, ◌≢◌, ◌+◌, ◌<◌, ◌≤◌, Bool, true, false, List, [], ◌∷◌, ◌++◌, length, map, refl, sym, ap, ◌∙◌, arith, append_assoc, Some, cond, eqb}
 use Rattle.std.specs.Prelude.{All, codes, ◌^◌}
 use Rattle.std.specs.Fmt.{decimal, signed_decimal, digit_glyph}
 use Rattle.std.proofs.lemmas.Bool.Decides.{nat_tests}
-use Rattle.std.proofs.lemmas.List.{append-nil, append_cancel_left}
-use Rattle.std.proofs.lemmas.List.Concat.{flat_map-append}
+use Rattle.std.proofs.lemmas.List.{append_cancel_left}
 use Rattle.std.proofs.lemmas.List.Elements.{All-head, All-tail, All-cons, All-nil, All-append}
 use Rattle.spelled.specs.Words.{Lacks}
 use Rattle.spelled.specs.Numbers.{signed_decimal-lacks}
 use Rattle.net_graph.specs.declared.packing.Cut.{Cut}
+use Rattle.points_in.specs.declared.point.Point.{Point}
 use Rattle.hanan_grid.specs.declared.name.EdgeName.{EdgeName}
-use Rattle.cut_cert.specs.declared.head.AnswerHead.{AnswerHead}
 use Rattle.cut_cert.specs.declared.head.ConcatNote.{ConcatNote}
 use Rattle.cut_cert.specs.AnswerLine.{Line}
 use Rattle.cut_cert.specs.LineKinds as line
 use Rattle.cut_cert.specs.declared.line.Stage.{Stage}
 use Rattle.cut_cert.specs.declared.line.Stage.TheVariants as stage
-use Rattle.cut_cert.specs.Value.{WrittenAnswer}
-use Rattle.cert_tree.specs.Tree.{Tree}
-use Rattle.cert_tree.specs.Tree.Tree.{Leaf, Split}
-use Rattle.cut_cert.specs.Text.{four_value, four_digit, set_text, status_word, concat_word, cut_line, cut_lines, edge_line, edge_lines, tree_text, result_text, search_text, head_text, network_text, proof_text, answer_text}
-use Rattle.cut_cert.specs.Spelling.{FitsName, FitsCut}
-use Rattle.cut_cert.specs.Lines.{name_words, line_bytes, line_text, lines_text, FitsLine, tree_lines, head_lines, answer_lines, step}
+use Rattle.cut_cert.specs.declared.version.Version.{Version}
+use Rattle.cut_cert.specs.declared.version.Version.TheVariants as version
+use Rattle.cut_cert.specs.Words.{four_value, four_digit, set_text, status_word, concat_word, version_word, name_words, point_words}
+use Rattle.cut_cert.specs.Spelling.{FitsName, FitsPoint, FitsCut}
+use Rattle.cut_cert.specs.Lines.{line_bytes, line_text, lines_text, step}
+use Rattle.cut_cert.specs.LineFits.{FitsLine, FitsLines, version_with}
 use Rattle.cut_cert.specs.Reading.{line_feeds}
 use Rattle.cut_cert.proofs.Pieces.{number-lacks, number_one, status_front, concat_front, first_apart}
-use Rattle.cut_cert.proofs.Lines.{cut_front, edge_front, result_pieces, search_pieces}
+use Rattle.cut_cert.proofs.Steps.{step-done}
+use Rattle.cut_cert.proofs.Lines.{cut_front, edge_front, point_front}
 
 -- ---- no line feed within a line
 
@@ -69,29 +69,38 @@ name_words-lacks e f =
     both_lack _ (signed_decimal e.y2) (both_lack _ (codes " ") (both_lack _ (signed_decimal e.x2) (both_lack _ (codes " ") (both_lack _ (signed_decimal e.y1) (both_lack _ (codes " ")
     (signed_decimal-lacks e.x1 10 f.x1 (omega arith)) blank) (signed_decimal-lacks e.y1 10 f.y1 (omega arith))) blank) (signed_decimal-lacks e.x2 10 f.x2 (omega arith))) blank) (signed_decimal-lacks e.y2 10 f.y2 (omega arith))
 
+-- the words of a point have none
+point_words-lacks : (p : Point) → FitsPoint p → Lacks (point_words p) 10
+point_words-lacks p f =
+    both_lack (signed_decimal p.x ++ codes " ") (signed_decimal p.y)
+    (both_lack (signed_decimal p.x) (codes " ") (signed_decimal-lacks p.x 10 f.x (omega arith)) (lacks_by 10 (codes " ") refl)) (signed_decimal-lacks p.y 10 f.y (omega arith))
+
 -- nor has a line that fits
-pub line_bytes-lacks : (V : ℕ) (l : Line) → FitsLine V l → Lacks (line_bytes l) 10
-line_bytes-lacks V line.Title f = lacks_by 10 (codes "rst answer 1") refl
-line_bytes-lacks V (line.Length n) f = word_number-lacks (codes "length ") n (lacks_by 10 (codes "length ") refl) (omega arith)
-line_bytes-lacks V (line.Bound n) f = word_number-lacks (codes "bound ") n (lacks_by 10 (codes "bound ") refl) (omega arith)
-line_bytes-lacks V (line.Status true) f = lacks_by 10 (codes "status optimal") refl
-line_bytes-lacks V (line.Status false) f = lacks_by 10 (codes "status stopped") refl
-line_bytes-lacks V (line.Openings n) f = word_number-lacks (codes "openings ") n (lacks_by 10 (codes "openings ") refl) (omega arith)
-line_bytes-lacks V (line.Concat c) f = both_lack (codes "concat " ++ concat_word c.least ++ codes " ") (decimal c.total) (concat_lacks c.least) (number-lacks c.total 10 f (omega arith))
+pub line_bytes-lacks : (v : Version) (V : ℕ) (l : Line) → FitsLine v V l → Lacks (line_bytes l) 10
+line_bytes-lacks v V (line.Title version.One) f = lacks_by 10 (codes "rst answer 1") refl
+line_bytes-lacks v V (line.Title version.Two) f = lacks_by 10 (codes "rst answer 2") refl
+line_bytes-lacks v V (line.Length n) f = word_number-lacks (codes "length ") n (lacks_by 10 (codes "length ") refl) (omega arith)
+line_bytes-lacks v V (line.Bound n) f = word_number-lacks (codes "bound ") n (lacks_by 10 (codes "bound ") refl) (omega arith)
+line_bytes-lacks v V (line.Status true) f = lacks_by 10 (codes "status optimal") refl
+line_bytes-lacks v V (line.Status false) f = lacks_by 10 (codes "status stopped") refl
+line_bytes-lacks v V (line.Openings n) f = word_number-lacks (codes "openings ") n (lacks_by 10 (codes "openings ") refl) (omega arith)
+line_bytes-lacks v V (line.Concat c) f = both_lack (codes "concat " ++ concat_word c.least ++ codes " ") (decimal c.total) (concat_lacks c.least) (number-lacks c.total 10 f (omega arith))
   where
     concat_lacks : (least : Bool) → Lacks (codes "concat " ++ concat_word least ++ codes " ") 10
     concat_lacks true = lacks_by 10 (codes "concat least ") refl
     concat_lacks false = lacks_by 10 (codes "concat spent ") refl
-line_bytes-lacks V (line.Count n) f = word_number-lacks (codes "edges ") n (lacks_by 10 (codes "edges ") refl) (omega arith)
-line_bytes-lacks V (line.Edge e) f = name_words-lacks e f
-line_bytes-lacks V line.Tree f = lacks_by 10 (codes "tree") refl
-line_bytes-lacks V (line.Split e) f = both_lack (codes "split ") (name_words e) (lacks_by 10 (codes "split ") refl) (name_words-lacks e f)
-line_bytes-lacks V (line.Leaf n) f = word_number-lacks (codes "leaf ") n (lacks_by 10 (codes "leaf ") refl) (omega arith)
-line_bytes-lacks V (line.Cut c) f =
+line_bytes-lacks v V (line.Count n) f = word_number-lacks (codes "edges ") n (lacks_by 10 (codes "edges ") refl) (omega arith)
+line_bytes-lacks v V (line.Edge e) f = name_words-lacks e f
+line_bytes-lacks v V line.Tree f = lacks_by 10 (codes "tree") refl
+line_bytes-lacks v V (line.Split e) f = both_lack (codes "split ") (name_words e) (lacks_by 10 (codes "split ") refl) (name_words-lacks e f.1)
+line_bytes-lacks v V (line.SplitEdge e) f = both_lack (codes "split edge ") (name_words e) (lacks_by 10 (codes "split edge ") refl) (name_words-lacks e f.1)
+line_bytes-lacks v V (line.SplitVertex p) f = both_lack (codes "split vertex ") (point_words p) (lacks_by 10 (codes "split vertex ") refl) (point_words-lacks p f.1)
+line_bytes-lacks v V (line.Leaf n) f = word_number-lacks (codes "leaf ") n (lacks_by 10 (codes "leaf ") refl) (omega arith)
+line_bytes-lacks v V (line.Cut c) f =
     both_lack (codes "cut " ++ decimal c.weight ++ codes " ") (set_text c.members)
     (both_lack (codes "cut " ++ decimal c.weight) (codes " ") (word_number-lacks (codes "cut ") c.weight (lacks_by 10 (codes "cut ") refl) (omega arith)) (lacks_by 10 (codes " ") refl))
     (set_text-lacks c.members)
-line_bytes-lacks V line.End f = lacks_by 10 (codes "end") refl
+line_bytes-lacks v V line.End f = lacks_by 10 (codes "end") refl
 
 -- ---- a line is told by its bytes, where another might be due
 
@@ -99,12 +108,28 @@ line_bytes-lacks V line.End f = lacks_by 10 (codes "end") refl
 same_number : (word : List ℕ) (m n : ℕ) → m < 2 ^ 128 → n < 2 ^ 128 → word ++ decimal m ≡ word ++ decimal n → m ≡ n
 same_number word m n p q e = number_one m n p q (append_cancel_left word (decimal m) (decimal n) e)
 
--- names behind no word or one
+-- titles
+same_title : (a b : Version) → codes "rst answer " ++ version_word a ≡ codes "rst answer " ++ version_word b → a ≡ b
+same_title version.One version.One same = refl
+same_title version.One version.Two same = absurd (first_apart 49 50 (omega arith) (append_cancel_left (codes "rst answer ") (codes "1") (codes "2") same))
+same_title version.Two version.One same = absurd (first_apart 50 49 (omega arith) (append_cancel_left (codes "rst answer ") (codes "2") (codes "1") same))
+same_title version.Two version.Two same = refl
+
+-- names behind one word
 same_name_words : (d e : EdgeName) → FitsName d → FitsName e → name_words d ≡ name_words e → d ≡ e
 same_name_words d e f g same = (edge_front d e [] [] f g (ap (λ x. (x ++ codes "\n") ++ []) same)).0
 
-same_split_words : (d e : EdgeName) → FitsName d → FitsName e → codes "split " ++ name_words d ≡ codes "split " ++ name_words e → d ≡ e
-same_split_words d e f g same = same_name_words d e f g (append_cancel_left (codes "split ") (name_words d) (name_words e) same)
+same_name : (word : List ℕ) (d e : EdgeName) → FitsName d → FitsName e → word ++ name_words d ≡ word ++ name_words e → d ≡ e
+same_name word d e f g same = same_name_words d e f g (append_cancel_left word (name_words d) (name_words e) same)
+
+-- points
+same_point : (p q : Point) → FitsPoint p → FitsPoint q → codes "split vertex " ++ point_words p ≡ codes "split vertex " ++ point_words q → p ≡ q
+same_point p q f g same =
+    (point_front p q [] [] f g (ap (λ x. (x ++ codes "\n") ++ []) (append_cancel_left (codes "split vertex ") (point_words p) (point_words q) same))).0
+
+-- a split on an edge and one on a vertex
+splits_apart : (e : EdgeName) (p : Point) → codes "split edge " ++ name_words e ≡ codes "split vertex " ++ point_words p → ⊥
+splits_apart e p same = first_apart 101 118 (omega arith) (append_cancel_left (codes "split ") (codes "edge " ++ name_words e) (codes "vertex " ++ point_words p) same)
 
 -- cuts
 same_cut_words : (V : ℕ) (c d : Cut) → FitsCut V c → FitsCut V d → line_bytes (line.Cut c) ≡ line_bytes (line.Cut d) → c ≡ d
@@ -125,85 +150,42 @@ same_concat c k f g same =
     let total = number_one c.total k.total f g (append_cancel_left (codes " ") (decimal c.total) (decimal k.total) least.1) in
     λ i. record { least = least.0 i; total = total i }
 
--- two lines that are due at one stage and have the same bytes are the same
-pub same_line : (V : ℕ) (s : Stage) (l m : Line) (s' s'' : Stage) → step s l ≡ Some s' → step s m ≡ Some s'' → FitsLine V l → FitsLine V m → line_bytes l ≡ line_bytes m → l ≡ m
-same_line V stage.Title line.Title line.Title s' s'' d e f g same = refl
-same_line V stage.Length (line.Length m) (line.Length n) s' s'' d e f g same = ap line.Length (same_number (codes "length ") m n (omega arith) (omega arith) same)
-same_line V stage.Bound (line.Bound m) (line.Bound n) s' s'' d e f g same = ap line.Bound (same_number (codes "bound ") m n (omega arith) (omega arith) same)
-same_line V stage.Status (line.Status a) (line.Status b) s' s'' d e f g same = ap line.Status (same_status a b same)
-same_line V stage.Openings (line.Openings m) (line.Openings n) s' s'' d e f g same = ap line.Openings (same_number (codes "openings ") m n (omega arith) (omega arith) same)
-same_line V stage.Concat (line.Concat c) (line.Concat k) s' s'' d e f g same = ap line.Concat (same_concat c k f g same)
-same_line V stage.Count (line.Count m) (line.Count n) s' s'' d e f g same = ap line.Count (same_number (codes "edges ") m n (omega arith) (omega arith) same)
-same_line V (stage.Edges zero) line.Tree line.Tree s' s'' d e f g same = refl
-same_line V (stage.Edges (suc k)) (line.Edge a) (line.Edge b) s' s'' d e f g same = ap line.Edge (same_name_words a b f g same)
-same_line V (stage.Body zero zero) line.End line.End s' s'' d e f g same = refl
-same_line V (stage.Body zero (suc p)) (line.Leaf m) (line.Leaf n) s' s'' d e f g same = ap line.Leaf (same_number (codes "leaf ") m n (omega arith) (omega arith) same)
-same_line V (stage.Body zero (suc p)) (line.Leaf n) (line.Split a) s' s'' d e f g same = absurd (first_apart 108 115 (omega arith) same)
-same_line V (stage.Body zero (suc p)) (line.Split a) (line.Leaf n) s' s'' d e f g same = absurd (first_apart 115 108 (omega arith) same)
-same_line V (stage.Body zero (suc p)) (line.Split a) (line.Split b) s' s'' d e f g same = ap line.Split (same_split_words a b f g same)
-same_line V (stage.Body (suc c) p) (line.Cut a) (line.Cut b) s' s'' d e f g same = ap line.Cut (same_cut_words V a b f g same)
-same_line V s l m s' s'' d e f g same = absurd cc
+-- no text is of both versions
+two_versions : (v : Version) → v ≡ version.One → v ≡ version.Two → ⊥
+two_versions v one two = cc
 
--- ---- the text of an answer is that of its lines
-
--- the lines of cuts and of edges
-cut_lines-text : (cuts : List Cut) → lines_text (map line.Cut cuts) ≡ cut_lines cuts
-cut_lines-text [] = refl
-cut_lines-text (c ∷ cuts) = ap (λ x. cut_line c ++ x) (cut_lines-text cuts)
-
-edge_lines-text : (edges : List EdgeName) → lines_text (map line.Edge edges) ≡ edge_lines edges
-edge_lines-text [] = refl
-edge_lines-text (e ∷ edges) = ap (λ x. edge_line e ++ x) (edge_lines-text edges)
-
--- the lines of a tree
-tree_lines-text : (t : Tree EdgeName) → lines_text (tree_lines t) ≡ tree_text t
-tree_lines-text (Leaf cuts) = ap (λ x. (codes "leaf " ++ decimal (length cuts)) ++ codes "\n" ++ x) (cut_lines-text cuts)
-tree_lines-text (Split e o i) =
-    ap (λ x. line_text (line.Split e) ++ x) (flat_map-append line_text (tree_lines o) (tree_lines i))
-    ∙ ap (λ x. line_text (line.Split e) ++ x) (λ k. tree_lines-text o k ++ tree_lines-text i k)
-    ∙ sym (append_assoc (line_text (line.Split e)) (tree_text o) (tree_text i))
-
--- the first four lines of a head
-result_lines-text : (h : AnswerHead) → lines_text (line.Title ∷ line.Length h.length ∷ line.Bound h.bound ∷ line.Status h.optimal ∷ []) ≡ result_text h
-result_lines-text h =
-    let behind_bound = codes "status " ++ ((status_word h.optimal ++ 10 ∷ []) ++ []) in
-    let behind_length = codes "bound " ++ ((decimal h.bound ++ 10 ∷ []) ++ behind_bound) in
-    ap (λ x. codes "rst answer 1\nlength " ++ x) (append_assoc (decimal h.length) (10 ∷ []) behind_length
-    ∙ ap (λ x. decimal h.length ++ 10 ∷ (codes "bound " ++ x)) (append_assoc (decimal h.bound) (10 ∷ []) behind_bound
-    ∙ ap (λ x. decimal h.bound ++ 10 ∷ (codes "status " ++ x)) (append-nil (status_word h.optimal ++ 10 ∷ []))))
-    ∙ sym (result_pieces h []) ∙ append-nil (result_text h)
-
--- and the next two
-search_lines-text : (h : AnswerHead) → lines_text (line.Openings h.openings ∷ line.Concat h.concat ∷ []) ≡ search_text h
-search_lines-text h =
-    let behind_openings = line_text (line.Concat h.concat) ++ [] in
-    ap (λ x. codes "openings " ++ x) (append_assoc (decimal h.openings) (10 ∷ []) behind_openings
-    ∙ ap (λ x. decimal h.openings ++ 10 ∷ x) (append-nil (line_text (line.Concat h.concat)) ∙ ap (λ x. x ++ 10 ∷ []) (concat_pieces h.concat)
-    ∙ ap (λ x. codes "concat " ++ x) (append_assoc (concat_word h.concat.least) (32 ∷ decimal h.concat.total) (10 ∷ []))))
-    ∙ sym (search_pieces h []) ∙ append-nil (search_text h)
-
--- the lines of a head
-head_lines-text : (h : AnswerHead) → lines_text (head_lines h) ≡ head_text h
-head_lines-text h =
-    flat_map-append line_text (line.Title ∷ line.Length h.length ∷ line.Bound h.bound ∷ line.Status h.optimal ∷ []) (line.Openings h.openings ∷ line.Concat h.concat ∷ [])
-    ∙ (λ k. result_lines-text h k ++ search_lines-text h k)
-
--- the lines of a network and of a tree with what surrounds it
-network_lines-text : (edges : List EdgeName) → lines_text (line.Count (length edges) ∷ map line.Edge edges) ≡ network_text edges
-network_lines-text edges = ap (λ x. line_text (line.Count (length edges)) ++ x) (edge_lines-text edges)
-
-proof_lines-text : (t : Tree EdgeName) → lines_text (line.Tree ∷ (tree_lines t ++ line.End ∷ [])) ≡ proof_text t
-proof_lines-text t =
-    ap (λ x. line_text line.Tree ++ x) (flat_map-append line_text (tree_lines t) (line.End ∷ []) ∙ ap (λ x. x ++ codes "end\n") (tree_lines-text t))
-
--- the lines of an answer
-pub answer_lines-text : (a : WrittenAnswer) → lines_text (answer_lines a) ≡ answer_text a
-answer_lines-text a =
-    let network = line.Count (length a.edges) ∷ map line.Edge a.edges in
-    let proof = line.Tree ∷ (tree_lines a.tree ++ line.End ∷ []) in
-    flat_map-append line_text (head_lines a.head) (network ++ proof) ∙ ap (λ x. lines_text (head_lines a.head) ++ x) (flat_map-append line_text network proof)
-    ∙ sym (append_assoc (lines_text (head_lines a.head)) (lines_text network) (lines_text proof))
-    ∙ (λ k. head_lines-text a.head k ++ network_lines-text a.edges k ++ proof_lines-text a.tree k)
+-- two lines that are due at one stage of a text and have the same bytes are the same
+pub same_line : (v : Version) (V : ℕ) (s : Stage) (l m : Line) (s' s'' : Stage) → step s l ≡ Some s' → step s m ≡ Some s'' → FitsLine (version_with v l) V l
+    → FitsLine (version_with v m) V m → line_bytes l ≡ line_bytes m → l ≡ m
+same_line v V stage.Title (line.Title a) (line.Title b) s' s'' d e f g same = ap line.Title (same_title a b same)
+same_line v V stage.Length (line.Length m) (line.Length n) s' s'' d e f g same = ap line.Length (same_number (codes "length ") m n (omega arith) (omega arith) same)
+same_line v V stage.Bound (line.Bound m) (line.Bound n) s' s'' d e f g same = ap line.Bound (same_number (codes "bound ") m n (omega arith) (omega arith) same)
+same_line v V stage.Status (line.Status a) (line.Status b) s' s'' d e f g same = ap line.Status (same_status a b same)
+same_line v V stage.Openings (line.Openings m) (line.Openings n) s' s'' d e f g same = ap line.Openings (same_number (codes "openings ") m n (omega arith) (omega arith) same)
+same_line v V stage.Concat (line.Concat c) (line.Concat k) s' s'' d e f g same = ap line.Concat (same_concat c k f g same)
+same_line v V stage.Count (line.Count m) (line.Count n) s' s'' d e f g same = ap line.Count (same_number (codes "edges ") m n (omega arith) (omega arith) same)
+same_line v V (stage.Edges zero) line.Tree line.Tree s' s'' d e f g same = refl
+same_line v V (stage.Edges (suc k)) (line.Edge a) (line.Edge b) s' s'' d e f g same = ap line.Edge (same_name_words a b f g same)
+same_line v V (stage.Body zero zero) line.End line.End s' s'' d e f g same = refl
+same_line v V (stage.Body zero (suc p)) (line.Leaf m) (line.Leaf n) s' s'' d e f g same = ap line.Leaf (same_number (codes "leaf ") m n (omega arith) (omega arith) same)
+same_line v V (stage.Body zero (suc p)) (line.Leaf n) (line.Split a) s' s'' d e f g same = absurd (first_apart 108 115 (omega arith) same)
+same_line v V (stage.Body zero (suc p)) (line.Leaf n) (line.SplitEdge a) s' s'' d e f g same = absurd (first_apart 108 115 (omega arith) same)
+same_line v V (stage.Body zero (suc p)) (line.Leaf n) (line.SplitVertex a) s' s'' d e f g same = absurd (first_apart 108 115 (omega arith) same)
+same_line v V (stage.Body zero (suc p)) (line.Split a) (line.Leaf n) s' s'' d e f g same = absurd (first_apart 115 108 (omega arith) same)
+same_line v V (stage.Body zero (suc p)) (line.SplitEdge a) (line.Leaf n) s' s'' d e f g same = absurd (first_apart 115 108 (omega arith) same)
+same_line v V (stage.Body zero (suc p)) (line.SplitVertex a) (line.Leaf n) s' s'' d e f g same = absurd (first_apart 115 108 (omega arith) same)
+same_line v V (stage.Body zero (suc p)) (line.Split a) (line.Split b) s' s'' d e f g same = ap line.Split (same_name (codes "split ") a b f.1 g.1 same)
+same_line v V (stage.Body zero (suc p)) (line.Split a) (line.SplitEdge b) s' s'' d e f g same = absurd (two_versions v f.0 g.0)
+same_line v V (stage.Body zero (suc p)) (line.Split a) (line.SplitVertex b) s' s'' d e f g same = absurd (two_versions v f.0 g.0)
+same_line v V (stage.Body zero (suc p)) (line.SplitEdge a) (line.Split b) s' s'' d e f g same = absurd (two_versions v g.0 f.0)
+same_line v V (stage.Body zero (suc p)) (line.SplitVertex a) (line.Split b) s' s'' d e f g same = absurd (two_versions v g.0 f.0)
+same_line v V (stage.Body zero (suc p)) (line.SplitEdge a) (line.SplitEdge b) s' s'' d e f g same = ap line.SplitEdge (same_name (codes "split edge ") a b f.1 g.1 same)
+same_line v V (stage.Body zero (suc p)) (line.SplitEdge a) (line.SplitVertex b) s' s'' d e f g same = absurd (splits_apart a b same)
+same_line v V (stage.Body zero (suc p)) (line.SplitVertex a) (line.SplitEdge b) s' s'' d e f g same = absurd (splits_apart b a (sym same))
+same_line v V (stage.Body zero (suc p)) (line.SplitVertex a) (line.SplitVertex b) s' s'' d e f g same = ap line.SplitVertex (same_point a b f.1 g.1 same)
+same_line v V (stage.Body (suc c) p) (line.Cut a) (line.Cut b) s' s'' d e f g same = ap line.Cut (same_cut_words V a b f g same)
+same_line v V stage.Done l m s' s'' d e f g same = let none = step-done l in absurd cc
+same_line v V s l m s' s'' d e f g same = absurd cc
 
 -- ---- how many lines there are
 
@@ -220,10 +202,10 @@ line_feeds-lacks (x ∷ xs) p =
     let apart : x ≢ 10 = All-head (λ b. b ≢ 10) x xs p in
     grind (arith, nat_tests)
 
--- a list of lines that fit has one a line
-pub line_feeds-lines : (V : ℕ) (ls : List Line) → All (FitsLine V) ls → line_feeds (lines_text ls) ≡ length ls
-line_feeds-lines V [] f = refl
-line_feeds-lines V (l ∷ ls) f =
-    let none = line_feeds-lacks (line_bytes l) (line_bytes-lacks V l (All-head (FitsLine V) l ls f)) in
-    let rest = line_feeds-lines V ls (All-tail (FitsLine V) l ls f) in
+-- lines that fit have one each
+pub line_feeds-lines : (v : Version) (V : ℕ) (ls : List Line) → FitsLines v V ls → line_feeds (lines_text ls) ≡ length ls
+line_feeds-lines v V [] f = refl
+line_feeds-lines v V (l ∷ ls) f =
+    let none = line_feeds-lacks (line_bytes l) (line_bytes-lacks (version_with v l) V l f.0) in
+    let rest = line_feeds-lines (version_with v l) V ls f.1 in
     omega (arith, line_feeds-append (line_text l) (lines_text ls), line_feeds-append (line_bytes l) (10 ∷ []))

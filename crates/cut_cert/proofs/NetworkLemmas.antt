@@ -1,9 +1,7 @@
 -- The lines of a network's edges, one flag after another.
-use Rattle.std.proofs.Common.{arith, ℕ, ◌≡◌, ◌+◌, ◌<◌, Bool, true, false, cond, List, [], ◌∷◌, ◌++◌, length, take, ap, sym, ◌∙◌, length-append, append_assoc}
-use Rattle.std.specs.Prelude.{All, codes}
-use Rattle.std.specs.Fmt.{decimal}
+use Rattle.std.proofs.Common.{arith, ℕ, ◌≡◌, ◌+◌, ◌<◌, Bool, true, false, cond, List, [], ◌∷◌, ◌++◌, length, take, refl, ap, sym, ◌∙◌, length-append}
+use Rattle.std.specs.Prelude.{All, map}
 use Rattle.std.proofs.lemmas.List.{append-nil, map-append, length-map}
-use Rattle.std.proofs.lemmas.List.Concat.{flat_map-append}
 use Rattle.std.proofs.lemmas.List.Elements.{All-push, All-same}
 use Rattle.points_in.specs.declared.point.Point.{Point}
 use Rattle.net_graph.specs.Flags.{has}
@@ -11,9 +9,11 @@ use Rattle.net_graph.specs.Members.{members_of}
 use Rattle.net_graph.specs.MembersLaws.{members_of-more}
 use Rattle.hanan_grid.specs.declared.name.EdgeName.{EdgeName}
 use Rattle.hanan_grid.specs.Names.{name_of_edge}
-use Rattle.cut_cert.specs.Text.{edge_line, edge_lines, network_text}
+use Rattle.cut_cert.specs.LineKinds as line
+use Rattle.cut_cert.specs.Lines.{line_text, lines_text}
 use Rattle.cut_cert.specs.Spelling.{FitsName}
 use Rattle.cut_cert.specs.Answers.{names_of}
+use Rattle.cut_cert.proofs.Lengths.{lines_text-push, sum_more}
 
 -- a member is one more number
 pub members-member : (set : List Bool) (e : ℕ) → e < length set → has set e ≡ true → members_of (take (e + 1) set) ≡ members_of (take e set) ++ e ∷ []
@@ -26,10 +26,11 @@ members-other set e inside is =
 
 -- the lines of some edges and of one more
 edge_lines-more : (ps : List Point) (numbers : List ℕ) (e : ℕ)
-    → edge_lines (names_of ps (numbers ++ e ∷ [])) ≡ edge_lines (names_of ps numbers) ++ edge_line (name_of_edge ps e)
+    → lines_text (map line.Edge (names_of ps (numbers ++ e ∷ []))) ≡ lines_text (map line.Edge (names_of ps numbers)) ++ line_text (line.Edge (name_of_edge ps e))
 edge_lines-more ps numbers e =
-    ap edge_lines (map-append (name_of_edge ps) numbers (e ∷ [])) ∙ flat_map-append edge_line (names_of ps numbers) (name_of_edge ps e ∷ [])
-    ∙ ap (λ x. edge_lines (names_of ps numbers) ++ x) (append-nil (edge_line (name_of_edge ps e)))
+    ap (λ names. lines_text (map line.Edge names)) (map-append (name_of_edge ps) numbers (e ∷ []))
+    ∙ ap lines_text (map-append line.Edge (names_of ps numbers) (name_of_edge ps e ∷ []))
+    ∙ lines_text-push (map line.Edge (names_of ps numbers)) (line.Edge (name_of_edge ps e))
 
 -- the name of a member is one more name
 pub names-member : (ps : List Point) (set : List Bool) (e : ℕ) → e < length set → has set e ≡ true → All FitsName (names_of ps (members_of (take e set))) → FitsName (name_of_edge ps e)
@@ -47,14 +48,14 @@ names-other ps set e inside is names =
 
 -- a member has a line
 pub lines-member : (ps : List Point) (set : List Bool) (e : ℕ) → e < length set → has set e ≡ true
-    → edge_lines (names_of ps (members_of (take e set))) ++ edge_line (name_of_edge ps e) ≡ edge_lines (names_of ps (members_of (take (e + 1) set)))
+    → lines_text (map line.Edge (names_of ps (members_of (take e set)))) ++ line_text (line.Edge (name_of_edge ps e)) ≡ lines_text (map line.Edge (names_of ps (members_of (take (e + 1) set))))
 lines-member ps set e inside is =
-    sym (edge_lines-more ps (members_of (take e set)) e) ∙ ap (λ numbers. edge_lines (names_of ps numbers)) (sym (members-member set e inside is))
+    sym (edge_lines-more ps (members_of (take e set)) e) ∙ ap (λ numbers. lines_text (map line.Edge (names_of ps numbers))) (sym (members-member set e inside is))
 
 -- another number has none
 pub lines-other : (ps : List Point) (set : List Bool) (e : ℕ) → e < length set → has set e ≡ false
-    → edge_lines (names_of ps (members_of (take e set))) ≡ edge_lines (names_of ps (members_of (take (e + 1) set)))
-lines-other ps set e inside is = ap (λ numbers. edge_lines (names_of ps numbers)) (sym (members-other set e inside is))
+    → lines_text (map line.Edge (names_of ps (members_of (take e set)))) ≡ lines_text (map line.Edge (names_of ps (members_of (take (e + 1) set))))
+lines-other ps set e inside is = ap (λ numbers. lines_text (map line.Edge (names_of ps numbers))) (sym (members-other set e inside is))
 
 -- a member counts as one
 pub count-member : (set : List Bool) (e count : ℕ) → e < length set → has set e ≡ true → count ≡ length (members_of (take e set)) → count + 1 ≡ length (members_of (take (e + 1) set))
@@ -70,18 +71,9 @@ count-other set e count inside is so_far = so_far ∙ sym (ap length (members-ot
 pub count-names : (ps : List Point) (numbers : List ℕ) (count : ℕ) → count ≡ length numbers → count ≡ length (names_of ps numbers)
 count-names ps numbers count is = is ∙ sym (length-map numbers (name_of_edge ps))
 
--- a network's text by its pieces
-pub network_pieces : (edges : List EdgeName) (count : ℕ) → count ≡ length edges
-    → codes "edges " ++ (decimal count ++ (codes "\n" ++ edge_lines edges)) ≡ network_text edges
-network_pieces edges count is = rw is (simp append_assoc)
-
 -- a member's line adds its length
-pub lines_length-member : (ps : List Point) (set : List Bool) (e sum : ℕ) → e < length set → has set e ≡ true
-    → sum ≡ length (edge_lines (names_of ps (members_of (take e set)))) → sum + length (edge_line (name_of_edge ps e)) ≡ length (edge_lines (names_of ps (members_of (take (e + 1) set))))
+pub lines_length-member : (ps : List Point) (set : List Bool) (e sum : ℕ) → e < length set → has set e ≡ true → sum ≡ length (lines_text (map line.Edge (names_of ps (members_of (take e set)))))
+    → sum + length (line_text (line.Edge (name_of_edge ps e))) ≡ length (lines_text (map line.Edge (names_of ps (members_of (take (e + 1) set)))))
 lines_length-member ps set e sum inside is so_far =
-    ap (λ n. n + length (edge_line (name_of_edge ps e))) so_far ∙ sym (length-append (edge_lines (names_of ps (members_of (take e set)))) (edge_line (name_of_edge ps e)))
-    ∙ ap length (lines-member ps set e inside is)
-
--- the length of a network's text
-pub length-network_text : (edges : List EdgeName) → length (network_text edges) ≡ 7 + length (decimal (length edges)) + length (edge_lines edges)
-length-network_text edges = simp length-append (omega arith)
+    sum_more (lines_text (map line.Edge (names_of ps (members_of (take e set))))) (line_text (line.Edge (name_of_edge ps e))) _ sum (length (line_text (line.Edge (name_of_edge ps e)))) so_far refl
+    (lines-member ps set e inside is)

@@ -1,14 +1,14 @@
 -- Pieces of a text that are determined by a list that begins with them.
 use Rattle.std.proofs.Common.{ℕ, ◌≡◌, ◌≢◌, ◌^◌, ◌<◌, Bool, true, false, List, [], ◌∷◌, ◌++◌, length, get_or, refl, sym, ap, ◌∙◌, arith, append_assoc}
-use Rattle.std.specs.Prelude.{All, flat_map}
+use Rattle.std.specs.Prelude.{All}
 use Rattle.std.specs.Fmt.{decimal}
 use Rattle.std.specs.Str.Parse.{digits_value}
 use Rattle.std.proofs.lemmas.Fmt.{decimal_is_IsNumeral_wide}
 use Rattle.std.proofs.lemmas.Str.Parse.{digit_at}
-use Rattle.std.proofs.lemmas.List.Elements.{All-from_get_or, All-head, All-tail}
+use Rattle.std.proofs.lemmas.List.Elements.{All-from_get_or}
 use Rattle.spelled.specs.Words.{Lacks}
 use Rattle.spelled.specs.Fronts.{front_unique}
-use Rattle.cut_cert.specs.Text.{status_word, concat_word}
+use Rattle.cut_cert.specs.Words.{status_word, concat_word}
 
 -- No digit is a byte below the digits.
 pub number-lacks : (n byte : ℕ) → n < 2 ^ 128 → byte < 48 → Lacks (decimal n) byte
@@ -48,15 +48,3 @@ concat_front false false p q e = (refl, cc)
 -- Texts of which each is determined by a list that begins with it.
 abbrev pub IsToldByFront : {A : Type 0} → (A → Type 0) → (A → List ℕ) → Type 0
 IsToldByFront {A} Fits text = (x y : A) (p q : List ℕ) → Fits x → Fits y → text x ++ p ≡ text y ++ q → (x ≡ y) × (p ≡ q)
-
--- As many of them one after another are so too.
-pub texts_front : {A : Type 0} (Fits : A → Type 0) (text : A → List ℕ) → IsToldByFront Fits text → (xs ys : List A) (p q : List ℕ)
-    → length xs ≡ length ys → All Fits xs → All Fits ys → flat_map text xs ++ p ≡ flat_map text ys ++ q → (xs ≡ ys) × (p ≡ q)
-texts_front Fits text one [] [] p q size f g e = (refl, e)
-texts_front Fits text one [] (y ∷ ys) p q size f g e = absurd (omega arith)
-texts_front Fits text one (x ∷ xs) [] p q size f g e = absurd (omega arith)
-texts_front Fits text one (x ∷ xs) (y ∷ ys) p q size f g e =
-    let first = one x y (flat_map text xs ++ p) (flat_map text ys ++ q) (All-head Fits x xs f) (All-head Fits y ys g)
-    (sym (append_assoc (text x) (flat_map text xs) p) ∙ e ∙ append_assoc (text y) (flat_map text ys) q) in
-    let rest = texts_front Fits text one xs ys p q (omega arith) (All-tail Fits x xs f) (All-tail Fits y ys g) first.1 in
-    (cc, rest.1)

@@ -1,8 +1,7 @@
 -- What lines that were read one after another say of the bytes that they stand at the front of.
 use Rattle.std.proofs.Common.{ℕ, ◌≡◌, ◌+◌, ◌-◌, ◌<◌, List, [], ◌∷◌, ◌++◌, length, take, refl, sym, ap, subst, ◌∙◌, arith, append_assoc, length-append, Option, Some, None, inl, inr, ⊎_elim}
-use Rattle.std.specs.Prelude.{All, option_and_then, ◌⊎◌}
+use Rattle.std.specs.Prelude.{option_and_then, ◌⊎◌}
 use Rattle.std.proofs.lemmas.List.Concat.{flat_map-append}
-use Rattle.std.proofs.lemmas.List.Elements.{All-head, All-tail, All-append}
 use Rattle.spelled.specs.Words.{Lacks}
 use Rattle.spelled.specs.Fronts.{front_unique, separator_missing}
 use Rattle.cut_cert.specs.AnswerLine.{Line}
@@ -10,13 +9,16 @@ use Rattle.cut_cert.specs.declared.line.Stage.{Stage}
 use Rattle.cut_cert.specs.declared.line.Stage.TheVariants as stage
 use Rattle.cut_cert.specs.Value.{WrittenAnswer}
 use Rattle.cut_cert.specs.Spelling.{FitsAnswer, SpellsAnswer}
-use Rattle.cut_cert.specs.Lines.{line_bytes, line_text, lines_text, FitsLine, answer_lines, step, run, IsNoLine}
+use Rattle.cut_cert.specs.declared.version.Version.{Version}
+use Rattle.cut_cert.specs.declared.version.Version.TheVariants as version
+use Rattle.cut_cert.specs.Lines.{line_bytes, line_text, lines_text, answer_lines, step, run}
+use Rattle.cut_cert.specs.LineFits.{FitsLine, FitsLines, IsLineRead, IsNoLine, version_with, version_from}
 use Rattle.cut_cert.specs.Events.{events_of, events_from, no_head}
 use Rattle.cut_cert.specs.Reading.{BeginsAnswer, line_feeds, IsReadWhole, StopsAt}
 use Rattle.cut_cert.proofs.Machine.{run-append, answer_value}
-use Rattle.cut_cert.proofs.Due.{run-answer, answer_fits, end_of, run-end_of, end_of_fits}
-use Rattle.cut_cert.proofs.LineTexts.{line_bytes-lacks, same_line, answer_lines-text, line_feeds-append, line_feeds-lacks, line_feeds-lines}
-use Rattle.cut_cert.proofs.EventLaws.{events_from-answer, events_from-front}
+use Rattle.cut_cert.proofs.Due.{run-answer, answer_fits, fits_append, end_of, run-end_of, end_of_fits}
+use Rattle.cut_cert.proofs.LineTexts.{line_bytes-lacks, same_line, line_feeds-append, line_feeds-lacks, line_feeds-lines}
+use Rattle.cut_cert.proofs.EventLaws.{events_from-front}
 
 -- ---- the lines of a text are determined by what is due
 
@@ -32,7 +34,7 @@ pub record Behind (ls ms : List Line) (bytes : List ℕ) : Type 0 where
   pub text : bytes ≡ lines_text rest
 
 -- the first line of some, and what follows it
-line_split : (l : Line) (ls : List Line) (bytes : List ℕ) → lines_text (l ∷ ls) ++ bytes ≡ line_bytes l ++ 10 ∷ (lines_text ls ++ bytes)
+pub line_split : (l : Line) (ls : List Line) (bytes : List ℕ) → lines_text (l ∷ ls) ++ bytes ≡ line_bytes l ++ 10 ∷ (lines_text ls ++ bytes)
 line_split l ls bytes = append_assoc (line_text l) (lines_text ls) bytes ∙ append_assoc (line_bytes l) (10 ∷ []) (lines_text ls ++ bytes)
 
 -- a line is not empty
@@ -41,30 +43,50 @@ line_some l ls bytes none =
     let short = ap length (sym (line_split l ls bytes) ∙ none) in
     omega (arith, length-append (line_bytes l) (10 ∷ (lines_text ls ++ bytes)))
 
--- lines that were due at the front of the text of lines that were due are the first of them
-lines_front : (V : ℕ) (s s' s'' : Stage) (ls ms : List Line) (bytes : List ℕ) → run s ls ≡ Some s' → run s ms ≡ Some s'' → All (FitsLine V) ls → All (FitsLine V) ms
-    → lines_text ls ++ bytes ≡ lines_text ms → Behind ls ms bytes
-lines_front V s s' s'' [] ms bytes d e f g same = record { rest = ms; lines = refl; text = same }
-lines_front V s s' s'' (l ∷ ls) [] bytes d e f g same = absurd (line_some l ls bytes same)
-lines_front V s s' s'' (l ∷ ls) (m ∷ ms) bytes d e f g same =
+-- the first of lines that were due tells the first of others that were due, and the texts go on alike
+pub record FirstLine (v : Version) (V : ℕ) (s' s'' : Stage) (l m : Line) (ls ms : List Line) (p q : List ℕ) : Type 0 where
+  pub same : l ≡ m
+  pub stage : Stage
+  pub due : run stage ls ≡ Some s'
+  pub due_too : run stage ms ≡ Some s''
+  pub fits : FitsLines (version_with v l) V ms
+  pub text : p ≡ q
+
+pub first_line : (v : Version) (V : ℕ) (s s' s'' : Stage) (l m : Line) (ls ms : List Line) (p q : List ℕ) → run s (l ∷ ls) ≡ Some s' → run s (m ∷ ms) ≡ Some s''
+    → FitsLines v V (l ∷ ls) → FitsLines v V (m ∷ ms) → line_bytes l ++ 10 ∷ p ≡ line_bytes m ++ 10 ∷ q → FirstLine v V s' s'' l m ls ms p q
+first_line v V s s' s'' l m ls ms p q d e f g text =
     let (t, due, rest) = first_step (λ u. run u ls) (step s l) s' d in
     let (u, due', rest') = first_step (λ u. run u ms) (step s m) s'' e in
-    let fits = All-head (FitsLine V) l ls f in
-    let fits' = All-head (FitsLine V) m ms g in
-    let regroup : line_bytes l ++ 10 ∷ (lines_text ls ++ bytes) ≡ line_bytes m ++ 10 ∷ lines_text ms =
-    sym (line_split l ls bytes) ∙ same ∙ append_assoc (line_bytes m) (10 ∷ []) (lines_text ms) in
-    let first = front_unique 10 (line_bytes l) (line_bytes m) (lines_text ls ++ bytes) (lines_text ms) (line_bytes-lacks V l fits) (line_bytes-lacks V m fits') regroup in
-    let here = same_line V s l m t u due due' fits fits' first.0 in
+    let first = front_unique 10 (line_bytes l) (line_bytes m) p q (line_bytes-lacks (version_with v l) V l f.0) (line_bytes-lacks (version_with v m) V m g.0) text in
+    let here = same_line v V s l m t u due due' f.0 g.0 first.0 in
     let stage_same : Some t ≡ Some u = sym due ∙ ap (step s) here ∙ due' in
     let same_stage : t ≡ u = cc in
-    let behind = lines_front V t s' s'' ls ms bytes rest (ap (λ x. run x ms) same_stage ∙ rest') (All-tail (FitsLine V) l ls f) (All-tail (FitsLine V) m ms g) first.1 in
-    record { rest = behind.rest; lines = λ i. sym here i ∷ behind.lines i; text = behind.text }
+    record {
+      same = here;
+      stage = t;
+      due = rest;
+      due_too = ap (λ x. run x ms) same_stage ∙ rest';
+      fits = subst (λ x. FitsLines (version_with v x) V ms) (sym here) g.1;
+      text = first.1;
+    }
+
+-- lines that were due at the front of the text of lines that were due are the first of them
+lines_front : (v : Version) (V : ℕ) (s s' s'' : Stage) (ls ms : List Line) (bytes : List ℕ) → run s ls ≡ Some s' → run s ms ≡ Some s'' → FitsLines v V ls → FitsLines v V ms
+    → lines_text ls ++ bytes ≡ lines_text ms → Behind ls ms bytes
+lines_front v V s s' s'' [] ms bytes d e f g same = record { rest = ms; lines = refl; text = same }
+lines_front v V s s' s'' (l ∷ ls) [] bytes d e f g same = absurd (line_some l ls bytes same)
+lines_front v V s s' s'' (l ∷ ls) (m ∷ ms) bytes d e f g same =
+    let regroup : line_bytes l ++ 10 ∷ (lines_text ls ++ bytes) ≡ line_bytes m ++ 10 ∷ lines_text ms =
+    sym (line_split l ls bytes) ∙ same ∙ append_assoc (line_bytes m) (10 ∷ []) (lines_text ms) in
+    let first = first_line v V s s' s'' l m ls ms (lines_text ls ++ bytes) (lines_text ms) d e f g regroup in
+    let behind = lines_front (version_with v l) V first.stage s' s'' ls ms bytes first.due first.due_too f.1 first.fits first.text in
+    record { rest = behind.rest; lines = λ i. sym first.same i ∷ behind.lines i; text = behind.text }
 
 -- the lines of an answer whose text begins with lines that were due begin with them
-pub answer_front : (V : ℕ) (s : Stage) (ls : List Line) (bytes behind : List ℕ) (a : WrittenAnswer) → run stage.Title ls ≡ Some s → All (FitsLine V) ls
+pub answer_front : (V : ℕ) (s : Stage) (ls : List Line) (bytes behind : List ℕ) (a : WrittenAnswer) → run stage.Title ls ≡ Some s → FitsLines version.One V ls
     → SpellsAnswer V bytes a → bytes ≡ lines_text ls ++ behind → Behind ls (answer_lines a) behind
 answer_front V s ls bytes behind a due fits spells parts =
-    lines_front V stage.Title s stage.Done ls (answer_lines a) behind due (run-answer a) fits (answer_fits V a spells.fits) (sym parts ∙ spells.spelled ∙ sym (answer_lines-text a))
+    lines_front version.One V stage.Title s stage.Done ls (answer_lines a) behind due (run-answer a) fits (answer_fits V a spells.fits) (sym parts ∙ spells.spelled)
 
 -- what is due behind lines that begin others up to the end
 pub due_behind : (s : Stage) (ls rest ms : List Line) → run stage.Title ls ≡ Some s → run stage.Title ms ≡ Some stage.Done → ms ≡ ls ++ rest → run s rest ≡ Some stage.Done
@@ -74,48 +96,46 @@ due_behind s ls rest ms due whole parts =
 -- ---- lines that begin an answer
 
 -- they do
-pub begins_answer : (V : ℕ) (s : Stage) (ls : List Line) → run stage.Title ls ≡ Some s → All (FitsLine V) ls → BeginsAnswer V (lines_text ls)
+pub begins_answer : (V : ℕ) (s : Stage) (ls : List Line) → run stage.Title ls ≡ Some s → FitsLines version.One V ls → BeginsAnswer V (lines_text ls)
 begins_answer V s ls due fits =
-    let more = end_of V s in
+    let v = version_from version.One ls in
+    let more = end_of v V s in
     let whole : run stage.Title (ls ++ more) ≡ Some stage.Done =
-    run-append stage.Title ls more ∙ ap (option_and_then (λ s'. run s' more)) due ∙ run-end_of V s in
-    let told = answer_value V (ls ++ more) whole (All-append (FitsLine V) ls more fits (end_of_fits V s)) in
+    run-append stage.Title ls more ∙ ap (option_and_then (λ s'. run s' more)) due ∙ run-end_of v V s in
+    let told = answer_value V (ls ++ more) whole (fits_append version.One V ls more fits (end_of_fits v V s)) in
     record {
       rest = lines_text more;
       answer = told.answer;
-      spells = record {
-        fits = told.fits;
-        spelled = sym (flat_map-append line_text ls more) ∙ ap lines_text told.lines ∙ answer_lines-text told.answer;
-      };
+      spells = record { fits = told.fits; spelled = sym (flat_map-append line_text ls more) ∙ ap lines_text told.lines };
     }
 
 -- their events are the first events of each answer that begins with them
-pub begun_events : (V : ℕ) (s : Stage) (ls : List Line) (rest : List ℕ) (a : WrittenAnswer) → run stage.Title ls ≡ Some s → All (FitsLine V) ls → SpellsAnswer V (lines_text ls ++ rest) a
+pub begun_events : (V : ℕ) (s : Stage) (ls : List Line) (rest : List ℕ) (a : WrittenAnswer) → run stage.Title ls ≡ Some s → FitsLines version.One V ls → SpellsAnswer V (lines_text ls ++ rest) a
     → events_from no_head 1 ls ≡ take (length ls + 1 - 6) (events_of a)
 begun_events V s ls rest a due fits spells =
     let behind = answer_front V s ls (lines_text ls ++ rest) rest a due fits spells refl in
     events_from-front a s ls behind.rest due (sym behind.lines)
 
 -- up to the end they spell one
-pub read_whole : (V : ℕ) (ls : List Line) (bytes : List ℕ) → run stage.Title ls ≡ Some stage.Done → All (FitsLine V) ls → bytes ≡ lines_text ls
+pub read_whole : (V : ℕ) (ls : List Line) (bytes : List ℕ) → run stage.Title ls ≡ Some stage.Done → FitsLines version.One V ls → bytes ≡ lines_text ls
     → IsReadWhole V bytes (events_from no_head 1 ls)
 read_whole V ls bytes due fits text =
     let told = answer_value V ls due fits in
     record {
       answer = told.answer;
-      spells = record { fits = told.fits; spelled = text ∙ ap lines_text told.lines ∙ answer_lines-text told.answer };
-      told = ap (events_from no_head 1) told.lines ∙ events_from-answer told.answer;
+      spells = record { fits = told.fits; spelled = text ∙ ap lines_text told.lines };
+      told = ap (events_from no_head 1) told.lines;
     }
 
 -- bytes that stop behind lines of an answer
-pub stops : (V : ℕ) (s : Stage) (ls : List Line) (bytes rest : List ℕ) → run stage.Title ls ≡ Some s → All (FitsLine V) ls → bytes ≡ lines_text ls ++ rest
+pub stops : (V : ℕ) (s : Stage) (ls : List Line) (bytes rest : List ℕ) → run stage.Title ls ≡ Some s → FitsLines version.One V ls → bytes ≡ lines_text ls ++ rest
     → ((longer more : List ℕ) → bytes ≡ longer ++ more → BeginsAnswer V longer → line_feeds longer < length ls + 1)
     → ((a : WrittenAnswer) → SpellsAnswer V bytes a → ⊥) → StopsAt V bytes (length ls + 1) (events_from no_head 1 ls)
 stops V s ls bytes rest due fits parts last unspelled = record {
   front = lines_text ls;
   back = rest;
   parts = parts;
-  line = omega (arith, line_feeds-lines V ls fits);
+  line = omega (arith, line_feeds-lines version.One V ls fits);
   begins = begins_answer V s ls due fits;
   last = last;
   unspelled = unspelled;
@@ -130,7 +150,7 @@ no_lines [] lacks = refl
 no_lines (l ∷ ls) lacks = absurd (separator_missing 10 (lines_text (l ∷ ls)) (line_bytes l) (lines_text ls) lacks (append_assoc (line_bytes l) (10 ∷ []) (lines_text ls)))
 
 -- where they spell an answer, nothing is left and nothing is due
-ended : (V : ℕ) (s : Stage) (ls : List Line) (bytes rest : List ℕ) (a : WrittenAnswer) → run stage.Title ls ≡ Some s → All (FitsLine V) ls → bytes ≡ lines_text ls ++ rest → Lacks rest 10
+ended : (V : ℕ) (s : Stage) (ls : List Line) (bytes rest : List ℕ) (a : WrittenAnswer) → run stage.Title ls ≡ Some s → FitsLines version.One V ls → bytes ≡ lines_text ls ++ rest → Lacks rest 10
     → SpellsAnswer V bytes a → (rest ≡ []) × (s ≡ stage.Done)
 ended V s ls bytes rest a due fits parts lacks spells =
     let behind = answer_front V s ls bytes rest a due fits spells parts in
@@ -140,12 +160,12 @@ ended V s ls bytes rest a due fits parts lacks spells =
     (behind.text ∙ ap lines_text none, cc)
 
 -- the whole of them has as many line feeds as lines were read
-pub stops_unended : (V : ℕ) (s : Stage) (ls : List Line) (bytes rest : List ℕ) → run stage.Title ls ≡ Some s → All (FitsLine V) ls → bytes ≡ lines_text ls ++ rest → Lacks rest 10
+pub stops_unended : (V : ℕ) (s : Stage) (ls : List Line) (bytes rest : List ℕ) → run stage.Title ls ≡ Some s → FitsLines version.One V ls → bytes ≡ lines_text ls ++ rest → Lacks rest 10
     → ((rest ≡ []) → (s ≡ stage.Done) → ⊥) → StopsAt V bytes (length ls + 1) (events_from no_head 1 ls)
 stops_unended V s ls bytes rest due fits parts lacks open_end = stops V s ls bytes rest due fits parts
     (λ longer more split begins.
     let one = ap line_feeds (sym split ∙ parts) in
-    omega (arith, line_feeds-append longer more, line_feeds-append (lines_text ls) rest, line_feeds-lines V ls fits, line_feeds-lacks rest lacks))
+    omega (arith, line_feeds-append longer more, line_feeds-append (lines_text ls) rest, line_feeds-lines version.One V ls fits, line_feeds-lacks rest lacks))
     (λ a spells. let both = ended V s ls bytes rest a due fits parts lacks spells in open_end both.0 both.1)
 
 -- ---- bytes with a line that was not due
@@ -162,38 +182,44 @@ front_cases mark (f ∷ front) back (b ∷ before) after e =
     (λ (later : (more : List ℕ) × (front ≡ before ++ mark ∷ more)). inr (later.0, λ i. same i ∷ later.1 i))
     (front_cases mark front back before after cc)
 
--- what holds of all holds of one between others
-pub holds_between : {X : Type 0} (P : X → Type 0) (xs : List X) (y : X) (zs : List X) → All P (xs ++ y ∷ zs) → P y
-holds_between P [] y zs all = All-head P y zs all
-holds_between P (x ∷ xs) y zs all = holds_between P xs y zs (All-tail P x (xs ++ y ∷ zs) all)
+-- a line behind others fits the version that they tell
+pub fits_behind : (v : Version) (V : ℕ) (xs : List Line) (y : Line) (zs : List Line) → FitsLines v V (xs ++ y ∷ zs) → FitsLine (version_with (version_from v xs) y) V y
+fits_behind v V [] y zs f = f.0
+fits_behind v V (x ∷ xs) y zs f = fits_behind (version_with v x) V xs y zs f.1
+
+-- the line of an answer that stands behind others was due
+pub due_line : (V : ℕ) (s : Stage) (ls : List Line) (m : Line) (ms : List Line) (a : WrittenAnswer) → run stage.Title ls ≡ Some s → FitsAnswer V a → answer_lines a ≡ ls ++ m ∷ ms
+    → (t : Stage) × IsLineRead (version_from version.One ls) V s (line_bytes m) m t
+due_line V s ls m ms a due fits lines =
+    let all = subst (FitsLines version.One V) lines (answer_fits V a fits) in
+    let (t, here, more) = first_step (λ u. run u ms) (step s m) stage.Done (due_behind s ls (m ∷ ms) (answer_lines a) due (run-answer a) lines) in
+    (t, record { told = refl; fits = fits_behind version.One V ls m ms all; due = here })
 
 -- a line behind lines of an answer is one that was due
 line_behind : (V : ℕ) (s : Stage) (ls rest : List Line) (line after : List ℕ) (a : WrittenAnswer) → run stage.Title ls ≡ Some s → FitsAnswer V a → answer_lines a ≡ ls ++ rest
-    → line ++ 10 ∷ after ≡ lines_text rest → Lacks line 10 → IsNoLine V s line → ⊥
+    → line ++ 10 ∷ after ≡ lines_text rest → Lacks line 10 → IsNoLine (version_from version.One ls) V s line → ⊥
 line_behind V s ls [] line after a due fits lines text lacks none =
     let short = ap length text in omega (arith, length-append line (10 ∷ after))
 line_behind V s ls (m ∷ ms) line after a due fits lines text lacks none =
-    let all = subst (All (FitsLine V)) lines (answer_fits V a fits) in
-    let fit = holds_between (FitsLine V) ls m ms all in
-    let (t, here, more) = first_step (λ u. run u ms) (step s m) stage.Done (due_behind s ls (m ∷ ms) (answer_lines a) due (run-answer a) lines) in
-    let first = front_unique 10 line (line_bytes m) after (lines_text ms) lacks (line_bytes-lacks V m fit) (text ∙ append_assoc (line_bytes m) (10 ∷ []) (lines_text ms)) in
-    none m t fit here first.0
+    let read = (due_line V s ls m ms a due fits lines).1 in
+    let first = front_unique 10 line (line_bytes m) after (lines_text ms) lacks (line_bytes-lacks (version_with (version_from version.One ls) m) V m read.fits) (text ∙ append_assoc (line_bytes m) (10 ∷ []) (lines_text ms)) in
+    none m (due_line V s ls m ms a due fits lines).0 read.fits read.due first.0
 
 -- so no answer has the lines and then one that was not due
-pub no_answer : (V : ℕ) (s : Stage) (ls : List Line) (bytes line after : List ℕ) (a : WrittenAnswer) → run stage.Title ls ≡ Some s → All (FitsLine V) ls
-    → SpellsAnswer V bytes a → bytes ≡ lines_text ls ++ (line ++ 10 ∷ after) → Lacks line 10 → IsNoLine V s line → ⊥
+pub no_answer : (V : ℕ) (s : Stage) (ls : List Line) (bytes line after : List ℕ) (a : WrittenAnswer) → run stage.Title ls ≡ Some s → FitsLines version.One V ls
+    → SpellsAnswer V bytes a → bytes ≡ lines_text ls ++ (line ++ 10 ∷ after) → Lacks line 10 → IsNoLine (version_from version.One ls) V s line → ⊥
 no_answer V s ls bytes line after a due fits spells parts lacks none =
     let behind = answer_front V s ls bytes (line ++ 10 ∷ after) a due fits spells parts in
     line_behind V s ls behind.rest line after a due spells.fits behind.lines behind.text lacks none
 
 -- the bytes stop in that line
-pub stops_at_line : (V : ℕ) (s : Stage) (ls : List Line) (bytes line after : List ℕ) → run stage.Title ls ≡ Some s → All (FitsLine V) ls → bytes ≡ lines_text ls ++ (line ++ 10 ∷ after)
-    → Lacks line 10 → IsNoLine V s line → StopsAt V bytes (length ls + 1) (events_from no_head 1 ls)
+pub stops_at_line : (V : ℕ) (s : Stage) (ls : List Line) (bytes line after : List ℕ) → run stage.Title ls ≡ Some s → FitsLines version.One V ls → bytes ≡ lines_text ls ++ (line ++ 10 ∷ after)
+    → Lacks line 10 → IsNoLine (version_from version.One ls) V s line → StopsAt V bytes (length ls + 1) (events_from no_head 1 ls)
 stops_at_line V s ls bytes line after due fits parts lacks none = stops V s ls bytes (line ++ 10 ∷ after) due fits parts
     (λ longer more split begins. ⊎_elim
     (λ (sooner : (x : List ℕ) × (lines_text ls ++ line ≡ longer ++ x)).
     let feeds = ap line_feeds sooner.1 in
-    omega (arith, line_feeds-append longer sooner.0, line_feeds-append (lines_text ls) line, line_feeds-lines V ls fits, line_feeds-lacks line lacks))
+    omega (arith, line_feeds-append longer sooner.0, line_feeds-append (lines_text ls) line, line_feeds-lines version.One V ls fits, line_feeds-lacks line lacks))
     (λ (later : (x : List ℕ) × (longer ≡ (lines_text ls ++ line) ++ 10 ∷ x)).
     let whole : longer ++ begins.rest ≡ lines_text ls ++ (line ++ 10 ∷ (later.0 ++ begins.rest)) =
     ap (λ x. x ++ begins.rest) later.1 ∙ append_assoc (lines_text ls ++ line) (10 ∷ later.0) begins.rest ∙ append_assoc (lines_text ls) line (10 ∷ (later.0 ++ begins.rest)) in

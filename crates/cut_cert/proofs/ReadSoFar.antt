@@ -1,31 +1,40 @@
 -- What a reader knows of the bytes behind which it stands.
-use Rattle.std.proofs.Common.{ℕ, ◌≡◌, ◌+◌, List, [], ◌∷◌, ◌++◌, length, refl, sym, ap, ◌∙◌, arith, append_assoc, length-append, Some}
+use Rattle.std.proofs.Common.{ℕ, ◌≡◌, ◌+◌, List, [], ◌∷◌, ◌++◌, length, refl, sym, ap, subst, ◌∙◌, arith, append_assoc, length-append, Some}
 use Rattle.std.specs.Prelude.{option_and_then}
 use Rattle.std.proofs.lemmas.List.{append-nil}
 use Rattle.std.proofs.lemmas.List.Concat.{flat_map-append}
-use Rattle.std.proofs.lemmas.List.Elements.{All-nil, All-push}
 use Rattle.cut_cert.specs.declared.head.AnswerHead.{AnswerHead}
 use Rattle.cut_cert.specs.AnswerLine.{Line}
 use Rattle.cut_cert.specs.declared.line.Stage.{Stage}
 use Rattle.cut_cert.specs.declared.line.Stage.TheVariants as stage
 use Rattle.cut_cert.specs.declared.event.AnswerEvent.{AnswerEvent}
-use Rattle.cut_cert.specs.Lines.{line_bytes, line_text, lines_text, FitsLine, run, IsLineRead}
+use Rattle.cut_cert.specs.declared.version.Version.{Version}
+use Rattle.cut_cert.specs.declared.version.Version.TheVariants as version
+use Rattle.cut_cert.specs.Lines.{line_bytes, line_text, lines_text, run}
+use Rattle.cut_cert.specs.LineFits.{FitsLine, FitsLines, IsLineRead, version_with, version_from}
 use Rattle.cut_cert.specs.Events.{head_with, line_told, event_at, events_from, no_head, head_from}
 use Rattle.cut_cert.specs.LinesRead.{ReadSoFar}
 use Rattle.cut_cert.proofs.Machine.{run-append}
+use Rattle.cut_cert.proofs.Due.{fits_append, version_from-append}
 use Rattle.cut_cert.proofs.EventLaws.{events_from-append, head_from-append}
 
 -- before the first line
-pub read_none : (V : ℕ) (bytes : List ℕ) → ReadSoFar V bytes bytes stage.Title no_head 1 []
-read_none V bytes = record { lines = []; fits = All-nil (FitsLine V); due = refl; text = refl; told = refl; head_told = refl; count = refl }
+pub read_none : (V : ℕ) (bytes : List ℕ) → ReadSoFar V bytes bytes stage.Title version.One no_head 1 []
+read_none V bytes = record { lines = []; fits = tt; due = refl; text = refl; told = refl; version_told = refl; head_told = refl; count = refl }
+
+-- lines and one more that is due behind them
+pub fits_more : (v : Version) (V : ℕ) (ls : List Line) (l : Line) → v ≡ version_from version.One ls → FitsLines version.One V ls → FitsLine (version_with v l) V l
+    → FitsLines version.One V (ls ++ l ∷ [])
+fits_more v V ls l is f g =
+    fits_append version.One V ls (l ∷ []) f (subst (λ w. FitsLines w V (l ∷ [])) is (g, tt))
 
 -- behind one more line
-pub read_more : (V : ℕ) (bytes rest after bytes_read : List ℕ) (s s' : Stage) (head : AnswerHead) (number : ℕ) (events : List AnswerEvent) (l : Line)
-    → ReadSoFar V bytes rest s head number events → rest ≡ bytes_read ++ 10 ∷ after → IsLineRead V s bytes_read l s'
-    → ReadSoFar V bytes after s' (head_with head l) (number + 1) (events ++ event_at number (line_told (head_with head l) l))
-read_more V bytes rest after bytes_read s s' head number events l so_far parts read = record {
+pub read_more : (V : ℕ) (bytes rest after bytes_read : List ℕ) (s s' : Stage) (v : Version) (head : AnswerHead) (number : ℕ) (events : List AnswerEvent) (l : Line)
+    → ReadSoFar V bytes rest s v head number events → rest ≡ bytes_read ++ 10 ∷ after → IsLineRead v V s bytes_read l s'
+    → ReadSoFar V bytes after s' (version_with v l) (head_with head l) (number + 1) (events ++ event_at number (line_told (head_with head l) l))
+read_more V bytes rest after bytes_read s s' v head number events l so_far parts read = record {
   lines = so_far.lines ++ l ∷ [];
-  fits = All-push (FitsLine V) so_far.lines l so_far.fits read.fits;
+  fits = fits_more v V so_far.lines l so_far.version_told so_far.fits read.fits;
   due = run-append stage.Title so_far.lines (l ∷ []) ∙ ap (option_and_then (λ u. run u (l ∷ []))) so_far.due ∙ ap (option_and_then (λ u. Some u)) read.due;
   text =
       let line : bytes_read ++ 10 ∷ after ≡ lines_text (l ∷ []) ++ after =
@@ -37,6 +46,7 @@ read_more V bytes rest after bytes_read s s' head number events l so_far parts r
       (λ i. so_far.told i ++ event_at (place i) (line_told (head_with (so_far.head_told i) l) l))
       ∙ ap (λ x. events_from no_head 1 so_far.lines ++ x) (sym (append-nil (event_at (1 + length so_far.lines) (line_told (head_with (head_from no_head so_far.lines) l) l))))
       ∙ sym (events_from-append no_head 1 so_far.lines (l ∷ []));
+  version_told = ap (λ w. version_with w l) so_far.version_told ∙ sym (version_from-append version.One so_far.lines (l ∷ []));
   head_told = ap (λ h. head_with h l) so_far.head_told ∙ sym (head_from-append no_head so_far.lines (l ∷ []));
   count = omega (arith, length-append so_far.lines (l ∷ []));
 }

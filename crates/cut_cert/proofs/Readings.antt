@@ -1,82 +1,131 @@
 -- The bytes of an answer tell the answer, and where it ends.
-use Rattle.std.proofs.Common.{ℕ, ◌≡◌, ◌<◌, ◌^◌, List, ◌∷◌, ◌++◌, length, sym, ap, ◌∙◌, arith, append_assoc}
-use Rattle.std.specs.Prelude.{All, codes, flat_map}
-use Rattle.std.specs.Fmt.{decimal}
-use Rattle.std.proofs.lemmas.List.{append_cancel_left}
+use Rattle.std.proofs.Common.{ℕ, ◌≡◌, Bool, true, false, List, [], ◌∷◌, ◌++◌, length, map, refl, sym, ap, subst, ◌∙◌, arith, append_assoc, Some}
+use Rattle.std.proofs.lemmas.Bool.{false≢true}
 use Rattle.net_graph.specs.declared.packing.Cut.{Cut}
 use Rattle.hanan_grid.specs.declared.name.EdgeName.{EdgeName}
+use Rattle.cut_cert.specs.declared.split.SplitName.{SplitName}
+use Rattle.cut_cert.specs.declared.split.SplitName.TheVariants as name
+use Rattle.cut_cert.specs.declared.version.Version.{Version}
+use Rattle.cut_cert.specs.declared.version.Version.TheVariants as version
+use Rattle.cut_cert.specs.AnswerLine.{Line}
+use Rattle.cut_cert.specs.LineKinds as line
+use Rattle.cut_cert.specs.declared.line.Stage.{Stage}
+use Rattle.cut_cert.specs.declared.line.Stage.TheVariants as stage
 use Rattle.cut_cert.specs.Value.{WrittenAnswer}
 use Rattle.cert_tree.specs.Tree.{Tree}
 use Rattle.cert_tree.specs.Tree.Tree.{Leaf, Split}
-use Rattle.cut_cert.specs.Text.{cut_line, edge_line, leaf_text, tree_text, head_text, network_text, proof_text, answer_text}
-use Rattle.cut_cert.specs.Spelling.{FitsName, FitsCut, FitsTree, FitsAnswer, OneReading}
-use Rattle.cut_cert.proofs.Pieces.{number_front, texts_front, first_apart, IsToldByFront}
-use Rattle.cut_cert.proofs.Lines.{cut_front, edge_front, head_front}
+use Rattle.cut_cert.specs.Spelling.{OneReading}
+use Rattle.cut_cert.specs.Lines.{lines_text, split_line, tree_lines, answer_lines, run}
+use Rattle.cut_cert.specs.LineFits.{FitsLines, version_with}
+use Rattle.cut_cert.proofs.Due.{run-answer, answer_fits}
+use Rattle.cut_cert.proofs.Machine.{run-done}
+use Rattle.cut_cert.proofs.ReadLaws.{first_line, line_split}
 
--- what stands behind a list's count
-abbrev from_count : {A : Type 0} → (A → List ℕ) → List A → List ℕ → List ℕ
-from_count text xs p = decimal (length xs) ++ 10 ∷ (flat_map text xs ++ p)
+-- ---- the text tells the lines
 
--- counted texts, one after another
-counted_front : {A : Type 0} (Fits : A → Type 0) (text : A → List ℕ) → IsToldByFront Fits text → (xs ys : List A) (p q : List ℕ)
-    → length xs < 2 ^ 32 → length ys < 2 ^ 32 → All Fits xs → All Fits ys → from_count text xs p ≡ from_count text ys q → (xs ≡ ys) × (p ≡ q)
-counted_front Fits text one xs ys p q few few' f g e =
-    let count = number_front 10 (length xs) (length ys) (flat_map text xs ++ p) (flat_map text ys ++ q) (omega arith) (omega arith) (omega arith) e in
-    texts_front Fits text one xs ys p q count.0 f g count.1
+-- nothing is due behind the last line
+none_behind : (s : Stage) (l : Line) (ls : List Line) → run s [] ≡ Some stage.Done → run s (l ∷ ls) ≡ Some stage.Done → ⊥
+none_behind s l ls none some =
+    let done : s ≡ stage.Done = cc in
+    let empty : l ∷ ls ≡ [] = run-done (l ∷ ls) (subst (λ x. run x (l ∷ ls) ≡ Some stage.Done) done some) in
+    absurd cc
 
--- a leaf and what follows it, piece by piece
-leaf_pieces : (cuts : List Cut) (p : List ℕ) → leaf_text cuts ++ p ≡ codes "leaf " ++ from_count cut_line cuts p
-leaf_pieces cuts p = simp append_assoc
+-- lines up to the end, at the front of bytes that begin with such lines too
+lines_one : (v : Version) (V : ℕ) (s : Stage) (ls ms : List Line) (p q : List ℕ) → run s ls ≡ Some stage.Done → run s ms ≡ Some stage.Done → FitsLines v V ls → FitsLines v V ms
+    → lines_text ls ++ p ≡ lines_text ms ++ q → (ls ≡ ms) × (p ≡ q)
+lines_one v V s [] [] p q d e f g same = (refl, same)
+lines_one v V s [] (m ∷ ms) p q d e f g same = absurd (none_behind s m ms d e)
+lines_one v V s (l ∷ ls) [] p q d e f g same = absurd (none_behind s l ls e d)
+lines_one v V s (l ∷ ls) (m ∷ ms) p q d e f g same =
+    let first = first_line v V s stage.Done stage.Done l m ls ms (lines_text ls ++ p) (lines_text ms ++ q) d e f g (sym (line_split l ls p) ∙ same ∙ line_split m ms q) in
+    let rest = lines_one (version_with v l) V first.stage ls ms p q first.due first.due_too f.1 first.fits first.text in
+    (λ i. first.same i ∷ rest.0 i, rest.1)
 
--- a split and what follows it, piece by piece
-split_pieces : (e : EdgeName) (outside inside : Tree EdgeName) (p : List ℕ) → tree_text (Split e outside inside) ++ p
-    ≡ codes "split " ++ (edge_line e ++ (tree_text outside ++ (tree_text inside ++ p)))
-split_pieces e outside inside p = simp append_assoc
+-- ---- the lines tell the answer
 
--- splits with the same parts are the same
-same_split : {d e : EdgeName} {o p i j : Tree EdgeName} → d ≡ e → o ≡ p → i ≡ j → Split d o i ≡ Split e p j
-same_split edge outside inside = λ k. Split (edge k) (outside k) (inside k)
+-- what the line of a split is on, and whether a line is one
+abbrev split_of : SplitName → Line → SplitName
+split_of other (line.Split e) = name.Edge e
+split_of other (line.SplitEdge e) = name.Edge e
+split_of other (line.SplitVertex p) = name.Vertex p
+split_of other l = other
 
--- the text of a tree
-pub tree_front : (V : ℕ) → IsToldByFront (FitsTree V) tree_text
-tree_front V (Leaf cuts) (Leaf cuts') p q f g e =
-    let pieces = append_cancel_left (codes "leaf ") (from_count cut_line cuts p) (from_count cut_line cuts' q) (sym (leaf_pieces cuts p) ∙ e ∙ leaf_pieces cuts' q) in
-    let all = counted_front (FitsCut V) cut_line (cut_front V) cuts cuts' p q f.count g.count f.each g.each pieces in
-    (ap Leaf all.0, all.1)
-tree_front V (Leaf cuts) (Split d outside inside) p q f g e = absurd (first_apart 108 115 (omega arith) e)
-tree_front V (Split d outside inside) (Leaf cuts) p q f g e = absurd (first_apart 115 108 (omega arith) e)
-tree_front V (Split d o i) (Split d' o' i') p q f g e =
-    let pieces = append_cancel_left (codes "split ") (edge_line d ++ (tree_text o ++ (tree_text i ++ p))) (edge_line d' ++ (tree_text o' ++ (tree_text i' ++ q))) (sym (split_pieces d o i p) ∙ e ∙ split_pieces d' o' i' q) in
-    let edge = edge_front d d' (tree_text o ++ (tree_text i ++ p)) (tree_text o' ++ (tree_text i' ++ q)) f.0 g.0 pieces in
-    let outside = tree_front V o o' (tree_text i ++ p) (tree_text i' ++ q) f.1 g.1 edge.1 in
-    let inside = tree_front V i i' p q f.2 g.2 outside.1 in
-    (same_split edge.0 outside.0 inside.0, inside.1)
+abbrev is_split : Line → Bool
+is_split (line.Split e) = true
+is_split (line.SplitEdge e) = true
+is_split (line.SplitVertex p) = true
+is_split l = false
 
--- what stands behind an answer's network
-abbrev from_tree : WrittenAnswer → List ℕ → List ℕ
-from_tree a p = codes "tree\n" ++ (tree_text a.tree ++ (codes "end\n" ++ p))
+-- the line of a split tells what it is on
+split_told : (v : Version) (other on : SplitName) → (split_of other (split_line v on) ≡ on) × (is_split (split_line v on) ≡ true)
+split_told version.One other (name.Edge e) = (refl, refl)
+split_told version.Two other (name.Edge e) = (refl, refl)
+split_told v other (name.Vertex p) = (refl, refl)
 
--- the same where the head's text and the tree are any
-any_pieces : (head : List ℕ) (edges : List EdgeName) (tree : Tree EdgeName) (p : List ℕ) → head ++ network_text edges ++ proof_text tree ++ p
-    ≡ head ++ (codes "edges " ++ from_count edge_line edges (codes "tree\n" ++ (tree_text tree ++ (codes "end\n" ++ p))))
-any_pieces head edges tree p = simp append_assoc
+same_on : (v : Version) (on other : SplitName) → split_line v on ≡ split_line v other → on ≡ other
+same_on v on other same = sym (split_told v on on).0 ∙ ap (split_of on) same ∙ (split_told v on other).0
 
--- an answer and what follows it, piece by piece
-answer_pieces : (a : WrittenAnswer) (p : List ℕ) → answer_text a ++ p ≡ head_text a.head ++ (codes "edges " ++ from_count edge_line a.edges (from_tree a p))
-answer_pieces a p = any_pieces (head_text a.head) a.edges a.tree p
+-- it is no line of a leaf
+leaf_apart : (v : Version) (n : ℕ) (on : SplitName) → line.Leaf n ≡ split_line v on → ⊥
+leaf_apart v n on same = false≢true (ap is_split same ∙ (split_told v on on).1)
 
--- the text of an answer
-pub answer_front : (V : ℕ) → IsToldByFront (FitsAnswer V) answer_text
-answer_front V a b p q f g e =
-    let head = head_front a.head b.head (codes "edges " ++ from_count edge_line a.edges (from_tree a p)) (codes "edges " ++ from_count edge_line b.edges (from_tree b q)) f.head g.head (sym (answer_pieces a p) ∙ e ∙ answer_pieces b q) in
-    let network = append_cancel_left (codes "edges ") (from_count edge_line a.edges (from_tree a p)) (from_count edge_line b.edges (from_tree b q)) head.1 in
-    let edges = counted_front FitsName edge_line edge_front a.edges b.edges (from_tree a p) (from_tree b q) f.count g.count f.edges g.edges network in
-    let below = append_cancel_left (codes "tree\n") (tree_text a.tree ++ (codes "end\n" ++ p)) (tree_text b.tree ++ (codes "end\n" ++ q)) edges.1 in
-    let tree = tree_front V a.tree b.tree (codes "end\n" ++ p) (codes "end\n" ++ q) f.tree g.tree below in
-    (λ i. record { head = head.0 i; edges = edges.0 i; tree = tree.0 i }, append_cancel_left (codes "end\n") p q tree.1)
+-- as many cuts before other lines
+cuts_one : (cs ds : List Cut) (p q : List Line) → length cs ≡ length ds → map line.Cut cs ++ p ≡ map line.Cut ds ++ q → (cs ≡ ds) × (p ≡ q)
+cuts_one [] [] p q size same = (refl, same)
+cuts_one [] (d ∷ ds) p q size same = absurd (omega arith)
+cuts_one (c ∷ cs) [] p q size same = absurd (omega arith)
+cuts_one (c ∷ cs) (d ∷ ds) p q size same =
+    let here : c ≡ d = cc in
+    let rest = cuts_one cs ds p q (omega arith) cc in
+    (λ i. here i ∷ rest.0 i, rest.1)
+
+-- a tree before other lines
+tree_one : (v : Version) (t u : Tree SplitName) (p q : List Line) → tree_lines v t ++ p ≡ tree_lines v u ++ q → (t ≡ u) × (p ≡ q)
+tree_one v (Leaf cs) (Leaf ds) p q same =
+    let count : length cs ≡ length ds = cc in
+    let rest = cuts_one cs ds p q count cc in
+    (ap Leaf rest.0, rest.1)
+tree_one v (Leaf cs) (Split on o i) p q same = absurd (leaf_apart v (length cs) on cc)
+tree_one v (Split on o i) (Leaf ds) p q same = absurd (leaf_apart v (length ds) on cc)
+tree_one v (Split on o i) (Split other o' i') p q same =
+    let first : split_line v on ≡ split_line v other = cc in
+    let here = same_on v on other first in
+    let behind : (tree_lines v o ++ tree_lines v i) ++ p ≡ (tree_lines v o' ++ tree_lines v i') ++ q = cc in
+    let outside = tree_one v o o' (tree_lines v i ++ p) (tree_lines v i' ++ q) (sym (append_assoc (tree_lines v o) (tree_lines v i) p) ∙ behind ∙ append_assoc (tree_lines v o') (tree_lines v i') q) in
+    let inside = tree_one v i i' p q outside.1 in
+    (λ k. Split (here k) (outside.0 k) (inside.0 k), inside.1)
+
+-- edges before the line behind them
+edges_one : (ds es : List EdgeName) (p q : List Line) → map line.Edge ds ++ line.Tree ∷ p ≡ map line.Edge es ++ line.Tree ∷ q → (ds ≡ es) × (p ≡ q)
+edges_one [] [] p q same = (refl, cc)
+edges_one [] (e ∷ es) p q same = absurd cc
+edges_one (d ∷ ds) [] p q same = absurd cc
+edges_one (d ∷ ds) (e ∷ es) p q same =
+    let here : d ≡ e = cc in
+    let rest = edges_one ds es p q cc in
+    (λ i. here i ∷ rest.0 i, rest.1)
+
+-- an answer
+answer_one : (a b : WrittenAnswer) → answer_lines a ≡ answer_lines b → a ≡ b
+answer_one a b same =
+    let version_is : a.version ≡ b.version = cc in
+    let length_is : a.head.length ≡ b.head.length = cc in
+    let bound_is : a.head.bound ≡ b.head.bound = cc in
+    let optimal_is : a.head.optimal ≡ b.head.optimal = cc in
+    let openings_is : a.head.openings ≡ b.head.openings = cc in
+    let concat_is : a.head.concat ≡ b.head.concat = cc in
+    let edges = edges_one a.edges b.edges (tree_lines a.version a.tree ++ line.End ∷ []) (tree_lines b.version b.tree ++ line.End ∷ []) cc in
+    let tree = tree_one a.version a.tree b.tree (line.End ∷ []) (line.End ∷ []) (edges.1 ∙ ap (λ v. tree_lines v b.tree ++ line.End ∷ []) (sym version_is)) in
+    λ i. record {
+      version = version_is i;
+      head = record { length = length_is i; bound = bound_is i; optimal = optimal_is i; openings = openings_is i; concat = concat_is i };
+      edges = edges.0 i;
+      tree = tree.0 i;
+    }
 
 -- No spelling is a proper front of another, and bytes spell one answer at most.
 pub one_reading_lem : OneReading
 one_reading_lem V a b p q x y f g e =
-    let same = answer_front V x y p q f.fits g.fits (sym (ap (λ s. s ++ p) f.spelled) ∙ e ∙ ap (λ s. s ++ q) g.spelled) in
-    (f.spelled ∙ ap answer_text same.0 ∙ sym g.spelled, same.0)
+    let same = lines_one version.One V stage.Title (answer_lines x) (answer_lines y) p q (run-answer x) (run-answer y) (answer_fits V x f.fits) (answer_fits V y g.fits)
+    (sym (ap (λ s. s ++ p) f.spelled) ∙ e ∙ ap (λ s. s ++ q) g.spelled) in
+    (f.spelled ∙ ap lines_text same.0 ∙ sym g.spelled, answer_one x y same.0)

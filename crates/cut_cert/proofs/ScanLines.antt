@@ -1,9 +1,10 @@
 -- What is due at a line's beginning are the lines that are due, and what is due can always be gone on with.
 use Rattle.std.proofs.Common.{ℕ, suc, zero, ◌≡◌, ◌+◌, ◌/◌, ◌<◌, ◌≤◌, ◌^◌, ℤ, Bool, true, false, List, [], ◌∷◌, ◌++◌, length, drop, refl, sym, ap, subst, ◌∙◌, arith, append_assoc, Some, inl, inr, ⊎_elim}
-use Rattle.std.specs.Prelude.{◌⊎◌, codes, FitsSigned}
+use Rattle.std.specs.Prelude.{◌⊎◌, codes, pos, FitsSigned}
 use Rattle.std.specs.Int.{w64}
 use Rattle.std.specs.Fmt.{decimal, signed_decimal}
 use Rattle.std.proofs.lemmas.List.{append-nil, drop_all, length-drop}
+use Rattle.points_in.specs.declared.point.Point.{Point}
 use Rattle.net_graph.specs.declared.packing.Cut.{Cut}
 use Rattle.hanan_grid.specs.declared.name.EdgeName.{EdgeName}
 use Rattle.cut_cert.specs.AnswerLine.{Line}
@@ -19,19 +20,24 @@ use Rattle.cut_cert.specs.declared.scan.Corner.{Corner}
 use Rattle.cut_cert.specs.declared.scan.Corner.TheVariants as corner
 use Rattle.cut_cert.specs.declared.scan.Scan.{Scan}
 use Rattle.cut_cert.specs.declared.scan.Scan.TheVariants as scan
-use Rattle.cut_cert.specs.Text.{set_text, concat_word}
-use Rattle.cut_cert.specs.Spelling.{FitsName}
-use Rattle.cut_cert.specs.Lines.{name_words, line_bytes, FitsLine, step, IsLineRead}
-use Rattle.cut_cert.specs.Scanning.{least_of, IsInField, signed, name_line, behind_x1, behind_y1, word_bytes, behind_word, closed_line, BehindNumber, BehindCoordinate, NumberLeft, SetLeft, ValueLeft, WordLeft, ForkLeft, Left, first_scan, IsUnderway, IsSound}
+use Rattle.cut_cert.specs.declared.version.Version.{Version}
+use Rattle.cut_cert.specs.declared.version.Version.TheVariants as version
+use Rattle.cut_cert.specs.Words.{concat_word, name_words, point_words, set_text}
+use Rattle.cut_cert.specs.Spelling.{FitsName, FitsPoint, FitsCut}
+use Rattle.cut_cert.specs.Lines.{line_bytes, step}
+use Rattle.cut_cert.specs.LineFits.{FitsLine, IsLineRead, version_with}
+use Rattle.cut_cert.specs.Scanning.{least_of, IsInField, signed, name_line, corner_line, behind_x1, behind_y1, word_bytes, behind_word, closed_line, BehindNumber, BehindCoordinate, NumberLeft, SetLeft, ValueLeft, WordLeft, ForkLeft, WordsLeft, Left, first_scan, IsUnderway, IsSound}
 use Rattle.cut_cert.specs.SetLaws.{length-set_text}
-use Rattle.cut_cert.proofs.WordLemmas.{name_pieces}
+use Rattle.cut_cert.proofs.Steps.{step-done}
+use Rattle.cut_cert.proofs.WordLemmas.{name_pieces, point_pieces}
+use Rattle.cut_cert.proofs.Due.{zero_fits}
 use Rattle.cut_cert.proofs.ScanNumbers.{limit-some, least-few, spelled_of, coordinate_left}
 
 -- ---- the lines that are due
 
 -- a line that was read, under another name
-read_as : (V : ℕ) (s s' : Stage) (bytes : List ℕ) (l l' : Line) → l ≡ l' → IsLineRead V s bytes l' s' → IsLineRead V s bytes l s'
-read_as V s s' bytes l l' is read = subst (λ x. IsLineRead V s bytes x s') (sym is) read
+read_as : (v : Version) (V : ℕ) (s s' : Stage) (bytes : List ℕ) (l l' : Line) → l ≡ l' → IsLineRead v V s bytes l' s' → IsLineRead v V s bytes l s'
+read_as v V s s' bytes l l' is read = subst (λ x. IsLineRead v V s bytes x s') (sym is) read
 
 -- a number alone
 number_text : (k : Kept) (f : Field) (rest : List ℕ) (l : Line) (h : NumberLeft k f [] rest l) → h.behind ≡ [] → rest ≡ decimal h.number
@@ -42,19 +48,33 @@ number_due : (k : Kept) (f : Field) (n : ℕ) (l : Line) → IsInField f n → B
 number_due k f n l inside follows = record { number = n; more = decimal n; behind = []; parts = sym (append-nil (decimal n)); spelled = refl; inside = inside; follows = follows }
 
 -- the words of a name are due
-name_text : (k : Kept) (rest : List ℕ) (l : Line) → ValueLeft k (scan.Coordinate corner.X1) rest l → (e : EdgeName) × FitsName e × (rest ≡ name_words e) × (l ≡ name_line k.stage e)
+name_text : (k : Kept) (rest : List ℕ) (l : Line) → ValueLeft k (scan.Coordinate corner.X1) rest l → (e : EdgeName) × FitsName e × (rest ≡ name_words e) × (l ≡ name_line k.version k.stage e)
 name_text k rest l h =
     let s = spelled_of k corner.X1 rest l h in
     let b = s.follows in
     (b.name, b.fits, s.text ∙ (λ i. signed_decimal (sym b.same i) ++ b.text i) ∙ sym (name_pieces b.name), b.line)
 
-name_due : (k : Kept) (e : EdgeName) (rest : List ℕ) (l : Line) → FitsName e → rest ≡ name_words e → l ≡ name_line k.stage e → ValueLeft k (scan.Coordinate corner.X1) rest l
+name_due : (k : Kept) (e : EdgeName) (rest : List ℕ) (l : Line) → FitsName e → rest ≡ name_words e → l ≡ name_line k.version k.stage e → ValueLeft k (scan.Coordinate corner.X1) rest l
 name_due k e rest l fits text is =
     coordinate_left k corner.X1 e.x1 rest (32 ∷ behind_x1 e) l (text ∙ name_pieces e) fits.x1 (record { name = e; fits = fits; same = refl; text = refl; line = is })
 
+-- the words of a point are due
+point_text : (k : Kept) (rest : List ℕ) (l : Line) → ValueLeft k (scan.Coordinate corner.X) rest l → (p : Point) × FitsPoint p × (rest ≡ point_words p) × (l ≡ line.SplitVertex p)
+point_text k rest l h =
+    let s = spelled_of k corner.X rest l h in
+    let b = s.follows in
+    let p : Point = record { x = b.name.x1; y = b.name.y1 } in
+    (p, record { x = b.fits.x1; y = b.fits.y1 }, s.text ∙ (λ i. signed_decimal (sym b.same i) ++ b.text i) ∙ sym (point_pieces p), b.line)
+
+point_due : (k : Kept) (p : Point) → FitsPoint p → ValueLeft k (scan.Coordinate corner.X) (point_words p) (line.SplitVertex p)
+point_due k p fits =
+    let e : EdgeName = record { x1 = p.x; y1 = p.y; x2 = pos 0; y2 = pos 0 } in
+    coordinate_left k corner.X p.x (point_words p) (32 ∷ signed_decimal p.y) (line.SplitVertex p) (point_pieces p) fits.x
+    (record { name = e; fits = record { x1 = fits.x; y1 = fits.y; x2 = zero_fits; y2 = zero_fits }; same = refl; text = refl; line = refl })
+
 -- a cut's words are due
 cut_text : (V : ℕ) (k : Kept) (rest : List ℕ) (l : Line) → length k.members ≡ V → NumberLeft k field.Weight [] rest l
-    → (c : Cut) × (rest ≡ decimal c.weight ++ codes " " ++ set_text c.members) × FitsLine V (line.Cut c) × (l ≡ line.Cut c)
+    → (c : Cut) × (rest ≡ decimal c.weight ++ codes " " ++ set_text c.members) × FitsCut V c × (l ≡ line.Cut c)
 cut_text V k rest l vertices h =
     let b = h.follows in
     let least = h.inside.least in
@@ -65,100 +85,132 @@ cut_text V k rest l vertices h =
       b.line,
     )
 
+-- the line of a leaf is due where a node is
+leaf_due : (v : Version) (V : ℕ) (k : Kept) (nodes : ℕ) (rest : List ℕ) (l : Line) → WordsLeft k word.Leaf 0 rest l → (s' : Stage) × IsLineRead v V (stage.Body 0 (suc nodes)) rest l s'
+leaf_due v V k nodes rest l h =
+    let n = h.2 in (
+      stage.Body n.number nodes,
+      read_as v V (stage.Body 0 (suc nodes)) (stage.Body n.number nodes) rest l (line.Leaf n.number) n.follows.1
+          (record { told = h.1 ∙ ap (λ x. codes "leaf " ++ x) (number_text k field.Leaf h.0 l n n.follows.0); fits = n.inside.limit; due = refl }),
+    )
+
+-- so is that of a split on an edge or a vertex, in version 2
+split_due : (V : ℕ) (k : Kept) (nodes : ℕ) (rest : List ℕ) (l : Line) → k.version ≡ version.Two → k.stage ≡ stage.Body 0 (suc nodes) → WordsLeft k (word.Split version.Two) 0 rest l
+    → (s' : Stage) × IsLineRead version.Two V (stage.Body 0 (suc nodes)) rest l s'
+split_due V k nodes rest l told is h = ⊎_elim
+    (λ (edge : WordLeft k word.Edge 0 h.0 l).
+    let n = name_text k edge.0 l edge.2 in (
+      stage.Body 0 (suc (suc nodes)),
+      read_as version.Two V (stage.Body 0 (suc nodes)) (stage.Body 0 (suc (suc nodes))) rest l (line.SplitEdge n.0) (n.3 ∙ (λ i. name_line (told i) (is i) n.0))
+          (record { told = h.1 ∙ ap (λ x. codes "split " ++ x) (edge.1 ∙ ap (λ x. codes "edge " ++ x) n.2); fits = (refl, n.1); due = refl }),
+    ))
+    (λ (vertex : WordLeft k word.Vertex 0 h.0 l).
+    let n = point_text k vertex.0 l vertex.2 in (
+      stage.Body 0 (suc (suc nodes)),
+      read_as version.Two V (stage.Body 0 (suc nodes)) (stage.Body 0 (suc (suc nodes))) rest l (line.SplitVertex n.0) n.3
+          (record { told = h.1 ∙ ap (λ x. codes "split " ++ x) (vertex.1 ∙ ap (λ x. codes "vertex " ++ x) n.2); fits = (refl, n.1); due = refl }),
+    ))
+    h.2
+
 -- what is due at a line's beginning is a line that is due
-pub start_due : (V : ℕ) (k : Kept) (s : Stage) (rest : List ℕ) (l : Line) → length k.members ≡ V → k.stage ≡ s → Left k (first_scan s) rest l → (s' : Stage) × IsLineRead V s rest l s'
-start_due V k stage.Title rest l size is h = (
-  stage.Length,
-  read_as V stage.Title (stage.Length) rest l line.Title h.2.1
-      (record { told = h.1 ∙ ap (λ x. codes "rst answer 1" ++ x) h.2.0 ∙ append-nil (codes "rst answer 1"); fits = tt; due = refl }),
-)
-start_due V k stage.Length rest l size is h =
+pub start_due : (V : ℕ) (k : Kept) (v : Version) (s : Stage) (rest : List ℕ) (l : Line) → length k.members ≡ V → k.version ≡ v → k.stage ≡ s → Left k (first_scan v s) rest l
+    → (s' : Stage) × IsLineRead v V s rest l s'
+start_due V k v stage.Title rest l size told is h = ⊎_elim
+    (λ (one : (h.0 ≡ codes "1") × (l ≡ line.Title version.One)). (
+      stage.Length,
+      read_as v V stage.Title stage.Length rest l (line.Title version.One) one.1 (record { told = h.1 ∙ ap (λ x. codes "rst answer " ++ x) one.0; fits = refl; due = refl }),
+    ))
+    (λ (two : (h.0 ≡ codes "2") × (l ≡ line.Title version.Two)). (
+      stage.Length,
+      read_as v V stage.Title stage.Length rest l (line.Title version.Two) two.1 (record { told = h.1 ∙ ap (λ x. codes "rst answer " ++ x) two.0; fits = refl; due = refl }),
+    ))
+    h.2
+start_due V k v stage.Length rest l size told is h =
     let n = h.2 in (
       stage.Bound,
-      read_as V stage.Length (stage.Bound) rest l (line.Length n.number) n.follows.1
+      read_as v V stage.Length (stage.Bound) rest l (line.Length n.number) n.follows.1
           (record { told = h.1 ∙ ap (λ x. codes "length " ++ x) (number_text k field.Length h.0 l n n.follows.0); fits = n.inside.limit; due = refl }),
     )
-start_due V k stage.Bound rest l size is h =
+start_due V k v stage.Bound rest l size told is h =
     let n = h.2 in (
       stage.Status,
-      read_as V stage.Bound (stage.Status) rest l (line.Bound n.number) n.follows.1
+      read_as v V stage.Bound (stage.Status) rest l (line.Bound n.number) n.follows.1
           (record { told = h.1 ∙ ap (λ x. codes "bound " ++ x) (number_text k field.Bound h.0 l n n.follows.0); fits = n.inside.limit; due = refl }),
     )
-start_due V k stage.Status rest l size is h = ⊎_elim
+start_due V k v stage.Status rest l size told is h = ⊎_elim
     (λ (one : WordLeft k word.Optimal 0 h.0 l). (
       stage.Openings,
-      read_as V stage.Status stage.Openings rest l (line.Status true) one.2.1
+      read_as v V stage.Status stage.Openings rest l (line.Status true) one.2.1
           (record { told = h.1 ∙ ap (λ x. codes "status " ++ x) (one.1 ∙ ap (λ x. codes "optimal" ++ x) one.2.0); fits = tt; due = refl }),
     ))
     (λ (other : WordLeft k word.Stopped 0 h.0 l). (
       stage.Openings,
-      read_as V stage.Status stage.Openings rest l (line.Status false) other.2.1
+      read_as v V stage.Status stage.Openings rest l (line.Status false) other.2.1
           (record { told = h.1 ∙ ap (λ x. codes "status " ++ x) (other.1 ∙ ap (λ x. codes "stopped" ++ x) other.2.0); fits = tt; due = refl }),
     ))
     h.2
-start_due V k stage.Openings rest l size is h =
+start_due V k v stage.Openings rest l size told is h =
     let n = h.2 in (
       stage.Concat,
-      read_as V stage.Openings (stage.Concat) rest l (line.Openings n.number) n.follows.1
+      read_as v V stage.Openings (stage.Concat) rest l (line.Openings n.number) n.follows.1
           (record { told = h.1 ∙ ap (λ x. codes "openings " ++ x) (number_text k field.Openings h.0 l n n.follows.0); fits = n.inside.limit; due = refl }),
     )
-start_due V k stage.Concat rest l size is h = ⊎_elim
+start_due V k v stage.Concat rest l size told is h = ⊎_elim
     (λ (one : WordLeft k word.Least 0 h.0 l).
     let n = one.2 in (
       stage.Count,
-      read_as V stage.Concat stage.Count rest l (line.Concat (record { least = true; total = n.number })) n.follows.1
+      read_as v V stage.Concat stage.Count rest l (line.Concat (record { least = true; total = n.number })) n.follows.1
           (record { told = h.1 ∙ ap (λ x. codes "concat " ++ x) (one.1 ∙ ap (λ x. codes "least " ++ x) (number_text k (field.Total true) one.0 l n n.follows.0)); fits = n.inside.limit; due = refl }),
     ))
     (λ (other : WordLeft k word.Spent 0 h.0 l).
     let n = other.2 in (
       stage.Count,
-      read_as V stage.Concat stage.Count rest l (line.Concat (record { least = false; total = n.number })) n.follows.1
+      read_as v V stage.Concat stage.Count rest l (line.Concat (record { least = false; total = n.number })) n.follows.1
           (record { told = h.1 ∙ ap (λ x. codes "concat " ++ x) (other.1 ∙ ap (λ x. codes "spent " ++ x) (number_text k (field.Total false) other.0 l n n.follows.0)); fits = n.inside.limit; due = refl }),
     ))
     h.2
-start_due V k stage.Count rest l size is h =
+start_due V k v stage.Count rest l size told is h =
     let n = h.2 in (
       stage.Edges n.number,
-      read_as V stage.Count (stage.Edges n.number) rest l (line.Count n.number) n.follows.1
+      read_as v V stage.Count (stage.Edges n.number) rest l (line.Count n.number) n.follows.1
           (record { told = h.1 ∙ ap (λ x. codes "edges " ++ x) (number_text k field.Count h.0 l n n.follows.0); fits = n.inside.limit; due = refl }),
     )
-start_due V k (stage.Edges zero) rest l size is h = (
+start_due V k v (stage.Edges zero) rest l size told is h = (
   stage.Body 0 1,
-  read_as V (stage.Edges zero) (stage.Body 0 1) rest l line.Tree h.2.1
+  read_as v V (stage.Edges zero) (stage.Body 0 1) rest l line.Tree h.2.1
       (record { told = h.1 ∙ ap (λ x. codes "tree" ++ x) h.2.0 ∙ append-nil (codes "tree"); fits = tt; due = refl }),
 )
-start_due V k (stage.Edges (suc edges)) rest l size is h =
+start_due V k v (stage.Edges (suc edges)) rest l size told is h =
     let n = name_text k rest l h in (
       stage.Edges edges,
-      read_as V (stage.Edges (suc edges)) (stage.Edges edges) rest l (line.Edge n.0) (n.3 ∙ ap (λ s. name_line s n.0) is)
+      read_as v V (stage.Edges (suc edges)) (stage.Edges edges) rest l (line.Edge n.0) (n.3 ∙ (λ i. name_line (told i) (is i) n.0))
           (record { told = n.2; fits = n.1; due = refl }),
     )
-start_due V k (stage.Body zero zero) rest l size is h = (
+start_due V k v (stage.Body zero zero) rest l size told is h = (
   stage.Done,
-  read_as V (stage.Body zero zero) (stage.Done) rest l line.End h.2.1
+  read_as v V (stage.Body zero zero) (stage.Done) rest l line.End h.2.1
       (record { told = h.1 ∙ ap (λ x. codes "end" ++ x) h.2.0 ∙ append-nil (codes "end"); fits = tt; due = refl }),
 )
-start_due V k (stage.Body zero (suc nodes)) rest l size is h = ⊎_elim
-    (λ (one : WordLeft k word.Split 0 rest l).
+start_due V k version.One (stage.Body zero (suc nodes)) rest l size told is h = ⊎_elim
+    (λ (one : WordsLeft k (word.Split version.One) 0 rest l).
     let n = name_text k one.0 l one.2 in (
       stage.Body 0 (suc (suc nodes)),
-      read_as V (stage.Body 0 (suc nodes)) (stage.Body 0 (suc (suc nodes))) rest l (line.Split n.0) (n.3 ∙ ap (λ s. name_line s n.0) is)
-          (record { told = one.1 ∙ ap (λ x. codes "split " ++ x) n.2; fits = n.1; due = refl }),
+      read_as version.One V (stage.Body 0 (suc nodes)) (stage.Body 0 (suc (suc nodes))) rest l (line.Split n.0) (n.3 ∙ (λ i. name_line (told i) (is i) n.0))
+          (record { told = one.1 ∙ ap (λ x. codes "split " ++ x) n.2; fits = (refl, n.1); due = refl }),
     ))
-    (λ (other : WordLeft k word.Leaf 0 rest l).
-    let n = other.2 in (
-      stage.Body n.number nodes,
-      read_as V (stage.Body 0 (suc nodes)) (stage.Body n.number nodes) rest l (line.Leaf n.number) n.follows.1
-          (record { told = other.1 ∙ ap (λ x. codes "leaf " ++ x) (number_text k field.Leaf other.0 l n n.follows.0); fits = n.inside.limit; due = refl }),
-    ))
+    (λ (other : WordsLeft k word.Leaf 0 rest l). leaf_due version.One V k nodes rest l other)
     h
-start_due V k (stage.Body (suc cuts) nodes) rest l size is h =
+start_due V k version.Two (stage.Body zero (suc nodes)) rest l size told is h = ⊎_elim
+    (λ (one : WordsLeft k (word.Split version.Two) 0 rest l). split_due V k nodes rest l told is one)
+    (λ (other : WordsLeft k word.Leaf 0 rest l). leaf_due version.Two V k nodes rest l other)
+    h
+start_due V k v (stage.Body (suc cuts) nodes) rest l size told is h =
     let c = cut_text V k h.0 l size h.2 in (
       stage.Body cuts nodes,
-      read_as V (stage.Body (suc cuts) nodes) (stage.Body cuts nodes) rest l (line.Cut c.0) c.3
+      read_as v V (stage.Body (suc cuts) nodes) (stage.Body cuts nodes) rest l (line.Cut c.0) c.3
           (record { told = h.1 ∙ ap (λ x. codes "cut " ++ x) c.1; fits = c.2; due = refl }),
     )
-start_due V k stage.Done rest l size is h = absurd h
+start_due V k v stage.Done rest l size told is h = absurd h
 
 -- the words of a note are due
 note_due : (k : Kept) (least : Bool) (total : ℕ) (rest : List ℕ) → total < 2 ^ 128 → rest ≡ codes "concat " ++ concat_word least ++ codes " " ++ decimal total
@@ -169,22 +221,32 @@ note_due k false total rest fits told =
     (codes "spent " ++ decimal total, told, inr (decimal total, refl, number_due k (field.Total false) total (line.Concat (record { least = false; total = total })) (record { least = omega arith; limit = fits }) (refl, refl)))
 
 -- a line that is due is due at the beginning
-line_start : (V : ℕ) (k : Kept) (s s' : Stage) (rest : List ℕ) (l : Line) → length k.members ≡ V → k.stage ≡ s → rest ≡ line_bytes l → FitsLine V l → step s l ≡ Some s' → Left k (first_scan s) rest l
-line_start V k stage.Title s' rest line.Title size is told fits due = ([], told, (refl, refl))
-line_start V k stage.Length s' rest (line.Length n) size is told fits due = (decimal n, told, number_due k field.Length n (line.Length n) (record { least = omega arith; limit = fits }) (refl, refl))
-line_start V k stage.Bound s' rest (line.Bound n) size is told fits due = (decimal n, told, number_due k field.Bound n (line.Bound n) (record { least = omega arith; limit = fits }) (refl, refl))
-line_start V k stage.Status s' rest (line.Status true) size is told fits due = (codes "optimal", told, inl ([], refl, (refl, refl)))
-line_start V k stage.Status s' rest (line.Status false) size is told fits due = (codes "stopped", told, inr ([], refl, (refl, refl)))
-line_start V k stage.Openings s' rest (line.Openings n) size is told fits due = (decimal n, told, number_due k field.Openings n (line.Openings n) (record { least = omega arith; limit = fits }) (refl, refl))
-line_start V k stage.Concat s' rest (line.Concat c) size is told fits due = note_due k c.least c.total rest fits told
-line_start V k stage.Count s' rest (line.Count n) size is told fits due = (decimal n, told, number_due k field.Count n (line.Count n) (record { least = omega arith; limit = fits }) (refl, refl))
-line_start V k (stage.Edges zero) s' rest line.Tree size is told fits due = ([], told, (refl, refl))
-line_start V k (stage.Edges (suc edges)) s' rest (line.Edge e) size is told fits due = name_due k e rest (line.Edge e) fits told (ap (λ s. name_line s e) (sym is))
-line_start V k (stage.Body zero zero) s' rest line.End size is told fits due = ([], told, (refl, refl))
-line_start V k (stage.Body zero (suc nodes)) s' rest (line.Split e) size is told fits due = inl (name_words e, told, name_due k e (name_words e) (line.Split e) fits refl (ap (λ s. name_line s e) (sym is)))
-line_start V k (stage.Body zero (suc nodes)) s' rest (line.Leaf n) size is told fits due =
+line_start : (V : ℕ) (k : Kept) (v : Version) (s s' : Stage) (rest : List ℕ) (l : Line) → length k.members ≡ V → k.version ≡ v → k.stage ≡ s → rest ≡ line_bytes l → FitsLine (version_with v l) V l
+    → step s l ≡ Some s' → Left k (first_scan v s) rest l
+line_start V k v stage.Title s' rest (line.Title version.One) size version_is is told fits due = (codes "1", told, inl (refl, refl))
+line_start V k v stage.Title s' rest (line.Title version.Two) size version_is is told fits due = (codes "2", told, inr (refl, refl))
+line_start V k v stage.Length s' rest (line.Length n) size version_is is told fits due = (decimal n, told, number_due k field.Length n (line.Length n) (record { least = omega arith; limit = fits }) (refl, refl))
+line_start V k v stage.Bound s' rest (line.Bound n) size version_is is told fits due = (decimal n, told, number_due k field.Bound n (line.Bound n) (record { least = omega arith; limit = fits }) (refl, refl))
+line_start V k v stage.Status s' rest (line.Status true) size version_is is told fits due = (codes "optimal", told, inl ([], refl, (refl, refl)))
+line_start V k v stage.Status s' rest (line.Status false) size version_is is told fits due = (codes "stopped", told, inr ([], refl, (refl, refl)))
+line_start V k v stage.Openings s' rest (line.Openings n) size version_is is told fits due = (decimal n, told, number_due k field.Openings n (line.Openings n) (record { least = omega arith; limit = fits }) (refl, refl))
+line_start V k v stage.Concat s' rest (line.Concat c) size version_is is told fits due = note_due k c.least c.total rest fits told
+line_start V k v stage.Count s' rest (line.Count n) size version_is is told fits due = (decimal n, told, number_due k field.Count n (line.Count n) (record { least = omega arith; limit = fits }) (refl, refl))
+line_start V k v (stage.Edges zero) s' rest line.Tree size version_is is told fits due = ([], told, (refl, refl))
+line_start V k v (stage.Edges (suc edges)) s' rest (line.Edge e) size version_is is told fits due = name_due k e rest (line.Edge e) fits told (λ i. name_line (sym version_is i) (sym is i) e)
+line_start V k v (stage.Body zero zero) s' rest line.End size version_is is told fits due = ([], told, (refl, refl))
+line_start V k version.One (stage.Body zero (suc nodes)) s' rest (line.Split e) size version_is is told fits due =
+    inl (name_words e, told, name_due k e (name_words e) (line.Split e) fits.1 refl (λ i. name_line (sym version_is i) (sym is i) e))
+line_start V k version.Two (stage.Body zero (suc nodes)) s' rest (line.Split e) size version_is is told fits due = let none = fits.0 in absurd cc
+line_start V k version.One (stage.Body zero (suc nodes)) s' rest (line.SplitEdge e) size version_is is told fits due = let none = fits.0 in absurd cc
+line_start V k version.Two (stage.Body zero (suc nodes)) s' rest (line.SplitEdge e) size version_is is told fits due =
+    inl (codes "edge " ++ name_words e, told, inl (name_words e, refl, name_due k e (name_words e) (line.SplitEdge e) fits.1 refl (λ i. name_line (sym version_is i) (sym is i) e)))
+line_start V k version.One (stage.Body zero (suc nodes)) s' rest (line.SplitVertex p) size version_is is told fits due = let none = fits.0 in absurd cc
+line_start V k version.Two (stage.Body zero (suc nodes)) s' rest (line.SplitVertex p) size version_is is told fits due =
+    inl (codes "vertex " ++ point_words p, told, inr (point_words p, refl, point_due k p fits.1))
+line_start V k v (stage.Body zero (suc nodes)) s' rest (line.Leaf n) size version_is is told fits due =
     inr (decimal n, told, number_due k field.Leaf n (line.Leaf n) (record { least = omega arith; limit = fits }) (refl, refl))
-line_start V k (stage.Body (suc cuts) nodes) s' rest (line.Cut c) size is told fits due = (
+line_start V k v (stage.Body (suc cuts) nodes) s' rest (line.Cut c) size version_is is told fits due = (
   decimal c.weight ++ codes " " ++ set_text c.members,
   told,
   record {
@@ -197,42 +259,43 @@ line_start V k (stage.Body (suc cuts) nodes) s' rest (line.Cut c) size is told f
     follows = record { set = c.members; size = fits.members ∙ sym size; text = refl; line = refl };
   },
 )
-line_start V k s s' rest l size is told fits due = absurd cc
+line_start V k v stage.Done s' rest l size version_is is told fits due = let none = step-done l in absurd cc
+line_start V k v s s' rest l size version_is is told fits due = absurd cc
 
-pub start_left : (V : ℕ) (k : Kept) (s s' : Stage) (rest : List ℕ) (l : Line) → length k.members ≡ V → k.stage ≡ s → IsLineRead V s rest l s' → Left k (first_scan s) rest l
-start_left V k s s' rest l size is read = line_start V k s s' rest l size is read.told read.fits read.due
+pub start_left : (V : ℕ) (k : Kept) (v : Version) (s s' : Stage) (rest : List ℕ) (l : Line) → length k.members ≡ V → k.version ≡ v → k.stage ≡ s → IsLineRead v V s rest l s' → Left k (first_scan v s) rest l
+start_left V k v s s' rest l size version_is is read = line_start V k v s s' rest l size version_is is read.told read.fits read.due
 
 -- the beginning is kept to
-pub start_sound : (k : Kept) (s : Stage) → IsSound k (first_scan s)
-start_sound k stage.Title = omega arith
-start_sound k stage.Length = omega arith
-start_sound k stage.Bound = omega arith
-start_sound k stage.Status = omega arith
-start_sound k stage.Openings = omega arith
-start_sound k stage.Concat = omega arith
-start_sound k stage.Count = omega arith
-start_sound k (stage.Edges zero) = omega arith
-start_sound k (stage.Edges (suc edges)) = tt
-start_sound k (stage.Body zero zero) = omega arith
-start_sound k (stage.Body zero (suc nodes)) = tt
-start_sound k (stage.Body (suc cuts) nodes) = omega arith
-start_sound k stage.Done = tt
+pub start_sound : (k : Kept) (v : Version) (s : Stage) → IsSound k (first_scan v s)
+start_sound k v stage.Title = omega arith
+start_sound k v stage.Length = omega arith
+start_sound k v stage.Bound = omega arith
+start_sound k v stage.Status = omega arith
+start_sound k v stage.Openings = omega arith
+start_sound k v stage.Concat = omega arith
+start_sound k v stage.Count = omega arith
+start_sound k v (stage.Edges zero) = omega arith
+start_sound k v (stage.Edges (suc edges)) = tt
+start_sound k v (stage.Body zero zero) = omega arith
+start_sound k v (stage.Body zero (suc nodes)) = tt
+start_sound k v (stage.Body (suc cuts) nodes) = omega arith
+start_sound k v stage.Done = tt
 
 -- only behind the end nothing is due
-pub start_ended : (s : Stage) → first_scan s ≡ scan.Ended → s ≡ stage.Done
-start_ended stage.Title e = absurd cc
-start_ended stage.Length e = absurd cc
-start_ended stage.Bound e = absurd cc
-start_ended stage.Status e = absurd cc
-start_ended stage.Openings e = absurd cc
-start_ended stage.Concat e = absurd cc
-start_ended stage.Count e = absurd cc
-start_ended (stage.Edges zero) e = absurd cc
-start_ended (stage.Edges (suc edges)) e = absurd cc
-start_ended (stage.Body zero zero) e = absurd cc
-start_ended (stage.Body zero (suc nodes)) e = absurd cc
-start_ended (stage.Body (suc cuts) nodes) e = absurd cc
-start_ended stage.Done e = refl
+pub start_ended : (v : Version) (s : Stage) → first_scan v s ≡ scan.Ended → s ≡ stage.Done
+start_ended v stage.Title e = absurd cc
+start_ended v stage.Length e = absurd cc
+start_ended v stage.Bound e = absurd cc
+start_ended v stage.Status e = absurd cc
+start_ended v stage.Openings e = absurd cc
+start_ended v stage.Concat e = absurd cc
+start_ended v stage.Count e = absurd cc
+start_ended v (stage.Edges zero) e = absurd cc
+start_ended v (stage.Edges (suc edges)) e = absurd cc
+start_ended v (stage.Body zero zero) e = absurd cc
+start_ended v (stage.Body zero (suc nodes)) e = absurd cc
+start_ended v (stage.Body (suc cuts) nodes) e = absurd cc
+start_ended v stage.Done e = refl
 
 -- ---- what is due can be gone on with
 
@@ -246,16 +309,23 @@ signed_fits c true (suc n) inside = let limit = inside.limit in record { sfits =
 behind_corner_some : (k : Kept) (c : Corner) (z : ℤ) → FitsName k.name → FitsSigned w64 z → (rest : List ℕ) × (l : Line) × BehindCoordinate k c z rest l
 behind_corner_some k corner.X1 z name fits =
     let e : EdgeName = record { x1 = z; y1 = k.name.y1; x2 = k.name.x2; y2 = k.name.y2 } in
-    (32 ∷ behind_x1 e, name_line k.stage e, record { name = e; fits = record { x1 = fits; y1 = name.y1; x2 = name.x2; y2 = name.y2 }; same = refl; text = refl; line = refl })
+    (32 ∷ behind_x1 e, name_line k.version k.stage e, record { name = e; fits = record { x1 = fits; y1 = name.y1; x2 = name.x2; y2 = name.y2 }; same = refl; text = refl; line = refl })
 behind_corner_some k corner.Y1 z name fits =
     let e : EdgeName = record { x1 = k.name.x1; y1 = z; x2 = k.name.x2; y2 = k.name.y2 } in
-    (32 ∷ behind_y1 e, name_line k.stage e, record { name = e; fits = record { x1 = name.x1; y1 = fits; x2 = name.x2; y2 = name.y2 }; same = (refl, refl); text = refl; line = refl })
+    (32 ∷ behind_y1 e, name_line k.version k.stage e, record { name = e; fits = record { x1 = name.x1; y1 = fits; x2 = name.x2; y2 = name.y2 }; same = (refl, refl); text = refl; line = refl })
 behind_corner_some k corner.X2 z name fits =
     let e : EdgeName = record { x1 = k.name.x1; y1 = k.name.y1; x2 = z; y2 = k.name.y2 } in
-    (32 ∷ signed_decimal e.y2, name_line k.stage e, record { name = e; fits = record { x1 = name.x1; y1 = name.y1; x2 = fits; y2 = name.y2 }; same = (refl, refl, refl); text = refl; line = refl })
+    (32 ∷ signed_decimal e.y2, name_line k.version k.stage e, record { name = e; fits = record { x1 = name.x1; y1 = name.y1; x2 = fits; y2 = name.y2 }; same = (refl, refl, refl); text = refl; line = refl })
 behind_corner_some k corner.Y2 z name fits =
     let e : EdgeName = record { x1 = k.name.x1; y1 = k.name.y1; x2 = k.name.x2; y2 = z } in
-    ([], name_line k.stage e, record { name = e; fits = record { x1 = name.x1; y1 = name.y1; x2 = name.x2; y2 = fits }; same = (refl, refl, refl, refl); text = refl; line = refl })
+    ([], name_line k.version k.stage e, record { name = e; fits = record { x1 = name.x1; y1 = name.y1; x2 = name.x2; y2 = fits }; same = (refl, refl, refl, refl); text = refl; line = refl })
+
+behind_corner_some k corner.X z name fits =
+    let e : EdgeName = record { x1 = z; y1 = k.name.y1; x2 = k.name.x2; y2 = k.name.y2 } in
+    (32 ∷ signed_decimal e.y1, corner_line k corner.X e, record { name = e; fits = record { x1 = fits; y1 = name.y1; x2 = name.x2; y2 = name.y2 }; same = refl; text = refl; line = refl })
+behind_corner_some k corner.Y z name fits =
+    let e : EdgeName = record { x1 = k.name.x1; y1 = z; x2 = k.name.x2; y2 = k.name.y2 } in
+    ([], corner_line k corner.Y e, record { name = e; fits = record { x1 = name.x1; y1 = fits; x2 = name.x2; y2 = name.y2 }; same = (refl, refl); text = refl; line = refl })
 
 behind_some : (k : Kept) (f : Field) (n : ℕ) → IsInField f n → FitsName k.name → (rest : List ℕ) × (l : Line) × BehindNumber k f n rest l
 behind_some k field.Length n inside name = ([], line.Length n, (refl, refl))
@@ -279,7 +349,7 @@ coordinate_some : (k : Kept) (c : Corner) → FitsName k.name → (rest : List �
 coordinate_some k c name = let d = due_some k (field.Coordinate c false) name in (d.0, d.1, inl d.2)
 
 word_some : (k : Kept) (w : Word) → FitsName k.name → (rest : List ℕ) × (l : Line) × ForkLeft k (behind_word w) rest l
-word_some k word.Title name = ([], line.Title, (refl, refl))
+word_some k word.Title name = (codes "1", line.Title version.One, inl (refl, refl))
 word_some k word.Length name = due_some k field.Length name
 word_some k word.Bound name = due_some k field.Bound name
 word_some k word.Status name = (codes "optimal", line.Status true, inl ([], refl, (refl, refl)))
@@ -291,7 +361,10 @@ word_some k word.Least name = due_some k (field.Total true) name
 word_some k word.Spent name = due_some k (field.Total false) name
 word_some k word.Edges name = due_some k field.Count name
 word_some k word.Tree name = ([], line.Tree, (refl, refl))
-word_some k word.Split name = coordinate_some k corner.X1 name
+word_some k (word.Split version.One) name = coordinate_some k corner.X1 name
+word_some k (word.Split version.Two) name = let d = coordinate_some k corner.X1 name in (codes "edge " ++ d.0, d.1, inl (d.0, refl, d.2))
+word_some k word.Edge name = coordinate_some k corner.X1 name
+word_some k word.Vertex name = coordinate_some k corner.X name
 word_some k word.Leaf name = due_some k field.Leaf name
 word_some k word.Cut name = due_some k field.Weight name
 word_some k word.End name = ([], line.End, (refl, refl))
@@ -299,9 +372,11 @@ word_some k word.End name = ([], line.End, (refl, refl))
 -- more of a line is due, or the text is at its end
 pub underway : (k : Kept) (s : Scan) → IsSound k s → (s ≡ scan.Ended) ⊎ IsUnderway k s
 underway k (scan.Word w place) sound = inr sound
+underway k scan.Version sound = inr sound
 underway k scan.Status sound = inr sound
 underway k scan.Kind sound = inr sound
-underway k scan.Node sound = inr sound
+underway k (scan.Node v) sound = inr sound
+underway k scan.On sound = inr sound
 underway k (scan.Due f) sound = inr sound
 underway k (scan.Coordinate c) sound = inr sound
 underway k (scan.Number f n) sound = inr sound
@@ -312,9 +387,11 @@ underway k scan.Refused sound = absurd sound
 
 pub underway-sound : (k : Kept) (s : Scan) → IsUnderway k s → IsSound k s
 underway-sound k (scan.Word w place) sound = sound
+underway-sound k scan.Version sound = sound
 underway-sound k scan.Status sound = sound
 underway-sound k scan.Kind sound = sound
-underway-sound k scan.Node sound = sound
+underway-sound k (scan.Node v) sound = sound
+underway-sound k scan.On sound = sound
 underway-sound k (scan.Due f) sound = sound
 underway-sound k (scan.Coordinate c) sound = sound
 underway-sound k (scan.Number f n) sound = sound
@@ -329,9 +406,11 @@ underway-open k s is sound = subst (IsUnderway k) is sound
 -- some bytes make what was read a line
 pub some_left : (k : Kept) (s : Scan) → IsUnderway k s → FitsName k.name → (rest : List ℕ) × (l : Line) × Left k s rest l
 some_left k (scan.Word w place) sound name = let b = word_some k w name in (drop place (word_bytes w) ++ b.0, b.1, (b.0, refl, b.2))
+some_left k scan.Version sound name = (codes "1", line.Title version.One, inl (refl, refl))
 some_left k scan.Status sound name = (codes "optimal", line.Status true, inl ([], refl, (refl, refl)))
 some_left k scan.Kind sound name = let d = due_some k (field.Total true) name in (codes "least " ++ d.0, d.1, inl (d.0, refl, d.2))
-some_left k scan.Node sound name = let d = due_some k field.Leaf name in (codes "leaf " ++ d.0, d.1, inr (d.0, refl, d.2))
+some_left k scan.On sound name = let d = coordinate_some k corner.X1 name in (codes "edge " ++ d.0, d.1, inl (d.0, refl, d.2))
+some_left k (scan.Node v) sound name = let d = due_some k field.Leaf name in (codes "leaf " ++ d.0, d.1, inr (d.0, refl, d.2))
 some_left k (scan.Due f) sound name = due_some k f name
 some_left k (scan.Coordinate c) sound name = coordinate_some k c name
 some_left k (scan.Number f n) sound name = digits_left k f n (decimal n) [] sound name (sym (append-nil (decimal n)))

@@ -60,6 +60,8 @@ corner_blank k corner.X1 z b rest l h = let text = h.text in cc
 corner_blank k corner.Y1 z b rest l h = let text = h.text in cc
 corner_blank k corner.X2 z b rest l h = let text = h.text in cc
 corner_blank k corner.Y2 z b rest l h = let text = h.text in absurd cc
+corner_blank k corner.X z b rest l h = let text = h.text in cc
+corner_blank k corner.Y z b rest l h = let text = h.text in absurd cc
 
 behind_blank : (k : Kept) (f : Field) (n b : ℕ) (rest : List ℕ) (l : Line) → BehindNumber k f n (b ∷ rest) l → b ≡ 32
 behind_blank k field.Length n b rest l h = let text = h.0 in absurd cc
@@ -282,53 +284,70 @@ coordinate_left k c (negsuc n) rest behind l text fits follows =
     inr (decimal (suc n) ++ behind, text, record { number = suc n; more = decimal (suc n); behind = behind; parts = refl; spelled = refl; inside = record { least = omega arith; limit = omega arith }; follows = follows })
 
 -- the blank behind a coordinate
-pub leads-x1 : (k k' : Kept) (minus : Bool) (v : ℕ) → IsInField (field.Coordinate corner.X1 minus) v → k'.stage ≡ k.stage → k'.name.x1 ≡ signed minus v
+pub leads-x1 : (k k' : Kept) (minus : Bool) (v : ℕ) → IsInField (field.Coordinate corner.X1 minus) v → k'.stage ≡ k.stage → k'.version ≡ k.version → k'.name.x1 ≡ signed minus v
     → LeadsTo k (scan.Number (field.Coordinate corner.X1 minus) v) 32 k' (scan.Coordinate corner.Y1)
-leads-x1 k k' minus v here stage x1 = record {
+leads-x1 k k' minus v here stage version x1 = record {
   on = λ rest l h.
       let b = over_blank k (field.Coordinate corner.X1 minus) v rest l here h in
       let text = b.text in
       let rest_is : rest ≡ behind_x1 b.name = cc in
       coordinate_left k' corner.Y1 b.name.y1 rest (32 ∷ behind_y1 b.name) l rest_is b.fits.y1
-      (record { name = b.name; fits = b.fits; same = (b.same ∙ sym x1, refl); text = refl; line = b.line ∙ (λ i. name_line (sym stage i) b.name) });
+      (record { name = b.name; fits = b.fits; same = (b.same ∙ sym x1, refl); text = refl; line = b.line ∙ (λ i. name_line (sym version i) (sym stage i) b.name) });
   back = λ rest l h.
       let s = spelled_of k' corner.Y1 rest l h in
       let f = s.follows in
       let rest_is : rest ≡ behind_x1 f.name = s.text ∙ (λ i. signed_decimal (sym f.same.1 i) ++ f.text i) in
       left_over k (field.Coordinate corner.X1 minus) v (32 ∷ rest) l here
-      (record { name = f.name; fits = f.fits; same = f.same.0 ∙ x1; text = ap (λ x. 32 ∷ x) rest_is; line = f.line ∙ (λ i. name_line (stage i) f.name) });
+      (record { name = f.name; fits = f.fits; same = f.same.0 ∙ x1; text = ap (λ x. 32 ∷ x) rest_is; line = f.line ∙ (λ i. name_line (version i) (stage i) f.name) });
 }
 
-pub leads-y1 : (k k' : Kept) (minus : Bool) (v : ℕ) → IsInField (field.Coordinate corner.Y1 minus) v → k'.stage ≡ k.stage → k'.name.x1 ≡ k.name.x1 → k'.name.y1 ≡ signed minus v
+pub leads-y1 : (k k' : Kept) (minus : Bool) (v : ℕ) → IsInField (field.Coordinate corner.Y1 minus) v → k'.stage ≡ k.stage → k'.version ≡ k.version → k'.name.x1 ≡ k.name.x1 → k'.name.y1 ≡ signed minus v
     → LeadsTo k (scan.Number (field.Coordinate corner.Y1 minus) v) 32 k' (scan.Coordinate corner.X2)
-leads-y1 k k' minus v here stage x1 y1 = record {
+leads-y1 k k' minus v here stage version x1 y1 = record {
   on = λ rest l h.
       let b = over_blank k (field.Coordinate corner.Y1 minus) v rest l here h in
       let text = b.text in
       let rest_is : rest ≡ behind_y1 b.name = cc in
       coordinate_left k' corner.X2 b.name.x2 rest (32 ∷ signed_decimal b.name.y2) l rest_is b.fits.x2
-      (record { name = b.name; fits = b.fits; same = (b.same.0 ∙ sym x1, b.same.1 ∙ sym y1, refl); text = refl; line = b.line ∙ (λ i. name_line (sym stage i) b.name) });
+      (record { name = b.name; fits = b.fits; same = (b.same.0 ∙ sym x1, b.same.1 ∙ sym y1, refl); text = refl; line = b.line ∙ (λ i. name_line (sym version i) (sym stage i) b.name) });
   back = λ rest l h.
       let s = spelled_of k' corner.X2 rest l h in
       let f = s.follows in
       let rest_is : rest ≡ behind_y1 f.name = s.text ∙ (λ i. signed_decimal (sym f.same.2 i) ++ f.text i) in
       left_over k (field.Coordinate corner.Y1 minus) v (32 ∷ rest) l here
-      (record { name = f.name; fits = f.fits; same = (f.same.0 ∙ x1, f.same.1 ∙ y1); text = ap (λ x. 32 ∷ x) rest_is; line = f.line ∙ (λ i. name_line (stage i) f.name) });
+      (record { name = f.name; fits = f.fits; same = (f.same.0 ∙ x1, f.same.1 ∙ y1); text = ap (λ x. 32 ∷ x) rest_is; line = f.line ∙ (λ i. name_line (version i) (stage i) f.name) });
 }
 
-pub leads-x2 : (k k' : Kept) (minus : Bool) (v : ℕ) → IsInField (field.Coordinate corner.X2 minus) v → k'.stage ≡ k.stage → k'.name.x1 ≡ k.name.x1 → k'.name.y1 ≡ k.name.y1
+pub leads-x2 : (k k' : Kept) (minus : Bool) (v : ℕ) → IsInField (field.Coordinate corner.X2 minus) v → k'.stage ≡ k.stage → k'.version ≡ k.version → k'.name.x1 ≡ k.name.x1 → k'.name.y1 ≡ k.name.y1
     → k'.name.x2 ≡ signed minus v → LeadsTo k (scan.Number (field.Coordinate corner.X2 minus) v) 32 k' (scan.Coordinate corner.Y2)
-leads-x2 k k' minus v here stage x1 y1 x2 = record {
+leads-x2 k k' minus v here stage version x1 y1 x2 = record {
   on = λ rest l h.
       let b = over_blank k (field.Coordinate corner.X2 minus) v rest l here h in
       let text = b.text in
       let rest_is : rest ≡ signed_decimal b.name.y2 ++ [] = (let plain : rest ≡ signed_decimal b.name.y2 = cc in plain ∙ sym (append-nil (signed_decimal b.name.y2))) in
       coordinate_left k' corner.Y2 b.name.y2 rest [] l rest_is b.fits.y2
-      (record { name = b.name; fits = b.fits; same = (b.same.0 ∙ sym x1, b.same.1 ∙ sym y1, b.same.2 ∙ sym x2, refl); text = refl; line = b.line ∙ (λ i. name_line (sym stage i) b.name) });
+      (record { name = b.name; fits = b.fits; same = (b.same.0 ∙ sym x1, b.same.1 ∙ sym y1, b.same.2 ∙ sym x2, refl); text = refl; line = b.line ∙ (λ i. name_line (sym version i) (sym stage i) b.name) });
   back = λ rest l h.
       let s = spelled_of k' corner.Y2 rest l h in
       let f = s.follows in
       let rest_is : rest ≡ signed_decimal f.name.y2 = s.text ∙ (λ i. signed_decimal (sym f.same.3 i) ++ f.text i) ∙ append-nil (signed_decimal f.name.y2) in
       left_over k (field.Coordinate corner.X2 minus) v (32 ∷ rest) l here
-      (record { name = f.name; fits = f.fits; same = (f.same.0 ∙ x1, f.same.1 ∙ y1, f.same.2 ∙ x2); text = ap (λ x. 32 ∷ x) rest_is; line = f.line ∙ (λ i. name_line (stage i) f.name) });
+      (record { name = f.name; fits = f.fits; same = (f.same.0 ∙ x1, f.same.1 ∙ y1, f.same.2 ∙ x2); text = ap (λ x. 32 ∷ x) rest_is; line = f.line ∙ (λ i. name_line (version i) (stage i) f.name) });
+}
+
+pub leads-x : (k k' : Kept) (minus : Bool) (v : ℕ) → IsInField (field.Coordinate corner.X minus) v → k'.name.x1 ≡ signed minus v
+    → LeadsTo k (scan.Number (field.Coordinate corner.X minus) v) 32 k' (scan.Coordinate corner.Y)
+leads-x k k' minus v here x1 = record {
+  on = λ rest l h.
+      let b = over_blank k (field.Coordinate corner.X minus) v rest l here h in
+      let text = b.text in
+      let rest_is : rest ≡ signed_decimal b.name.y1 ++ [] = (let plain : rest ≡ signed_decimal b.name.y1 = cc in plain ∙ sym (append-nil (signed_decimal b.name.y1))) in
+      coordinate_left k' corner.Y b.name.y1 rest [] l rest_is b.fits.y1
+      (record { name = b.name; fits = b.fits; same = (b.same ∙ sym x1, refl); text = refl; line = b.line });
+  back = λ rest l h.
+      let s = spelled_of k' corner.Y rest l h in
+      let f = s.follows in
+      let rest_is : rest ≡ signed_decimal f.name.y1 = s.text ∙ (λ i. signed_decimal (sym f.same.1 i) ++ f.text i) ∙ append-nil (signed_decimal f.name.y1) in
+      left_over k (field.Coordinate corner.X minus) v (32 ∷ rest) l here
+      (record { name = f.name; fits = f.fits; same = f.same.0 ∙ x1; text = ap (λ x. 32 ∷ x) rest_is; line = f.line });
 }

@@ -11,7 +11,7 @@ use Rattle.cut_cert.specs.AnswerLine.{Line}
 use Rattle.cut_cert.specs.LineKinds as line
 use Rattle.cut_cert.specs.declared.scan.Kept.{Kept}
 use Rattle.cut_cert.specs.declared.scan.Scan.TheVariants as scan
-use Rattle.cut_cert.specs.Text.{four_value, four_digit, set_text}
+use Rattle.cut_cert.specs.Words.{four_value, four_digit, set_text}
 use Rattle.cut_cert.specs.SetLaws.{digit_at_place, length-set_text, get_or-set_text, hex_value, flag_at_place}
 use Rattle.cut_cert.specs.Scanning.{SetLeft, LeadsTo, IsDead, IsSound}
 use Rattle.cut_cert.proofs.Digits.{four_value-below}

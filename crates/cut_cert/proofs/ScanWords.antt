@@ -7,6 +7,7 @@ use Rattle.cut_cert.specs.declared.scan.Kept.{Kept}
 use Rattle.cut_cert.specs.declared.scan.Word.{Word}
 use Rattle.cut_cert.specs.declared.scan.Word.TheVariants as word
 use Rattle.cut_cert.specs.declared.scan.Scan.TheVariants as scan
+use Rattle.cut_cert.specs.declared.version.Version.TheVariants as version
 use Rattle.cut_cert.specs.Scanning.{word_bytes, behind_word, ForkLeft, Left, LeadsTo}
 
 -- the byte at a place of a word and those behind it
@@ -43,7 +44,10 @@ behind_left k word.Least rest l = ((λ h. h), (λ h. h))
 behind_left k word.Spent rest l = ((λ h. h), (λ h. h))
 behind_left k word.Edges rest l = ((λ h. h), (λ h. h))
 behind_left k word.Tree rest l = ((λ h. h), (λ h. h))
-behind_left k word.Split rest l = ((λ h. h), (λ h. h))
+behind_left k (word.Split version.One) rest l = ((λ h. h), (λ h. h))
+behind_left k (word.Split version.Two) rest l = ((λ h. h), (λ h. h))
+behind_left k word.Edge rest l = ((λ h. h), (λ h. h))
+behind_left k word.Vertex rest l = ((λ h. h), (λ h. h))
 behind_left k word.Leaf rest l = ((λ h. h), (λ h. h))
 behind_left k word.Cut rest l = ((λ h. h), (λ h. h))
 behind_left k word.End rest l = ((λ h. h), (λ h. h))

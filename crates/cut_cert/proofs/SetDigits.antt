@@ -9,7 +9,7 @@ use Rattle.std.proofs.lemmas.Bool.{cases_lt}
 use Rattle.std.proofs.lemmas.List.{get_or_past}
 use Rattle.std.proofs.lemmas.List.FromFn.{get_or-map-range_with_len}
 use Rattle.net_graph.specs.Flags.{has}
-use Rattle.cut_cert.specs.Text.{four_digit, set_text}
+use Rattle.cut_cert.specs.Words.{four_digit, set_text}
 use Rattle.cut_cert.specs.SetLaws.{digit_in_word, digit_at_place, take_set_text-run, take_set_text-all}
 
 -- ---- the flags of a word

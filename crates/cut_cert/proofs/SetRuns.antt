@@ -23,15 +23,16 @@ run_none k place next is sound name = subst (λ n. IsRun k (scan.Set place) [] k
   sound = sound;
   name = name;
   stage = refl;
+  version = refl;
   size = refl;
 })
 
 -- one digit more
 pub run_more : (k k' k'' : Kept) (s : Scan) (bytes : List ℕ) (place next value byte : ℕ)
     → IsRun k s bytes k' (scan.Set place) → TakesDigit k' k'' place value byte → next ≡ place + 1
-    → k''.name ≡ k'.name → k''.stage ≡ k'.stage
+    → k''.name ≡ k'.name → k''.stage ≡ k'.stage → k''.version ≡ k'.version
     → IsRun k s (bytes ++ byte ∷ []) k'' (scan.Set next)
-run_more k k' k'' s bytes place next value byte run takes is name stage =
+run_more k k' k'' s bytes place next value byte run takes is name stage version =
     let leads = leads-set k' k'' place value byte takes in
     let one = λ (rest : List ℕ). append_assoc bytes (byte ∷ []) rest in
     subst (λ n. IsRun k s (bytes ++ byte ∷ []) k'' (scan.Set n)) (sym is) (record {
@@ -43,5 +44,6 @@ run_more k k' k'' s bytes place next value byte run takes is name stage =
       sound = set-sound k' k'' place value byte takes run.sound;
       name = subst FitsName (sym name) run.name;
       stage = stage ∙ run.stage;
+      version = version ∙ run.version;
       size = takes.size ∙ run.size;
     })

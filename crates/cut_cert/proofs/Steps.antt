@@ -1,12 +1,17 @@
 -- What is due before a line that was due, and behind it.
-use Rattle.std.proofs.Common.{ℕ, suc, zero, ◌≡◌, refl, Some}
+use Rattle.std.proofs.Common.{ℕ, suc, zero, ◌≡◌, refl, Some, None}
 use Rattle.net_graph.specs.declared.packing.Cut.{Cut}
 use Rattle.hanan_grid.specs.declared.name.EdgeName.{EdgeName}
 use Rattle.cut_cert.specs.declared.head.ConcatNote.{ConcatNote}
+use Rattle.cut_cert.specs.declared.split.SplitName.{SplitName}
+use Rattle.cut_cert.specs.declared.split.SplitName.TheVariants as name
+use Rattle.cut_cert.specs.declared.version.Version.{Version}
+use Rattle.cut_cert.specs.declared.version.Version.TheVariants as version
+use Rattle.cut_cert.specs.AnswerLine.{Line}
 use Rattle.cut_cert.specs.LineKinds as line
 use Rattle.cut_cert.specs.declared.line.Stage.{Stage}
 use Rattle.cut_cert.specs.declared.line.Stage.TheVariants as stage
-use Rattle.cut_cert.specs.Lines.{step}
+use Rattle.cut_cert.specs.Lines.{split_line, split_step, step}
 
 pub step-length : (s s' : Stage) (n : ℕ) → step s (line.Length n) ≡ Some s' → stage.Bound ≡ s'
 step-length stage.Length s' n e = cc
@@ -113,20 +118,30 @@ step-edge (stage.Body zero (suc m)) s' d e = absurd cc
 step-edge (stage.Body (suc k) m) s' d e = absurd cc
 step-edge stage.Done s' d e = absurd cc
 
-pub step-split : (s s' : Stage) (d : EdgeName) → step s (line.Split d) ≡ Some s' → (nodes : ℕ) × (s ≡ stage.Body 0 (suc nodes)) × (stage.Body 0 (suc (suc nodes)) ≡ s')
-step-split (stage.Body zero (suc nodes)) s' d e = (nodes, refl, cc)
-step-split stage.Title s' d e = absurd cc
-step-split stage.Length s' d e = absurd cc
-step-split stage.Bound s' d e = absurd cc
-step-split stage.Status s' d e = absurd cc
-step-split stage.Openings s' d e = absurd cc
-step-split stage.Concat s' d e = absurd cc
-step-split stage.Count s' d e = absurd cc
-step-split (stage.Edges zero) s' d e = absurd cc
-step-split (stage.Edges (suc k)) s' d e = absurd cc
-step-split (stage.Body zero zero) s' d e = absurd cc
-step-split (stage.Body (suc k) m) s' d e = absurd cc
-step-split stage.Done s' d e = absurd cc
+pub step-split : (s s' : Stage) → split_step s ≡ Some s' → (nodes : ℕ) × (s ≡ stage.Body 0 (suc nodes)) × (stage.Body 0 (suc (suc nodes)) ≡ s')
+step-split (stage.Body zero (suc nodes)) s' e = (nodes, refl, cc)
+step-split stage.Title s' e = absurd cc
+step-split stage.Length s' e = absurd cc
+step-split stage.Bound s' e = absurd cc
+step-split stage.Status s' e = absurd cc
+step-split stage.Openings s' e = absurd cc
+step-split stage.Concat s' e = absurd cc
+step-split stage.Count s' e = absurd cc
+step-split (stage.Edges k) s' e = absurd cc
+step-split (stage.Body zero zero) s' e = absurd cc
+step-split (stage.Body (suc k) m) s' e = absurd cc
+step-split stage.Done s' e = absurd cc
+
+-- the line of a split in either version
+pub step-split_line : (v : Version) (on : SplitName) (s : Stage) → step s (split_line v on) ≡ split_step s
+step-split_line version.One (name.Edge e) s = refl
+step-split_line version.Two (name.Edge e) s = refl
+step-split_line v (name.Vertex p) s = refl
+
+-- nothing is due behind the end
+pub step-done : (l : Line) → step stage.Done l ≡ None
+step-done (line.Title v) = refl
+step-done l = refl
 
 pub step-cut : (s s' : Stage) (c : Cut) → step s (line.Cut c) ≡ Some s' → (cuts : ℕ) × (nodes : ℕ) × (s ≡ stage.Body (suc cuts) nodes) × (stage.Body cuts nodes ≡ s')
 step-cut (stage.Body (suc cuts) nodes) s' c e = (cuts, nodes, refl, cc)

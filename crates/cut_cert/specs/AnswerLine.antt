@@ -1,11 +1,14 @@
 -- What a line of an answer's text tells.
 use Rattle.std.specs.Prelude.{ℕ, Bool}
+use Rattle.points_in.specs.declared.point.Point.{Point}
 use Rattle.net_graph.specs.declared.packing.Cut.{Cut as WeightedCut}
 use Rattle.hanan_grid.specs.declared.name.EdgeName.{EdgeName}
 use Rattle.cut_cert.specs.declared.head.ConcatNote.{ConcatNote}
+use Rattle.cut_cert.specs.declared.version.Version.{Version}
 
+-- The split of version 1 is on an edge; one of version 2 says whether it is on an edge or on a vertex.
 pub data Line : Type 0 where
-  Title : Line
+  Title : Version → Line
   Length : ℕ → Line
   Bound : ℕ → Line
   Status : Bool → Line
@@ -15,6 +18,8 @@ pub data Line : Type 0 where
   Edge : EdgeName → Line
   Tree : Line
   Split : EdgeName → Line
+  SplitEdge : EdgeName → Line
+  SplitVertex : Point → Line
   Leaf : ℕ → Line
   Cut : WeightedCut → Line
   End : Line

@@ -1,44 +1,23 @@
 -- What the lines of an answer tell.
-use Rattle.std.specs.Prelude.{ℕ, suc, Bool, false, List, [], ◌∷◌, ◌++◌, length, map, Option, Some, None}
+use Rattle.std.specs.Prelude.{ℕ, suc, Bool, false, List, [], ◌∷◌, ◌++◌, Option, Some, None}
 use Rattle.net_graph.specs.declared.packing.Cut.{Cut}
-use Rattle.hanan_grid.specs.declared.name.EdgeName.{EdgeName}
 use Rattle.cut_cert.specs.declared.head.AnswerHead.{AnswerHead}
 use Rattle.cut_cert.specs.AnswerLine.{Line}
 use Rattle.cut_cert.specs.LineKinds as line
 use Rattle.cut_cert.specs.declared.event.Event.{Event}
 use Rattle.cut_cert.specs.declared.event.Event.TheVariants as event
 use Rattle.cut_cert.specs.declared.event.AnswerEvent.{AnswerEvent}
+use Rattle.cut_cert.specs.declared.split.SplitName.TheVariants as name
 use Rattle.cut_cert.specs.Value.{WrittenAnswer}
-use Rattle.cert_tree.specs.Tree.{Tree}
-use Rattle.cert_tree.specs.Tree.Tree.{Leaf, Split}
+use Rattle.cut_cert.specs.Lines.{answer_lines}
 
 -- an event, and the members of its cut
 abbrev pub Told : Type 0
 Told = Event × Option (List Bool)
 
--- what is told of a cut and of a tree
+-- what is told of a cut
 abbrev pub cut_told : Cut → Told
 cut_told c = (event.Cut c.weight, Some c.members)
-
-abbrev pub tree_told : Tree EdgeName → List Told
-tree_told (Leaf cuts) = (event.Leaf (length cuts), None) ∷ map cut_told cuts
-tree_told (Split e outside inside) = (event.Split e, None) ∷ (tree_told outside ++ tree_told inside)
-
--- what is told of an answer
-abbrev pub answer_told : WrittenAnswer → List Told
-answer_told a = (event.Head a.head, None) ∷ (event.EdgeCount (length a.edges), None)
-    ∷ (map (λ e. (event.Edge e, None)) a.edges ++ (event.Tree, None) ∷ (tree_told a.tree ++ (event.End, None) ∷ []))
-
--- one line after another, from the line n on
-abbrev pub numbered : ℕ → List Told → List AnswerEvent
-numbered n [] = []
-numbered n (t ∷ ts) = record { line = n; event = t.0; members = t.1 } ∷ numbered (suc n) ts
-
--- the events of an answer: the head ends with line 6, and each other event is one line
-abbrev pub events_of : WrittenAnswer → List AnswerEvent
-events_of a = numbered 6 (answer_told a)
-
--- ---- one line after another
 
 -- a head with what a line tells of it
 abbrev pub head_with : AnswerHead → Line → AnswerHead
@@ -55,7 +34,9 @@ line_told h (line.Concat c) = Some (event.Head h, None)
 line_told h (line.Count n) = Some (event.EdgeCount n, None)
 line_told h (line.Edge e) = Some (event.Edge e, None)
 line_told h line.Tree = Some (event.Tree, None)
-line_told h (line.Split e) = Some (event.Split e, None)
+line_told h (line.Split e) = Some (event.Split (name.Edge e), None)
+line_told h (line.SplitEdge e) = Some (event.Split (name.Edge e), None)
+line_told h (line.SplitVertex p) = Some (event.Split (name.Vertex p), None)
 line_told h (line.Leaf n) = Some (event.Leaf n, None)
 line_told h (line.Cut c) = Some (cut_told c)
 line_told h line.End = Some (event.End, None)
@@ -79,3 +60,7 @@ no_head = record { length = 0; bound = 0; optimal = false; openings = 0; concat 
 abbrev pub head_from : AnswerHead → List Line → AnswerHead
 head_from h [] = h
 head_from h (l ∷ ls) = head_from (head_with h l) ls
+
+-- The events of an answer are those of its lines: the head ends with line 6, and each other event is one line.
+abbrev pub events_of : WrittenAnswer → List AnswerEvent
+events_of a = events_from no_head 1 (answer_lines a)

@@ -1,4 +1,5 @@
 pub mod Value
+pub mod Words
 pub mod Text
 pub mod Spelling
 pub mod SetLaws
@@ -6,6 +7,7 @@ pub mod Answers
 pub mod AnswerLine
 pub mod LineKinds
 pub mod Lines
+pub mod LineFits
 pub mod Reading
 pub mod Events
 pub mod LinesRead

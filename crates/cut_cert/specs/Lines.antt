@@ -1,8 +1,14 @@
 -- The lines of an answer's text, each without its line feed, and which lines may follow which.
-use Rattle.std.specs.Prelude.{ℕ, suc, zero, ◌≡◌, ◌<◌, ◌^◌, List, [], ◌∷◌, ◌++◌, length, map, flat_map, codes, Option, Some, None, option_and_then}
-use Rattle.std.specs.Fmt.{decimal, signed_decimal}
+use Rattle.std.specs.Prelude.{ℕ, suc, zero, List, [], ◌∷◌, ◌++◌, length, map, flat_map, codes, Option, Some, None}
+use Rattle.std.specs.Prelude.{option_and_then}
+use Rattle.std.specs.Fmt.{decimal}
+use Rattle.net_graph.specs.declared.packing.Cut.{Cut}
 use Rattle.hanan_grid.specs.declared.name.EdgeName.{EdgeName}
 use Rattle.cut_cert.specs.declared.head.AnswerHead.{AnswerHead}
+use Rattle.cut_cert.specs.declared.split.SplitName.{SplitName}
+use Rattle.cut_cert.specs.declared.split.SplitName.TheVariants as name
+use Rattle.cut_cert.specs.declared.version.Version.{Version}
+use Rattle.cut_cert.specs.declared.version.Version.TheVariants as version
 use Rattle.cut_cert.specs.AnswerLine.{Line}
 use Rattle.cut_cert.specs.LineKinds as line
 use Rattle.cut_cert.specs.declared.line.Stage.{Stage}
@@ -10,17 +16,11 @@ use Rattle.cut_cert.specs.declared.line.Stage.TheVariants as stage
 use Rattle.cut_cert.specs.Value.{WrittenAnswer}
 use Rattle.cert_tree.specs.Tree.{Tree}
 use Rattle.cert_tree.specs.Tree.Tree.{Leaf, Split}
-use Rattle.cut_cert.specs.Text.{set_text, status_word, concat_word}
-use Rattle.cut_cert.specs.Spelling.{FitsName, FitsCut}
-
--- the four words of a name
-abbrev pub name_words : EdgeName → List ℕ
-name_words e = signed_decimal e.x1 ++ codes " " ++ signed_decimal e.y1 ++ codes " " ++ signed_decimal e.x2 ++ codes " "
-    ++ signed_decimal e.y2
+use Rattle.cut_cert.specs.Words.{version_word, status_word, concat_word, name_words, point_words, set_text}
 
 -- the bytes of a line
 abbrev pub line_bytes : Line → List ℕ
-line_bytes line.Title = codes "rst answer 1"
+line_bytes (line.Title v) = codes "rst answer " ++ version_word v
 line_bytes (line.Length n) = codes "length " ++ decimal n
 line_bytes (line.Bound n) = codes "bound " ++ decimal n
 line_bytes (line.Status optimal) = codes "status " ++ status_word optimal
@@ -30,6 +30,8 @@ line_bytes (line.Count n) = codes "edges " ++ decimal n
 line_bytes (line.Edge e) = name_words e
 line_bytes line.Tree = codes "tree"
 line_bytes (line.Split e) = codes "split " ++ name_words e
+line_bytes (line.SplitEdge e) = codes "split edge " ++ name_words e
+line_bytes (line.SplitVertex p) = codes "split vertex " ++ point_words p
 line_bytes (line.Leaf n) = codes "leaf " ++ decimal n
 line_bytes (line.Cut c) = codes "cut " ++ decimal c.weight ++ codes " " ++ set_text c.members
 line_bytes line.End = codes "end"
@@ -41,41 +43,57 @@ line_text l = line_bytes l ++ 10 ∷ []
 abbrev pub lines_text : List Line → List ℕ
 lines_text ls = flat_map line_text ls
 
--- the numbers of a line are within their widths, and its set is one of V vertices
-abbrev pub FitsLine : ℕ → Line → Type 0
-FitsLine V line.Title = Unit {0}
-FitsLine V (line.Length n) = n < 2 ^ 64
-FitsLine V (line.Bound n) = n < 2 ^ 64
-FitsLine V (line.Status optimal) = Unit {0}
-FitsLine V (line.Openings n) = n < 2 ^ 8
-FitsLine V (line.Concat c) = c.total < 2 ^ 128
-FitsLine V (line.Count n) = n < 2 ^ 32
-FitsLine V (line.Edge e) = FitsName e
-FitsLine V line.Tree = Unit {0}
-FitsLine V (line.Split e) = FitsName e
-FitsLine V (line.Leaf n) = n < 2 ^ 32
-FitsLine V (line.Cut c) = FitsCut V c
-FitsLine V line.End = Unit {0}
+-- the line of a split in a text of a version; version 1 has none for a vertex
+abbrev pub split_line : Version → SplitName → Line
+split_line v (name.Vertex p) = line.SplitVertex p
+split_line version.One (name.Edge e) = line.Split e
+split_line version.Two (name.Edge e) = line.SplitEdge e
 
--- the lines of a tree
-abbrev pub tree_lines : Tree EdgeName → List Line
-tree_lines (Leaf cuts) = line.Leaf (length cuts) ∷ map line.Cut cuts
-tree_lines (Split e outside inside) = line.Split e ∷ (tree_lines outside ++ tree_lines inside)
+-- the lines of a leaf: how many cuts it has, and the cuts
+abbrev pub leaf_lines : List Cut → List Line
+leaf_lines cuts = line.Leaf (length cuts) ∷ map line.Cut cuts
 
--- the lines of a head, and of what follows it
-abbrev pub head_lines : AnswerHead → List Line
-head_lines h = line.Title ∷ line.Length h.length ∷ line.Bound h.bound ∷ line.Status h.optimal
-    ∷ line.Openings h.openings ∷ line.Concat h.concat ∷ []
+-- the lines of a tree: a leaf, or a split, then its part outside, then its part inside
+abbrev pub tree_lines : Version → Tree SplitName → List Line
+tree_lines v (Leaf cuts) = leaf_lines cuts
+tree_lines v (Split on outside inside) = split_line v on ∷ (tree_lines v outside ++ tree_lines v inside)
 
+-- the lines of a head: the result, and the search
+abbrev pub result_lines : Version → AnswerHead → List Line
+result_lines v h = line.Title v ∷ line.Length h.length ∷ line.Bound h.bound ∷ line.Status h.optimal ∷ []
+
+abbrev pub search_lines : AnswerHead → List Line
+search_lines h = line.Openings h.openings ∷ line.Concat h.concat ∷ []
+
+abbrev pub head_lines : Version → AnswerHead → List Line
+head_lines v h = result_lines v h ++ search_lines h
+
+-- the lines of a network: how many edges it has, and the edges
+abbrev pub network_lines : List EdgeName → List Line
+network_lines edges = line.Count (length edges) ∷ map line.Edge edges
+
+-- the lines of a tree between the line before it and the line that ends the text
+abbrev pub proof_lines : Version → Tree SplitName → List Line
+proof_lines v tree = line.Tree ∷ (tree_lines v tree ++ line.End ∷ [])
+
+-- the lines of an answer
 abbrev pub body_lines : WrittenAnswer → List Line
-body_lines a = line.Count (length a.edges) ∷ (map line.Edge a.edges ++ line.Tree ∷ (tree_lines a.tree ++ line.End ∷ []))
+body_lines a = network_lines a.edges ++ proof_lines a.version a.tree
 
 abbrev pub answer_lines : WrittenAnswer → List Line
-answer_lines a = head_lines a.head ++ body_lines a
+answer_lines a = head_lines a.version a.head ++ body_lines a
+
+-- what is due behind a split where a node is due: its two parts
+abbrev pub split_step : Stage → Option Stage
+split_step (stage.Body zero (suc nodes)) = Some (stage.Body 0 (suc (suc nodes)))
+split_step s = None
 
 -- what is due behind a line that was due; no other line may stand there
 abbrev pub step : Stage → Line → Option Stage
-step stage.Title line.Title = Some stage.Length
+step s (line.Split e) = split_step s
+step s (line.SplitEdge e) = split_step s
+step s (line.SplitVertex p) = split_step s
+step stage.Title (line.Title v) = Some stage.Length
 step stage.Length (line.Length n) = Some stage.Bound
 step stage.Bound (line.Bound n) = Some stage.Status
 step stage.Status (line.Status optimal) = Some stage.Openings
@@ -86,7 +104,6 @@ step (stage.Edges zero) line.Tree = Some (stage.Body 0 1)
 step (stage.Edges (suc k)) (line.Edge e) = Some (stage.Edges k)
 step (stage.Body zero zero) line.End = Some stage.Done
 step (stage.Body zero (suc nodes)) (line.Leaf cuts) = Some (stage.Body cuts nodes)
-step (stage.Body zero (suc nodes)) (line.Split e) = Some (stage.Body 0 (suc (suc nodes)))
 step (stage.Body (suc cuts) nodes) (line.Cut c) = Some (stage.Body cuts nodes)
 step s l = None
 
@@ -94,16 +111,6 @@ step s l = None
 abbrev pub run : Stage → List Line → Option Stage
 run s [] = Some s
 run s (l ∷ ls) = option_and_then (λ s'. run s' ls) (step s l)
-
--- these bytes are a line that is due, and that is due behind it
-pub record IsLineRead (V : ℕ) (s : Stage) (bytes : List ℕ) (l : Line) (s' : Stage) : Type 0 where
-  pub told : bytes ≡ line_bytes l
-  pub fits : FitsLine V l
-  pub due : step s l ≡ Some s'
-
--- these bytes are no line that is due
-abbrev pub IsNoLine : ℕ → Stage → List ℕ → Type 0
-IsNoLine V s bytes = (l : Line) (s' : Stage) → FitsLine V l → step s l ≡ Some s' → bytes ≡ line_bytes l → ⊥
 
 -- how many nodes are due behind the cuts of a leaf
 abbrev pub nodes_due : Stage → ℕ

@@ -1,20 +1,24 @@
 -- The lines of a text that were read, and what is kept of them.
-use Rattle.std.specs.Prelude.{ℕ, ◌≡◌, ◌+◌, List, ◌++◌, length, All, Some}
+use Rattle.std.specs.Prelude.{ℕ, ◌≡◌, ◌+◌, List, ◌++◌, length, Some}
 use Rattle.cut_cert.specs.declared.head.AnswerHead.{AnswerHead}
 use Rattle.cut_cert.specs.AnswerLine.{Line}
 use Rattle.cut_cert.specs.declared.line.Stage.{Stage}
 use Rattle.cut_cert.specs.declared.line.Stage.TheVariants as stage
 use Rattle.cut_cert.specs.declared.event.AnswerEvent.{AnswerEvent}
-use Rattle.cut_cert.specs.Lines.{lines_text, FitsLine, run}
+use Rattle.cut_cert.specs.declared.version.Version.{Version}
+use Rattle.cut_cert.specs.declared.version.Version.TheVariants as version
+use Rattle.cut_cert.specs.Lines.{lines_text, run}
+use Rattle.cut_cert.specs.LineFits.{FitsLines, version_from}
 use Rattle.cut_cert.specs.Events.{events_from, no_head, head_from}
 
 -- the lines that were read, and what is kept of them
-pub record ReadSoFar (V : ℕ) (bytes rest : List ℕ) (s : Stage) (head : AnswerHead) (number : ℕ)
+pub record ReadSoFar (V : ℕ) (bytes rest : List ℕ) (s : Stage) (v : Version) (head : AnswerHead) (number : ℕ)
     (events : List AnswerEvent) : Type 0 where
   pub lines : List Line
-  pub fits : All (FitsLine V) lines
+  pub fits : FitsLines version.One V lines
   pub due : run stage.Title lines ≡ Some s
   pub text : bytes ≡ lines_text lines ++ rest
   pub told : events ≡ events_from no_head 1 lines
+  pub version_told : v ≡ version_from version.One lines
   pub head_told : head ≡ head_from no_head lines
   pub count : number ≡ length lines + 1

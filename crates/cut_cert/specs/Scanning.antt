@@ -19,9 +19,13 @@ use Rattle.cut_cert.specs.declared.scan.Corner.{Corner}
 use Rattle.cut_cert.specs.declared.scan.Corner.TheVariants as corner
 use Rattle.cut_cert.specs.declared.scan.Closed.{Closed}
 use Rattle.cut_cert.specs.declared.scan.Closed.TheVariants as closed
-use Rattle.cut_cert.specs.Text.{set_text}
+use Rattle.cut_cert.specs.declared.split.SplitName.TheVariants as name
+use Rattle.cut_cert.specs.declared.version.Version.{Version}
+use Rattle.cut_cert.specs.declared.version.Version.TheVariants as version
+use Rattle.cut_cert.specs.Words.{set_text}
 use Rattle.cut_cert.specs.Spelling.{FitsName}
-use Rattle.cut_cert.specs.Lines.{step}
+use Rattle.cut_cert.specs.Lines.{split_line, step}
+use Rattle.cut_cert.specs.LineFits.{version_with}
 use Rattle.cut_cert.specs.Events.{head_with, line_told, event_at}
 use Rattle.cut_cert.specs.Given.{given}
 use Rattle.cut_cert.specs.declared.head.AnswerHead.{AnswerHead}
@@ -29,7 +33,7 @@ use Rattle.cut_cert.specs.declared.event.Event.{Event}
 
 -- the bytes of a word
 abbrev pub word_bytes : Word → List ℕ
-word_bytes word.Title = codes "rst answer 1"
+word_bytes word.Title = codes "rst answer "
 word_bytes word.Length = codes "length "
 word_bytes word.Bound = codes "bound "
 word_bytes word.Status = codes "status "
@@ -41,14 +45,16 @@ word_bytes word.Least = codes "least "
 word_bytes word.Spent = codes "spent "
 word_bytes word.Edges = codes "edges "
 word_bytes word.Tree = codes "tree"
-word_bytes word.Split = codes "split "
+word_bytes (word.Split v) = codes "split "
+word_bytes word.Edge = codes "edge "
+word_bytes word.Vertex = codes "vertex "
 word_bytes word.Leaf = codes "leaf "
 word_bytes word.Cut = codes "cut "
 word_bytes word.End = codes "end"
 
 -- what is due behind a word
 abbrev pub behind_word : Word → Scan
-behind_word word.Title = scan.LineEnd closed.Title
+behind_word word.Title = scan.Version
 behind_word word.Length = scan.Due field.Length
 behind_word word.Bound = scan.Due field.Bound
 behind_word word.Status = scan.Status
@@ -60,14 +66,17 @@ behind_word word.Least = scan.Due (field.Total true)
 behind_word word.Spent = scan.Due (field.Total false)
 behind_word word.Edges = scan.Due field.Count
 behind_word word.Tree = scan.LineEnd closed.Tree
-behind_word word.Split = scan.Coordinate corner.X1
+behind_word (word.Split version.One) = scan.Coordinate corner.X1
+behind_word (word.Split version.Two) = scan.On
+behind_word word.Edge = scan.Coordinate corner.X1
+behind_word word.Vertex = scan.Coordinate corner.X
 behind_word word.Leaf = scan.Due field.Leaf
 behind_word word.Cut = scan.Due field.Weight
 behind_word word.End = scan.LineEnd closed.End
 
 -- the line that a last word makes
 abbrev pub closed_line : Closed → Line
-closed_line closed.Title = line.Title
+closed_line (closed.Title v) = line.Title v
 closed_line (closed.Status optimal) = line.Status optimal
 closed_line closed.Tree = line.Tree
 closed_line closed.End = line.End
@@ -99,10 +108,22 @@ signed false n = pos n
 signed true zero = pos 0
 signed true (suc n) = negsuc n
 
--- a name's line, where such a line is due
-abbrev pub name_line : Stage → EdgeName → Line
-name_line (stage.Edges edges) e = line.Edge e
-name_line s e = line.Split e
+-- a name's line in a text of a version, where such a line is due
+abbrev pub name_line : Version → Stage → EdgeName → Line
+name_line v (stage.Edges edges) e = line.Edge e
+name_line v s e = split_line v (name.Edge e)
+
+-- the line that a name's coordinates make: a vertex has the first two of them
+abbrev pub corner_line : Kept → Corner → EdgeName → Line
+corner_line k corner.X e = line.SplitVertex (record { x = e.x1; y = e.y1 })
+corner_line k corner.Y e = line.SplitVertex (record { x = e.x1; y = e.y1 })
+corner_line k c e = name_line k.version k.stage e
+
+-- no other coordinate follows
+abbrev pub IsLast : Corner → Type 0
+IsLast corner.Y2 = Unit {0}
+IsLast corner.Y = Unit {0}
+IsLast c = ⊥
 
 -- what stands behind the first coordinate of a name, and behind the first two
 abbrev pub behind_x1 : EdgeName → List ℕ
@@ -117,6 +138,8 @@ IsNameWith kept corner.X1 z e = e.x1 ≡ z
 IsNameWith kept corner.Y1 z e = (e.x1 ≡ kept.x1) × (e.y1 ≡ z)
 IsNameWith kept corner.X2 z e = (e.x1 ≡ kept.x1) × (e.y1 ≡ kept.y1) × (e.x2 ≡ z)
 IsNameWith kept corner.Y2 z e = (e.x1 ≡ kept.x1) × (e.y1 ≡ kept.y1) × (e.x2 ≡ kept.x2) × (e.y2 ≡ z)
+IsNameWith kept corner.X z e = e.x1 ≡ z
+IsNameWith kept corner.Y z e = (e.x1 ≡ kept.x1) × (e.y1 ≡ z)
 
 -- what stands behind a coordinate
 abbrev pub behind_corner : Corner → EdgeName → List ℕ
@@ -124,13 +147,15 @@ behind_corner corner.X1 e = 32 ∷ behind_x1 e
 behind_corner corner.Y1 e = 32 ∷ behind_y1 e
 behind_corner corner.X2 e = 32 ∷ signed_decimal e.y2
 behind_corner corner.Y2 e = []
+behind_corner corner.X e = 32 ∷ signed_decimal e.y1
+behind_corner corner.Y e = []
 
 pub record BehindCoordinate (k : Kept) (c : Corner) (z : ℤ) (rest : List ℕ) (l : Line) : Type 0 where
   pub name : EdgeName
   pub fits : FitsName name
   pub same : IsNameWith k.name c z name
   pub text : rest ≡ behind_corner c name
-  pub line : l ≡ name_line k.stage name
+  pub line : l ≡ corner_line k c name
 
 -- behind the weight of a cut stand the digits of a set
 pub record BehindWeight (k : Kept) (n : ℕ) (rest : List ℕ) (l : Line) : Type 0 where
@@ -180,39 +205,46 @@ ValueLeft k (scan.Set place) rest l = SetLeft k place rest l
 ValueLeft k (scan.LineEnd c) rest l = (rest ≡ []) × (l ≡ closed_line c)
 ValueLeft k s rest l = ⊥
 
--- a word from a place on, and what is due behind it
+-- a word from a place on, and what is due behind it, where that is no word
 abbrev pub WordLeft : Kept → Word → ℕ → List ℕ → Line → Type 0
 WordLeft k w place rest l =
     (behind : List ℕ) × (rest ≡ drop place (word_bytes w) ++ behind) × ValueLeft k (behind_word w) behind l
 
--- one of two words
+-- one of two words, or one of two versions
 abbrev pub ForkLeft : Kept → Scan → List ℕ → Line → Type 0
+ForkLeft k scan.Version rest l =
+    ((rest ≡ codes "1") × (l ≡ line.Title version.One)) ⊎ ((rest ≡ codes "2") × (l ≡ line.Title version.Two))
 ForkLeft k scan.Status rest l = WordLeft k word.Optimal 0 rest l ⊎ WordLeft k word.Stopped 0 rest l
 ForkLeft k scan.Kind rest l = WordLeft k word.Least 0 rest l ⊎ WordLeft k word.Spent 0 rest l
-ForkLeft k scan.Node rest l = WordLeft k word.Split 0 rest l ⊎ WordLeft k word.Leaf 0 rest l
+ForkLeft k scan.On rest l = WordLeft k word.Edge 0 rest l ⊎ WordLeft k word.Vertex 0 rest l
 ForkLeft k s rest l = ValueLeft k s rest l
+
+-- a word from a place on, and what is due behind it, which may be one of two words
+abbrev pub WordsLeft : Kept → Word → ℕ → List ℕ → Line → Type 0
+WordsLeft k w place rest l =
+    (behind : List ℕ) × (rest ≡ drop place (word_bytes w) ++ behind) × ForkLeft k (behind_word w) behind l
 
 -- With these bytes behind those that were read, the line is l.
 abbrev pub Left : Kept → Scan → List ℕ → Line → Type 0
-Left k (scan.Word w place) rest l =
-    (behind : List ℕ) × (rest ≡ drop place (word_bytes w) ++ behind) × ForkLeft k (behind_word w) behind l
+Left k (scan.Word w place) rest l = WordsLeft k w place rest l
+Left k (scan.Node v) rest l = WordsLeft k (word.Split v) 0 rest l ⊎ WordsLeft k word.Leaf 0 rest l
 Left k s rest l = ForkLeft k s rest l
 
--- what is due at a line's beginning
-abbrev pub first_scan : Stage → Scan
-first_scan stage.Title = scan.Word word.Title 0
-first_scan stage.Length = scan.Word word.Length 0
-first_scan stage.Bound = scan.Word word.Bound 0
-first_scan stage.Status = scan.Word word.Status 0
-first_scan stage.Openings = scan.Word word.Openings 0
-first_scan stage.Concat = scan.Word word.Concat 0
-first_scan stage.Count = scan.Word word.Edges 0
-first_scan (stage.Edges zero) = scan.Word word.Tree 0
-first_scan (stage.Edges (suc edges)) = scan.Coordinate corner.X1
-first_scan (stage.Body zero zero) = scan.Word word.End 0
-first_scan (stage.Body zero (suc nodes)) = scan.Node
-first_scan (stage.Body (suc cuts) nodes) = scan.Word word.Cut 0
-first_scan stage.Done = scan.Ended
+-- what is due at a line's beginning, in a text of a version
+abbrev pub first_scan : Version → Stage → Scan
+first_scan v stage.Title = scan.Word word.Title 0
+first_scan v stage.Length = scan.Word word.Length 0
+first_scan v stage.Bound = scan.Word word.Bound 0
+first_scan v stage.Status = scan.Word word.Status 0
+first_scan v stage.Openings = scan.Word word.Openings 0
+first_scan v stage.Concat = scan.Word word.Concat 0
+first_scan v stage.Count = scan.Word word.Edges 0
+first_scan v (stage.Edges zero) = scan.Word word.Tree 0
+first_scan v (stage.Edges (suc edges)) = scan.Coordinate corner.X1
+first_scan v (stage.Body zero zero) = scan.Word word.End 0
+first_scan v (stage.Body zero (suc nodes)) = scan.Node v
+first_scan v (stage.Body (suc cuts) nodes) = scan.Word word.Cut 0
+first_scan v stage.Done = scan.Ended
 
 -- More of the line is due, and what is kept agrees with that: a word's byte is due, a number is within its field, the
 -- weight of a cut fits, no later flag is set.
@@ -237,9 +269,11 @@ pub record LeadsTo (k : Kept) (s : Scan) (byte : ℕ) (k' : Kept) (s' : Scan) : 
 
 -- one of two words is due
 abbrev pub IsFork : Scan → Type 0
+IsFork scan.Version = Unit {0}
 IsFork scan.Status = Unit {0}
 IsFork scan.Kind = Unit {0}
-IsFork scan.Node = Unit {0}
+IsFork (scan.Node v) = Unit {0}
+IsFork scan.On = Unit {0}
 IsFork s = ⊥
 
 -- no line goes on with the byte
@@ -252,6 +286,7 @@ pub record IsNext (k : Kept) (s : Scan) (byte : ℕ) (k' : Kept) (s' : Scan) : T
   pub sound : IsUnderway k' s'
   pub name : FitsName k'.name
   pub stage : k'.stage ≡ k.stage
+  pub version : k'.version ≡ k.version
   pub size : length k'.members ≡ length k.members
 
 -- bytes lead from one state to another: what may follow them is what may follow the other
@@ -267,6 +302,7 @@ pub record IsRun (k : Kept) (s : Scan) (bytes : List ℕ) (k' : Kept) (s' : Scan
   pub sound : IsUnderway k' s'
   pub name : FitsName k'.name
   pub stage : k'.stage ≡ k.stage
+  pub version : k'.version ≡ k.version
   pub size : length k'.members ≡ length k.members
 
 -- The end of a line makes this line of what was read, and its event is the one that is told.
@@ -275,6 +311,7 @@ pub record Closes (k : Kept) (s : Scan) (h : AnswerHead) (k' : Kept) (h' : Answe
   pub line : Line
   pub left : Left k s [] line
   pub stage : (s' : Stage) → step k.stage line ≡ Some s' → k'.stage ≡ s'
+  pub version : k'.version ≡ version_with k.version line
   pub head : h' ≡ head_with h line
   pub event : (n : ℕ) → event_at n (line_told h' line) ≡ given n told k'.members
   pub members : k'.members ≡ k.members

@@ -5,7 +5,7 @@ use Rattle.std.specs.Int.{div_ceil, bit_at}
 use Rattle.std.proofs.lemmas.Grind.{div_ceil_times}
 use Rattle.std.proofs.lemmas.List.{take_more, take_all, append-nil}
 use Rattle.net_graph.specs.Flags.{has, flag_of_four}
-use Rattle.cut_cert.specs.Text.{four_digit, set_text}
+use Rattle.cut_cert.specs.Words.{four_digit, set_text}
 
 -- the digit at a place, which stands for the four flags from there on
 abbrev pub digit_at_place : List Bool → ℕ → ℕ

@@ -2,8 +2,13 @@
 use Rattle.std.specs.Prelude.{ℕ, ◌≡◌, ◌<◌, ◌^◌, List, ◌++◌, length, All, FitsSigned}
 use Rattle.std.specs.Int.{w64}
 use Rattle.net_graph.specs.declared.packing.Cut.{Cut}
+use Rattle.points_in.specs.declared.point.Point.{Point}
 use Rattle.hanan_grid.specs.declared.name.EdgeName.{EdgeName}
 use Rattle.cut_cert.specs.declared.head.AnswerHead.{AnswerHead}
+use Rattle.cut_cert.specs.declared.split.SplitName.{SplitName}
+use Rattle.cut_cert.specs.declared.split.SplitName.TheVariants as name
+use Rattle.cut_cert.specs.declared.version.Version.{Version}
+use Rattle.cut_cert.specs.declared.version.Version.TheVariants as version
 use Rattle.cut_cert.specs.Value.{WrittenAnswer}
 use Rattle.cert_tree.specs.Tree.{Tree}
 use Rattle.cert_tree.specs.Tree.Tree.{Leaf, Split}
@@ -23,6 +28,16 @@ pub record FitsName (e : EdgeName) : Type 0 where
   pub x2 : FitsSigned w64 e.x2
   pub y2 : FitsSigned w64 e.y2
 
+-- the coordinates of a point are 64-bit numbers
+pub record FitsPoint (p : Point) : Type 0 where
+  pub x : FitsSigned w64 p.x
+  pub y : FitsSigned w64 p.y
+
+-- the coordinates that a split is named by are 64-bit numbers, and only version 2 has splits on vertices
+abbrev pub FitsSplit : Version → SplitName → Type 0
+FitsSplit v (name.Edge e) = FitsName e
+FitsSplit v (name.Vertex p) = (v ≡ version.Two) × FitsPoint p
+
 -- the weight of a cut is a 64-bit number
 abbrev pub FitsWeight : Cut → Type 0
 FitsWeight c = c.weight < 2 ^ 64
@@ -38,17 +53,17 @@ pub record FitsLeaf (V : ℕ) (cuts : List Cut) : Type 0 where
   pub count : length cuts < 2 ^ 32
   pub each : All (FitsCut V) cuts
 
--- every leaf and every split of a tree fits
-abbrev pub FitsTree : ℕ → Tree EdgeName → Type 0
-FitsTree V (Leaf cuts) = FitsLeaf V cuts
-FitsTree V (Split e outside inside) = FitsName e × FitsTree V outside × FitsTree V inside
+-- every leaf and every split of a tree fits a text of this version
+abbrev pub FitsTree : Version → ℕ → Tree SplitName → Type 0
+FitsTree v V (Leaf cuts) = FitsLeaf V cuts
+FitsTree v V (Split on outside inside) = FitsSplit v on × FitsTree v V outside × FitsTree v V inside
 
--- every part of an answer fits
+-- every part of an answer fits a text of its version
 pub record FitsAnswer (V : ℕ) (a : WrittenAnswer) : Type 0 where
   pub head : FitsHead a.head
   pub count : length a.edges < 2 ^ 32
   pub edges : All FitsName a.edges
-  pub tree : FitsTree V a.tree
+  pub tree : FitsTree a.version V a.tree
 
 -- the bytes spell the answer
 pub record SpellsAnswer (V : ℕ) (bytes : List ℕ) (a : WrittenAnswer) : Type 0 where

@@ -1,11 +1,15 @@
--- What an answer tells: its head, the names of its network's edges, and its tree of cuts, whose splits are on edges.
+-- What an answer tells: its version, its head, the names of its network's edges, and its tree of cuts, whose splits are
+-- on edges or vertices.
 use Rattle.std.specs.Prelude.{List}
 use Rattle.hanan_grid.specs.declared.name.EdgeName.{EdgeName}
 use Rattle.cert_tree.specs.Tree.{Tree}
 use Rattle.cut_cert.specs.declared.head.AnswerHead.{AnswerHead}
+use Rattle.cut_cert.specs.declared.split.SplitName.{SplitName}
+use Rattle.cut_cert.specs.declared.version.Version.{Version}
 
 -- An answer as its text tells it.
 pub record WrittenAnswer : Type 0 where
+  pub version : Version
   pub head : AnswerHead
   pub edges : List EdgeName
-  pub tree : Tree EdgeName
+  pub tree : Tree SplitName

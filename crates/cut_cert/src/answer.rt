@@ -1,22 +1,26 @@
 //! An answer: a network, what bounds it from below, and what is told of both.
 
-ghost use Rattle.std.specs.Prelude.{◌≡◌, ◌++◌, ◌<◌, ◌^◌, length, All, codes};
+ghost use Rattle.std.specs.Prelude.{◌≡◌, ◌<◌, ◌^◌, length, map, All};
 ghost use Rattle.rst_outside.specs.Sink.{Writes};
 ghost use Rattle.text_out.specs.Gathers.{Gathers};
 ghost use Rattle.net_graph.specs.Members.{members_of};
 ghost use Rattle.hanan_grid.specs.Grid.{hanan_grid_of};
-ghost use Rattle.cut_cert.specs.Text.{answer_text, edge_lines, network_text, proof_text, tree_text};
 ghost use Rattle.cert_tree.specs.Preorder.{nodes_of, packings_of};
-ghost use Rattle.cut_cert.specs.Spelling.{FitsName, FitsWeight, SpellsAnswer};
+ghost use Rattle.cut_cert.specs.declared.version.Version.TheVariants as version_of;
 ghost use Rattle.cut_cert.specs.Answers.{FitsNode, IsAnswerOn, IsNodeOn, IsSplitOn, names_of, named, split_name, value_of};
+ghost use Rattle.cut_cert.specs.LineKinds as line_of;
+ghost use Rattle.cut_cert.specs.Lines.{lines_text, network_lines, proof_lines, tree_lines};
+ghost use Rattle.cut_cert.specs.Spelling.{FitsName, FitsSplit, FitsWeight, SpellsAnswer};
+ghost use Rattle.cut_cert.specs.Text.{answer_text};
 
 use crate::head::AnswerHead;
-use crate::write::{write_edge, write_head, write_leaf, write_split};
+use crate::split::SplitName;
+use crate::write::{write_edge, write_head, write_leaf, write_number, write_split};
 use cert_tree::{CertTree, SplitOn};
-use hanan_grid::{EdgeName, Grid};
+use hanan_grid::Grid;
 use net_graph::EdgeSet;
 use rst_outside::{PutFault, Sink};
-use text_out::{Block, finish, literal, number};
+use text_out::{Block, finish, literal};
 
 /// An answer on a grid.
 #[derive(Debug, Drop)]
@@ -29,7 +33,7 @@ pub struct Answer {
     pub tree: CertTree,
 }
 
-/// Writes the text of an answer. It takes no memory; on an `Err` the sink failed, and the text was cut short. The
+/// Writes the text of an answer, in version 2. It takes no memory; on an `Err` the sink failed, and the text was cut short. The
 /// whole text spells the answer, whatever the sink does.
 #[tactic(auto, using(text_out::specs::GatherLaws::pieces))]
 pub fn write_answer<S: Sink>(sink: &mut S, grid: &Grid, answer: &Answer) -> Result<(), PutFault>
@@ -52,14 +56,12 @@ pub fn write_answer<S: Sink>(sink: &mut S, grid: &Grid, answer: &Answer) -> Resu
 fn write_network<S: Sink>(block: &mut Block, sink: &mut S, grid: &Grid, network: &EdgeSet)
     requires { length network.now ≡ length (hanan_grid_of grid.now).edges }
     ensures text { Gathers (S.state sink.old) block.old
-        (network_text (names_of grid.now (members_of network.now)))
+        (lines_text (network_lines (names_of grid.now (members_of network.now))))
         (S.state sink.new) block.new }
     ensures count { length (names_of grid.now (members_of network.now)) < 2 ^ 32 }
     ensures names { All FitsName (names_of grid.now (members_of network.now)) }
 {
-    literal(block, sink, b"edges ");
-    number(block, sink, count_of(network));
-    literal(block, sink, b"\n");
+    write_number(block, sink, b"edges ", count_of(network));
     write_edges(block, sink, grid, network);
 }
 
@@ -80,7 +82,7 @@ pub(crate) fn count_of(set: &EdgeSet) -> u32
 fn write_edges<S: Sink>(block: &mut Block, sink: &mut S, grid: &Grid, network: &EdgeSet)
     requires { length network.now ≡ length (hanan_grid_of grid.now).edges }
     ensures text { Gathers (S.state sink.old) block.old
-        (edge_lines (names_of grid.now (members_of network.now)))
+        (lines_text (map line_of.Edge (names_of grid.now (members_of network.now))))
         (S.state sink.new) block.new }
     ensures names { All FitsName (names_of grid.now (members_of network.now)) }
 {
@@ -96,7 +98,7 @@ fn write_edges<S: Sink>(block: &mut Block, sink: &mut S, grid: &Grid, network: &
 fn write_proof<S: Sink>(block: &mut Block, sink: &mut S, grid: &Grid, tree: &CertTree)
     requires { All (IsNodeOn (hanan_grid_of grid.now)) (nodes_of tree.now) }
     ensures text { Gathers (S.state sink.old) block.old
-        (proof_text (named grid.now tree.now))
+        (lines_text (proof_lines version_of.Two (named grid.now tree.now)))
         (S.state sink.new) block.new }
     ensures names { All (FitsNode grid.now) (nodes_of tree.now) }
     ensures weights { All (All FitsWeight) (packings_of tree.now) }
@@ -110,7 +112,7 @@ fn write_proof<S: Sink>(block: &mut Block, sink: &mut S, grid: &Grid, tree: &Cer
 fn write_tree<S: Sink>(block: &mut Block, sink: &mut S, grid: &Grid, tree: &CertTree)
     requires { All (IsNodeOn (hanan_grid_of grid.now)) (nodes_of tree.now) }
     ensures text { Gathers (S.state sink.old) block.old
-        (tree_text (named grid.now tree.now))
+        (lines_text (tree_lines version_of.Two (named grid.now tree.now)))
         (S.state sink.new) block.new }
     ensures names { All (FitsNode grid.now) (nodes_of tree.now) }
     ensures weights { All (All FitsWeight) (packings_of tree.now) }
@@ -127,13 +129,14 @@ fn write_tree<S: Sink>(block: &mut Block, sink: &mut S, grid: &Grid, tree: &Cert
     }
 }
 
-// The name of the edge that a split is on.
-pub(crate) fn split_name(grid: &Grid, on: &SplitOn) -> EdgeName
+// The name of the edge or the vertex that a split is on.
+pub(crate) fn split_name(grid: &Grid, on: &SplitOn) -> SplitName
     requires { IsSplitOn (hanan_grid_of grid.now) on.now }
     ensures name { result ≡ split_name grid.now on.now }
+    ensures fits { FitsSplit version_of.Two result }
 {
     match on {
-        SplitOn::Edge(edge) => grid.edge_name(*edge),
-        SplitOn::Vertex(_) => unreachable!(),
+        SplitOn::Edge(edge) => SplitName::Edge(grid.edge_name(*edge)),
+        SplitOn::Vertex(vertex) => SplitName::Vertex(grid.vertex_point(*vertex)),
     }
 }

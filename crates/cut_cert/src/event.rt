@@ -1,6 +1,7 @@
 //! What a reader tells of an answer's text.
 
 use crate::head::AnswerHead;
+use crate::split::SplitName;
 use hanan_grid::EdgeName;
 use net_graph::VertexSet;
 
@@ -15,8 +16,8 @@ pub enum Event {
     Edge(EdgeName),
     /// The tree follows.
     Tree,
-    /// A split, with its edge: its part outside follows, and then its part inside.
-    Split(EdgeName),
+    /// A split, with the edge or the vertex that it is on: its part outside follows, and then its part inside.
+    Split(SplitName),
     /// A leaf, with how many cuts follow.
     Leaf(u32),
     /// A cut of a leaf, with its weight.

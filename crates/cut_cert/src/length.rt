@@ -1,16 +1,20 @@
 //! The lengths of the parts of an answer's text.
 
-ghost use Rattle.std.specs.Prelude.{◌≡◌, ◌+◌, ◌*◌, ◌/◌, ◌<◌, ◌≤◌, ◌^◌, length, All};
+ghost use Rattle.std.specs.Prelude.{◌≡◌, ◌+◌, ◌*◌, ◌/◌, ◌<◌, ◌≤◌, ◌^◌, length, map, All};
 ghost use Rattle.std.specs.Fmt.{decimal, signed_decimal};
 ghost use Rattle.net_graph.specs.Graph.{IsGraph};
 ghost use Rattle.net_graph.specs.Members.{members_of};
 ghost use Rattle.hanan_grid.specs.Grid.{hanan_grid_of};
-ghost use Rattle.cut_cert.specs.Text.{answer_text, head_text, edge_line, edge_lines, network_text, cut_line, cut_lines, leaf_text, tree_text};
+ghost use Rattle.cut_cert.specs.declared.version.Version.TheVariants as version_of;
+ghost use Rattle.cut_cert.specs.LineKinds as line_of;
+ghost use Rattle.cut_cert.specs.Lines.{head_lines, leaf_lines, line_text, lines_text, network_lines, split_line, tree_lines};
+ghost use Rattle.cut_cert.specs.Text.{answer_text};
 ghost use Rattle.cert_tree.specs.Preorder.{nodes_of, packings_of};
 ghost use Rattle.cut_cert.specs.Answers.{IsAnswerOn, IsNodeOn, IsPackingOn, names_of, named, value_of};
 
 use crate::answer::{Answer, count_of, split_name};
 use crate::head::AnswerHead;
+use crate::split::SplitName;
 use crate::write::{kind_of, status_word};
 use cert_tree::CertTree;
 use hanan_grid::{EdgeName, Grid};
@@ -36,7 +40,7 @@ pub fn answer_len(grid: &Grid, answer: &Answer) -> u64
 fn network_len(grid: &Grid, network: &EdgeSet) -> u64
     requires size { length network.now ≡ length (hanan_grid_of grid.now).edges }
     requires few { length network.now ≤ 4900 }
-    ensures length { result ≡ length (network_text (names_of grid.now (members_of network.now))) }
+    ensures length { result ≡ length (lines_text (network_lines (names_of grid.now (members_of network.now)))) }
     ensures short { result ≤ 50 + 164 * 4900 }
 {
     7 + number_len(u128::from(count_of(network))) + edges_len(grid, network)
@@ -46,7 +50,7 @@ fn network_len(grid: &Grid, network: &EdgeSet) -> u64
 fn edges_len(grid: &Grid, network: &EdgeSet) -> u64
     requires size { length network.now ≡ length (hanan_grid_of grid.now).edges }
     requires few { length network.now ≤ 4900 }
-    ensures length { result ≡ length (edge_lines (names_of grid.now (members_of network.now))) }
+    ensures length { result ≡ length (lines_text (map line_of.Edge (names_of grid.now (members_of network.now)))) }
     ensures short { result ≤ 164 * 4900 }
 {
     let mut sum = 0;
@@ -63,14 +67,14 @@ fn tree_len(grid: &Grid, tree: &CertTree) -> u64
     requires sound { IsGraph (hanan_grid_of grid.now) }
     requires nodes { All (IsNodeOn (hanan_grid_of grid.now)) (nodes_of tree.now) }
     requires packings { All (IsPackingOn (hanan_grid_of grid.now)) (packings_of tree.now) }
-    ensures length { result ≡ length (tree_text (named grid.now tree.now)) }
-    ensures short { result ≤ 170 * length (nodes_of tree.now) + 12760297 * length (packings_of tree.now) }
+    ensures length { result ≡ length (lines_text (tree_lines version_of.Two (named grid.now tree.now))) }
+    ensures short { result ≤ 175 * length (nodes_of tree.now) + 12760297 * length (packings_of tree.now) }
 {
     let mut leaf = 0;
     let mut sum = 0;
     for node in tree.nodes() {
         match node {
-            Some(on) => sum += 6 + edge_len(&split_name(grid, on)),
+            Some(on) => sum += split_len(&split_name(grid, on)),
             None => {
                 sum += leaf_len(tree.packing(leaf));
                 leaf += 1;
@@ -99,7 +103,7 @@ fn signed_len(number: &i64) -> u64
 
 // The length of the first six lines.
 fn head_len(head: &AnswerHead) -> u64
-    ensures length { result ≡ length (head_text head.now) }
+    ensures length { result ≡ length (lines_text (head_lines version_of.Two head.now)) }
     ensures short { result ≤ 300 }
 {
     let numbers = number_len(u128::from(head.length))
@@ -112,15 +116,26 @@ fn head_len(head: &AnswerHead) -> u64
 
 // The length of an edge's line.
 fn edge_len(name: &EdgeName) -> u64
-    ensures length { result ≡ length (edge_line name.now) }
+    ensures length { result ≡ length (line_text (line_of.Edge name.now)) }
     ensures short { result ≤ 164 }
 {
     4 + signed_len(&name.x1) + signed_len(&name.y1) + signed_len(&name.x2) + signed_len(&name.y2)
 }
 
+// The length of a split's line.
+fn split_len(name: &SplitName) -> u64
+    ensures length { result ≡ length (line_text (split_line version_of.Two name.now)) }
+    ensures short { result ≤ 175 }
+{
+    match name {
+        SplitName::Edge(edge) => 11 + edge_len(edge),
+        SplitName::Vertex(point) => 15 + signed_len(&point.x) + signed_len(&point.y),
+    }
+}
+
 // The length of a cut's line.
 fn cut_len(cut: &Cut) -> u64
-    ensures length { result ≡ length (cut_line cut.now) }
+    ensures length { result ≡ length (line_text (line_of.Cut cut.now)) }
     ensures short { result ≤ 26 + (length cut.now.members + 3) / 4 }
 {
     let digits = u64::from(cut.members.len().div_ceil(4));
@@ -131,7 +146,7 @@ fn cut_len(cut: &Cut) -> u64
 fn leaf_len(packing: &Packing) -> u64
     requires few { length packing.now ≤ 19601 }
     requires small { All (λ c. length c.members ≤ 2500) packing.now }
-    ensures length { result ≡ length (leaf_text packing.now) }
+    ensures length { result ≡ length (lines_text (leaf_lines packing.now)) }
     ensures short { result ≤ 46 + 651 * length packing.now }
 {
     6 + number_len(packing.len() as u128) + cuts_len(packing.cuts())
@@ -141,7 +156,7 @@ fn leaf_len(packing: &Packing) -> u64
 fn cuts_len(cuts: &[Cut]) -> u64
     requires few { length cuts.now ≤ 19601 }
     requires small { All (λ c. length c.members ≤ 2500) cuts.now }
-    ensures length { result ≡ length (cut_lines cuts.now) }
+    ensures length { result ≡ length (lines_text (map line_of.Cut cuts.now)) }
     ensures short { result ≤ 651 * length cuts.now }
 {
     let mut sum = 0;

@@ -10,6 +10,8 @@ mod reader;
 mod reading;
 mod row;
 mod scan;
+mod split;
+mod version;
 mod write;
 
 pub use answer::{Answer, write_answer};
@@ -19,4 +21,6 @@ pub use length::answer_len;
 pub use reader::{EventReader, Spelling};
 pub use reading::{one_reading, reads_beginnings};
 pub use row::Row;
+pub use split::SplitName;
+pub use version::Version;
 pub use write::status_word;

@@ -9,6 +9,7 @@ use crate::line::Stage;
 use crate::scan::byte::scan_byte;
 use crate::scan::close::{close_line, first_scan};
 use crate::scan::{Kept, Scan, Word};
+use crate::version::Version;
 use hanan_grid::EdgeName;
 use net_graph::VertexSet;
 
@@ -37,7 +38,7 @@ impl EventReader {
     ghost use Rattle.cut_cert.specs.declared.event.AnswerEvent.{AnswerEvent};
     ghost use Rattle.cut_cert.specs.Reading.{IsReadWhole, StopsAt, line_feeds};
     ghost use Rattle.cut_cert.specs.Given.{given};
-    ghost use Rattle.cut_cert.specs.Reader.{Reads, Refuses, CeasesAt, bytes_fed, line_due, set_read};
+    ghost use Rattle.cut_cert.specs.Reader.{Reads, Refuses, CeasesAt, TellsVersion, bytes_fed, line_due, set_read};
 
     /// A reader that was fed no byte, for cuts that are sets of so many vertices. It keeps the set of a cut in the one
     /// that it is handed.
@@ -50,6 +51,7 @@ impl EventReader {
         EventReader {
             kept: Kept {
                 stage: Stage::Title,
+                version: Version::One,
                 name: EdgeName {
                     x1: 0,
                     y1: 0,
@@ -125,7 +127,7 @@ impl EventReader {
     {
         self.fed += 1;
         let event = close_line(&mut self.kept, &mut self.head, self.scan)?;
-        self.scan = first_scan(self.kept.stage);
+        self.scan = first_scan(self.kept.version, self.kept.stage);
         self.line += 1;
         Some(event)
     }
@@ -162,6 +164,18 @@ impl EventReader {
             result ≡ line_feeds bytes + 1 }
     {
         self.line
+    }
+
+    /// The version of the text, 1 or 2, behind its head: that of each answer that begins with the bytes.
+    pub fn version(&self) -> u8
+        requires { 6 < line_due self.now }
+        ensures { (V : ℕ) (bytes : List ℕ) (events : List AnswerEvent) → Reads V bytes events self.now →
+            TellsVersion V bytes result }
+    {
+        match self.kept.version {
+            Version::One => 1,
+            Version::Two => 2,
+        }
     }
 
     /// How many bytes were fed. No tool asks for it.

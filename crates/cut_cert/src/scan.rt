@@ -7,6 +7,7 @@ pub(crate) mod set;
 pub(crate) mod words;
 
 use crate::line::Stage;
+use crate::version::Version;
 use hanan_grid::EdgeName;
 use net_graph::VertexSet;
 
@@ -14,7 +15,9 @@ use net_graph::VertexSet;
 #[derive(Drop)]
 pub(crate) struct Kept {
     pub stage: Stage,
-    // The coordinates that were read of a name.
+    // The version that the title told; the first one before it was read.
+    pub version: Version,
+    // The coordinates that were read of a name; those of a vertex stand for its first end.
     pub name: EdgeName,
     // The weight and the members that were read of a cut.
     pub weight: u64,
@@ -26,10 +29,13 @@ pub(crate) struct Kept {
 pub(crate) enum Scan {
     // The byte of this place of a word.
     Word(Word, u8),
-    // The first byte of one of two words: of a status, of what a total is, or of a node.
+    // The first byte of one of two words: of a version, of a status, of what a total is, of a node in a text of this
+    // version, or of what a split is on.
+    Version,
     Status,
     Kind,
-    Node,
+    Node(Version),
+    On,
     // A number's first digit.
     Due(Field),
     // A coordinate's first digit, or the minus before it.
@@ -60,7 +66,10 @@ pub(crate) enum Word {
     Spent,
     Edges,
     Tree,
-    Split,
+    // The word of a split in a text of this version.
+    Split(Version),
+    Edge,
+    Vertex,
     Leaf,
     Cut,
     End,
@@ -81,19 +90,21 @@ pub(crate) enum Field {
     Coordinate(Corner, bool),
 }
 
-// The coordinates of a name.
+// The coordinates of a name, and those of a vertex.
 #[derive(Clone, Copy)]
 pub(crate) enum Corner {
     X1,
     Y1,
     X2,
     Y2,
+    X,
+    Y,
 }
 
 // Lines whose last word was read whole.
 #[derive(Clone, Copy)]
 pub(crate) enum Closed {
-    Title,
+    Title(Version),
     Status(bool),
     Tree,
     End,

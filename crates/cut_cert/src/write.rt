@@ -1,23 +1,31 @@
 //! The parts of an answer's text that need no grid.
 
-ghost use Rattle.std.specs.Prelude.{ℕ, ◌≡◌, ◌+◌, ◌*◌, ◌==◌, ◌<◌, ◌^◌, length, slice_get, All, Some};
+ghost use Rattle.std.specs.Prelude.{ℕ, ◌≡◌, ◌+◌, ◌*◌, ◌==◌, ◌<◌, ◌^◌, ◌++◌, length, map, slice_get, All, Some, codes};
 ghost use Rattle.std.specs.Int.{bit_at};
 ghost use Rattle.text_out.specs.Gathers.{Gathers};
 ghost use Rattle.net_graph.specs.Flags.{has};
+ghost use Rattle.cut_cert.specs.declared.version.Version.TheVariants as version_of;
+ghost use Rattle.cut_cert.specs.LineKinds as line_of;
+ghost use Rattle.cut_cert.specs.Lines.{head_lines, leaf_lines, line_text, lines_text, result_lines, search_lines, split_line};
 ghost use Rattle.cut_cert.specs.SetLaws.{digit_in_word};
 ghost use Rattle.cut_cert.specs.Spelling.{FitsHead, FitsWeight};
-ghost use Rattle.cut_cert.specs.Text.{set_text, cut_line, cut_lines, leaf_text, status_word, concat_word, head_text, result_text, search_text, edge_line, split_line};
+ghost use Rattle.cut_cert.specs.Words.{concat_word, set_text, status_word};
 
-use crate::head::AnswerHead;
+use crate::head::{AnswerHead, ConcatNote};
+use crate::split::SplitName;
 use hanan_grid::EdgeName;
+use itoa::Integer;
 use net_graph::{Cut, Packing, VertexSet};
+use points_in::Point;
 use rst_outside::Sink;
 use text_out::{Block, literal, number, signed};
 
 // The first six lines.
 #[tactic(auto, using(text_out::specs::GatherLaws::pieces))]
 pub(crate) fn write_head<S: Sink>(block: &mut Block, sink: &mut S, head: &AnswerHead)
-    ensures text { Gathers (S.state sink.old) block.old (head_text head.now) (S.state sink.new) block.new }
+    ensures text { Gathers (S.state sink.old) block.old
+        (lines_text (head_lines version_of.Two head.now))
+        (S.state sink.new) block.new }
     ensures fits { FitsHead head.now }
 {
     write_result(block, sink, head);
@@ -27,32 +35,71 @@ pub(crate) fn write_head<S: Sink>(block: &mut Block, sink: &mut S, head: &Answer
 // The first four lines.
 #[tactic(auto, using(text_out::specs::GatherLaws::pieces))]
 fn write_result<S: Sink>(block: &mut Block, sink: &mut S, head: &AnswerHead)
-    ensures text { Gathers (S.state sink.old) block.old (result_text head.now) (S.state sink.new) block.new }
+    ensures text { Gathers (S.state sink.old) block.old
+        (lines_text (result_lines version_of.Two head.now))
+        (S.state sink.new) block.new }
     ensures length { head.now.length < 2 ^ 64 }
     ensures bound { head.now.bound < 2 ^ 64 }
 {
-    literal(block, sink, b"rst answer 1\nlength ");
-    number(block, sink, head.length);
-    literal(block, sink, b"\nbound ");
-    number(block, sink, head.bound);
-    literal(block, sink, b"\nstatus ");
-    literal(block, sink, status_word(head.optimal));
-    literal(block, sink, b"\n");
+    let length = head.length;
+    let bound = head.bound;
+    literal(block, sink, b"rst answer 2\n");
+    write_number(block, sink, b"length ", length);
+    write_number(block, sink, b"bound ", bound);
+    write_status(block, sink, head.optimal);
 }
 
 // The next two lines.
 #[tactic(auto, using(text_out::specs::GatherLaws::pieces))]
 fn write_search<S: Sink>(block: &mut Block, sink: &mut S, head: &AnswerHead)
-    ensures text { Gathers (S.state sink.old) block.old (search_text head.now) (S.state sink.new) block.new }
+    ensures text { Gathers (S.state sink.old) block.old
+        (lines_text (search_lines head.now))
+        (S.state sink.new) block.new }
     ensures openings { head.now.openings < 2 ^ 8 }
     ensures total { head.now.concat.total < 2 ^ 128 }
 {
-    literal(block, sink, b"openings ");
-    number(block, sink, head.openings);
-    literal(block, sink, b"\nconcat ");
-    literal(block, sink, kind_of(head.concat.least));
+    let openings = head.openings;
+    write_number(block, sink, b"openings ", openings);
+    write_concat(block, sink, &head.concat);
+}
+
+// A line of a word and a number.
+#[tactic(auto, using(text_out::specs::GatherLaws::pieces))]
+pub(crate) fn write_number<I: Integer, S: Sink>(
+    block: &mut Block,
+    sink: &mut S,
+    word: &[u8],
+    value: I,
+)
+    ensures { Gathers (S.state sink.old) block.old
+        (word.now ++ I.text value ++ codes "\n")
+        (S.state sink.new) block.new }
+{
+    literal(block, sink, word);
+    number(block, sink, value);
+    literal(block, sink, b"\n");
+}
+
+// The line of a status.
+#[tactic(auto, using(text_out::specs::GatherLaws::pieces))]
+fn write_status<S: Sink>(block: &mut Block, sink: &mut S, optimal: bool)
+    ensures { Gathers (S.state sink.old) block.old (line_text (line_of.Status optimal)) (S.state sink.new) block.new }
+{
+    literal(block, sink, b"status ");
+    literal(block, sink, status_word(optimal));
+    literal(block, sink, b"\n");
+}
+
+// The line of the note on the concatenation.
+#[tactic(auto, using(text_out::specs::GatherLaws::pieces))]
+fn write_concat<S: Sink>(block: &mut Block, sink: &mut S, note: &ConcatNote)
+    ensures text { Gathers (S.state sink.old) block.old (line_text (line_of.Concat note.now)) (S.state sink.new) block.new }
+    ensures total { note.now.total < 2 ^ 128 }
+{
+    literal(block, sink, b"concat ");
+    literal(block, sink, kind_of(note.least));
     literal(block, sink, b" ");
-    number(block, sink, head.concat.total);
+    number(block, sink, note.total);
     literal(block, sink, b"\n");
 }
 
@@ -73,7 +120,7 @@ pub(crate) fn kind_of(least: bool) -> &'static [u8]
 // The line of an edge.
 #[tactic(auto, using(text_out::specs::GatherLaws::pieces))]
 pub(crate) fn write_edge<S: Sink>(block: &mut Block, sink: &mut S, name: &EdgeName)
-    ensures { Gathers (S.state sink.old) block.old (edge_line name.now) (S.state sink.new) block.new }
+    ensures { Gathers (S.state sink.old) block.old (line_text (line_of.Edge name.now)) (S.state sink.new) block.new }
 {
     signed(block, sink, &name.x1);
     literal(block, sink, b" ");
@@ -87,29 +134,52 @@ pub(crate) fn write_edge<S: Sink>(block: &mut Block, sink: &mut S, name: &EdgeNa
 
 // The line of a split.
 #[tactic(auto, using(text_out::specs::GatherLaws::pieces))]
-pub(crate) fn write_split<S: Sink>(block: &mut Block, sink: &mut S, name: &EdgeName)
-    ensures { Gathers (S.state sink.old) block.old (split_line name.now) (S.state sink.new) block.new }
+pub(crate) fn write_split<S: Sink>(block: &mut Block, sink: &mut S, name: &SplitName)
+    ensures { Gathers (S.state sink.old) block.old
+        (line_text (split_line version_of.Two name.now))
+        (S.state sink.new) block.new }
 {
-    literal(block, sink, b"split ");
-    write_edge(block, sink, name);
+    match name {
+        SplitName::Edge(edge) => {
+            literal(block, sink, b"split edge ");
+            write_edge(block, sink, edge);
+        }
+        SplitName::Vertex(point) => write_vertex(block, sink, point),
+    }
+}
+
+// The line of a split on a vertex.
+#[tactic(auto, using(text_out::specs::GatherLaws::pieces))]
+fn write_vertex<S: Sink>(block: &mut Block, sink: &mut S, point: &Point)
+    ensures { Gathers (S.state sink.old) block.old
+        (line_text (line_of.SplitVertex point.now))
+        (S.state sink.new) block.new }
+{
+    literal(block, sink, b"split vertex ");
+    signed(block, sink, &point.x);
+    literal(block, sink, b" ");
+    signed(block, sink, &point.y);
+    literal(block, sink, b"\n");
 }
 
 // A leaf with its cuts.
 #[tactic(auto, using(text_out::specs::GatherLaws::pieces))]
 pub(crate) fn write_leaf<S: Sink>(block: &mut Block, sink: &mut S, packing: &Packing)
-    ensures text { Gathers (S.state sink.old) block.old (leaf_text packing.now) (S.state sink.new) block.new }
+    ensures text { Gathers (S.state sink.old) block.old
+        (lines_text (leaf_lines packing.now))
+        (S.state sink.new) block.new }
     ensures weights { All FitsWeight packing.now }
 {
-    literal(block, sink, b"leaf ");
-    number(block, sink, packing.len());
-    literal(block, sink, b"\n");
+    write_number(block, sink, b"leaf ", packing.len());
     write_cuts(block, sink, packing.cuts());
 }
 
 // The lines of cuts.
 #[tactic(auto, using(text_out::specs::GatherLaws::pieces))]
 fn write_cuts<S: Sink>(block: &mut Block, sink: &mut S, cuts: &[Cut])
-    ensures text { Gathers (S.state sink.old) block.old (cut_lines cuts.now) (S.state sink.new) block.new }
+    ensures text { Gathers (S.state sink.old) block.old
+        (lines_text (map line_of.Cut cuts.now))
+        (S.state sink.new) block.new }
     ensures weights { All FitsWeight cuts.now }
 {
     for cut in cuts {
@@ -120,7 +190,7 @@ fn write_cuts<S: Sink>(block: &mut Block, sink: &mut S, cuts: &[Cut])
 // The line of a cut.
 #[tactic(auto, using(text_out::specs::GatherLaws::pieces))]
 fn write_cut<S: Sink>(block: &mut Block, sink: &mut S, cut: &Cut)
-    ensures text { Gathers (S.state sink.old) block.old (cut_line cut.now) (S.state sink.new) block.new }
+    ensures text { Gathers (S.state sink.old) block.old (line_text (line_of.Cut cut.now)) (S.state sink.new) block.new }
     ensures weight { FitsWeight cut.now }
 {
     literal(block, sink, b"cut ");

@@ -2,10 +2,9 @@
 
 ghost use Rattle.std.specs.Prelude.{◌≡◌, ℕ, Bool, None, IfSome, IfNone};
 ghost use Rattle.cut_cert.specs.declared.scan.Corner.{Corner};
-ghost use Rattle.cut_cert.specs.declared.scan.Corner.TheVariants as corner_of;
 ghost use Rattle.cut_cert.specs.declared.scan.Field.TheVariants as field_of;
 ghost use Rattle.cut_cert.specs.declared.scan.Scan.TheVariants as scan_of;
-ghost use Rattle.cut_cert.specs.Scanning.{IsNext, IsSound, IsDead, IsInField, signed};
+ghost use Rattle.cut_cert.specs.Scanning.{IsNext, IsSound, IsDead, IsInField, IsLast, signed};
 ghost use Rattle.cut_cert.specs.Spelling.{FitsName};
 
 use crate::scan::number::{coordinate_byte, first_digit, next_digit};
@@ -26,7 +25,9 @@ pub(crate) fn scan_byte(kept: &mut Kept, scan: Scan, byte: u8) -> Option<Scan>
         Scan::Word(word, place) => word_byte(word, place, byte),
         Scan::Due(field) => first_digit(field, byte),
         Scan::Coordinate(corner) => coordinate_byte(corner, byte),
-        Scan::Status | Scan::Kind | Scan::Node => fork_byte(scan, byte),
+        Scan::Version | Scan::Status | Scan::Kind | Scan::Node(_) | Scan::On => {
+            fork_byte(scan, byte)
+        }
         Scan::LineEnd(_) | Scan::Ended | Scan::Refused => None,
     }
 }
@@ -67,12 +68,12 @@ impl Kept {
         }
     }
 
-    // What is due behind a coordinate and a blank; None where it is the last of a name.
+    // What is due behind a coordinate and a blank; None where it is the last.
     fn coordinate_ended(&mut self, corner: Corner, coordinate: i64) -> Option<Scan>
         ensures next { IfSome result (λ next. (minus : Bool) (value : ℕ) → coordinate ≡ signed minus value →
             IsInField (field_of.Coordinate corner minus) value → FitsName self.old.name →
             IsNext self.old (scan_of.Number (field_of.Coordinate corner minus) value) 32 self.new next) }
-        ensures none { IfNone result (corner ≡ corner_of.Y2) }
+        ensures none { IfNone result (IsLast corner) }
         ensures stage { self.new.stage ≡ self.old.stage }
     {
         match corner {
@@ -88,7 +89,11 @@ impl Kept {
                 self.name.x2 = coordinate;
                 Some(Scan::Coordinate(Corner::Y2))
             }
-            Corner::Y2 => None,
+            Corner::X => {
+                self.name.x1 = coordinate;
+                Some(Scan::Coordinate(Corner::Y))
+            }
+            Corner::Y2 | Corner::Y => None,
         }
     }
 }

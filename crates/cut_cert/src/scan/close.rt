@@ -2,6 +2,7 @@
 
 ghost use Rattle.std.specs.Prelude.{◌≡◌, ℕ, ◌<◌, ◌≤◌, ◌^◌, ◌+◌, ◌-◌, Bool, Some, None, IfSome, IfNone};
 ghost use Rattle.hanan_grid.specs.declared.name.EdgeName.{EdgeName};
+ghost use Rattle.points_in.specs.declared.point.Point.{Point};
 ghost use Rattle.cut_cert.specs.declared.head.AnswerHead.{AnswerHead};
 ghost use Rattle.cut_cert.specs.LineKinds as line_of;
 ghost use Rattle.cut_cert.specs.declared.scan.Corner.TheVariants as corner_of;
@@ -17,6 +18,9 @@ use crate::head::{AnswerHead, ConcatNote};
 use crate::line::Stage;
 use crate::scan::byte::with_sign;
 use crate::scan::{Closed, Corner, Field, Kept, Scan, Word};
+use crate::split::SplitName;
+use crate::version::Version;
+use points_in::Point;
 
 // Ends the line: notes what it tells of the head and what is due behind it, and tells its event, if it is one. None
 // where what was read is no line that is due.
@@ -40,9 +44,9 @@ pub(crate) fn close_line(
     }
 }
 
-// What is due at the beginning of a line.
-pub(crate) fn first_scan(stage: Stage) -> Scan
-    ensures { result ≡ first_scan stage }
+// What is due at the beginning of a line of a text of this version.
+pub(crate) fn first_scan(version: Version, stage: Stage) -> Scan
+    ensures { result ≡ first_scan version stage }
 {
     match stage {
         Stage::Title => Scan::Word(Word::Title, 0),
@@ -55,7 +59,7 @@ pub(crate) fn first_scan(stage: Stage) -> Scan
         Stage::Edges(0) => Scan::Word(Word::Tree, 0),
         Stage::Edges(_) => Scan::Coordinate(Corner::X1),
         Stage::Body(0, 0) => Scan::Word(Word::End, 0),
-        Stage::Body(0, _) => Scan::Node,
+        Stage::Body(0, _) => Scan::Node(version),
         Stage::Body(_, _) => Scan::Word(Word::Cut, 0),
         Stage::Done => Scan::Ended,
     }
@@ -68,7 +72,8 @@ fn close_word(kept: &mut Kept, head: &mut AnswerHead, closed: Closed) -> Option<
     ensures few { nodes_due kept.new.stage ≤ nodes_due kept.old.stage + 1 }
 {
     match closed {
-        Closed::Title => {
+        Closed::Title(version) => {
+            kept.version = version;
             kept.stage = Stage::Length;
             None
         }
@@ -167,6 +172,7 @@ fn close_coordinate(
 {
     match corner {
         Corner::Y2 => close_name(kept, with_sign(minus, value)?),
+        Corner::Y => close_vertex(kept, with_sign(minus, value)?),
         _ => None,
     }
 }
@@ -178,7 +184,7 @@ fn close_name(kept: &mut Kept, last: i64) -> Option<Option<Event>>
         IsInField (field_of.Coordinate corner_of.Y2 minus) value → FitsName kept.old.name →
         Closes kept.old (scan_of.Number (field_of.Coordinate corner_of.Y2 minus) value) h kept.new h told) }
     ensures none { IfNone result ((e : EdgeName) (s' : Stage) →
-        step kept.old.stage (name_line kept.old.stage e) ≡ Some s' → ⊥) }
+        step kept.old.stage (name_line kept.old.version kept.old.stage e) ≡ Some s' → ⊥) }
     ensures few { nodes_due kept.new.stage ≤ nodes_due kept.old.stage + 1 }
 {
     kept.name.y2 = last;
@@ -189,10 +195,31 @@ fn close_name(kept: &mut Kept, last: i64) -> Option<Option<Event>>
         }
         Stage::Body(cuts, nodes) => {
             kept.stage = Stage::Body(cuts, nodes + 1);
-            Some(Some(Event::Split(kept.name)))
+            Some(Some(Event::Split(SplitName::Edge(kept.name))))
         }
         _ => None,
     }
+}
+
+// Ends the line of a split on a vertex.
+fn close_vertex(kept: &mut Kept, last: i64) -> Option<Option<Event>>
+    requires { nodes_due kept.old.stage < 2 ^ 64 - 1 }
+    ensures closes { IfSome result (λ told. (h : AnswerHead) (minus : Bool) (value : ℕ) → last ≡ signed minus value →
+        IsInField (field_of.Coordinate corner_of.Y minus) value → FitsName kept.old.name →
+        Closes kept.old (scan_of.Number (field_of.Coordinate corner_of.Y minus) value) h kept.new h told) }
+    ensures none { IfNone result ((p : Point) (s' : Stage) →
+        step kept.old.stage (line_of.SplitVertex p) ≡ Some s' → ⊥) }
+    ensures few { nodes_due kept.new.stage ≤ nodes_due kept.old.stage + 1 }
+{
+    let Stage::Body(cuts, nodes) = kept.stage else {
+        return None;
+    };
+    kept.name.y1 = last;
+    kept.stage = Stage::Body(cuts, nodes + 1);
+    Some(Some(Event::Split(SplitName::Vertex(Point {
+        x: kept.name.x1,
+        y: last,
+    }))))
 }
 
 // Ends a cut's line, of whose set so many digits were read.

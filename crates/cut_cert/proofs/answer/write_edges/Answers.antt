@@ -1,7 +1,8 @@
-use Rattle.std.proofs.Common.{◌++◌, take, ap, sym, ◌∙◌, arith, subst, rules}
+use Rattle.std.proofs.Common.{◌++◌, map, take, ap, sym, ◌∙◌, arith, subst, rules}
 use Rattle.text_out.specs.GatherLaws.{gathers_two}
 use Rattle.net_graph.specs.Members.{members_of}
-use Rattle.cut_cert.specs.Text.{edge_line, edge_lines}
+use Rattle.cut_cert.specs.LineKinds as line
+use Rattle.cut_cert.specs.Lines.{line_text, lines_text}
 use Rattle.cut_cert.specs.Spelling.{FitsName}
 use Rattle.cut_cert.specs.Answers.{names_of}
 use Rattle.cut_cert.proofs.NetworkLemmas.{lines-member, lines-other, names-member, names-other}
@@ -15,7 +16,7 @@ loop-e-preserved g c = elim c.if-has.branch [
       record {
         text =
             let more = lines-member c.args.grid.now c.args.network.now c.loop-e.e (omega arith) here in
-            let named = ap (λ name. edge_lines (names_of c.args.grid.now (members_of (take c.loop-e.e c.args.network.now))) ++ edge_line name) w.edge_name.ensures.name in
+            let named = ap (λ name. lines_text (map line.Edge (names_of c.args.grid.now (members_of (take c.loop-e.e c.args.network.now)))) ++ line_text (line.Edge name)) w.edge_name.ensures.name in
             rw (w.sink-is, w.block-is) (gathers_two _ _ _ _ _ _ _ _ _ c.loop-e.invariant.text w.write_edge.ensures (named ∙ more));
         names =
             let fits : FitsName w.edge_name.result = search rules in

@@ -1,8 +1,9 @@
-use Rattle.std.proofs.Common.{take}
+use Rattle.std.proofs.Common.{map, take}
 use Rattle.std.specs.Prelude.{All}
 use Rattle.text_out.specs.Gathers.{Gathers}
 use Rattle.net_graph.specs.Members.{members_of}
-use Rattle.cut_cert.specs.Text.{edge_lines}
+use Rattle.cut_cert.specs.LineKinds as line
+use Rattle.cut_cert.specs.Lines.{lines_text}
 use Rattle.cut_cert.specs.Spelling.{FitsName}
 use Rattle.cut_cert.specs.Answers.{names_of}
 use Rattle.cut_cert.proofs.answer.write_edges.Given as goal
@@ -10,6 +11,6 @@ use Rattle.cut_cert.proofs.answer.write_edges.Given as goal
 -- the lines of the members among the numbers passed, and what is known of their names
 abbrev pub invariant-loop-e : goal.invariant-loop-e
 invariant-loop-e g l = record {
-  text : Gathers (g.S.Sink.state l.initial.sink) l.initial.block (edge_lines (names_of l.grid (members_of (take l.e l.network)))) (g.S.Sink.state l.sink) l.block;
+  text : Gathers (g.S.Sink.state l.initial.sink) l.initial.block (lines_text (map line.Edge (names_of l.grid (members_of (take l.e l.network))))) (g.S.Sink.state l.sink) l.block;
   names : All FitsName (names_of l.grid (members_of (take l.e l.network)));
 }

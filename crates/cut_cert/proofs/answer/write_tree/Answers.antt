@@ -3,12 +3,13 @@ use Rattle.std.specs.Prelude.{All}
 use Rattle.std.proofs.lemmas.List.{take_all}
 use Rattle.std.proofs.lemmas.List.Elements.{All-more}
 use Rattle.text_out.specs.GatherLaws.{gathers_two}
-use Rattle.cut_cert.specs.Text.{split_line}
-use Rattle.cut_cert.specs.Spelling.{FitsName, FitsWeight}
+use Rattle.cut_cert.specs.declared.version.Version.TheVariants as version
+use Rattle.cut_cert.specs.Lines.{line_text, lines_text, split_line}
+use Rattle.cut_cert.specs.Spelling.{FitsSplit, FitsWeight}
 use Rattle.cert_tree.specs.Preorder.{packings_of}
 use Rattle.cut_cert.specs.Answers.{FitsNode}
 use Rattle.cut_cert.proofs.PackingLemmas.{All-found_more}
-use Rattle.cut_cert.proofs.NodesText.{nodes_text, nodes_text-tree, split_step, split_leaves, leaf_step, leaf_leaves, leaf_below, leaf_last}
+use Rattle.cut_cert.proofs.NodeLines.{nodes_lines, nodes_lines-tree, split_step, split_leaves, leaf_step, leaf_leaves, leaf_below, leaf_last}
 use Rattle.cut_cert.proofs.answer.write_tree.Goals as goal
 use Rattle.cut_cert.proofs.answer.write_tree.Goals.{in-Some, in-None}
 
@@ -30,11 +31,10 @@ loop-node-preserved g c =
       | in-Some w ↦ record {
         leaf = w.leaf-is ∙ c.loop-node.invariant.leaf ∙ split_leaves nodes i w.in-Some.on c.loop-node-test.true w.in-Some.is;
         text =
-            let text = ap (λ name. nodes_text c.args.grid.now (take i nodes) packings ++ split_line name) w.split_name.ensures.name ∙ split_step c.args.grid.now nodes packings i w.in-Some.on c.loop-node-test.true w.in-Some.is in
+            let text = ap (λ name. lines_text (nodes_lines c.args.grid.now (take i nodes) packings) ++ line_text (split_line version.Two name)) w.split_name.ensures.name ∙ split_step c.args.grid.now nodes packings i w.in-Some.on c.loop-node-test.true w.in-Some.is in
             rw (w.sink-is, w.block-is) (gathers_two _ _ _ _ _ _ _ _ _ c.loop-node.invariant.text w.write_split.ensures text);
         names =
-            let fits : FitsName w.split_name.result = search rules in
-            All-more (FitsNode c.args.grid.now) nodes i None c.loop-node-test.true c.loop-node.invariant.names (subst (FitsNode c.args.grid.now) (sym w.in-Some.is) (subst FitsName w.split_name.ensures.name fits));
+            All-more (FitsNode c.args.grid.now) nodes i None c.loop-node-test.true c.loop-node.invariant.names (subst (FitsNode c.args.grid.now) (sym w.in-Some.is) (subst (FitsSplit version.Two) w.split_name.ensures.name w.split_name.ensures.fits));
         weights = rw w.leaf-is c.loop-node.invariant.weights;
       }
       | in-None w ↦ record {
@@ -51,7 +51,7 @@ loop-node-preserved g c =
 pub returns-clause-text : goal.returns-clause-text
 returns-clause-text g c =
     let all = take_all c.loop-node.node-index c.nodes-node-items.result.now c.loop-node-test.false in
-    rw (all, c.nodes-node-items.ensures.nodes, nodes_text-tree) at c.loop-node.invariant.text
+    rw (all, c.nodes-node-items.ensures.nodes, nodes_lines-tree) at c.loop-node.invariant.text
 
 pub returns-clause-names : goal.returns-clause-names
 returns-clause-names g c =

@@ -2,8 +2,8 @@ use Rattle.std.proofs.Common.{◌≡◌, ◌+◌, ◌/◌, length, ap, sym, ◌�
 use Rattle.std.specs.Fmt.{decimal}
 use Rattle.std.specs.Int.{div_ceil}
 use Rattle.cut_cert.specs.SetLaws.{length-set_text, digit_count}
-use Rattle.cut_cert.specs.Text.{set_text}
-use Rattle.cut_cert.proofs.Lengths.{length-cut_line}
+use Rattle.cut_cert.specs.Words.{set_text}
+use Rattle.cut_cert.proofs.Lengths.{length-cut}
 use Rattle.cut_cert.proofs.length.cut_len.Goals as goal
 
 pub returns-clause-length : goal.returns-clause-length
@@ -13,4 +13,4 @@ returns-clause-length c =
     let rounded : c.div_ceil.result ≡ (length d.members + 3) / 4 = c.div_ceil.ensures ∙ ap (λ n. div_ceil n 4) c.len.ensures ∙ digit_count (length d.members) in
     let digits : c.from-digits.result ≡ length (set_text d.members) = c.from-digits.ensures ∙ rounded ∙ sym (length-set_text d.members) in
     let all : 6 + c.number_len.result + c.from-digits.result ≡ 6 + length (decimal d.weight) + length (set_text d.members) = omega arith in
-    all ∙ sym (length-cut_line d)
+    all ∙ sym (length-cut d)

@@ -1,5 +1,6 @@
 use Rattle.std.proofs.Common.{◌+◌, length, ap, sym, ◌∙◌, arith}
-use Rattle.cut_cert.specs.Text.{edge_line}
+use Rattle.cut_cert.specs.LineKinds as line
+use Rattle.cut_cert.specs.Lines.{line_text}
 use Rattle.cut_cert.proofs.NetworkLemmas.{lines_length-member, lines-other}
 use Rattle.cut_cert.proofs.length.edges_len.Goals as goal
 use Rattle.cut_cert.proofs.length.edges_len.Goals.{then-has, else-has}
@@ -8,7 +9,7 @@ pub loop-e-preserved : goal.loop-e-preserved
 loop-e-preserved c = elim c.if-has.branch [
   | then-has w ↦ record {
     length =
-        let line = w.edge_len-sum.ensures.length ∙ ap (λ name. length (edge_line name)) w.edge_name.ensures.name in
+        let line = w.edge_len-sum.ensures.length ∙ ap (λ name. length (line_text (line.Edge name))) w.edge_name.ensures.name in
         w.sum-is ∙ ap (λ n. c.loop-e.sum + n) line
         ∙ lines_length-member c.args.grid.now c.args.network.now c.loop-e.e c.loop-e.sum (omega arith) (sym c.has.ensures.within ∙ w.if-has.true) c.loop-e.invariant.length;
     short = omega arith;

@@ -1,7 +1,7 @@
 use Rattle.std.proofs.Common.{◌≡◌, ◌+◌, length, ap, sym, ◌∙◌, arith}
 use Rattle.std.specs.Fmt.{decimal}
-use Rattle.cut_cert.specs.Text.{status_word, concat_word}
-use Rattle.cut_cert.proofs.Lengths.{length-head_text}
+use Rattle.cut_cert.specs.Words.{status_word, concat_word}
+use Rattle.cut_cert.proofs.Lengths.{length-head_lines}
 use Rattle.cut_cert.proofs.length.head_len.Goals as goal
 
 pub returns-clause-length : goal.returns-clause-length
@@ -16,4 +16,4 @@ returns-clause-length c =
     let all : 55 + (c.number_len.result + c.number_len-2.result + c.number_len-3.result + c.number_len-4.result) + (length c.status_word.result.now + length c.kind_of.result.now)
     ≡ 55 + length (decimal h.length) + length (decimal h.bound) + length (decimal h.openings) + length (decimal h.concat.total) + length (status_word h.optimal) + length (concat_word h.concat.least) =
     omega arith in
-    all ∙ sym (length-head_text h)
+    all ∙ sym (length-head_lines h)

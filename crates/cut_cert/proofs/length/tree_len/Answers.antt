@@ -1,16 +1,17 @@
 use Rattle.std.proofs.Common.{◌≡◌, ◌+◌, ◌++◌, length, take, ◌∙◌, ap, arith}
 use Rattle.std.proofs.lemmas.List.{take_all}
 use Rattle.hanan_grid.specs.Grid.{hanan_grid_of}
-use Rattle.cut_cert.specs.Text.{split_line, leaf_text}
+use Rattle.cut_cert.specs.declared.version.Version.TheVariants as version
+use Rattle.cut_cert.specs.Lines.{line_text, lines_text, leaf_lines, split_line}
 use Rattle.cert_tree.specs.Preorder.{packings_of}
-use Rattle.cut_cert.proofs.Lengths.{length-split_line, sum_more}
+use Rattle.cut_cert.proofs.Lengths.{sum_more}
 use Rattle.cut_cert.proofs.PackingLemmas.{packing-few, packing-small}
-use Rattle.cut_cert.proofs.NodesText.{nodes_text, nodes_text-tree, split_step, split_leaves, leaf_step, leaf_leaves, leaf_below, leaf_within, nodes_count}
+use Rattle.cut_cert.proofs.NodeLines.{nodes_lines, nodes_lines-tree, split_step, split_leaves, leaf_step, leaf_leaves, leaf_below, leaf_within, nodes_count}
 use Rattle.cut_cert.proofs.length.tree_len.Goals as goal
 use Rattle.cut_cert.proofs.length.tree_len.Goals.{in-Some, in-None}
 
-pub overflow_add-sum-in-Some : goal.overflow_add-sum-in-Some
-overflow_add-sum-in-Some c =
+pub overflow_add-sum : goal.overflow_add-sum
+overflow_add-sum c =
     let within = leaf_within c.args.tree.now c.nodes-node-items.result.now c.loop-node.node-index c.loop-node.leaf c.nodes-node-items.ensures.nodes c.loop-node.invariant.leaf in
     let count = nodes_count c.args.tree.now c.nodes-node-items.result.now c.nodes-node-items.ensures.nodes in
     omega arith
@@ -49,9 +50,8 @@ loop-node-preserved c =
         leaf = w.leaf-is ∙ c.loop-node.invariant.leaf ∙ split_leaves nodes i w.in-Some.on c.loop-node-test.true w.in-Some.is;
         length =
             let name = w.split_name.ensures.name in
-            let line : 6 + w.edge_len.result ≡ length (split_line w.split_name.result) = omega (arith, length-split_line w.split_name.result) in
-            let text = ap (λ name. nodes_text c.args.grid.now (take i nodes) packings ++ split_line name) name ∙ split_step c.args.grid.now nodes packings i w.in-Some.on c.loop-node-test.true w.in-Some.is in
-            w.sum-is ∙ sum_more _ (split_line w.split_name.result) _ c.loop-node.sum (6 + w.edge_len.result) c.loop-node.invariant.length line text;
+            let text = ap (λ name. lines_text (nodes_lines c.args.grid.now (take i nodes) packings) ++ line_text (split_line version.Two name)) name ∙ split_step c.args.grid.now nodes packings i w.in-Some.on c.loop-node-test.true w.in-Some.is in
+            w.sum-is ∙ sum_more _ (line_text (split_line version.Two w.split_name.result)) _ c.loop-node.sum w.split_len-sum.result c.loop-node.invariant.length w.split_len-sum.ensures.length text;
         short = omega arith;
       }
       | in-None w ↦ record {
@@ -59,7 +59,7 @@ loop-node-preserved c =
         length =
             let below = leaf_below c.args.tree.now nodes i c.loop-node.leaf c.nodes-node-items.ensures.nodes c.loop-node-test.true w.in-None.is c.loop-node.invariant.leaf in
             let text = leaf_step c.args.grid.now nodes packings i c.loop-node.leaf w.packing.result.now c.loop-node-test.true w.in-None.is c.loop-node.invariant.leaf below w.packing.ensures in
-            w.sum-is ∙ sum_more _ (leaf_text w.packing.result.now) _ c.loop-node.sum w.leaf_len-sum.result c.loop-node.invariant.length w.leaf_len-sum.ensures.length text;
+            w.sum-is ∙ sum_more _ (lines_text (leaf_lines w.packing.result.now)) _ c.loop-node.sum w.leaf_len-sum.result c.loop-node.invariant.length w.leaf_len-sum.ensures.length text;
         short =
             let few = packing-few (hanan_grid_of c.args.grid.now) packings c.loop-node.leaf w.packing.result.now c.requires.sound c.requires.packings w.packing.ensures in
             omega arith;
@@ -69,7 +69,7 @@ loop-node-preserved c =
 pub returns-clause-length : goal.returns-clause-length
 returns-clause-length c =
     let all = take_all c.loop-node.node-index c.nodes-node-items.result.now c.loop-node-test.false in
-    rw (all, c.nodes-node-items.ensures.nodes, nodes_text-tree) at c.loop-node.invariant.length
+    rw (all, c.nodes-node-items.ensures.nodes, nodes_lines-tree) at c.loop-node.invariant.length
 
 pub returns-clause-short : goal.returns-clause-short
 returns-clause-short c =

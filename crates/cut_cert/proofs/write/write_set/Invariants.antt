@@ -1,6 +1,6 @@
 use Rattle.std.proofs.Common.{◌*◌, take}
 use Rattle.text_out.specs.Gathers.{Gathers}
-use Rattle.cut_cert.specs.Text.{set_text}
+use Rattle.cut_cert.specs.Words.{set_text}
 use Rattle.cut_cert.proofs.write.write_set.Given as goal
 
 -- sixteen digits for each word passed

@@ -1,6 +1,6 @@
 use Rattle.std.proofs.Common.{◌^◌, refl}
 use Rattle.cut_cert.proofs.WordLemmas.{none_then}
-use Rattle.cut_cert.proofs.ScanClose.{same_small, next-weight, dead-y2, dead-other}
+use Rattle.cut_cert.proofs.ScanClose.{same_small, next-weight, dead-last, dead-other}
 use Rattle.cut_cert.proofs.scan.Kept.number_ended.Goals as goal
 
 pub returns-in_ok-self-in-Weight-clause-next : goal.returns-in_ok-self-in-Weight-clause-next
@@ -11,7 +11,7 @@ returns-in_ok-self-in-Weight-clause-next c = λ inside name.
 pub returns-in_ok-with_sign-in-Coordinate-clause-dead : goal.returns-in_ok-with_sign-in-Coordinate-clause-dead
 returns-in_ok-with_sign-in-Coordinate-clause-dead c =
     none_then c.coordinate_ended.result c.coordinate_ended.ensures.none
-    (λ last inside. dead-y2 c.args.self.now c.args.field c.in-Coordinate.corner c.in-Coordinate.minus c.args.value c.in-Coordinate.is last inside)
+    (λ last inside. dead-last c.args.self.now c.args.field c.in-Coordinate.corner c.in-Coordinate.minus c.args.value c.in-Coordinate.is last inside)
 
 pub returns-in_default : goal.returns-in_default
 returns-in_default c = record {

@@ -36,5 +36,6 @@ returns-clause-next c = λ sound name.
       sound = set-sound c.args.self.now k' c.args.place c.in_ok-value.value c.args.byte takes sound;
       name = name;
       stage = refl;
+      version = refl;
       size = c.add_four.ensures.size;
     }

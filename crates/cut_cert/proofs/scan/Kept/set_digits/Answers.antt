@@ -49,7 +49,7 @@ loop-taken-preserved c =
           let there = c.args.place + (i + 1) in
           let within : i < length piece = omega (arith, c.loop-taken-test.true, c.min-most.ensures) in
           let more = run_more c.args.self.now old next first (take i piece) place there c.in-Some.value (get_or piece i 0)
-          run takes (omega arith) refl refl in
+          run takes (omega arith) refl refl refl in
           subst (λ xs. IsRun c.args.self.now first xs next (scan.Set there)) (sym (take_more piece i 0 within)) more;
       stage = c.loop-taken.invariant.stage;
       size = omega (arith, c.add_four.ensures.size, c.loop-taken.invariant.size);

@@ -1,10 +1,15 @@
 use Rattle.std.proofs.Common.{arith}
-use Rattle.cut_cert.proofs.ScanClose.{no_line-corner}
+use Rattle.cut_cert.proofs.ScanClose.{no_line-corner, no_line-vertex}
+use Rattle.cut_cert.proofs.WordLemmas.{none_then}
 use Rattle.cut_cert.proofs.scan.close.close_coordinate.Goals as goal
 
 pub returns-in_default : goal.returns-in_default
 returns-in_default c = record {
   closes = tt;
-  none = no_line-corner c.args.kept.now c.args.corner c.args.minus c.args.value c.in_default.not-Y2;
+  none = no_line-corner c.args.kept.now c.args.corner c.args.minus c.args.value c.in_default.not-Y2 c.in_default.not-Y;
   few = omega arith;
 }
+
+pub returns-in_ok-with_sign-in-Y-clause-none : goal.returns-in_ok-with_sign-in-Y-clause-none
+returns-in_ok-with_sign-in-Y-clause-none c =
+    none_then c.close_vertex.result c.close_vertex.ensures.none (λ none. no_line-vertex c.args.kept.now c.args.corner c.args.minus c.args.value c.in-Y.is none)

@@ -1,4 +1,4 @@
--- The text of a tree, one node after another in preorder.
+-- The lines of a tree, one node after another in preorder.
 use Rattle.std.proofs.Common.{ℕ, ◌≡◌, ◌+◌, ◌*◌, ◌<◌, ◌≤◌, List, [], ◌∷◌, ◌++◌, length, take, drop, get_or, refl, ap, sym, ◌∙◌, arith, append_assoc, Option, Some, None}
 use Rattle.std.proofs.lemmas.List.{append-nil, take_more, take_all, take-append-drop}
 use Rattle.std.proofs.lemmas.Option.{slice_get-get_or}
@@ -7,68 +7,72 @@ use Rattle.points_in.specs.declared.point.Point.{Point}
 use Rattle.net_graph.specs.declared.packing.Cut.{Cut}
 use Rattle.cert_tree.specs.Tree.{Tree}
 use Rattle.cert_tree.specs.Tree.Tree.{Leaf, Split}
-use Rattle.cut_cert.specs.Text.{leaf_text, split_line, tree_text}
+use Rattle.cut_cert.specs.AnswerLine.{Line}
+use Rattle.cut_cert.specs.declared.version.Version.TheVariants as version
+use Rattle.cut_cert.specs.Lines.{leaf_lines, line_text, lines_text, split_line, tree_lines}
+use Rattle.cut_cert.proofs.Lengths.{lines_text-push}
+use Rattle.std.proofs.lemmas.List.Concat.{flat_map-append}
 use Rattle.cert_tree.specs.Preorder.{nodes_of, packings_of, leaves_in}
 use Rattle.cert_tree.specs.PreorderLaws.{leaves_in-append, leaves_in-nodes_of, length-nodes_of}
 use Rattle.cert_tree.specs.declared.split.SplitOn.{SplitOn}
 use Rattle.cut_cert.specs.Answers.{named, split_name}
 
--- the text of nodes, of which each leaf has the next packing
-abbrev pub nodes_text : List Point → List (Option SplitOn) → List (List Cut) → List ℕ
-nodes_text ps [] packings = []
-nodes_text ps (None ∷ nodes) [] = nodes_text ps nodes []
-nodes_text ps (None ∷ nodes) (cuts ∷ packings) = leaf_text cuts ++ nodes_text ps nodes packings
-nodes_text ps (Some e ∷ nodes) packings = split_line (split_name ps e) ++ nodes_text ps nodes packings
+-- the lines of nodes in version 2, of which each leaf has the next packing
+abbrev pub nodes_lines : List Point → List (Option SplitOn) → List (List Cut) → List Line
+nodes_lines ps [] packings = []
+nodes_lines ps (None ∷ nodes) [] = nodes_lines ps nodes []
+nodes_lines ps (None ∷ nodes) (cuts ∷ packings) = leaf_lines cuts ++ nodes_lines ps nodes packings
+nodes_lines ps (Some on ∷ nodes) packings = split_line version.Two (split_name ps on) ∷ nodes_lines ps nodes packings
 
 -- a tree's nodes and those behind them
 tree_then : (ps : List Point) (t : Tree SplitOn) (nodes : List (Option SplitOn)) (packings : List (List Cut))
-    → nodes_text ps (nodes_of t ++ nodes) (packings_of t ++ packings) ≡ tree_text (named ps t) ++ nodes_text ps nodes packings
+    → nodes_lines ps (nodes_of t ++ nodes) (packings_of t ++ packings) ≡ tree_lines version.Two (named ps t) ++ nodes_lines ps nodes packings
 tree_then ps (Leaf cuts) nodes packings = refl
-tree_then ps (Split e o i) nodes packings =
+tree_then ps (Split on o i) nodes packings =
     rw (
       append_assoc (nodes_of o) (nodes_of i) nodes,
       append_assoc (packings_of o) (packings_of i) packings,
       tree_then ps o (nodes_of i ++ nodes) (packings_of i ++ packings),
       tree_then ps i nodes packings,
     )
-    (sym (append_assoc (split_line (split_name ps e)) (tree_text (named ps o)) (tree_text (named ps i) ++ nodes_text ps nodes packings)) ∙ sym (append_assoc (split_line (split_name ps e) ++ tree_text (named ps o)) (tree_text (named ps i)) (nodes_text ps nodes packings)))
+    (ap (λ x. split_line version.Two (split_name ps on) ∷ x) (sym (append_assoc (tree_lines version.Two (named ps o)) (tree_lines version.Two (named ps i)) (nodes_lines ps nodes packings))))
 
--- the nodes of a tree have its text
-pub nodes_text-tree : (ps : List Point) (t : Tree SplitOn) → nodes_text ps (nodes_of t) (packings_of t) ≡ tree_text (named ps t)
-nodes_text-tree ps t =
-    ap (λ nodes. nodes_text ps nodes (packings_of t)) (sym (append-nil (nodes_of t))) ∙ ap (λ packings. nodes_text ps (nodes_of t ++ []) packings) (sym (append-nil (packings_of t)))
-    ∙ tree_then ps t [] [] ∙ append-nil (tree_text (named ps t))
+-- the nodes of a tree have its lines
+pub nodes_lines-tree : (ps : List Point) (t : Tree SplitOn) → nodes_lines ps (nodes_of t) (packings_of t) ≡ tree_lines version.Two (named ps t)
+nodes_lines-tree ps t =
+    ap (λ nodes. nodes_lines ps nodes (packings_of t)) (sym (append-nil (nodes_of t))) ∙ ap (λ packings. nodes_lines ps (nodes_of t ++ []) packings) (sym (append-nil (packings_of t)))
+    ∙ tree_then ps t [] [] ∙ append-nil (tree_lines version.Two (named ps t))
 
 -- one more split
-split_more : (ps : List Point) (nodes : List (Option SplitOn)) (e : SplitOn) (packings : List (List Cut))
-    → nodes_text ps (nodes ++ Some e ∷ []) packings ≡ nodes_text ps nodes packings ++ split_line (split_name ps e)
-split_more ps [] e packings = append-nil (split_line (split_name ps e))
-split_more ps (None ∷ nodes) e [] = split_more ps nodes e []
-split_more ps (None ∷ nodes) e (cuts ∷ packings) =
-    ap (λ x. leaf_text cuts ++ x) (split_more ps nodes e packings) ∙ sym (append_assoc (leaf_text cuts) (nodes_text ps nodes packings) (split_line (split_name ps e)))
-split_more ps (Some d ∷ nodes) e packings =
-    ap (λ x. split_line (split_name ps d) ++ x) (split_more ps nodes e packings) ∙ sym (append_assoc (split_line (split_name ps d)) (nodes_text ps nodes packings) (split_line (split_name ps e)))
+split_more : (ps : List Point) (nodes : List (Option SplitOn)) (on : SplitOn) (packings : List (List Cut))
+    → nodes_lines ps (nodes ++ Some on ∷ []) packings ≡ nodes_lines ps nodes packings ++ split_line version.Two (split_name ps on) ∷ []
+split_more ps [] on packings = refl
+split_more ps (None ∷ nodes) on [] = split_more ps nodes on []
+split_more ps (None ∷ nodes) on (cuts ∷ packings) =
+    ap (λ x. leaf_lines cuts ++ x) (split_more ps nodes on packings) ∙ sym (append_assoc (leaf_lines cuts) (nodes_lines ps nodes packings) (split_line version.Two (split_name ps on) ∷ []))
+split_more ps (Some d ∷ nodes) on packings = ap (λ x. split_line version.Two (split_name ps d) ∷ x) (split_more ps nodes on packings)
 
 -- one more leaf
 leaf_more : (ps : List Point) (nodes : List (Option SplitOn)) (packings : List (List Cut)) (d : List Cut) → leaves_in nodes < length packings
-    → nodes_text ps (nodes ++ None ∷ []) packings ≡ nodes_text ps nodes packings ++ leaf_text (get_or packings (leaves_in nodes) d)
+    → nodes_lines ps (nodes ++ None ∷ []) packings ≡ nodes_lines ps nodes packings ++ leaf_lines (get_or packings (leaves_in nodes) d)
 leaf_more ps [] [] d inside = absurd (omega arith)
-leaf_more ps [] (cuts ∷ packings) d inside = append-nil (leaf_text cuts)
+leaf_more ps [] (cuts ∷ packings) d inside = append-nil (leaf_lines cuts)
 leaf_more ps (None ∷ nodes) [] d inside = absurd (omega arith)
 leaf_more ps (None ∷ nodes) (cuts ∷ packings) d inside =
-    ap (λ x. leaf_text cuts ++ x) (leaf_more ps nodes packings d (omega arith)) ∙ sym (append_assoc (leaf_text cuts) (nodes_text ps nodes packings) (leaf_text (get_or packings (leaves_in nodes) d)))
-leaf_more ps (Some e ∷ nodes) packings d inside =
-    ap (λ x. split_line (split_name ps e) ++ x) (leaf_more ps nodes packings d inside) ∙ sym (append_assoc (split_line (split_name ps e)) (nodes_text ps nodes packings) (leaf_text (get_or packings (leaves_in nodes) d)))
+    ap (λ x. leaf_lines cuts ++ x) (leaf_more ps nodes packings d (omega arith)) ∙ sym (append_assoc (leaf_lines cuts) (nodes_lines ps nodes packings) (leaf_lines (get_or packings (leaves_in nodes) d)))
+leaf_more ps (Some on ∷ nodes) packings d inside =
+    ap (λ x. split_line version.Two (split_name ps on) ∷ x) (leaf_more ps nodes packings d inside)
 
 -- the nodes up to a place and the one there
 take_push : (nodes : List (Option SplitOn)) (i : ℕ) (here : Option SplitOn) → i < length nodes → get_or nodes i None ≡ here → take (i + 1) nodes ≡ take i nodes ++ here ∷ []
 take_push nodes i here inside is = take_more nodes i None inside ∙ ap (λ x. take i nodes ++ x ∷ []) is
 
 -- a split at the next place
-pub split_step : (ps : List Point) (nodes : List (Option SplitOn)) (packings : List (List Cut)) (i : ℕ) (e : SplitOn) → i < length nodes → get_or nodes i None ≡ Some e
-    → nodes_text ps (take i nodes) packings ++ split_line (split_name ps e) ≡ nodes_text ps (take (i + 1) nodes) packings
-split_step ps nodes packings i e inside is =
-    sym (split_more ps (take i nodes) e packings) ∙ ap (λ front. nodes_text ps front packings) (sym (take_push nodes i (Some e) inside is))
+pub split_step : (ps : List Point) (nodes : List (Option SplitOn)) (packings : List (List Cut)) (i : ℕ) (on : SplitOn) → i < length nodes → get_or nodes i None ≡ Some on
+    → lines_text (nodes_lines ps (take i nodes) packings) ++ line_text (split_line version.Two (split_name ps on)) ≡ lines_text (nodes_lines ps (take (i + 1) nodes) packings)
+split_step ps nodes packings i on inside is =
+    sym (lines_text-push (nodes_lines ps (take i nodes) packings) (split_line version.Two (split_name ps on)))
+    ∙ ap lines_text (sym (split_more ps (take i nodes) on packings) ∙ ap (λ front. nodes_lines ps front packings) (sym (take_push nodes i (Some on) inside is)))
 
 -- it is no leaf
 pub split_leaves : (nodes : List (Option SplitOn)) (i : ℕ) (e : SplitOn) → i < length nodes → get_or nodes i None ≡ Some e → leaves_in (take i nodes) ≡ leaves_in (take (i + 1) nodes)
@@ -78,12 +82,13 @@ split_leaves nodes i e inside is =
 -- a leaf at the next place
 pub leaf_step : (ps : List Point) (nodes : List (Option SplitOn)) (packings : List (List Cut)) (i leaf : ℕ) (cuts : List Cut) → i < length nodes → get_or nodes i None ≡ None
     → leaf ≡ leaves_in (take i nodes) → leaf < length packings → slice_get packings leaf ≡ Some cuts
-    → nodes_text ps (take i nodes) packings ++ leaf_text cuts ≡ nodes_text ps (take (i + 1) nodes) packings
+    → lines_text (nodes_lines ps (take i nodes) packings) ++ lines_text (leaf_lines cuts) ≡ lines_text (nodes_lines ps (take (i + 1) nodes) packings)
 leaf_step ps nodes packings i leaf cuts inside is count below found =
     let place = slice_get-get_or packings leaf cuts below in
     let here : cuts ≡ get_or packings (leaves_in (take i nodes)) cuts = cc in
-    ap (λ x. nodes_text ps (take i nodes) packings ++ leaf_text x) here ∙ sym (leaf_more ps (take i nodes) packings cuts (omega arith))
-    ∙ ap (λ front. nodes_text ps front packings) (sym (take_push nodes i None inside is))
+    sym (flat_map-append line_text (nodes_lines ps (take i nodes) packings) (leaf_lines cuts))
+    ∙ ap lines_text (ap (λ x. nodes_lines ps (take i nodes) packings ++ leaf_lines x) here ∙ sym (leaf_more ps (take i nodes) packings cuts (omega arith))
+    ∙ ap (λ front. nodes_lines ps front packings) (sym (take_push nodes i None inside is)))
 
 -- it is one leaf more
 pub leaf_leaves : (nodes : List (Option SplitOn)) (i : ℕ) → i < length nodes → get_or nodes i None ≡ None → leaves_in (take i nodes) + 1 ≡ leaves_in (take (i + 1) nodes)

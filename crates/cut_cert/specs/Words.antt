@@ -1,0 +1,52 @@
+-- The words of an answer's lines.
+use Rattle.std.specs.Prelude.{ℕ, ◌+◌, ◌*◌, Bool, false, List, [], ◌∷◌, ◌++◌, codes, if◌then◌else◌}
+use Rattle.std.specs.Fmt.{signed_decimal, digit_glyph}
+use Rattle.points_in.specs.declared.point.Point.{Point}
+use Rattle.hanan_grid.specs.declared.name.EdgeName.{EdgeName}
+use Rattle.cut_cert.specs.declared.version.Version.{Version}
+use Rattle.cut_cert.specs.declared.version.Version.TheVariants as version
+
+-- the number of a version, and its digit
+abbrev pub version_number : Version → ℕ
+version_number version.One = 1
+version_number version.Two = 2
+
+abbrev pub version_word : Version → List ℕ
+version_word version.One = codes "1"
+version_word version.Two = codes "2"
+
+-- the word of an answer's status, and the word of its concatenation
+abbrev pub status_word : Bool → List ℕ
+status_word optimal = if optimal then codes "optimal" else codes "stopped"
+
+abbrev pub concat_word : Bool → List ℕ
+concat_word least = if least then codes "least" else codes "spent"
+
+-- the four words of an edge's name: the coordinates of one end and of the other
+abbrev pub name_words : EdgeName → List ℕ
+name_words e = signed_decimal e.x1 ++ codes " " ++ signed_decimal e.y1 ++ codes " " ++ signed_decimal e.x2 ++ codes " "
+    ++ signed_decimal e.y2
+
+-- the two words of a vertex's point
+abbrev pub point_words : Point → List ℕ
+point_words p = signed_decimal p.x ++ codes " " ++ signed_decimal p.y
+
+-- 1 for a member, else 0
+abbrev pub flag_value : Bool → ℕ
+flag_value flag = if flag then 1 else 0
+
+-- the value of four flags
+abbrev pub four_value : Bool → Bool → Bool → Bool → ℕ
+four_value a b c d = 8 * flag_value a + 4 * flag_value b + 2 * flag_value c + flag_value d
+
+-- their digit, from 0 to 9 and from a to f
+abbrev pub four_digit : Bool → Bool → Bool → Bool → ℕ
+four_digit a b c d = digit_glyph false (four_value a b c d)
+
+-- a set: one digit for each four flags, where flags past the end count as absent members
+abbrev pub set_text : List Bool → List ℕ
+set_text [] = []
+set_text (a ∷ []) = four_digit a false false false ∷ []
+set_text (a ∷ b ∷ []) = four_digit a b false false ∷ []
+set_text (a ∷ b ∷ c ∷ []) = four_digit a b c false ∷ []
+set_text (a ∷ b ∷ c ∷ d ∷ set) = four_digit a b c d ∷ set_text set
