@@ -1,13 +1,13 @@
 //! The judge of an answer's lines, one after another.
 
-ghost use Rattle.std.specs.Prelude.{ℕ, ◌≡◌, ◌+◌, ◌*◌, List, [], Bool, Option, Some, IfSome, IfNone, false, length, replicate};
+ghost use Rattle.std.specs.Prelude.{ℕ, ◌≡◌, ◌+◌, ◌*◌, List, [], Bool, Option, Some, IfSome, IfNone, IfOk, IfErr, false, length, replicate};
 ghost use Rattle.points_in.specs.declared.point.Point.{Point};
 ghost use Rattle.net_graph.specs.Graph.{Graph};
 ghost use Rattle.net_graph.specs.Decision.{Decided};
 ghost use Rattle.hanan_grid.specs.Grid.{hanan_grid_of};
 ghost use Rattle.cert_tree.specs.Decisions.{IsUndecidedSplit};
 ghost use Rattle.cert_check.specs.Lines.Behind.{Ended};
-ghost use Rattle.cert_check.specs.Splits.{MaySplitOn, SplitOnFault};
+ghost use Rattle.cert_check.specs.Splits.{IsNameOfSplit, MaySplitOn, SplitFault, SplitOnFault};
 ghost use Rattle.cert_check.specs.Ways.{HasState};
 ghost use Rattle.cert_check.specs.Judged.{SoFar, Passes, Fails, Judges, IsNetworkRight, IsNetworkWrong, decision_due, nothing_told, with_cuts_due, with_split};
 ghost use Rattle.cert_check.specs.Standing.{StandsFor, IsJudgeOn};
@@ -22,7 +22,7 @@ use crate::room::Room;
 use crate::verdict::{Cause, Finished, Verdict};
 use crate::way::{go_on, go_outside, length_inside};
 use cert_tree::SplitOn;
-use cut_cert::{AnswerHead, Event, Row};
+use cut_cert::{AnswerHead, Event, Row, SplitName};
 use hanan_grid::{EdgeName, Grid};
 use net_graph::{EdgeSet, VertexSet};
 
@@ -145,8 +145,8 @@ impl Judge {
         )
     }
 
-    // Judges a split by the name of its edge.
-    fn judge_split(&mut self, grid: &Grid, line: u64, name: &EdgeName) -> Option<Cause>
+    // Judges a split by the name of its edge or its vertex.
+    fn judge_split(&mut self, grid: &Grid, line: u64, name: &SplitName) -> Option<Cause>
         requires sizes { IsJudgeOn grid.now self.old }
         ensures sizes { IsJudgeOn grid.now self.new }
         ensures passes { IfNone result ((s : SoFar) (members : Option (List Bool)) → StandsFor grid.now s self.old
@@ -155,9 +155,9 @@ impl Judge {
             → StandsFor grid.now s self.old
             → Fails grid.now s line (Event.Split name.now) members cause self.new.edges) }
     {
-        match grid.edge_named(name) {
-            Some(edge) => self.judge_split_on(grid, line, SplitOn::Edge(edge)),
-            None => Some(Cause::OffGrid(line)),
+        match split_named(grid, line, name) {
+            Ok(on) => self.judge_split_on(grid, line, on),
+            Err(cause) => Some(cause),
         }
     }
 
@@ -253,6 +253,25 @@ impl Judge {
             verdict: end_verdict(&self.head, found),
             network: self.edges.into_network(),
         }
+    }
+}
+
+// The edge or the vertex of the grid that a split is on, by its name. An `Err` is why the line is wrong where there is
+// none.
+fn split_named(grid: &Grid, line: u64, name: &SplitName) -> Result<SplitOn, Cause>
+    ensures named { IfOk result (λ on. IsNameOfSplit grid.now name.now on) }
+    ensures fault { IfErr result (λ cause. (d : Decided) (splits : ℕ)
+        → SplitFault grid.now d splits name.now line cause) }
+{
+    match name {
+        SplitName::Edge(name) => match grid.edge_named(name) {
+            Some(edge) => Ok(SplitOn::Edge(edge)),
+            None => Err(Cause::OffGrid(line)),
+        },
+        SplitName::Vertex(point) => match grid.vertex_at(*point) {
+            Some(vertex) => Ok(SplitOn::Vertex(vertex)),
+            None => Err(Cause::OffGridVertex(line)),
+        },
     }
 }
 

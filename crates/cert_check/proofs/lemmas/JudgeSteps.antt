@@ -9,18 +9,22 @@ use Rattle.net_graph.specs.Decision.{Decided, nothing_decided, states_of}
 use Rattle.hanan_grid.specs.declared.name.EdgeName.{EdgeName}
 use Rattle.hanan_grid.specs.Grid.{hanan_grid_of}
 use Rattle.cert_tree.specs.declared.split.SplitOn.{SplitOn}
+use Rattle.cert_tree.specs.declared.split.SplitOn.TheVariants as split
+use Rattle.cut_cert.specs.Answers.{IsSplitOn}
 use Rattle.cert_tree.specs.Decisions.{IsUndecidedSplit, outside_of, inside_of}
 use Rattle.cut_cert.specs.declared.event.Event.TheVariants as event
+use Rattle.cut_cert.specs.declared.split.SplitName.{SplitName}
+use Rattle.cut_cert.specs.declared.split.SplitName.TheVariants as name
 use Rattle.cert_check.specs.declared.verdict.Cause.{Cause}
 use Rattle.cert_check.specs.declared.judge.Judge.{Judge}
 use Rattle.cert_check.specs.Edges.{FollowsEdges}
 use Rattle.cert_check.specs.Cuts.{PacksCut, CutFault, cut_of}
-use Rattle.cert_check.specs.declared.verdict.Cause.TheVariants.{OffGrid}
+use Rattle.cert_check.specs.declared.verdict.Cause.TheVariants.{OffGrid, OffGridVertex}
 use Rattle.cert_check.specs.Splits.{IsNameOfSplit, MaySplitOn, SplitFault, SplitOnFault}
 use Rattle.cert_check.specs.Path.{decisions_behind}
 use Rattle.cert_check.specs.Room.{Kept}
-use Rattle.cert_check.specs.Loads.{IsLeafOf, KeepsLoads, SameWay, weight_kept}
-use Rattle.cert_check.specs.Ways.{StandsOnWay, SameLoads, decision_at}
+use Rattle.cert_check.specs.Loads.{HasRows, IsLeafOf, KeepsLoads, SameWay, weight_kept}
+use Rattle.cert_check.specs.Ways.{HasState, StandsOnWay, SameLoads, decision_at}
 use Rattle.cert_check.specs.Judged.{SoFar, Passes, Fails, IsNetworkRight, IsNetworkWrong, decision_due, least_with, with_cut, with_cuts_due, with_edge, with_split}
 use Rattle.cert_check.specs.Standing.{StandsFor}
 use Rattle.cert_check.proofs.lemmas.Loading.{passes_free}
@@ -185,18 +189,27 @@ split_passes ps on old new s behind stands way undecided few =
     )
 
 -- what was found of what a name names may be said of the name
-SplitFault-named : (ps : List Point) (d : Decided) (splits : ℕ) (name : EdgeName) (on : SplitOn) (line : ℕ) (cause : Cause) →
+SplitFault-named : (ps : List Point) (d : Decided) (splits : ℕ) (name : SplitName) (on : SplitOn) (line : ℕ) (cause : Cause) →
     IsNameOfSplit ps name on → SplitOnFault (hanan_grid_of ps) d splits on line cause → SplitFault ps d splits name line cause
-SplitFault-named ps d splits name on n (OffGrid line) named fault = absurd fault
+SplitFault-named ps d splits (name.Edge e) on n (OffGrid line) named fault = absurd fault
+SplitFault-named ps d splits (name.Vertex p) on n (OffGridVertex line) named fault = absurd fault
 SplitFault-named ps d splits name on n cause named fault = record { on = on; named = named; fault = fault }
 
-pub named_passes : (ps : List Point) (name : EdgeName) (on : SplitOn) (s : SoFar) (new : Judge) (members : Option (List Bool)) →
+has_state : (g : Graph) (kept : Kept) (on : SplitOn) → HasRows g kept → IsSplitOn g on → HasState kept.decided on
+has_state g kept (split.Edge n) rows on = omega (arith, on, rows.edges)
+has_state g kept (split.Vertex v) rows on = omega (arith, on, rows.vertices)
+
+pub has_state_named : (ps : List Point) (name : SplitName) (on : SplitOn) (kept : Kept) → IsNameOfSplit ps name on →
+    HasRows (hanan_grid_of ps) kept → HasState kept.decided on
+has_state_named ps name on kept named rows = has_state (hanan_grid_of ps) kept on rows named.on_grid
+
+pub named_passes : (ps : List Point) (name : SplitName) (on : SplitOn) (s : SoFar) (new : Judge) (members : Option (List Bool)) →
     IsNameOfSplit ps name on → MaySplitOn (hanan_grid_of ps) (decision_due ps s) s.splits on × StandsFor ps (with_split ps s on) new →
     (s' : SoFar) × Passes ps s (event.Split name) members s' × StandsFor ps s' new
 named_passes ps name on s new members named (may, stands) =
     (with_split ps s on, (on, record { named = named; may = may }, refl), stands)
 
-pub named_fails : (ps : List Point) (name : EdgeName) (on : SplitOn) (s : SoFar) (line : ℕ) (old new : Judge) (members : Option (List Bool)) (cause : Cause) →
+pub named_fails : (ps : List Point) (name : SplitName) (on : SplitOn) (s : SoFar) (line : ℕ) (old new : Judge) (members : Option (List Bool)) (cause : Cause) →
     IsNameOfSplit ps name on → new.edges ≡ old.edges → StandsFor ps s old → SplitOnFault (hanan_grid_of ps) (decision_due ps s) s.splits on line cause →
     Fails ps s line (event.Split name) members cause new.edges
 named_fails ps name on s line old new members cause named same stands fault =

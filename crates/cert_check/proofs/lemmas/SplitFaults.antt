@@ -1,15 +1,19 @@
 -- A split may stand where it does, or its line is wrong for one cause.
-use Rattle.std.proofs.Common.{ℕ, ◌≡◌, List, ◌⊎◌, inl, inr, sym, ap, ◌∙◌, subst, arith}
+use Rattle.std.proofs.Common.{ℕ, ◌≡◌, List, ◌⊎◌, inl, inr, refl, sym, ap, ◌∙◌, subst, ◌<◌, arith}
 use Rattle.points_in.specs.declared.point.Point.{Point}
 use Rattle.net_graph.specs.Graph.{Graph}
 use Rattle.net_graph.specs.Decision.{Decided}
 use Rattle.hanan_grid.specs.declared.name.EdgeName.{EdgeName}
-use Rattle.hanan_grid.specs.Grid.{hanan_grid_of}
-use Rattle.hanan_grid.specs.Names.{NamesNoEdge}
-use Rattle.hanan_grid.specs.NamesLaws.{same_edge}
+use Rattle.hanan_grid.specs.Grid.{xs_of, ys_of, hanan_grid_of, vertex_of}
+use Rattle.hanan_grid.specs.GridLaws.{IsRising-xs_of, IsRising-ys_of}
+use Rattle.hanan_grid.specs.Names.{IsCrossing, NamesNoEdge, name_of_edge, point_of_vertex}
+use Rattle.hanan_grid.specs.NamesLaws.{IsCrossing-point_of_vertex, same_edge, vertex_of-point_of_vertex}
 use Rattle.cert_tree.specs.declared.split.SplitOn.{SplitOn}
 use Rattle.cert_tree.specs.declared.split.SplitOn.TheVariants as split
 use Rattle.cert_tree.specs.Decisions.{IsUndecidedSplit}
+use Rattle.cut_cert.specs.declared.split.SplitName.{SplitName}
+use Rattle.cut_cert.specs.declared.split.SplitName.TheVariants as name
+use Rattle.cut_cert.specs.Answers.{IsSplitOn, split_name}
 use Rattle.cert_check.specs.declared.verdict.Cause.{Cause}
 use Rattle.cert_check.specs.declared.verdict.Cause.TheVariants as cause
 use Rattle.cert_check.specs.Splits.{IsNamedFault, IsNameOfSplit, IsTooDeep, MaySplit, MaySplitOn, SplitFault, SplitOnFault}
@@ -55,25 +59,61 @@ same_on_fault g d splits on n c c' fault fault' = elim (on_causes g d splits on 
 
 -- ---- names
 
+-- nothing of the grid has the name
+abbrev NamesNothing : List Point → SplitName → Type 0
+NamesNothing ps (name.Edge e) = NamesNoEdge ps e
+NamesNothing ps (name.Vertex p) = IsCrossing (xs_of ps) (ys_of ps) p → ⊥
+
+-- the cause where it is so
+abbrev off_grid_cause : ℕ → SplitName → Cause
+off_grid_cause n (name.Edge e) = cause.OffGrid n
+off_grid_cause n (name.Vertex p) = cause.OffGridVertex n
+
 -- the name names nothing, or for this cause what it names may not be split on
-split_causes : (ps : List Point) (d : Decided) (splits : ℕ) (name : EdgeName) (n : ℕ) (c : Cause) → SplitFault ps d splits name n c →
-    ((c ≡ cause.OffGrid n) × NamesNoEdge ps name) ⊎ IsNamedFault ps d splits name n c
-split_causes ps d splits name n (cause.OffGrid line) (is, none) = inl (ap cause.OffGrid is, none)
-split_causes ps d splits name n c fault = inr fault
+split_causes : (ps : List Point) (d : Decided) (splits : ℕ) (on : SplitName) (n : ℕ) (c : Cause) → SplitFault ps d splits on n c →
+    ((c ≡ off_grid_cause n on) × NamesNothing ps on) ⊎ IsNamedFault ps d splits on n c
+split_causes ps d splits (name.Edge e) n (cause.OffGrid line) (is, none) = inl (ap cause.OffGrid is, none)
+split_causes ps d splits (name.Vertex p) n (cause.OffGridVertex line) (is, none) = inl (ap cause.OffGridVertex is, none)
+split_causes ps d splits on n c fault = inr fault
 
--- a name names one edge
-pub same_split : (ps : List Point) (name : EdgeName) (on on' : SplitOn) → IsNameOfSplit ps name on → IsNameOfSplit ps name on' → on ≡ on'
-same_split ps name (split.Edge e) (split.Edge e') is is' = ap split.Edge (same_edge ps e e' is.0 is'.0 (is.1 ∙ sym is'.1))
-same_split ps name (split.Edge e) (split.Vertex v') is is' = absurd is'
-same_split ps name (split.Vertex v) on' is is' = absurd is
+-- the edge and the point of a name
+same_edge_name : (e e' : EdgeName) → name.Edge e ≡ name.Edge e' → e ≡ e'
+same_edge_name e e' same = cc
 
--- a name of no edge names none
-off_grid : {P : Type 0} (ps : List Point) (name : EdgeName) (on : SplitOn) → NamesNoEdge ps name → IsNameOfSplit ps name on → P
-off_grid ps name (split.Edge e) none is = absurd (none e is.0 is.1)
-off_grid ps name (split.Vertex v) none is = absurd is
+same_point : (p p' : Point) → name.Vertex p ≡ name.Vertex p' → p ≡ p'
+same_point p p' same = cc
+
+-- a vertex is that of its point
+vertex_named : (ps : List Point) (v v' : ℕ) → v < (hanan_grid_of ps).vertices → v' < (hanan_grid_of ps).vertices →
+    point_of_vertex (xs_of ps) (ys_of ps) v ≡ point_of_vertex (xs_of ps) (ys_of ps) v' → v ≡ v'
+vertex_named ps v v' inside inside' same =
+    sym (vertex_of-point_of_vertex (xs_of ps) (ys_of ps) v (IsRising-xs_of ps) (IsRising-ys_of ps) inside)
+    ∙ ap (vertex_of (xs_of ps) (ys_of ps)) same
+    ∙ vertex_of-point_of_vertex (xs_of ps) (ys_of ps) v' (IsRising-xs_of ps) (IsRising-ys_of ps) inside'
+
+-- a name names one edge or vertex
+same_named : (ps : List Point) (on on' : SplitOn) → IsSplitOn (hanan_grid_of ps) on → IsSplitOn (hanan_grid_of ps) on' →
+    split_name ps on ≡ split_name ps on' → on ≡ on'
+same_named ps (split.Edge e) (split.Edge e') inside inside' same =
+    ap split.Edge (same_edge ps e e' inside inside' (same_edge_name (name_of_edge ps e) (name_of_edge ps e') same))
+same_named ps (split.Edge e) (split.Vertex v') inside inside' same = absurd cc
+same_named ps (split.Vertex v) (split.Edge e') inside inside' same = absurd cc
+same_named ps (split.Vertex v) (split.Vertex v') inside inside' same =
+    ap split.Vertex (vertex_named ps v v' inside inside' (same_point _ _ same))
+
+pub same_split : (ps : List Point) (name : SplitName) (on on' : SplitOn) → IsNameOfSplit ps name on → IsNameOfSplit ps name on' → on ≡ on'
+same_split ps name on on' is is' = same_named ps on on' is.on_grid is'.on_grid (is.named ∙ sym is'.named)
+
+-- a name of nothing names nothing
+named_something : (ps : List Point) (on : SplitOn) → IsSplitOn (hanan_grid_of ps) on → NamesNothing ps (split_name ps on) → ⊥
+named_something ps (split.Edge e) inside none = none e inside refl
+named_something ps (split.Vertex v) inside none = none (IsCrossing-point_of_vertex (xs_of ps) (ys_of ps) v inside)
+
+off_grid : {P : Type 0} (ps : List Point) (name : SplitName) (on : SplitOn) → NamesNothing ps name → IsNameOfSplit ps name on → P
+off_grid ps name on none is = absurd (named_something ps on is.on_grid (subst (NamesNothing ps) (sym is.named) none))
 
 -- a split that may stand there has no fault
-pub may_without_fault : {P : Type 0} (ps : List Point) (d : Decided) (splits : ℕ) (name : EdgeName) (on : SplitOn) (n : ℕ) (c : Cause) → MaySplit ps d splits name on →
+pub may_without_fault : {P : Type 0} (ps : List Point) (d : Decided) (splits : ℕ) (name : SplitName) (on : SplitOn) (n : ℕ) (c : Cause) → MaySplit ps d splits name on →
     SplitFault ps d splits name n c → P
 may_without_fault ps d splits name on n c may fault =
     elim (split_causes ps d splits name n c fault) [
@@ -84,7 +124,7 @@ may_without_fault ps d splits name on n c may fault =
     ]
 
 -- and one that may not has one
-pub same_split_fault : (ps : List Point) (d : Decided) (splits : ℕ) (name : EdgeName) (n : ℕ) (c c' : Cause) → SplitFault ps d splits name n c → SplitFault ps d splits name n c' → c ≡ c'
+pub same_split_fault : (ps : List Point) (d : Decided) (splits : ℕ) (name : SplitName) (n : ℕ) (c c' : Cause) → SplitFault ps d splits name n c → SplitFault ps d splits name n c' → c ≡ c'
 same_split_fault ps d splits name n c c' fault fault' =
     elim (split_causes ps d splits name n c fault) [
       | inl (is, none) ↦ elim (split_causes ps d splits name n c' fault') [

@@ -1,24 +1,28 @@
-use Rattle.std.proofs.Common.{arith}
-use Rattle.cert_tree.specs.declared.split.SplitOn.TheVariants as split
-use Rattle.cert_check.proofs.lemmas.JudgeSteps.{named_fails, named_passes, none_gives, some_gives}
+use Rattle.cert_check.specs.Judged.{decision_due}
+use Rattle.cert_check.proofs.lemmas.JudgeSteps.{has_state_named, named_fails, named_passes, none_gives, some_gives}
 use Rattle.cert_check.proofs.judge.Judge.judge_split.Goals as goal
 
 pub judge_split_on-requires-clause-state : goal.judge_split_on-requires-clause-state
-judge_split_on-requires-clause-state c = omega (arith, c.in-Some.ensures.below, c.requires.sizes.way.rows.edges)
+judge_split_on-requires-clause-state c =
+    has_state_named c.args.grid.now c.args.name.now c.in-Ok.on c.args.self.now.room c.in-Ok.ensures.named
+    c.requires.sizes.way.rows
 
-pub returns-in-Some-clause-passes : goal.returns-in-Some-clause-passes
-returns-in-Some-clause-passes c =
+pub returns-in-Ok-clause-passes : goal.returns-in-Ok-clause-passes
+returns-in-Ok-clause-passes c =
     none_gives c.judge_split_on.result _ _
     (λ passes s members stands.
-    named_passes c.args.grid.now c.args.name.now (split.Edge c.in-Some.edge) s c.judge_split_on.new.self members
-    (c.in-Some.ensures.below, c.in-Some.ensures.name) (passes s stands))
+    named_passes c.args.grid.now c.args.name.now c.in-Ok.on s c.judge_split_on.new.self members c.in-Ok.ensures.named
+    (passes s stands))
     c.judge_split_on.ensures.passes
 
-pub returns-in-Some-clause-fault : goal.returns-in-Some-clause-fault
-returns-in-Some-clause-fault c =
+pub returns-in-Ok-clause-fault : goal.returns-in-Ok-clause-fault
+returns-in-Ok-clause-fault c =
     some_gives c.judge_split_on.result _ _
     (λ cause fault s members stands.
-    named_fails c.args.grid.now c.args.name.now (split.Edge c.in-Some.edge) s c.args.line c.args.self.now
-    c.judge_split_on.new.self members cause
-    (c.in-Some.ensures.below, c.in-Some.ensures.name) c.judge_split_on.ensures.edges stands (fault s stands))
+    named_fails c.args.grid.now c.args.name.now c.in-Ok.on s c.args.line c.args.self.now c.judge_split_on.new.self
+    members cause c.in-Ok.ensures.named c.judge_split_on.ensures.edges stands (fault s stands))
     c.judge_split_on.ensures.fault
+
+pub returns-in-Err-clause-fault : goal.returns-in-Err-clause-fault
+returns-in-Err-clause-fault c s members stands =
+    (c.in-Err.ensures.fault (decision_due c.args.grid.now s) s.splits, stands.network)
