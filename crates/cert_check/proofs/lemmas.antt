@@ -31,4 +31,5 @@ pub mod SameLines
 pub mod OneVerdict
 pub mod CompleteEdges
 pub mod Complete
+pub mod Upgrading
 pub mod Bytes
