@@ -1,5 +1,5 @@
 use Rattle.std.proofs.Common.{◌≡◌, length}
-use Rattle.graph_calls.proofs.described.edges.Given as goal
+use Rattle.graph_calls.proofs.described.edges_of.Given as goal
 
 -- the set keeps its size
 abbrev pub invariant-loop-e : goal.invariant-loop-e
