@@ -103,11 +103,20 @@ fn edges_of(alloc: Global, g: &NetGraph, numbers: &[u32]) -> Result<EdgeSet, Fau
 pub fn decision(alloc: Global, call: &Call, g: &NetGraph) -> Result<Decision, Fault>
     ensures { IfOk result (λ d. IsDecisionFor g.now d) }
 {
-    let mut d = Decision::none(alloc, g)?;
     if call.has("decided") {
-        for line in call.text("decided")?.lines() {
-            d = decided(alloc, g, &d, line)?;
-        }
+        decided_by(alloc, g, call.text("decided")?)
+    } else {
+        Ok(Decision::none(alloc, g)?)
+    }
+}
+
+// The decision of these steps.
+fn decided_by(alloc: Global, g: &NetGraph, lines: &str) -> Result<Decision, Fault>
+    ensures { IfOk result (λ d. IsDecisionFor g.now d) }
+{
+    let mut d = Decision::none(alloc, g)?;
+    for line in lines.lines() {
+        d = decided(alloc, g, &d, line)?;
     }
     Ok(d)
 }

@@ -56,18 +56,36 @@ fn tell_both(answer: &mut String, copy: &EdgeSet, cleared: &EdgeSet) -> Result<(
 /// place, and the value of its bits. Its words are told, and its members.
 pub fn fours(alloc: Global, call: &Call, answer: &mut String) -> Result<(), Fault> {
     let size = only(alloc, call.text("size")?)?;
+    let lines = call.text("fours")?;
     let mut set = VertexSet::empty(alloc, size)?;
-    for line in call.text("fours")?.lines() {
-        match small_numbers(alloc, line)?.as_slice() {
-            [place, value] if *value < 16 && *place < size / 4 => set.add_four(
-                *place,
-                *value as u8,
-            ),
-            _ => return Err(Fault::NotAllowed),
-        }
+    add_fours(alloc, lines, &mut set)?;
+    tell_words(&set, answer)?;
+    tell_vertices(answer, "members", &set)
+}
+
+// Adds what each line says.
+fn add_fours(alloc: Global, lines: &str, set: &mut VertexSet) -> Result<(), Fault> {
+    for line in lines.lines() {
+        add_four(&small_numbers(alloc, line)?, set)?;
     }
-    for place in 0..size.div_ceil(64) {
+    Ok(())
+}
+
+// Adds those of four vertices that two numbers say.
+fn add_four(numbers: &[u32], set: &mut VertexSet) -> Result<(), Fault> {
+    match numbers {
+        [place, value] if *value < 16 && *place < set.len() / 4 => {
+            set.add_four(*place, *value as u8);
+            Ok(())
+        }
+        _ => Err(Fault::NotAllowed),
+    }
+}
+
+// Tells the words of a set.
+fn tell_words(set: &VertexSet, answer: &mut String) -> Result<(), Fault> {
+    for place in 0..set.len().div_ceil(64) {
         writeln!(answer, "word {:#x}", set.word(place))?;
     }
-    tell_vertices(answer, "members", &set)
+    Ok(())
 }
