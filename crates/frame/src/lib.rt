@@ -11,7 +11,7 @@ mod take;
 mod text_fault;
 
 pub use answer::Answer;
-pub use ending::conclude;
+pub use ending::{conclude, end_refused, end_starved, end_written};
 pub use fault::Fault;
 pub use points::{ListFault, PointsFault, read_grid, read_points_file, write_total};
 pub use reports::report;
