@@ -4,3 +4,4 @@ pub mod Truth
 pub mod CheckLaws
 pub mod Pictures
 pub mod Plot
+pub mod Upgrade

@@ -1,4 +1,4 @@
-//! The tools that judge answers.
+//! The tools that judge answers, and the one that brings them to the newest version.
 #![tactic(auto)]
 
 mod checking;
@@ -6,7 +6,9 @@ mod judge;
 mod judging;
 mod picture;
 mod plotting;
+mod upgrading;
 
 pub use checking::check;
 pub use judge::{ANSWER_LIMIT, CheckFault};
 pub use plotting::{PlotFault, plot};
+pub use upgrading::{UPGRADE_LIMIT, UpgradeFault, upgrade};
