@@ -19,9 +19,9 @@ pub struct Wanted {
 
 /// Finds cheapest cuts of the groups of a tree.
 pub trait CutFinder {
-    /// The price of a cheapest cut that is wanted; `None` where there is none. `prices` are those of the arcs, each from 0
-    /// to `BLOCKED`; the cut's price is that of the arcs off the tree that enter it, and `entered` becomes their list. An
-    /// `Err` is want of memory.
+    /// The price of a cheapest cut that is wanted; `None` where there is none. `prices` are those of the arcs, each
+    /// from 0 to `BLOCKED`; the cut's price is that of the arcs off the tree that enter it, and `entered` becomes
+    /// their list. An `Err` is want of memory.
     fn cheapest(
         &mut self,
         tree: &Tree,

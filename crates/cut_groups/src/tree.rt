@@ -94,8 +94,8 @@ impl Tree {
         at(&self.group_of, arc, NONE)
     }
 
-    /// How many least terminals a group has: terminals at or below its arc's head with no other terminal on the way from
-    /// there. Each cut of the group has one of them.
+    /// How many least terminals a group has: terminals at or below its arc's head with no other terminal on the way
+    /// from there. Each cut of the group has one of them.
     pub fn terminal_count(&self, group: u32) -> u32 {
         at(&self.places, group, NO_PLACES).count
     }
@@ -118,8 +118,8 @@ impl Tree {
             && !(outer.enter <= lower.enter && lower.enter < outer.leave)
     }
 
-    // Numbers a vertex, and makes the group of the arc into it; `numbers` has its size, then the next number of one below
-    // it. An `Err` is want of memory.
+    // Numbers a vertex, and makes the group of the arc into it; `numbers` has its size, then the next number of one
+    // below it. An `Err` is want of memory.
     fn number(
         &mut self,
         graph: &NetGraph,

@@ -94,7 +94,8 @@ impl Front {
         }
     }
 
-    /// Goes on with a cheap way; the other end's ways to be gone on with cost at least `beyond`. An `Err` is want of memory.
+    /// Goes on with a cheap way; the other end's ways to be gone on with cost at least `beyond`. An `Err` is want of
+    /// memory.
     pub fn go_on(
         &mut self,
         search: Search<'_>,
@@ -120,12 +121,7 @@ impl Front {
             if rest == BLOCKED && price.wrapping_add(beyond) >= meeting.bound {
                 continue;
             }
-            let label = Label {
-                price,
-                search: search.number,
-                arc: step.arc,
-                before: step.from,
-            };
+            let label = label_of(price, search.number, step);
             if !improve(&mut self.labels, step.face, label) {
                 continue;
             }
@@ -182,6 +178,17 @@ impl Meeting {
             self.bound = price;
             self.face = face;
         }
+    }
+}
+
+// The label of the face that a step leads to.
+#[inline]
+fn label_of(price: i64, search: u32, step: &Step) -> Label {
+    Label {
+        price,
+        search,
+        arc: step.arc,
+        before: step.from,
     }
 }
 

@@ -20,8 +20,7 @@ use search_rules::{SearchOptions, ascent_place, split_place};
 use std::alloc::{AllocError, Global};
 use tight_packing::Budget;
 
-/// At most so many exchanges are made, each but the first from what the one before came to: against a shorter network, or
-/// with a new budget.
+/// At most so many exchanges are made, each but the first against a shorter network, or with a new budget and other draws.
 const MOST_EXCHANGES: u8 = 3;
 
 /// What each but the first may do, with other draws.

@@ -1,8 +1,8 @@
 //! New cuts of a group, asked for within the sweeps.
 
+use crate::loads::OVER_FACTOR;
 use crate::pool::Offered;
 use crate::state::State;
-use crate::loads::OVER_FACTOR;
 use cut_groups::{BLOCKED, CutFinder, Wanted, at, set};
 use std::alloc::AllocError;
 

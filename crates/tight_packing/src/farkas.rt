@@ -15,7 +15,11 @@ impl State {
         for arc in 0..self.loads.len() {
             let over = self.loads.over(arc);
             have = have.wrapping_add(product(over, self.loads.limit(arc).capacity));
-            let price = if self.loads.is_blocked(arc) { BLOCKED } else { over };
+            let price = if self.loads.is_blocked(arc) {
+                BLOCKED
+            } else {
+                over
+            };
             self.prices.push(price)?;
         }
         let mut need = 0i128;

@@ -2,7 +2,7 @@
 
 ghost use Rattle.std.specs.Prelude.{◌≡◌, length, IfOk};
 
-use cut_groups::{at, ends_of, set};
+use cut_groups::{NONE, at, ends_of, set};
 use net_graph::{NetGraph, VertexSet};
 use std::alloc::{AllocError, Global};
 
@@ -12,7 +12,8 @@ pub struct Flood {
     // The cut that each edge is at the border of, by the number of its flood.
     walls: Vec<u32>,
     number: u32,
-    waiting: Vec<u32>,
+    // The vertices reached, in their order.
+    reached: Vec<u32>,
 }
 
 impl Flood {
@@ -21,12 +22,12 @@ impl Flood {
         Ok(Flood {
             walls: vec![in alloc; 0; graph.edges().len()]?,
             number: 0,
-            waiting: Vec::new(alloc),
+            reached: Vec::new(alloc),
         })
     }
 
-    /// The vertices that are reached from the head of an arc without crossing its edge or those of other arcs. An `Err` is
-    /// want of memory.
+    /// The vertices that are reached from the head of an arc without crossing its edge or those of other arcs. An
+    /// `Err` is want of memory.
     pub fn filled(
         &mut self,
         alloc: Global,
@@ -42,12 +43,10 @@ impl Flood {
             set(&mut self.walls, *other / 2, self.number);
         }
         let mut members = VertexSet::empty(alloc, graph.vertex_count())?;
-        self.waiting.clear();
+        self.reached.clear();
         self.reach(&mut members, ends_of(graph, arc).head)?;
-        for _ in 0..graph.vertex_count() {
-            let Some(vertex) = self.waiting.pop() else {
-                break;
-            };
+        for rank in 0..graph.vertex_count() {
+            let vertex = at(&self.reached, rank, NONE);
             self.go_on(graph, &mut members, vertex)?;
         }
         Ok(members)
@@ -79,7 +78,7 @@ impl Flood {
     {
         if vertex < members.len() && !members.has(vertex) {
             members.add(vertex);
-            self.waiting.push(vertex)?;
+            self.reached.push(vertex)?;
         }
         Ok(())
     }

@@ -20,7 +20,7 @@ pub struct KeptCut {
 pub struct Kept {
     /// Its overload in units.
     pub overload: i64,
-    /// Its cuts.
+    /// Its cuts, each with some weight.
     pub cuts: Vec<KeptCut>,
     entered: Vec<u32>,
 }
@@ -64,7 +64,7 @@ impl Kept {
         entered_of(&self.entered, cut)
     }
 
-    /// Takes the overload off, from the heaviest cuts first. An `Err` is want of memory.
+    /// Takes the overload off, from the heaviest cuts first; cuts without weight go. An `Err` is want of memory.
     pub fn relieve(&mut self, alloc: Global, loads: &Loads) -> Result<(), AllocError> {
         if self.overload == 0 {
             return Ok(());
@@ -85,6 +85,7 @@ impl Kept {
             cut.weight = cut.weight.wrapping_sub(taken);
             add_to_all(&mut excess, arcs, taken.wrapping_neg());
         }
+        self.cuts.retain(|cut| cut.weight > 0);
         self.overload = 0;
         Ok(())
     }

@@ -68,7 +68,8 @@ impl Line {
         Ok(())
     }
 
-    /// The amount, of at most a weight and in whole grains, that lowers the potential most, or nearly so; 0 where none does.
+    /// The amount, of at most a weight and in whole grains, that lowers the potential most, or nearly so; 0 where
+    /// none does.
     pub fn best(&self, weight: i64, grain: i64) -> i64 {
         let most = weight.checked_div(grain).unwrap_or(0);
         let half = grain / 2;

@@ -141,7 +141,7 @@ impl Loads {
     fn price_anew(&mut self, arc: u32) {
         let over = self.over(arc).wrapping_mul(OVER_FACTOR);
         let price = at(&self.charges, arc, BLOCKED).wrapping_add(over);
-        set(&mut self.prices, arc, price);
+        set(&mut self.prices, arc, price.min(BLOCKED));
     }
 
     /// Charges an arc off the tree.

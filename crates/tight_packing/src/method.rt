@@ -20,21 +20,21 @@ pub struct Proposal {
     pub is_impossible: bool,
 }
 
-/// Looks for a packing whose value is the length of a network in a graph, from its tree. `length` is that of the network.
-/// Where it is over 2^44 times the greatest common divisor of the lengths of edges, these are rounded down, and the value
+/// Looks for a packing whose value is the length of a network in a graph, from its tree; the length is `aim`. Where
+/// it is over 2^53 times the greatest common divisor of the lengths of edges, these are rounded down, and the value
 /// stays below the length. Equal arguments give equal results. An `Err` is want of memory.
 pub fn propose<F: CutFinder>(
     alloc: Global,
     graph: &NetGraph,
     tree: Tree,
-    length: u64,
+    aim: u64,
     finder: &mut F,
     budget: Budget,
 ) -> Result<Proposal, AllocError>
     ensures { IfOk result (λ proposal.
         All (λ c. length c.members ≡ graph.now.vertices) proposal.packing) }
 {
-    let unit = unit_for(graph, length);
+    let unit = unit_for(graph, aim);
     let mut state = State::along(alloc, graph, tree, unit, budget.seed)?;
     state.start(finder)?;
     let terminals = graph.terminals().len();
@@ -59,14 +59,12 @@ fn packing_of(
     let mut packing = Packing::empty(alloc);
     let mut flood = Flood::new(alloc, graph)?;
     for cut in &state.kept.cuts {
-        if cut.weight > 0 {
-            let arc = state.tree.arc(cut.group);
-            let others = state.kept.entered(*cut);
-            packing.push(Cut {
-                weight: cut.weight.unsigned_abs().wrapping_mul(unit),
-                members: flood.filled(alloc, graph, arc, others)?,
-            })?;
-        }
+        let arc = state.tree.arc(cut.group);
+        let others = state.kept.entered(*cut);
+        packing.push(Cut {
+            weight: cut.weight.unsigned_abs().wrapping_mul(unit),
+            members: flood.filled(alloc, graph, arc, others)?,
+        })?;
     }
     Ok(packing)
 }

@@ -131,7 +131,7 @@ impl Pool {
     pub fn cost(&self, cut: &Cut, loads: &Loads) -> i64 {
         let mut sum = 0i64;
         for arc in self.entered_by(cut) {
-            sum = sum.wrapping_add(loads.over(*arc));
+            sum = sum.saturating_add(loads.over(*arc));
         }
         sum
     }
@@ -155,7 +155,7 @@ impl Pool {
     pub fn price(&self, cut: u32, prices: &[i64]) -> i64 {
         let mut sum = 0i64;
         for arc in self.entered(cut) {
-            sum = sum.wrapping_add(at(prices, *arc, 0));
+            sum = sum.saturating_add(at(prices, *arc, 0));
         }
         sum
     }
@@ -177,8 +177,8 @@ impl Pool {
         }
     }
 
-    /// Offers a cut of a group by the arcs off the tree that enter it: it is taken in with weight 0 if it isn't there. An
-    /// `Err` is want of memory.
+    /// Offers a cut of a group by the arcs off the tree that enter it: it is taken in with weight 0 if it isn't
+    /// there. An `Err` is want of memory.
     pub fn offer(&mut self, group: u32, arcs: &[u32]) -> Result<Offered, AllocError> {
         let print = print_of(arcs);
         if let Some(known) = self.find(group, print) {
@@ -243,7 +243,9 @@ impl Pool {
 fn print_of(arcs: &[u32]) -> u64 {
     let mut sum = 0u64;
     for arc in arcs {
-        let mixed = u64::from(*arc).wrapping_add(1).wrapping_mul(0x9e37_79b9_7f4a_7c15);
+        let mixed = u64::from(*arc)
+            .wrapping_add(1)
+            .wrapping_mul(0x9e37_79b9_7f4a_7c15);
         sum = sum.wrapping_add(mixed.wrapping_mul(mixed ^ mixed.wrapping_shr(29)));
     }
     sum

@@ -28,8 +28,8 @@ const ROUNDING_ROUNDS: u32 = 10;
 // Rounds in which all groups are whole; then it is back to the fine phase.
 const WHOLE_ROUNDS: u32 = 30;
 
-// The overload in units at which the rounding begins shrinks by this with each return to the fine phase, to no less than
-// the least.
+// The overload in units at which the rounding begins shrinks by this with each return to the fine phase, to no less
+// than the least.
 const SHRINKING_BY: i64 = 2;
 
 const SHRINKING_OF: i64 = 5;

@@ -24,8 +24,8 @@ struct Extremes {
 }
 
 impl State {
-    /// Visits each group in drawn order: a group whose turn it is first looks for new cuts, for so many terminals. An `Err`
-    /// is want of memory.
+    /// Visits each group in drawn order: a group whose turn it is first looks for new cuts, for so many terminals. An
+    /// `Err` is want of memory.
     pub fn sweep<F: CutFinder>(&mut self, finder: &mut F, tries: u32) -> Result<(), AllocError> {
         if self.work.sweeps % SWEEPS_TO_CHARGES == 0 {
             self.draw_charges();

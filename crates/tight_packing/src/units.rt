@@ -138,8 +138,8 @@ impl Units {
         self.giver.has(arc)
     }
 
-    /// How much a unit more on a cut adds to the overload, once the giver has lost it; `None` where the cut is entered by an
-    /// arc that is to be relieved.
+    /// How much a unit more on a cut adds to the overload, once the giver has lost it; `None` where the cut is
+    /// entered by an arc that is to be relieved.
     #[inline]
     pub fn loss(&self, pool: &Pool, cut: u32, relieved: u32) -> Option<i64> {
         let mut loss = 0i64;
