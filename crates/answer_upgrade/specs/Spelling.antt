@@ -5,8 +5,8 @@ use Rattle.cut_cert.specs.Reading.{StopsAt}
 use Rattle.cut_cert.specs.Spelling.{SpellsAnswer}
 use Rattle.cut_cert.specs.Value.{WrittenAnswer}
 use Rattle.cut_cert.specs.Words.{version_number}
-use Rattle.answer_upgrade.specs.declared.spelling.Spelled.{Spelled}
-use Rattle.answer_upgrade.specs.declared.spelling.Spelled.TheVariants as told
+use Rattle.answer_upgrade.specs.declared.told.Spelled.{Spelled}
+use Rattle.answer_upgrade.specs.declared.told.Spelled.TheVariants as told
 
 -- they spell an answer of this version, or they spell none and cease to begin one in this line
 abbrev pub TellsSpelling : ℕ → List ℕ → Spelled → Type 0

@@ -3,7 +3,9 @@
 
 mod change;
 mod spelling;
+mod told;
 mod upgrade;
 
-pub use spelling::{Spelled, spelled};
+pub use spelling::spelled;
+pub use told::Spelled;
 pub use upgrade::write_upgraded;

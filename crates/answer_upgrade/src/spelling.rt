@@ -3,24 +3,10 @@
 ghost use Rattle.std.specs.Prelude.{◌<◌, ◌^◌, length, IfOk};
 ghost use Rattle.answer_upgrade.specs.Spelling.{TellsSpelling};
 
+use crate::told::Spelled;
 use cut_cert::EventReader;
 use net_graph::VertexSet;
 use std::alloc::{AllocError, Global};
-
-/// What bytes are that may be an answer's text.
-#[derive(Clone, Copy, Debug, PartialEq, Eq)]
-pub enum Spelled {
-    /// The text of an answer, in this version.
-    Whole {
-        /// The version, 1 or 2.
-        version: u8,
-    },
-    /// The text of no answer.
-    Fault {
-        /// The line in which the bytes cease to begin one, counted from 1.
-        line: u64,
-    },
-}
 
 /// Tells whether the bytes are the text of an answer, for cuts that are sets of so many vertices. An `Err` comes for
 /// want of memory alone: it takes that of one set.

@@ -13,22 +13,22 @@ use crate::network::DESCENTS;
 use branch::{Search, Solved, SplitKind};
 use dual_ascent::{Candidate, Chooser, Rule};
 use hanan_grid::Grid;
-use net_graph::{EdgeSet, Packing, length};
+use net_graph::{EdgeSet, length};
 use network_judge::shortened;
 use packing_judge::{Bound, Outcome, exchange};
 use search_rules::{SearchOptions, ascent_place, split_place};
 use std::alloc::{AllocError, Global};
 use tight_packing::Budget;
 
-/// At most so many exchanges are made, each but the first from what the one before came to: against a shorter network, or
-/// with a new budget.
+/// At most so many exchanges are made, each but the first against a shorter network, or with a new budget and other draws.
 const MOST_EXCHANGES: u8 = 3;
 
-/// What each but the first may do. It begins near the length, and needs less.
+/// What each but the first may do, with other draws.
 const FURTHER_BUDGET: Budget = Budget {
     rounds: 200,
     searches: 200_000,
     moves: 2_000_000,
+    seed: 20240608,
 };
 
 /// What a search finds that begins with a network of a grid. Its first leaf is that of an ascent from no cut. Where this
@@ -144,7 +144,6 @@ fn raise_by_exchange<F: Rule, G: Rule>(
         alloc,
         grid,
         search.network(),
-        search.tree().packing(0),
         budget,
     )?;
     let Some(bound) = bound else {
@@ -193,18 +192,16 @@ fn exchanged(
     alloc: Global,
     grid: &Grid,
     network: &EdgeSet,
-    start: &Packing,
     budget: Budget,
 ) -> Result<ExchangeEnd, AllocError>
     requires { length network.now ≡ length (hanan_grid_of grid.now).edges }
     ensures { IfOk result (λ found. IfSome found.bound (IsBoundOf (hanan_grid_of grid.now))) }
 {
-    let outcome = exchange(alloc, grid, network, start, budget)?;
+    let outcome = exchange(alloc, grid, network, budget)?;
     let is_spent = matches!(outcome, Outcome::Exhausted(_));
     let bound = match outcome {
         Outcome::Tight(bound) => Some(bound),
         Outcome::Impossible(bound) | Outcome::Exhausted(bound) => bound,
-        Outcome::TooLong => None,
     };
     Ok(ExchangeEnd { bound, is_spent })
 }

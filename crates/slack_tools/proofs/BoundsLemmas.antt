@@ -4,22 +4,20 @@ use Rattle.std.proofs.lemmas.Bool.{cases_lt}
 use Rattle.std.proofs.lemmas.List.{get_or_append_left, get_or_push}
 use Rattle.net_graph.specs.declared.packing.Cut.{Cut}
 use Rattle.net_graph.specs.Graph.{Graph, total_of}
-use Rattle.net_graph.specs.Decision.{Decided}
 use Rattle.net_graph.specs.Packing.{packing_value}
 use Rattle.edge_slack.specs.EdgeBound.{edge_taken_in, IsEdgeBound, IsLowerBoundWith}
 use Rattle.slack_tools.specs.Bounds.{BoundsEdge}
 
--- the value of a packing that takes the edge in bounds it
-pub BoundsEdge-packing : (g grid : Graph) (e value : ℕ) (d : Decided) (packing : List Cut) → g ≡ grid →
-    d ≡ edge_taken_in g e → value ≡ packing_value g d packing →
+-- what is known of the value of a packing that takes the edge in
+pub BoundsEdge-packing : (g grid : Graph) (e value : ℕ) (packing : List Cut) → g ≡ grid →
+    value ≡ packing_value g (edge_taken_in g e) packing →
     IsEdgeBound g e (packing_value g (edge_taken_in g e) packing) →
     IsLowerBoundWith g e (packing_value g (edge_taken_in g e) packing) →
     packing_value g (edge_taken_in g e) packing ≤ total_of g → BoundsEdge grid e value
-BoundsEdge-packing g grid e value d packing of taken is bound least within =
+BoundsEdge-packing g grid e value packing of is bound least within =
     let all : BoundsEdge g e (packing_value g (edge_taken_in g e) packing) =
     record { value = bound; least = least; within = within } in
-    subst (λ x. BoundsEdge x e value) of
-    (subst (BoundsEdge g e) (sym (is ∙ ap (λ x. packing_value g x packing) taken)) all)
+    subst (λ x. BoundsEdge x e value) of (subst (BoundsEdge g e) (sym is) all)
 
 -- one bound more
 pub bounds_more : (g : Graph) (before after : List ℕ) (n bound : ℕ) → after ≡ before ++ bound ∷ [] → length before ≡ n →

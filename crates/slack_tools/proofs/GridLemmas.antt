@@ -80,8 +80,8 @@ all_edges_used ps e some within =
     (edge, has_edge ps e within, slice_get-get_or g.edges e no_edge within, inl (all_reached ps edge.a some ends.a))
 
 -- so some network uses it
-pub IsInSomeNetwork-grid : (ps : List Point) (e : ℕ) → IsGraph (hanan_grid_of ps) → e < length (hanan_grid_of ps).edges →
-    IsInSomeNetwork (hanan_grid_of ps) e
+pub IsInSomeNetwork-grid : (ps : List Point) (e : ℕ) → IsGraph (hanan_grid_of ps) →
+    e < length (hanan_grid_of ps).edges → IsInSomeNetwork (hanan_grid_of ps) e
 IsInSomeNetwork-grid ps e sound within =
     let some : 0 < length ps =
     (let terminal = sound.terminal in omega (arith, length-map ps (vertex_of (xs_of ps) (ys_of ps)))) in

@@ -26,14 +26,16 @@ found_bounds above before after (Ok a) (bytes, whole, (ps, lists, is)) = (
     a.bounds.items,
     lists,
     subst (λ qs. AreEdgeBounds (hanan_grid_of qs) a.bounds.items) is.grid is.bounds,
-    ap (λ qs. slack_print qs a.above a.bounds.items) is.grid ∙ ap (λ l. slack_print (terminals_of ps) l a.bounds.items) is.above,
+    ap (λ qs. slack_print qs a.above a.bounds.items) is.grid
+        ∙ ap (λ l. slack_print (terminals_of ps) l a.bounds.items) is.above,
   ),
 )
 found_bounds above before after (Err (Text fault)) finds = finds
 found_bounds above before after (Err (Input fault)) finds = finds
 
 -- The same where memory may be wanting.
-pub found_or_not : {E : Type 0} (above : Option ℕ) (before after : Readable) (found : Result (Result SlackAnswer (TextFault ListFault)) E) →
+pub found_or_not : {E : Type 0} (above : Option ℕ) (before after : Readable)
+    (found : Result (Result SlackAnswer (TextFault ListFault)) E) →
     IfOk found (FromText TEXT_LIMIT (FindsBounds above) before after) →
     IfOk found (λ r. FromText TEXT_LIMIT (BoundsEdges above) before after (print_of answer_text answer_status r))
 found_or_not above before after (Ok found) finds = found_bounds above before after found finds

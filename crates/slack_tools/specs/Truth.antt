@@ -23,7 +23,8 @@ pub record BoundsTruly (above : Option ℕ) (before after : Outside) : Type 0 wh
   pub bounds : List ℕ
   pub came : CameToTheEnd before.read.input.rest bytes after.read.input.rest
   pub text : IsPointText bytes points
-  pub printed : Appended before.written.out.taken (slack_text (terminals_of points) above bounds) after.written.out.taken
+  pub printed : Appended before.written.out.taken (slack_text (terminals_of points) above bounds)
+      after.written.out.taken
   pub are_bounds : AreEdgeBounds (grid_of_points points) bounds
   pub lines : (e : ℕ) → Contains (listed above bounds) e → BoundsEdge (grid_of_points points) e (slice_index bounds e)
   pub longer : (most : ℕ) → above ≡ Some most → (e : ℕ) → Contains (listed above bounds) e →

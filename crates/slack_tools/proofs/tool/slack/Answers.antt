@@ -12,10 +12,14 @@ use Rattle.slack_tools.proofs.tool.slack.Goals as goal
 
 pub returns : goal.returns
 returns g c = λ shelf.
-    ends_with answer_text answer_status (text_fault_status list_fault_status) (text_fault_text list_fault_text) (codes "slack") (FromText TEXT_LIMIT (BoundsEdges c.args.above)) LeavesShelf
+    ends_with answer_text answer_status (text_fault_status list_fault_status) (text_fault_text list_fault_text)
+    (codes "slack")
+    (FromText TEXT_LIMIT (BoundsEdges c.args.above)) LeavesShelf
     (outside (g.I.Source.state c.args.input.now) (g.O.Sink.state c.args.out.now) (g.R.Sink.state c.args.err.now) shelf)
-    (outside (g.I.Source.state c.find-found.new.input) (g.O.Sink.state c.conclude.new.out) (g.R.Sink.state c.conclude.new.err) shelf)
+    (outside (g.I.Source.state c.find-found.new.input) (g.O.Sink.state c.conclude.new.out)
+    (g.R.Sink.state c.conclude.new.err) shelf)
     c.conclude.result c.find-found.result
-    (found_or_not c.args.above (readable (g.I.Source.state c.args.input.now) shelf) (readable (g.I.Source.state c.find-found.new.input) shelf) c.find-found.result (c.find-found.ensures.finds shelf))
+    (found_or_not c.args.above (readable (g.I.Source.state c.args.input.now) shelf)
+    (readable (g.I.Source.state c.find-found.new.input) shelf) c.find-found.result (c.find-found.ensures.finds shelf))
     (record { input = c.find-found.ensures.takes; shelf = refl })
     c.conclude.ensures.concludes

@@ -5,4 +5,6 @@ use Rattle.slack_tools.proofs.write.listed_count.Given as goal
 
 -- how many of the edges passed have a line
 abbrev pub invariant-loop-edge : goal.invariant-loop-edge
-invariant-loop-edge l = (l.count ≡ length (filter (λ e. is_above l.above (get_or l.bounds e 0)) (range_with_len 0 l.edge))) × (l.count ≤ l.edge)
+invariant-loop-edge l =
+    (l.count ≡ length (filter (λ e. is_above l.above (get_or l.bounds e 0)) (range_with_len 0 l.edge)))
+    × (l.count ≤ l.edge)
