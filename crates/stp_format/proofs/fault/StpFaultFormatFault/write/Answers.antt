@@ -1,5 +1,5 @@
 -- In each arm the text of the fault is the one that was written.
-use Rattle.point_tools.proofs.stp_points_fault.StpPointsFaultFault.write.Goals as goal
+use Rattle.stp_format.proofs.fault.StpFaultFormatFault.write.Goals as goal
 
 pub returns-in-NoMagic : goal.returns-in-NoMagic
 returns-in-NoMagic g c = rw c.in-NoMagic.is c.literal.ensures
@@ -15,3 +15,6 @@ returns-in-NoTerminals g c = rw c.in-NoTerminals.is c.literal-in-NoTerminals.ens
 
 pub returns-in-TooManyPoints : goal.returns-in-TooManyPoints
 returns-in-TooManyPoints g c = rw c.in-TooManyPoints.is c.write_node-in-TooManyPoints.ensures
+
+pub returns-in-Memory : goal.returns-in-Memory
+returns-in-Memory g c = rw c.in-Memory.is c.literal-in-Memory.ensures
