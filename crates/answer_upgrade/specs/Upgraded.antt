@@ -1,4 +1,4 @@
--- The same answer in version 2, and its lines.
+-- What the lines of an answer's text become in version 2.
 use Rattle.std.specs.Prelude.{ℕ, List}
 use Rattle.cut_cert.specs.declared.version.Version.TheVariants as version
 use Rattle.cut_cert.specs.AnswerLine.{Line}
@@ -11,10 +11,6 @@ use Rattle.answer_upgrade.specs.declared.change.Change.TheVariants as change
 -- the bytes spell an answer
 abbrev pub IsSpelling : ℕ → List ℕ → Type 0
 IsSpelling V bytes = (answer : WrittenAnswer) × SpellsAnswer V bytes answer
-
--- the same value with the version 2
-abbrev pub upgraded : WrittenAnswer → WrittenAnswer
-upgraded a = record a { version = version.Two }
 
 -- the line that a line becomes
 abbrev pub upgraded_line : Line → Line
