@@ -8,9 +8,9 @@ mod number_row;
 mod reading;
 mod writing;
 
-use row_tables::{Call, Fault};
+use row_tables::{Call, Fault, run_table};
 use std::alloc::Global;
-use tool_table::{Reader, run_table};
+use tool_table::Reader;
 
 /// Makes the call of a row, and writes what comes of it.
 pub fn answer(alloc: Global, call: &Call, answer: &mut String) -> Result<(), Fault> {

@@ -1,58 +1,76 @@
--- Gathering the undecided edges of a set.
+-- Gathering what a leaf may be split on.
 use Rattle.std.proofs.Common.{ℕ, ◌≡◌, ◌+◌, ◌<◌, ◌≤◌, Bool, true, false, List, [], ◌∷◌, ◌++◌, length, slice_get, Some, All, ap, sym, ◌∙◌, subst, arith, length-append}
 use Rattle.std.proofs.lemmas.List.Elements.{All-push, All-nil}
-use Rattle.std.proofs.lemmas.Option.{slice_get_within}
+use Rattle.std.proofs.lemmas.Option.{same_Some, slice_get_within}
 use borrow.Author.Count.{below_more}
 use Rattle.net_graph.specs.Graph.{Graph}
+use Rattle.net_graph.specs.declared.edge.Edge.{Edge}
 use Rattle.net_graph.specs.declared.state.EdgeState.{EdgeState}
 use Rattle.net_graph.specs.declared.state.EdgeState.TheVariants.{Undecided}
-use Rattle.net_graph.specs.Decision.{Decided, IsUndecided, states_of}
+use Rattle.net_graph.specs.Decision.{Decided, IsUndecided, IsVertexUndecided, states_of}
 use Rattle.dual_ascent.specs.declared.candidate.Candidate.{Candidate}
-use Rattle.branch.specs.Notes.{IsSplitCandidate, HasNoCandidate}
+use Rattle.branch.specs.Meeting.{edges_at}
+use Rattle.branch.specs.Notes.{IsEdgeCandidate, HasNoEdgeCandidate, IsVertexCandidate, HasNoVertexCandidate}
 
--- the edge is no undecided one of the set
-abbrev pub IsNone : Graph → Decided → List Bool → ℕ → Type 0
-IsNone g d set n = slice_get set n ≡ Some true → IsUndecided g d n → ⊥
+-- each of the list is a candidate, and where it is empty no number below a limit is sought
+pub record IsGathered (IsCandidate : Candidate → Type 0) (IsSought : ℕ → Type 0) (seen : ℕ) (list : List Candidate) : Type 0 where
+  pub each : All IsCandidate list
+  pub every : list ≡ [] → (n : ℕ) → n < seen → IsSought n → ⊥
 
--- the list has undecided edges of the set, and where it is empty there is none below a number
-pub record IsGathered (g : Graph) (d : Decided) (set : List Bool) (seen : ℕ) (list : List Candidate) : Type 0 where
-  pub each : All (IsSplitCandidate g d set) list
-  pub every : list ≡ [] → (n : ℕ) → n < seen → IsNone g d set n
+module _ (IsCandidate : Candidate → Type 0) (IsSought : ℕ → Type 0) where
+  pub gathered_first : (list : List Candidate) → list ≡ [] → IsGathered IsCandidate IsSought 0 list
+  gathered_first list is = record {
+    each = subst (λ (xs : List Candidate). All IsCandidate xs) (sym is) (All-nil IsCandidate);
+    every = λ _ n below. absurd (omega arith);
+  }
 
-pub gathered_first : (g : Graph) (d : Decided) (set : List Bool) (list : List Candidate) → list ≡ [] → IsGathered g d set 0 list
-gathered_first g d set list is = record {
-  each = subst (λ (xs : List Candidate). All (IsSplitCandidate g d set) xs) (sym is) (All-nil (IsSplitCandidate g d set));
-  every = λ _ n below. absurd (omega arith);
+  pub gathered_more : (seen : ℕ) (list : List Candidate) (c : Candidate) → IsGathered IsCandidate IsSought seen list → IsCandidate c →
+      IsGathered IsCandidate IsSought (seen + 1) (list ++ c ∷ [])
+  gathered_more seen list c so_far candidate = record {
+    each = All-push IsCandidate list c so_far.each candidate;
+    every = λ none. absurd (omega (arith, length-append list (c ∷ []), ap length none));
+  }
+
+  pub gathered_kept : (seen : ℕ) (list : List Candidate) → IsGathered IsCandidate IsSought seen list → (IsSought seen → ⊥) →
+      IsGathered IsCandidate IsSought (seen + 1) list
+  gathered_kept seen list so_far none = record {
+    each = so_far.each;
+    every = λ empty. below_more (λ n. IsSought n → ⊥) seen (so_far.every empty) none;
+  }
+
+-- the edge is an undecided one of the set
+abbrev pub IsSoughtEdge : Graph → Decided → List Bool → ℕ → Type 0
+IsSoughtEdge g d set n = (slice_get set n ≡ Some true) × IsUndecided g d n
+
+-- the vertex is an undecided end of an edge of the set
+abbrev pub IsSoughtVertex : Graph → Decided → List Bool → ℕ → Type 0
+IsSoughtVertex g d set v = (0 < edges_at g.edges set v) × IsVertexUndecided g d v
+
+pub edge_candidate : (g : Graph) (d : Decided) (set : List Bool) (n : ℕ) (c : Candidate) (edge : Edge) → c.number ≡ n →
+    slice_get set n ≡ Some true → IsUndecided g d n → slice_get g.edges n ≡ Some edge → c.size ≡ edge.length → IsEdgeCandidate g d set c
+edge_candidate g d set n c edge is within undecided at size = record {
+  within = subst (λ (m : ℕ). slice_get set m ≡ Some true) (sym is) within;
+  undecided = subst (λ (m : ℕ). IsUndecided g d m) (sym is) undecided;
+  size = λ other other_at.
+      let found : slice_get g.edges n ≡ Some other = subst (λ (m : ℕ). slice_get g.edges m ≡ Some other) is other_at in
+      size ∙ ap (λ (e : Edge). e.length) (same_Some edge other (sym at ∙ found));
 }
 
-pub gathered_more : (g : Graph) (d : Decided) (set : List Bool) (seen : ℕ) (list : List Candidate) (c : Candidate) →
-    IsGathered g d set seen list → c.number ≡ seen → slice_get set seen ≡ Some true → IsUndecided g d seen →
-    IsGathered g d set (seen + 1) (list ++ c ∷ [])
-gathered_more g d set seen list c so_far is within undecided = record {
-  each = All-push (IsSplitCandidate g d set) list c so_far.each (record {
-    within = subst (λ (n : ℕ). slice_get set n ≡ Some true) (sym is) within;
-    undecided = subst (λ (n : ℕ). IsUndecided g d n) (sym is) undecided;
-  });
-  every = λ none. absurd (omega (arith, length-append list (c ∷ []), ap length none));
-}
+pub no_edge : (g : Graph) (d : Decided) (set : List Bool) (seen : ℕ) (list : List Candidate) →
+    IsGathered (IsEdgeCandidate g d set) (IsSoughtEdge g d set) seen list → length set ≤ seen → list ≡ [] → HasNoEdgeCandidate g d set
+no_edge g d set seen list so_far all empty = λ n within undecided.
+    so_far.every empty n (let below : n < length set = slice_get_within set n true within in omega arith) (within, undecided)
 
-pub gathered_kept : (g : Graph) (d : Decided) (set : List Bool) (seen : ℕ) (list : List Candidate) →
-    IsGathered g d set seen list → IsNone g d set seen → IsGathered g d set (seen + 1) list
-gathered_kept g d set seen list so_far none = record {
-  each = so_far.each;
-  every = λ empty. below_more (IsNone g d set) seen (so_far.every empty) none;
-}
-
-pub gathered_all : (g : Graph) (d : Decided) (set : List Bool) (seen : ℕ) (list : List Candidate) →
-    IsGathered g d set seen list → length set ≤ seen → list ≡ [] → HasNoCandidate g d set
-gathered_all g d set seen list so_far all empty = λ n within.
-    so_far.every empty n (let below : n < length set = slice_get_within set n true within in omega arith) within
+pub no_vertex : (g : Graph) (d : Decided) (set : List Bool) (seen : ℕ) (list : List Candidate) →
+    IsGathered (IsVertexCandidate g d set) (IsSoughtVertex g d set) seen list → g.vertices ≤ seen → list ≡ [] → HasNoVertexCandidate g d set
+no_vertex g d set seen list so_far all empty = λ v some undecided.
+    so_far.every empty v (let below : v < g.vertices = undecided.vertex in omega arith) (some, undecided)
 
 -- an edge that isn't in the set
-pub not_within : (g : Graph) (d : Decided) (set : List Bool) (n : ℕ) → slice_get set n ≡ Some false → IsNone g d set n
-not_within g d set n out = λ within _. let no : Some false ≡ Some true = sym out ∙ within in absurd (cc)
+pub not_within : (g : Graph) (d : Decided) (set : List Bool) (n : ℕ) → slice_get set n ≡ Some false → IsSoughtEdge g d set n → ⊥
+not_within g d set n out = λ sought. let no : Some false ≡ Some true = sym out ∙ sought.0 in absurd (cc)
 
 -- an edge with another state
 pub not_undecided : (g : Graph) (d : Decided) (set : List Bool) (n : ℕ) (state : EdgeState) → slice_get (states_of g d) n ≡ Some state →
-    (state ≡ Undecided → ⊥) → IsNone g d set n
-not_undecided g d set n state at other = λ _ undecided. other (let same : Some state ≡ Some Undecided = sym at ∙ undecided in cc)
+    (state ≡ Undecided → ⊥) → IsSoughtEdge g d set n → ⊥
+not_undecided g d set n state at other = λ sought. other (let same : Some state ≡ Some Undecided = sym at ∙ sought.1 in cc)

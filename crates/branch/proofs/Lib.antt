@@ -3,6 +3,7 @@ pub mod CarriedLemmas
 pub mod EnoughLemmas
 pub mod InsideLemmas
 pub mod ListLemmas
+pub mod MeetingLemmas
 pub mod OpenedLemmas
 pub mod OpeningLemmas
 pub mod RaisedLemmas

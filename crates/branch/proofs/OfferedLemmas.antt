@@ -9,7 +9,6 @@ use Rattle.cert_tree.specs.Preorder.{split_count}
 use Rattle.cert_tree.specs.Tree.{Tree}
 use Rattle.branch.specs.declared.best.Best.{Best}
 use Rattle.branch.specs.declared.frontier.Frontier.{Frontier}
-use Rattle.branch.specs.declared.note.LeafNote.{LeafNote}
 use Rattle.branch.specs.Leaves.{DecidedLeaf, leaves_of}
 use Rattle.branch.specs.Notes.{IsBest, IsKeptNote, IsOwnNetwork, ShowsOwn, AreNotesOf}
 use Rattle.branch.specs.Runs.{EndsOpenings}

@@ -1,19 +1,22 @@
 -- How the next open leaf can be opened.
-use Rattle.std.proofs.Common.{ℕ, ◌≡◌, ◌<◌, ◌≤◌, ◌^◌, ◌⊎◌, ⊎_elim, Bool, true, List, length, slice_get, Option, Some, None, refl, ap, sym, ◌∙◌, subst, arith, get_or}
+use Rattle.std.proofs.Common.{ℕ, ◌≡◌, ◌<◌, ◌≤◌, ◌^◌, ◌⊎◌, ⊎_elim, inl, inr, Bool, true, List, length, slice_get, Option, Some, None, refl, ap, sym, ◌∙◌, subst, arith, get_or}
 use Rattle.std.proofs.lemmas.Option.{same_Some, slice_get_within, slice_get_read}
 use Rattle.net_graph.specs.declared.state.EdgeState.{EdgeState}
 use Rattle.net_graph.specs.declared.state.EdgeState.TheVariants.{Undecided, Inside, Outside}
+use Rattle.net_graph.specs.declared.state.VertexState.TheVariants.{Met, Missed}
 use Rattle.net_graph.specs.declared.packing.Cut.{Cut}
 use Rattle.net_graph.specs.Graph.{Graph, total_of}
 use Rattle.net_graph.specs.Network.{length_of}
 use Rattle.net_graph.specs.LengthLaws.{length_of_edges-le-sum}
-use Rattle.net_graph.specs.Decision.{Decided, IsDecisionFor, IsUndecided, states_of, nothing_decided, with_edge}
+use Rattle.net_graph.specs.Decision.{Decided, IsDecisionFor, IsUndecided, IsVertexUndecided, states_of, nothing_decided}
 use Rattle.net_graph.specs.DecisionLaws.{states_of-inside}
 use Rattle.net_graph.specs.Packing.{IsFeasible, room_of, load}
 use Rattle.dual_ascent.specs.Ascending.{BeginsWith}
-use Rattle.dual_ascent.specs.Carried.{carried}
+use Rattle.dual_ascent.specs.Carried.{carried, DecidesOneMore}
 use Rattle.branch.specs.SaturatedArcs.{HasSaturatedArc}
+use Rattle.cert_tree.specs.declared.split.SplitOn.{SplitOn}
 use Rattle.cert_tree.specs.declared.split.SplitOn.TheVariants as split
+use Rattle.cert_tree.specs.Decisions.{outside_of, inside_of, IsUndecidedSplit}
 use Rattle.cert_tree.specs.Preorder.{packings_of, split_count}
 use Rattle.cert_tree.specs.PreorderLaws.{length-packings_of}
 use Rattle.branch.specs.declared.note.LeafNote.{LeafNote}
@@ -22,14 +25,18 @@ use Rattle.branch.specs.declared.best.Best.{Best}
 use Rattle.branch.specs.declared.frontier.Frontier.{Frontier}
 use Rattle.branch.specs.Leaves.{DecidedLeaf, leaf_under, leaves_of}
 use Rattle.branch.specs.States.{IsOpenLeaf, leaf_value}
-use Rattle.branch.specs.Openings.{IsSplitEdge}
+use Rattle.branch.specs.declared.split_kind.SplitKind.{SplitKind}
+use Rattle.branch.specs.declared.split_kind.SplitKind.TheVariants as kind
+use Rattle.branch.specs.Meeting.{edges_at}
+use Rattle.branch.specs.Openings.{IsSplitEdge, IsSplitVertex, IsSplitOf}
 use Rattle.dual_ascent.specs.Costs.{costs_of}
-use Rattle.branch.specs.Notes.{IsBest, ShowsOwn, IsNoteOf, IsUpToOwn, IsKeptNote, IsNextNote, CanSplit, IsOfOwn}
-use Rattle.branch.specs.Searching.{IsSearch, IsOpeningOf}
+use Rattle.branch.specs.Notes.{IsBest, ShowsOwn, IsNoteOf, IsUpToOwn, IsKeptNote, IsNextNote, CanSplit, IsOfOwn, IsEdgeOfOwn, IsEndOfOwn, IsAsAsked}
+use Rattle.branch.specs.Searching.{IsSearch, IsOpeningOf, IsOfKind}
 use Rattle.branch.proofs.ListLemmas.{beside_right}
 use Rattle.branch.proofs.TreeLemmas.{length-leaves_of, packing_at}
 use Rattle.branch.proofs.SearchLemmas.{shorter_own}
 use Rattle.branch.proofs.InsideLemmas.{inside-covers}
+use Rattle.branch.proofs.MeetingLemmas.{meeting}
 
 -- the leaf that the next note stands for
 pub record IsNextLeaf (g : Graph) (kept : Frontier) (place : ℕ) (note : LeafNote) (leaf : DecidedLeaf) : Type 0 where
@@ -51,19 +58,48 @@ next_leaf g kept place note search next is =
     let value = kept_note.0.value in
     (leaf, record { at = leaf_at; of_note = kept_note.0; own = kept_note.1; below = omega arith })
 
--- an edge with a saturated arc that isn't undecided is inside
-pub saturated_inside : (g : Graph) (d : Decided) (packing : List Cut) (n : ℕ) → HasSaturatedArc g d packing n → (IsUndecided g d n → ⊥) →
-    slice_get d.edges n ≡ Some Inside
-saturated_inside g d packing n (e, state, at, state_at, saturated) other = go state state_at saturated
+-- an edge with a saturated arc is undecided or inside
+saturated_cases : (g : Graph) (d : Decided) (packing : List Cut) (n : ℕ) → HasSaturatedArc g d packing n →
+    IsUndecided g d n ⊎ (slice_get d.edges n ≡ Some Inside)
+saturated_cases g d packing n (e, state, at, state_at, saturated) = go state state_at saturated
   where
     go : (s : EdgeState) → slice_get (states_of g d) n ≡ Some s →
-        ((room_of s e ≡ Some (load packing e.a e.b)) ⊎ (room_of s e ≡ Some (load packing e.b e.a))) → slice_get d.edges n ≡ Some Inside
-    go Undecided s_at full = absurd (other s_at)
-    go Inside s_at full = states_of-inside g d n s_at
+        ((room_of s e ≡ Some (load packing e.a e.b)) ⊎ (room_of s e ≡ Some (load packing e.b e.a))) →
+        IsUndecided g d n ⊎ (slice_get d.edges n ≡ Some Inside)
+    go Undecided s_at full = inl s_at
+    go Inside s_at full = inr (states_of-inside g d n s_at)
     go Outside s_at full = absurd (⊎_elim
         (λ (no : room_of Outside e ≡ Some (load packing e.a e.b)). cc)
         (λ (no : room_of Outside e ≡ Some (load packing e.b e.a)). cc)
         full)
+
+pub saturated_inside : (g : Graph) (d : Decided) (packing : List Cut) (n : ℕ) → HasSaturatedArc g d packing n → (IsUndecided g d n → ⊥) →
+    slice_get d.edges n ≡ Some Inside
+saturated_inside g d packing n arc other =
+    ⊎_elim
+    (λ (undecided : IsUndecided g d n). absurd (other undecided))
+    (λ (inside : slice_get d.edges n ≡ Some Inside). inside)
+    (saturated_cases g d packing n arc)
+
+-- what is of a leaf's own network is undecided
+pub own_undecided : (g : Graph) (note : LeafNote) (on : SplitOn) → IsOfOwn g note on → IsUndecidedSplit g note.decision on
+own_undecided g note (split.Edge e) of_own = of_own.undecided
+own_undecided g note (split.Vertex v) of_own = of_own.undecided
+
+-- a decision and what a split adds to it
+pub one_more_outside : (g : Graph) (d now : Decided) (on : SplitOn) → IsUndecidedSplit g d on → now ≡ outside_of d on → DecidesOneMore g d now
+one_more_outside g d now (split.Edge e) undecided is = inl (e, Outside, undecided, is)
+one_more_outside g d now (split.Vertex v) undecided is = inr (v, Missed, undecided, is)
+
+pub one_more_inside : (g : Graph) (d now : Decided) (on : SplitOn) → IsUndecidedSplit g d on → now ≡ inside_of d on → DecidesOneMore g d now
+one_more_inside g d now (split.Edge e) undecided is = inl (e, Inside, undecided, is)
+one_more_inside g d now (split.Vertex v) undecided is = inr (v, Met, undecided, is)
+
+-- what is asked for is of the kind
+pub asked_kind : (g : Graph) (note : LeafNote) (asked : SplitKind) (on : SplitOn) → IsAsAsked g note asked on → IsOfKind asked on
+asked_kind g note kind.Edges (split.Edge e) is = tt
+asked_kind g note kind.Edges (split.Vertex v) is = is
+asked_kind g note kind.Vertices on is = tt
 
 module _ (g : Graph) (kept : Frontier) (place : ℕ) (note : LeafNote) (search : IsSearch g kept)
     (next : IsNextNote kept.best.length kept.notes.items place) (is : note ≡ get_or kept.notes.items place note) where
@@ -123,8 +159,8 @@ module _ (g : Graph) (kept : Frontier) (place : ℕ) (note : LeafNote) (search :
       ∙ ap (λ (p : List Cut). costs_of g.edges (states_of g leaf.decision) p) (parent_is parent at)
       ∙ ap (λ (d : Decided). costs_of g.edges (states_of g d) parent) (sym is_next.of_note.decision)
 
-  pub own_splits : (e : ℕ) → IsOfOwn g note e → IsSplitEdge g leaf e
-  own_splits e of_own = go note.network refl is_next.of_note.own
+  own_edge : (e : ℕ) → IsEdgeOfOwn g note e → IsSplitEdge g leaf e
+  own_edge e of_own = go note.network refl is_next.of_note.own
     where
       go : (own : Option (List Bool)) → note.network ≡ own → ShowsOwn g leaf own → IsSplitEdge g leaf e
       go None same shows = let no : Some of_own.set ≡ None = sym of_own.own ∙ same in absurd cc
@@ -135,42 +171,71 @@ module _ (g : Graph) (kept : Frontier) (place : ℕ) (note : LeafNote) (search :
             saturated = shows.arcs.arcs e (subst (λ (s : List Bool). slice_get s e ≡ Some true) sets of_own.within);
           }
 
-  -- a child, once its decision is known to be one more on the leaf's
-  pub child_note : (e : ℕ) (state : EdgeState) (now : Decided) (child : NewLeaf) → now ≡ with_edge note.decision e state →
-      IsNoteOf g (leaf_under now child.packing) child.note → IsNoteOf g (leaf_under (with_edge leaf.decision e state) child.packing) child.note
-  child_note e state now child same of_note =
-      subst (λ (d : Decided). IsNoteOf g (leaf_under d child.packing) child.note)
-      (same ∙ ap (λ (d : Decided). with_edge d e state) is_next.of_note.decision) of_note
+  -- an undecided vertex is no end of an inside edge, so that an edge of the network is undecided there
+  own_vertex : (v : ℕ) → IsEndOfOwn g note v → IsSplitVertex g leaf v
+  own_vertex v of_own = go note.network refl is_next.of_note.own
+    where
+      go : (own : Option (List Bool)) → note.network ≡ own → ShowsOwn g leaf own → IsSplitVertex g leaf v
+      go None same shows = let no : Some of_own.set ≡ None = sym of_own.own ∙ same in absurd cc
+      go (Some set) same shows =
+          let sets : of_own.set ≡ set = same_Some of_own.set set (sym of_own.own ∙ same) in
+          let undecided : IsVertexUndecided g leaf.decision v =
+          subst (λ (d : Decided). IsVertexUndecided g d v) is_next.of_note.decision of_own.undecided in
+          let met = meeting g.edges set v (subst (λ (s : List Bool). 0 < edges_at g.edges s v) sets of_own.some) in
+          let arc = shows.arcs.arcs met.number met.within in
+          record {
+            undecided = undecided;
+            number = met.number;
+            edge = met.edge;
+            at = met.at;
+            ends = met.ends;
+            splits = record {
+              undecided = ⊎_elim
+                  (λ (yes : IsUndecided g leaf.decision met.number). yes)
+                  (λ (inside : slice_get leaf.decision.edges met.number ≡ Some Inside).
+                  absurd (undecided.not_required (inr (inl (met.number, met.edge, inside, met.at, met.ends)))))
+                  (saturated_cases g leaf.decision leaf.packing met.number arc);
+              saturated = arc;
+            };
+          }
 
-  pub child_begins : (e : ℕ) (state : EdgeState) (now : Decided) (parent packing : List Cut) → now ≡ with_edge note.decision e state →
+  own_splits : (on : SplitOn) → IsOfOwn g note on → IsSplitOf g leaf on
+  own_splits (split.Edge e) of_own = own_edge e of_own
+  own_splits (split.Vertex v) of_own = own_vertex v of_own
+
+  -- a child, once its decision is known to be one more on the leaf's
+  child_note : (next : Decided → Decided) (now : Decided) (child : NewLeaf) → now ≡ next note.decision →
+      IsNoteOf g (leaf_under now child.packing) child.note → IsNoteOf g (leaf_under (next leaf.decision) child.packing) child.note
+  child_note next now child same of_note =
+      subst (λ (d : Decided). IsNoteOf g (leaf_under d child.packing) child.note) (same ∙ ap next is_next.of_note.decision) of_note
+
+  child_begins : (next : Decided → Decided) (now : Decided) (parent packing : List Cut) → now ≡ next note.decision →
       slice_get (packings_of kept.tree) place ≡ Some parent → BeginsWith packing (carried g now parent) →
-      BeginsWith packing (carried g (with_edge leaf.decision e state) leaf.packing)
-  child_begins e state now parent packing same at begins =
-      subst (λ (d : Decided). BeginsWith packing (carried g d leaf.packing))
-      (same ∙ ap (λ (d : Decided). with_edge d e state) is_next.of_note.decision)
+      BeginsWith packing (carried g (next leaf.decision) leaf.packing)
+  child_begins next now parent packing same at begins =
+      subst (λ (d : Decided). BeginsWith packing (carried g d leaf.packing)) (same ∙ ap next is_next.of_note.decision)
       (subst (λ (p : List Cut). BeginsWith packing (carried g now p)) (sym (parent_is parent at)) begins)
 
   -- all together
-  pub is_opening : (e : ℕ) (d_out d_in : Decided) (parent : List Cut) (outside inside : NewLeaf) (copy second best : Best) →
-      IsOfOwn g note e → d_out ≡ with_edge note.decision e Outside → d_in ≡ with_edge note.decision e Inside →
+  pub is_opening : (on : SplitOn) (d_out d_in : Decided) (parent : List Cut) (outside inside : NewLeaf) (copy second best : Best) →
+      IsOfOwn g note on → IsAsAsked g note kept.kind on → d_out ≡ outside_of note.decision on → d_in ≡ inside_of note.decision on →
       slice_get (packings_of kept.tree) place ≡ Some parent →
       IsNoteOf g (leaf_under d_out outside.packing) outside.note → BeginsWith outside.packing (carried g d_out parent) →
       IsNoteOf g (leaf_under d_in inside.packing) inside.note → BeginsWith inside.packing (carried g d_in parent) →
       copy ≡ kept.best → second.length ≤ copy.length → IsUpToOwn g second.length outside.note.network →
       IsBest g best → best.length ≤ second.length → IsUpToOwn g best.length inside.note.network →
-      IsOpeningOf g kept (record { leaf = place; on = split.Edge e; outside = outside; inside = inside; best = best })
-  is_opening e d_out d_in parent outside inside copy second best of_own out_is in_is parent_at out_note out_begins in_note in_begins
+      IsOpeningOf g kept (record { leaf = place; on = on; outside = outside; inside = inside; best = best })
+  is_opening on d_out d_in parent outside inside copy second best of_own asked out_is in_is parent_at out_note out_begins in_note in_begins
       copy_is second_less second_own is_best best_less best_own = record {
         leaf = leaf;
-        edge = e;
         at = is_next.at;
         below = is_next.below;
-        on = refl;
-        splits = own_splits e of_own;
-        outside = child_note e Outside d_out outside out_is out_note;
-        inside = child_note e Inside d_in inside in_is in_note;
-        outside_begins = child_begins e Outside d_out parent outside.packing out_is parent_at out_begins;
-        inside_begins = child_begins e Inside d_in parent inside.packing in_is parent_at in_begins;
+        splits = own_splits on of_own;
+        kind = asked_kind g note kept.kind on asked;
+        outside = child_note (λ d. outside_of d on) d_out outside out_is out_note;
+        inside = child_note (λ d. inside_of d on) d_in inside in_is in_note;
+        outside_begins = child_begins (λ d. outside_of d on) d_out parent outside.packing out_is parent_at out_begins;
+        inside_begins = child_begins (λ d. inside_of d on) d_in parent inside.packing in_is parent_at in_begins;
         best = is_best;
         no_longer = let same : copy.length ≡ kept.best.length = ap (λ (b : Best). b.length) copy_is in omega arith;
         outside_own = shorter_own g second.length best.length outside.note.network best_less second_own;

@@ -90,11 +90,11 @@ best_stays g best (Some set) is_best up_to =
 -- Another leaf in place of the only one, of a value that isn't less, raises the search.
 pub raised : (g : Graph) (old new : Frontier) (s : SearchState) (first note : LeafNote) (packing cuts : List Cut) →
     IsSearch g old → search_state g old ≡ s → split_count s.tree ≡ 0 → first ≡ get_or old.notes.items 0 first →
-    new.first_length ≡ old.first_length → new.tree ≡ Leaf packing →
+    new.kind ≡ old.kind → new.first_length ≡ old.first_length → new.tree ≡ Leaf packing →
     new.notes.items ≡ note ∷ [] → new.best.network ≡ shorter_of g old.best.network note.network →
     IsNoteOf g (leaf_under (nothing_decided g) packing) note → BeginsWith packing cuts → first.value ≤ note.value →
     IsRaised cuts s (search_state g new)
-raised g old new s first note packing cuts search view none is first_length tree notes best of_note begins more =
+raised g old new s first note packing cuts search view none is kind first_length tree notes best of_note begins more =
     let before = only_value g old s first search view none is in
     let after : tree_value g (nothing_decided g) new.tree ≡ tree_value g (nothing_decided g) (Leaf packing) =
     ap (tree_value g (nothing_decided g)) tree in
@@ -102,6 +102,7 @@ raised g old new s first note packing cuts search view none is first_length tree
     let least = worth g (nothing_decided g) packing cuts begins in
     subst (λ (t : SearchState). IsRaised cuts t (search_state g new)) view (record {
       graph = refl;
+      kind = kind;
       first_length = first_length;
       leaf = ap split_count tree;
       value = omega arith;
@@ -123,6 +124,7 @@ stays_raised g kept s first note packing cuts search view none is of_note begins
     rw (shown_is g kept first search is) (best_stays g kept.best first.network search.best own.1) in
     subst (λ (t : SearchState). IsRaised cuts t t) view (record {
       graph = refl;
+      kind = refl;
       first_length = refl;
       leaf = ap (λ (t : SearchState). split_count t.tree) view ∙ none;
       value = omega arith;

@@ -13,18 +13,20 @@ use Rattle.cert_tree.specs.Tree.{Tree, split_with}
 use Rattle.cert_tree.specs.Tree.Tree.{Leaf}
 use Rattle.cert_tree.specs.Preorder.{split_count}
 use Rattle.cert_tree.specs.Replaced.{replaced}
-use Rattle.cert_tree.specs.Decisions.{outside_of, inside_of}
+use Rattle.cert_tree.specs.Decisions.{outside_of, inside_of, IsUndecidedSplit}
 use Rattle.cert_tree.specs.TreeValue.{IsValidTree}
 use Rattle.branch.specs.declared.note.LeafNote.{LeafNote}
 use Rattle.branch.specs.declared.best.Best.{Best}
 use Rattle.branch.specs.declared.frontier.Frontier.{Frontier}
 use Rattle.branch.specs.declared.opening.Opening.{Opening}
+use Rattle.branch.specs.declared.split_kind.SplitKind.{SplitKind}
+use Rattle.branch.specs.declared.split_kind.SplitKind.TheVariants as kind
 use Rattle.branch.specs.Leaves.{DecidedLeaf, leaf_under, leaves_of}
 use Rattle.branch.specs.States.{IsReadyLeaf, IsOpenLeaf, IsState}
-use Rattle.branch.specs.Openings.{IsOpening}
+use Rattle.branch.specs.Openings.{IsOpening, IsSplitOf}
 use Rattle.branch.specs.Runs.{EndsOpenings, EndsRunOfOpenings}
 use Rattle.branch.specs.Notes.{IsBest, ShowsOwn, IsNoteOf, IsUpToOwn, IsKeptNote, AreNotesOf}
-use Rattle.branch.specs.Searching.{search_state, SplitsEdges, IsSearch, IsOpeningOf, IsOpened, OpensTo}
+use Rattle.branch.specs.Searching.{search_state, SplitsEdges, IsOfKind, IsSearch, IsOpeningOf, IsOpened, OpensTo}
 use Rattle.branch.proofs.ListLemmas.{two_at, insert-set, AllZip-two_at, AllZip-weaker, AllZip-length, beside_left, all_from_places}
 use Rattle.branch.proofs.TreeLemmas.{leaves_of-replaced, IsValidTree-replaced, split_count-replaced, SplitsEdges-replaced}
 
@@ -59,35 +61,46 @@ pub shorter_own : (g : Graph) (length less : ℕ) (own : Option (List Bool)) →
 shorter_own g length less None le up_to = tt
 shorter_own g length less (Some set) le up_to = omega arith
 
+-- what may be split is undecided
+split_undecided : (g : Graph) (leaf : DecidedLeaf) (on : SplitOn) → IsSplitOf g leaf on → IsUndecidedSplit g leaf.decision on
+split_undecided g leaf (split.Edge e) splits = splits.undecided
+split_undecided g leaf (split.Vertex v) splits = splits.undecided
+
+-- where edges are asked for, a split is on one
+on_edge : (asked : SplitKind) (on : SplitOn) → asked ≡ kind.Edges → IsOfKind asked on → (e : ℕ) × (on ≡ split.Edge e)
+on_edge asked (split.Edge e) is of_kind = (e, refl)
+on_edge asked (split.Vertex v) is of_kind = absurd (subst (λ (k : SplitKind). IsOfKind k (split.Vertex v)) is of_kind)
+
 module _ (g : Graph) (old : Frontier) (opening : Opening) (search : IsSearch g old) (op : IsOpeningOf g old opening) where
   abbrev first_leaves : List DecidedLeaf
   first_leaves = leaves_of (nothing_decided g) old.tree
 
   abbrev outside_leaf : DecidedLeaf
-  outside_leaf = leaf_under (outside_of op.leaf.decision (split.Edge op.edge)) opening.outside.packing
+  outside_leaf = leaf_under (outside_of op.leaf.decision opening.on) opening.outside.packing
 
   abbrev inside_leaf : DecidedLeaf
-  inside_leaf = leaf_under (inside_of op.leaf.decision (split.Edge op.edge)) opening.inside.packing
+  inside_leaf = leaf_under (inside_of op.leaf.decision opening.on) opening.inside.packing
 
   abbrev opened_tree : Tree SplitOn
-  opened_tree = replaced opening.leaf (split_with (split.Edge op.edge) opening.outside.packing opening.inside.packing) old.tree
+  opened_tree = replaced opening.leaf (split_with opening.on opening.outside.packing opening.inside.packing) old.tree
 
   opened_valid : IsValidTree g (nothing_decided g) opened_tree
   opened_valid =
-      IsValidTree-replaced (split.Edge op.edge) opening.outside.packing opening.inside.packing g (nothing_decided g) old.tree opening.leaf op.leaf op.at
-      search.valid op.splits.undecided op.outside.feasible op.inside.feasible
+      IsValidTree-replaced opening.on opening.outside.packing opening.inside.packing g (nothing_decided g) old.tree opening.leaf op.leaf op.at
+      search.valid (split_undecided g op.leaf opening.on op.splits) op.outside.feasible op.inside.feasible
 
-  opened_edges : SplitsEdges opened_tree
-  opened_edges =
-      SplitsEdges-replaced (split.Edge op.edge) opening.outside.packing opening.inside.packing op.edge refl (nothing_decided g) old.tree
-      opening.leaf op.leaf op.at search.edges
+  opened_edges : old.kind ≡ kind.Edges → SplitsEdges opened_tree
+  opened_edges asked =
+      let (e, is) = on_edge old.kind opening.on asked op.kind in
+      SplitsEdges-replaced opening.on opening.outside.packing opening.inside.packing e is (nothing_decided g) old.tree
+      opening.leaf op.leaf op.at (search.edges asked)
 
   opened_notes : AllZip (IsKeptNote g opening.best.length) (leaves_of (nothing_decided g) opened_tree)
       (insert (slice_set old.notes.items opening.leaf opening.outside.note) (opening.leaf + 1) opening.inside.note)
   opened_notes =
       let within : opening.leaf < length first_leaves = slice_get_within first_leaves opening.leaf op.leaf op.at in
       let same : length first_leaves ≡ length old.notes.items = AllZip-length (IsKeptNote g old.best.length) first_leaves old.notes.items search.notes in
-      let leaves = leaves_of-replaced (split.Edge op.edge) opening.outside.packing opening.inside.packing (nothing_decided g) old.tree opening.leaf op.leaf op.at in
+      let leaves = leaves_of-replaced opening.on opening.outside.packing opening.inside.packing (nothing_decided g) old.tree opening.leaf op.leaf op.at in
       let notes = insert-set old.notes.items opening.leaf opening.outside.note opening.inside.note (omega arith) in
       let all : AllZip (IsKeptNote g opening.best.length) first_leaves old.notes.items =
       AllZip-weaker (IsKeptNote g old.best.length) (IsKeptNote g opening.best.length)
@@ -100,13 +113,13 @@ module _ (g : Graph) (old : Frontier) (opening : Opening) (search : IsSearch g o
       opening.outside.note opening.inside.note all (op.outside, op.outside_own) (op.inside, op.inside_own)))
 
   opened_count : split_count opened_tree ≡ split_count old.tree + 1
-  opened_count = split_count-replaced (split.Edge op.edge) opening.outside.packing opening.inside.packing (nothing_decided g) old.tree opening.leaf op.leaf op.at
+  opened_count = split_count-replaced opening.on opening.outside.packing opening.inside.packing (nothing_decided g) old.tree opening.leaf op.leaf op.at
 
   opened_opening : IsOpening g old.best.network opening.best.network old.tree opened_tree
   opened_opening = record {
     place = opening.leaf;
     leaf = op.leaf;
-    on = split.Edge op.edge;
+    on = opening.on;
     outside = opening.outside.packing;
     inside = opening.inside.packing;
     at = op.at;
@@ -132,15 +145,14 @@ module _ (g : Graph) (old : Frontier) (opening : Opening) (search : IsSearch g o
 pub search_opened : (g : Graph) (old new : Frontier) (opening : Opening) → IsSearch g old → IsOpeningOf g old opening → IsOpened opening old new →
     IsSearch g new × OpensTo (search_state g old) (search_state g new)
 search_opened g old new opening search op opened =
-    let tree : opened_tree g old opening search op ≡ new.tree =
-    sym (opened.tree ∙ ap (λ s. replaced opening.leaf (split_with s opening.outside.packing opening.inside.packing) old.tree) op.on) in
+    let tree : opened_tree g old opening search op ≡ new.tree = sym opened.tree in
     let best : opening.best ≡ new.best = sym opened.best in
     let notes = sym opened.notes in
     let first : old.first_length ≡ new.first_length = sym opened.first_length in (
       record {
         best = subst (λ (b : Best). IsBest g b) best op.best;
         valid = subst (λ (t : Tree SplitOn). IsValidTree g (nothing_decided g) t) tree (opened_valid g old opening search op);
-        edges = subst SplitsEdges tree (opened_edges g old opening search op);
+        edges = λ asked. subst SplitsEdges tree (opened_edges g old opening search op (sym opened.kind ∙ asked));
         notes = subst (λ (b : Best). AreNotesOf g b.length (leaves_of (nothing_decided g) new.tree) new.notes.items) best
             (subst (λ (t : Tree SplitOn). AreNotesOf g opening.best.length (leaves_of (nothing_decided g) t) new.notes.items) tree
             (subst (λ (ns : List LeafNote). AreNotesOf g opening.best.length (leaves_of (nothing_decided g) (opened_tree g old opening search op)) ns) notes
@@ -154,6 +166,7 @@ search_opened g old new opening search op opened =
       },
       record {
         graph = refl;
+        kind = opened.kind;
         first_length = opened.first_length;
         splits = ap split_count (sym tree) ∙ opened_count g old opening search op;
         opening = subst (λ (b : Best). IsOpening g old.best.network b.network old.tree new.tree) best
@@ -176,7 +189,7 @@ search_begun g kept packing note best no_longer tree notes of_note own =
     record {
       best = best;
       valid = valid;
-      edges = subst SplitsEdges (sym tree) tt;
+      edges = λ _. subst SplitsEdges (sym tree) tt;
       notes = are;
       run = subst (λ (n : ℕ). EndsOpenings g kept.first_length n kept.best.network kept.tree) (sym none)
           (state_of g kept.best kept.tree kept.notes.items best valid are, none, let same = best.length in omega arith);

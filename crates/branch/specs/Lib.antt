@@ -4,6 +4,7 @@ pub mod States
 pub mod Openings
 pub mod Runs
 pub mod RunLaws
+pub mod Meeting
 pub mod Notes
 pub mod Searching
 pub mod SearchCode

@@ -16,18 +16,21 @@ use Rattle.cert_tree.specs.Decisions.{outside_of, inside_of}
 use Rattle.cert_tree.specs.TreeValue.{IsValidTree, tree_value}
 use Rattle.branch.specs.declared.frontier.Frontier.{Frontier}
 use Rattle.branch.specs.declared.opening.Opening.{Opening}
+use Rattle.branch.specs.declared.split_kind.SplitKind.{SplitKind}
+use Rattle.branch.specs.declared.split_kind.SplitKind.TheVariants as kind
 use Rattle.branch.specs.declared.step.Step.{Step}
 use Rattle.branch.specs.declared.step.Step.TheVariants as step
 use Rattle.branch.specs.Leaves.{DecidedLeaf, leaf_under, leaves_of}
 use Rattle.branch.specs.States.{IsOpenLeaf}
-use Rattle.branch.specs.Openings.{IsOpening, IsSplitEdge, BeginsAt}
+use Rattle.branch.specs.Openings.{IsOpening, IsSplitOf, BeginsAt}
 use Rattle.branch.specs.Runs.{EndsRunOfOpenings}
 use Rattle.branch.specs.Notes.{IsBest, ShowsOwn, AreNotesOf, IsNoteOf, IsUpToOwn, shorter_of, shown_first}
 
--- A search as contracts see it: its graph, its best network, its tree, the length of the network that it began with,
--- and the network that the first leaf in preorder shows, if it shows one.
+-- A search as contracts see it: its graph, what it splits its leaves on, its best network, its tree, the length of the
+-- network that it began with, and the network that the first leaf in preorder shows, if it shows one.
 pub record SearchState : Type 0 where
   pub graph : Graph
+  pub kind : SplitKind
   pub network : List Bool
   pub tree : Tree SplitOn
   pub first_length : ℕ
@@ -37,6 +40,7 @@ pub record SearchState : Type 0 where
 abbrev pub search_state : Graph → Frontier → SearchState
 search_state g kept = record {
   graph = g;
+  kind = kept.kind;
   network = kept.best.network;
   tree = kept.tree;
   first_length = kept.first_length;
@@ -55,13 +59,19 @@ SplitsEdges (Leaf cuts) = Unit {0}
 SplitsEdges (Split (split.Edge e) outside inside) = SplitsEdges outside × SplitsEdges inside
 SplitsEdges (Split (split.Vertex v) outside inside) = ⊥
 
--- What is kept is a search: the best network is one, the tree is valid where nothing is decided and its splits
--- are on edges, what is kept beside its leaves is true of them, no leaf's own network is shorter than the best
+-- a split is on an edge, where edges are what is asked for
+abbrev pub IsOfKind : SplitKind → SplitOn → Type 0
+IsOfKind kind.Edges (split.Edge e) = Unit {0}
+IsOfKind kind.Edges (split.Vertex v) = ⊥
+IsOfKind kind.Vertices on = Unit {0}
+
+-- What is kept is a search: the best network is one, the tree is valid where nothing is decided, its splits are on edges
+-- where edges are what is asked for, what is kept beside its leaves is true of them, no leaf's own network is shorter than the best
 -- one, and both end a run of openings whose first network is no longer than the one that the search began with.
 pub record IsSearch (g : Graph) (kept : Frontier) : Type 0 where
   pub best : IsBest g kept.best
   pub valid : IsValidTree g (nothing_decided g) kept.tree
-  pub edges : SplitsEdges kept.tree
+  pub edges : kept.kind ≡ kind.Edges → SplitsEdges kept.tree
   pub notes : AreNotesOf g kept.best.length (leaves_of (nothing_decided g) kept.tree) kept.notes.items
   pub run : EndsRunOfOpenings g kept.first_length kept.best.network kept.tree
   pub no_longer : kept.best.length ≤ kept.first_length
@@ -70,17 +80,14 @@ pub record IsSearch (g : Graph) (kept : Frontier) : Type 0 where
 -- best network that is no longer than before or than theirs.
 pub record IsOpeningOf (g : Graph) (kept : Frontier) (opening : Opening) : Type 0 where
   pub leaf : DecidedLeaf
-  pub edge : ℕ
   pub at : slice_get (leaves_of (nothing_decided g) kept.tree) opening.leaf ≡ Some leaf
   pub below : IsOpenLeaf g (length_of g kept.best.network) leaf
-  pub on : opening.on ≡ split.Edge edge
-  pub splits : IsSplitEdge g leaf edge
-  pub outside : IsNoteOf g (leaf_under (outside_of leaf.decision (split.Edge edge)) opening.outside.packing)
-      opening.outside.note
-  pub inside : IsNoteOf g (leaf_under (inside_of leaf.decision (split.Edge edge)) opening.inside.packing)
-      opening.inside.note
-  pub outside_begins : BeginsAt g leaf (outside_of leaf.decision (split.Edge edge)) opening.outside.packing
-  pub inside_begins : BeginsAt g leaf (inside_of leaf.decision (split.Edge edge)) opening.inside.packing
+  pub splits : IsSplitOf g leaf opening.on
+  pub kind : IsOfKind kept.kind opening.on
+  pub outside : IsNoteOf g (leaf_under (outside_of leaf.decision opening.on) opening.outside.packing) opening.outside.note
+  pub inside : IsNoteOf g (leaf_under (inside_of leaf.decision opening.on) opening.inside.packing) opening.inside.note
+  pub outside_begins : BeginsAt g leaf (outside_of leaf.decision opening.on) opening.outside.packing
+  pub inside_begins : BeginsAt g leaf (inside_of leaf.decision opening.on) opening.inside.packing
   pub best : IsBest g opening.best
   pub no_longer : opening.best.length ≤ kept.best.length
   pub outside_own : IsUpToOwn g opening.best.length opening.outside.note.network
@@ -94,6 +101,7 @@ pub record IsOpened (opening : Opening) (old new : Frontier) : Type 0 where
       ≡ insert (slice_set old.notes.items opening.leaf opening.outside.note) (opening.leaf + 1) opening.inside.note
   pub best : new.best ≡ opening.best
   pub first_length : new.first_length ≡ old.first_length
+  pub kind : new.kind ≡ old.kind
 
 -- nothing that is kept has changed
 pub record IsAsBefore (old new : Frontier) : Type 0 where
@@ -101,11 +109,13 @@ pub record IsAsBefore (old new : Frontier) : Type 0 where
   pub notes : new.notes.items ≡ old.notes.items
   pub best : new.best ≡ old.best
   pub first_length : new.first_length ≡ old.first_length
+  pub kind : new.kind ≡ old.kind
 
 -- Another leaf may stand in place of the only one: the value is no less than it was and than that of the given cuts. The
 -- best network is the shorter one of what it was and of the one that the leaf now shows, and what it was on a tie.
 pub record IsRaised (cuts : List Cut) (old new : SearchState) : Type 0 where
   pub graph : new.graph ≡ old.graph
+  pub kind : new.kind ≡ old.kind
   pub first_length : new.first_length ≡ old.first_length
   pub leaf : split_count new.tree ≡ 0
   pub value : tree_value old.graph (nothing_decided old.graph) old.tree
@@ -117,6 +127,7 @@ pub record IsRaised (cuts : List Cut) (old new : SearchState) : Type 0 where
 -- The best network is the shorter one of what it was and another, and nothing else has changed.
 pub record IsOffered (network : List Bool) (old new : SearchState) : Type 0 where
   pub graph : new.graph ≡ old.graph
+  pub kind : new.kind ≡ old.kind
   pub first_length : new.first_length ≡ old.first_length
   pub tree : new.tree ≡ old.tree
   pub shown : new.shown ≡ old.shown
@@ -129,6 +140,7 @@ IsSettled s = length_of s.graph s.network ≤ tree_value s.graph (nothing_decide
 -- the one state leads to the other by an opening
 pub record OpensTo (old new : SearchState) : Type 0 where
   pub graph : new.graph ≡ old.graph
+  pub kind : new.kind ≡ old.kind
   pub first_length : new.first_length ≡ old.first_length
   pub splits : split_count new.tree ≡ split_count old.tree + 1
   pub opening : IsOpening old.graph old.network new.network old.tree new.tree

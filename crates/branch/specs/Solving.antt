@@ -1,5 +1,5 @@
 -- What a search tells.
-use Rattle.std.specs.Prelude.{ℕ, ◌≡◌, ◌+◌, ◌*◌, ◌≤◌, ◌↔◌, length, min, All, IsTrue}
+use Rattle.std.specs.Prelude.{ℕ, ◌≡◌, ◌+◌, ◌*◌, ◌^◌, ◌≤◌, ◌↔◌, length, min, All, IsTrue}
 use Rattle.net_graph.specs.Graph.{Graph}
 use Rattle.net_graph.specs.Network.{IsLowerBound, length_of}
 use Rattle.net_graph.specs.Decision.{nothing_decided}
@@ -7,6 +7,8 @@ use Rattle.net_graph.specs.Saturation.{IsMaximal}
 use Rattle.cert_tree.specs.Preorder.{packings_of}
 use Rattle.cert_tree.specs.TreeValue.{IsValidTree, tree_value}
 use Rattle.branch.specs.declared.solved.Solved.{Solved}
+use Rattle.branch.specs.declared.split_kind.SplitKind.{SplitKind}
+use Rattle.branch.specs.declared.split_kind.SplitKind.TheVariants as kind
 use Rattle.branch.specs.Leaves.{leaves_of}
 use Rattle.branch.specs.States.{IsNetworkOf, IsOpenLeaf}
 use Rattle.branch.specs.Runs.{EndsRunOfOpenings}
@@ -28,3 +30,8 @@ pub record IsSolved (g : Graph) (first_length : ℕ) (solved : Solved) : Type 0 
   pub maximal : All (λ leaf. IsOpenLeaf g solved.length leaf → IsMaximal g leaf.decision leaf.packing)
       (leaves_of (nothing_decided g) solved.tree)
   pub run : EndsRunOfOpenings g first_length solved.network solved.tree
+
+-- in how many ways all that the kind may split on can be decided
+abbrev pub ways_of : SplitKind → Graph → ℕ
+ways_of kind.Edges g = 2 ^ length g.edges
+ways_of kind.Vertices g = 2 ^ (length g.edges + g.vertices)

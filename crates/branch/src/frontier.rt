@@ -10,14 +10,16 @@ use crate::best::Best;
 use crate::leaf::NewLeaf;
 use crate::note::LeafNote;
 use crate::opening::Opening;
+use crate::split_kind::SplitKind;
 use cert_tree::CertTree;
 use net_graph::{EdgeSet, NetGraph};
 use std::alloc::{AllocError, Global};
 
-/// What a search keeps: the length of the network that it began with, the best network, the tree, and beside
-/// each of its leaves, in preorder, a note.
+/// What a search keeps: what it splits its leaves on, the length of the network that it began with, the best network,
+/// the tree, and beside each of its leaves, in preorder, a note.
 #[derive(Debug, Drop)]
 pub(crate) struct Frontier {
+    pub kind: SplitKind,
     pub first_length: u64,
     pub best: Best,
     pub tree: CertTree,
@@ -34,12 +36,14 @@ impl Frontier {
     pub fn begin(
         alloc: Global,
         g: &NetGraph,
+        kind: SplitKind,
         first: EdgeSet,
         leaf: NewLeaf,
     ) -> Result<Frontier, AllocError>
         requires network { IsNetworkOf g.now first }
         requires note { IsNoteOf g.now (leaf_under (nothing_decided g.now) leaf.packing) leaf.note }
         ensures search { IfOk result (λ kept. IsSearch g.now kept) }
+        ensures kind { IfOk result (λ kept. kept.kind ≡ kind) }
         ensures first { IfOk result (λ kept. kept.first_length ≡ length_of g.now first) }
         ensures leaf { IfOk result (λ kept. kept.tree ≡ Leaf leaf.packing) }
         ensures notes { IfOk result (λ kept. kept.notes.items ≡ leaf.note ∷ []) }
@@ -53,6 +57,7 @@ impl Frontier {
         let mut notes = Vec::with_capacity(alloc, 1)?;
         notes.push_reserved(note);
         Ok(Frontier {
+            kind,
             first_length,
             best,
             tree,
@@ -70,13 +75,14 @@ impl Frontier {
         requires search { IsSearch g.now self.now }
         requires note { IsNoteOf g.now (leaf_under (nothing_decided g.now) leaf.packing) leaf.note }
         ensures search { IfOk result (λ kept. IsSearch g.now kept) }
+        ensures kind { IfOk result (λ kept. kept.kind ≡ self.now.kind) }
         ensures first { IfOk result (λ kept. kept.first_length ≡ self.now.first_length) }
         ensures leaf { IfOk result (λ kept. kept.tree ≡ Leaf leaf.packing) }
         ensures notes { IfOk result (λ kept. kept.notes.items ≡ leaf.note ∷ []) }
         ensures network { IfOk result
             (λ kept. kept.best.network ≡ shorter_of g.now self.now.best.network leaf.note.network) }
     {
-        let kept = Frontier::begin(alloc, g, self.best.network.copy()?, leaf)?;
+        let kept = Frontier::begin(alloc, g, self.kind, self.best.network.copy()?, leaf)?;
         Ok(Frontier {
             first_length: self.first_length,
             ..kept

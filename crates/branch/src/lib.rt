@@ -14,11 +14,13 @@ mod saturation;
 mod search;
 mod solve;
 mod solved;
-mod split_edge;
+mod split_choice;
+mod split_kind;
 mod step;
 
 pub use saturated::saturated_network;
 pub use search::Search;
 pub use solve::solve_graph;
 pub use solved::Solved;
+pub use split_kind::SplitKind;
 pub use step::Step;

@@ -6,14 +6,14 @@ ghost use Rattle.branch.specs.Notes.{IsNextNote};
 ghost use Rattle.branch.specs.Searching.{IsSearch, IsOpeningOf};
 
 use crate::frontier::Frontier;
-use crate::opening::{Opening, child_of, edge_to_split};
-use cert_tree::SplitOn;
+use crate::opening::{Opening, child_of, decided_inside, decided_outside};
+use crate::split_choice::split_choice;
 use dual_ascent::{Chooser, Rule};
 use net_graph::NetGraph;
 use std::alloc::{AllocError, Global};
 
-/// The opening of an open leaf, given by its place in preorder: by one rule its edge, by the other one its two
-/// ascents. An `Err` is want of memory.
+/// The opening of an open leaf, given by its place in preorder: by one rule what it is split on, by the other one its
+/// two ascents. An `Err` is want of memory.
 pub(crate) fn opening_at<F: Rule, G: Rule>(
     alloc: Global,
     g: &NetGraph,
@@ -28,17 +28,31 @@ pub(crate) fn opening_at<F: Rule, G: Rule>(
     ensures { IfOk result (IsOpeningOf g.now kept.now) }
 {
     let note = &kept.notes[place];
-    let e = edge_to_split(alloc, g, note, split)?;
+    let on = split_choice(alloc, g, note, kept.kind, split)?;
     let before = &note.decision;
     let parent = kept.tree.packing(place as u32);
-    let outside = child_of(alloc, g, note, parent, before.with_outside(g, e)?, ascent)?;
-    let inside = child_of(alloc, g, note, parent, before.with_inside(g, e)?, ascent)?;
+    let outside = child_of(
+        alloc,
+        g,
+        note,
+        parent,
+        decided_outside(g, before, on)?,
+        ascent,
+    )?;
+    let inside = child_of(
+        alloc,
+        g,
+        note,
+        parent,
+        decided_inside(g, before, on)?,
+        ascent,
+    )?;
     let best = kept.best.copy()?;
     let best = best.or_shorter(g, &outside.note)?;
     let best = best.or_shorter(g, &inside.note)?;
     Ok(Opening {
         leaf: place as u32,
-        on: SplitOn::Edge(e),
+        on,
         outside,
         inside,
         best,

@@ -6,13 +6,13 @@ ghost use Rattle.net_graph.specs.Packing.{IsFeasible};
 ghost use Rattle.dual_ascent.specs.Ascending.{BeginsWith};
 ghost use Rattle.dual_ascent.specs.Carried.{carried, DecidesOneMore};
 ghost use Rattle.dual_ascent.specs.Costs.{costs_of};
+ghost use Rattle.cert_tree.specs.Decisions.{IsUndecidedSplit, outside_of, inside_of};
 ghost use Rattle.branch.specs.Leaves.{leaf_under};
-ghost use Rattle.branch.specs.Notes.{IsNoteOf, CanSplit, IsOfOwn, IsNextNote};
+ghost use Rattle.branch.specs.Notes.{IsNoteOf};
 
 use crate::best::Best;
 use crate::leaf::{NewLeaf, leaf_from};
 use crate::note::LeafNote;
-use crate::split_edge::undecided_edges;
 use cert_tree::SplitOn;
 use dual_ascent::{Chooser, Rule, carry, carry_costs};
 use net_graph::{Decision, NetGraph, Packing};
@@ -29,23 +29,38 @@ pub(crate) struct Opening {
     pub best: Best,
 }
 
-/// The edge that the rule chooses among the undecided edges of a leaf's own network. An `Err` is want of memory.
-pub(crate) fn edge_to_split<G: Rule>(
-    alloc: Global,
+/// The decision outside a split. An `Err` is want of memory.
+pub(crate) fn decided_outside(
     g: &NetGraph,
-    note: &LeafNote,
-    rule: &Chooser<G>,
-) -> Result<u32, AllocError>
-    requires decision { IsDecisionFor g.now note.now.decision }
-    requires can { CanSplit g.now note.now }
-    ensures { IfOk result (IsOfOwn g.now note.now) }
+    before: &Decision,
+    on: SplitOn,
+) -> Result<Decision, AllocError>
+    requires decision { IsDecisionFor g.now before.now }
+    requires undecided { IsUndecidedSplit g.now before.now on }
+    ensures value { IfOk result (λ d. d ≡ outside_of before.now on) }
+    ensures decision { IfOk result (λ d. IsDecisionFor g.now d) }
 {
-    let Some(network) = &note.network else {
-        unreachable!()
-    };
-    let list = undecided_edges(alloc, g, &note.decision, network)?;
-    let place = rule.choose(list.as_slice());
-    Ok(list[place].number)
+    match on {
+        SplitOn::Edge(e) => before.with_outside(g, e),
+        SplitOn::Vertex(v) => before.with_missed(g, v),
+    }
+}
+
+/// The decision inside a split. An `Err` is want of memory.
+pub(crate) fn decided_inside(
+    g: &NetGraph,
+    before: &Decision,
+    on: SplitOn,
+) -> Result<Decision, AllocError>
+    requires decision { IsDecisionFor g.now before.now }
+    requires undecided { IsUndecidedSplit g.now before.now on }
+    ensures value { IfOk result (λ d. d ≡ inside_of before.now on) }
+    ensures decision { IfOk result (λ d. IsDecisionFor g.now d) }
+{
+    match on {
+        SplitOn::Edge(e) => before.with_inside(g, e),
+        SplitOn::Vertex(v) => before.with_met(g, v),
+    }
 }
 
 /// The leaf of the ascent that begins with what a leaf's packing carries to a further decision. An `Err` is want of

@@ -15,6 +15,7 @@ use crate::leaf::first_leaf;
 use crate::next_opening::opening_at;
 use crate::open::{bound_of, next_open};
 use crate::solved::Solved;
+use crate::split_kind::SplitKind;
 use crate::step::Step;
 use cert_tree::{CertTree, tree_bounds_every_network};
 use dual_ascent::{Chooser, Rule};
@@ -52,26 +53,30 @@ impl<'a, F: Rule, G: Rule> Search<'a, F, G> {
     ghost use Rattle.branch.specs.States.{IsNetworkOf};
     ghost use Rattle.branch.specs.Notes.{shorter_of};
     ghost use Rattle.branch.specs.Searching.{IsRaised, IsOffered, IsSettled, IsShownFirst, SplitsEdges, TakesStep};
-    ghost use Rattle.branch.specs.Solving.{IsSolved};
+    ghost use Rattle.branch.specs.Solving.{IsSolved, ways_of};
 
-    /// A search that begins with a network and with the leaf of an ascent from no cut. The rule `ascent`
-    /// chooses among the candidates of an ascent, and `split` among the edges on which a leaf may be split,
-    /// each with its length. An `Err` is want of memory.
+    /// A search that begins with a network and with the leaf of an ascent from no cut. The rule `ascent` chooses among
+    /// the candidates of an ascent, and `split` among what a leaf may be split on, in ascending number. Of the kind
+    /// Edges these are the undecided edges of the leaf's own network, each with its length. Of the kind Vertices they
+    /// are the undecided vertices at which edges of that network end, each with the number of these edges, and the
+    /// edges as before where there is no such vertex. An `Err` is want of memory.
     pub fn start(
         alloc: Global,
         g: &'a NetGraph,
         first: EdgeSet,
         ascent: Chooser<F>,
         split: Chooser<G>,
+        kind: SplitKind,
     ) -> Result<Search<'a, F, G>, AllocError>
         requires { IsNetworkOf g.now first }
         ensures graph { IfOk result (λ s. s.graph ≡ g.now) }
+        ensures kind { IfOk result (λ s. s.kind ≡ kind) }
         ensures first { IfOk result (λ s. s.first_length ≡ length_of g.now first) }
         ensures leaf { IfOk result (λ s. split_count s.tree ≡ 0) }
         ensures network { IfOk result (λ s. s.network ≡ shorter_of g.now first s.shown) }
     {
         let leaf = first_leaf(alloc, g, Packing::empty(alloc), &ascent)?;
-        let kept = Frontier::begin(alloc, g, first, leaf)?;
+        let kept = Frontier::begin(alloc, g, kind, first, leaf)?;
         Ok(Search {
             alloc,
             graph: g,
@@ -137,15 +142,15 @@ impl<'a, F: Rule, G: Rule> Search<'a, F, G> {
     pub fn solve(mut self, allowed: u8) -> Result<Solved, AllocError>
         requires { split_count self.tree ≡ 0 }
         ensures solved { IfOk result (IsSolved self.entry.graph self.entry.first_length) }
-        ensures edges { IfOk result (λ s. SplitsEdges s.tree) }
+        ensures edges { IfOk result (λ s. self.entry.kind ≡ SplitKind.Edges → SplitsEdges s.tree) }
         ensures few { IfOk result (λ s. split_count s.tree ≤ allowed) }
         // It is not optimal only where all allowed splits were made and some leaf's value is below the length.
         ensures stopped { IfOk result (λ s. s.optimal ≡ false → split_count s.tree ≡ allowed) }
         ensures below { IfOk result (λ s. s.optimal ≡ false
             → tree_value self.entry.graph (nothing_decided self.entry.graph) s.tree < s.length) }
-        // With as many allowed splits as there are sets of edges but one, it is optimal.
+        // With as many allowed splits as there are ways to decide what is split on, but one, it is optimal.
         ensures enough { IfOk result
-            (λ s. 2 ^ length self.entry.graph.edges ≤ allowed + 1 → s.optimal ≡ true) }
+            (λ s. ways_of self.entry.kind self.entry.graph ≤ allowed + 1 → s.optimal ≡ true) }
     {
         for _made in 0..allowed {
             match self.split_one()? {
@@ -199,13 +204,14 @@ impl<'a, F: Rule, G: Rule> Search<'a, F, G> {
     pub fn finish(self) -> Solved
         ensures network { result.network ≡ self.entry.network }
         ensures tree { result.tree ≡ self.entry.tree }
-        ensures edges { SplitsEdges result.tree }
+        ensures edges { self.entry.kind ≡ SplitKind.Edges → SplitsEdges result.tree }
         ensures solved { IsSolved self.entry.graph self.entry.first_length result }
     {
         tree_bounds_every_network();
         let kept = self.kept;
         let bound = bound_of(kept.notes.as_slice(), kept.best.length);
         let Frontier {
+            kind: _,
             first_length: _,
             best,
             tree,

@@ -6,16 +6,17 @@ ghost use Rattle.net_graph.specs.Decision.{nothing_decided};
 ghost use Rattle.cert_tree.specs.Preorder.{split_count};
 ghost use Rattle.cert_tree.specs.TreeValue.{tree_value};
 ghost use Rattle.branch.specs.States.{IsNetworkOf};
-ghost use Rattle.branch.specs.Solving.{IsSolved};
+ghost use Rattle.branch.specs.Solving.{IsSolved, ways_of};
 
 use crate::search::Search;
 use crate::solved::Solved;
+use crate::split_kind::SplitKind;
 use dual_ascent::{Chooser, Rule};
 use net_graph::{EdgeSet, NetGraph};
 use std::alloc::{AllocError, Global};
 
-/// What a search finds that begins with a network and makes at most `allowed` splits. It stops before that only
-/// where no leaf's value is below its network's length. An `Err` is want of memory.
+/// What a search finds that begins with a network and makes at most `allowed` splits of a kind. It stops before that
+/// only where no leaf's value is below its network's length. An `Err` is want of memory.
 pub fn solve_graph<F: Rule, G: Rule>(
     alloc: Global,
     g: &NetGraph,
@@ -23,6 +24,7 @@ pub fn solve_graph<F: Rule, G: Rule>(
     allowed: u8,
     ascent: Chooser<F>,
     split: Chooser<G>,
+    kind: SplitKind,
 ) -> Result<Solved, AllocError>
     requires { IsNetworkOf g.now first }
     ensures solved { IfOk result (IsSolved g.now (length_of g.now first)) }
@@ -31,8 +33,8 @@ pub fn solve_graph<F: Rule, G: Rule>(
     ensures stopped { IfOk result (λ s. s.optimal ≡ false → split_count s.tree ≡ allowed) }
     ensures below { IfOk result
         (λ s. s.optimal ≡ false → tree_value g.now (nothing_decided g.now) s.tree < s.length) }
-    // With as many allowed splits as there are sets of edges but one, it is optimal.
-    ensures enough { IfOk result (λ s. 2 ^ length g.now.edges ≤ allowed + 1 → s.optimal ≡ true) }
+    // With as many allowed splits as there are ways to decide what is split on, but one, it is optimal.
+    ensures enough { IfOk result (λ s. ways_of kind g.now ≤ allowed + 1 → s.optimal ≡ true) }
 {
-    Search::start(alloc, g, first, ascent, split)?.solve(allowed)
+    Search::start(alloc, g, first, ascent, split, kind)?.solve(allowed)
 }

@@ -1,34 +1,45 @@
-//! The calls of a table, made one by one.
+//! The calls of tables, made one by one.
 
-use row_tables::{Asked, Call, CallReader, Fault, TableFault, first_difference, sections_of};
+use row_tables::{Asked, Call, CallReader, Fault, RowRunner, Section, first_difference};
 use std::alloc::Global;
-use std::str::from_utf8;
 
-/// Makes the calls of a table, adds a line a row to the report, `ok` or what differs, and tells whether nothing does.
-/// The first fault of the table, or of a call, ends the run; the rows before it are in the report.
-pub fn make_calls(
-    alloc: Global,
-    reader: &mut CallReader,
-    table: &[u8],
-    report: &mut String,
-) -> Result<bool, TableFault> {
-    let table = from_utf8(table).map_err(|_| Fault::NotUtf8.at(1))?;
-    reader.begin();
-    let mut is_well = true;
-    let mut line = 0;
-    for section in sections_of(alloc, table)? {
-        line = section.line;
-        let ended = reader.take(section).map_err(|fault| fault.at(line))?;
-        if let Some(asked) = ended {
-            let is_ok = is_answered(alloc, &asked, report).map_err(|fault| fault.at(line))?;
-            is_well = is_well && is_ok;
-        }
-    }
-    reader.end().map_err(|fault| fault.at(line))?;
-    Ok(is_well)
+/// Reads calls, and makes them.
+#[derive(Drop)]
+pub struct CallRunner {
+    reader: CallReader,
 }
 
-/// Makes a call, and adds its line to the report.
+impl CallRunner {
+    /// A runner that knows no text.
+    pub fn new(alloc: Global) -> CallRunner {
+        CallRunner {
+            reader: CallReader::new(alloc),
+        }
+    }
+}
+
+impl RowRunner for CallRunner {
+    type Row = Asked;
+
+    fn begin(&mut self) {
+        self.reader.begin();
+    }
+
+    fn take(&mut self, section: Section<'_>) -> Result<Option<Asked>, Fault> {
+        self.reader.take(section)
+    }
+
+    fn end(&self) -> Result<(), Fault> {
+        self.reader.end()
+    }
+
+    /// Makes a call, and adds its line to the report.
+    fn run(&mut self, alloc: Global, asked: &Asked, report: &mut String) -> Result<bool, Fault> {
+        is_answered(alloc, asked, report)
+    }
+}
+
+/// Makes a call, adds its line to the report, `ok` or what differs, and tells whether nothing does.
 fn is_answered(alloc: Global, asked: &Asked, report: &mut String) -> Result<bool, Fault> {
     let name = asked.call.name.as_str();
     let mut answer = String::new(alloc);

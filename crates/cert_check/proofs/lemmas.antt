@@ -2,7 +2,7 @@ pub mod Tables
 pub mod Rooms
 pub mod Pigeons
 pub mod Listed
-pub mod States
+pub mod Turns
 pub mod WordBits
 pub mod Layouts
 pub mod Marks
@@ -31,4 +31,5 @@ pub mod SameLines
 pub mod OneVerdict
 pub mod CompleteEdges
 pub mod Complete
+pub mod Upgrading
 pub mod Bytes

@@ -16,9 +16,9 @@ use Rattle.cert_check.specs.declared.verdict.Verdict.{Verdict}
 use Rattle.cert_check.specs.declared.verdict.Verdict.TheVariants.{Accepted, Refused, TooLong}
 
 -- The bytes are the text of this answer, and what it says is right. Its edges, in ascending number, are a network of
--- the terminals' grid with the printed length. Its tree has at most 255 splits, each on an edge of the grid, and is
--- valid where nothing is decided. Its bound is the lesser of the tree's value and the length. It says optimal exactly
--- where the bound is the length. Its lines on openings and on the concatenation are passed over.
+-- the terminals' grid with the printed length. Its tree has at most 255 splits, each on an edge or a vertex of the grid,
+-- and is valid where nothing is decided. Its bound is the lesser of the tree's value and the length. It says optimal
+-- exactly where the bound is the length. Its lines on openings and on the concatenation are passed over.
 pub record Accepts (ps : List Point) (bytes : List ℕ) (answer : WrittenAnswer) (network : List Bool)
     (tree : Tree SplitOn) : Type 0 where
   pub spells : SpellsAnswer (hanan_grid_of ps).vertices bytes answer

@@ -19,3 +19,4 @@ pub mod UnderwayLaws
 pub mod Checking
 pub mod Accepted
 pub mod VerdictLaw
+pub mod UpgradeLaw

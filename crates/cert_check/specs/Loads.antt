@@ -4,7 +4,7 @@ use Rattle.net_graph.specs.declared.edge.Edge.{Edge}
 use Rattle.net_graph.specs.declared.state.EdgeState.{EdgeState}
 use Rattle.net_graph.specs.declared.packing.Cut.{Cut}
 use Rattle.net_graph.specs.Graph.{Graph}
-use Rattle.net_graph.specs.Decision.{Decided, nothing_decided}
+use Rattle.net_graph.specs.Decision.{states_of}
 use Rattle.net_graph.specs.Packing.{load, room_of}
 use Rattle.cert_check.specs.declared.leaf.Excess.{Excess}
 use Rattle.cert_check.specs.Cuts.{IsEntered}
@@ -19,10 +19,11 @@ pub record KeepsLoads (state : EdgeState) (e : Edge) (cuts : List Cut) (there ba
   pub forward : IsLoadKept state e (load cuts e.a e.b) there
   pub backward : IsLoadKept state e (load cuts e.b e.a) back
 
--- the loads of the arcs of the edge of this number are kept
+-- the loads of the arcs of the edge of this number are kept, by its state under what is decided
 abbrev pub KeepsEdge : Graph → List Cut → Kept → ℕ → Type 0
 KeepsEdge g cuts kept n = (e : Edge) (state : EdgeState) → slice_get g.edges n ≡ Some e →
-    slice_get kept.states n ≡ Some state → KeepsLoads state e cuts (slice_index kept.there n) (slice_index kept.back n)
+    slice_get (states_of g kept.decided) n ≡ Some state →
+    KeepsLoads state e cuts (slice_index kept.there n) (slice_index kept.back n)
 
 -- these cuts were read, which load no arc above its room
 abbrev pub IsLeafOf : Graph → List Cut → Kept → Type 0
@@ -37,25 +38,19 @@ pub record LoadsBelow (g : Graph) (cuts : List Cut) (c : Cut) (n : ℕ) (kept : 
 abbrev pub weight_kept : List Cut → ℕ
 weight_kept cuts = min (sum_by (λ c. c.weight) cuts) (2 ^ 64 - 1)
 
--- there is a load of each arc and a state of each edge of the graph, and room for each of its vertices
+-- there is a load of each arc and a state of each edge and each vertex of the graph
 pub record HasRows (g : Graph) (kept : Kept) : Type 0 where
   pub there : length kept.there ≡ length g.edges
   pub back : length kept.back ≡ length g.edges
-  pub states : length kept.states ≡ length g.edges
-  pub vertices : kept.vertices ≡ g.vertices
+  pub edges : length kept.decided.edges ≡ length g.edges
+  pub vertices : length kept.decided.vertices ≡ g.vertices
 
--- the states are those of the decision's edges, which decides no vertex
-pub record KeepsDecision (g : Graph) (d : Decided) (kept : Kept) : Type 0 where
-  pub edges : kept.states ≡ d.edges
-  pub vertices : d.vertices ≡ (nothing_decided g).vertices
-
--- states and way stay
+-- what is decided and the way stay
 pub record SameWay (old new : Kept) : Type 0 where
-  pub states : new.states ≡ old.states
+  pub decided : new.decided ≡ old.decided
   pub path : new.path ≡ old.path
-  pub vertices : new.vertices ≡ old.vertices
 
--- states and way stay, and so do all loads but those of the edge n
+-- what is decided and the way stay, and so do all loads but those of the edge n
 pub record LoadsOnly (n : ℕ) (old new : Kept) : Type 0 where
   pub there_size : length new.there ≡ length old.there
   pub back_size : length new.back ≡ length old.back

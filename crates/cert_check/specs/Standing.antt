@@ -7,7 +7,7 @@ use Rattle.cert_check.specs.declared.judge.Judge.{Judge}
 use Rattle.cert_check.specs.Path.{decisions_behind}
 use Rattle.cert_check.specs.Judged.{SoFar, decision_due, least_with}
 use Rattle.cert_check.specs.Loads.{IsLeafOf, weight_kept}
-use Rattle.cert_check.specs.Ways.{StandsOnWay, decision_at}
+use Rattle.cert_check.specs.Ways.{StandsOnWay}
 
 -- the judge was made for the terminals' grid; its room stands on a way of no more splits
 -- than were read
@@ -22,7 +22,7 @@ pub record StandsFor (ps : List Point) (s : SoFar) (judge : Judge) : Type 0 wher
   pub head : judge.head ≡ s.head
   pub edges_due : judge.edges_due ≡ s.edges_due
   pub network : judge.edges ≡ s.network
-  pub decision : decision_due ps s ≡ decision_at (hanan_grid_of ps) judge.room
+  pub decision : decision_due ps s ≡ judge.room.decided
   pub behind : drop 1 s.decisions ≡ decisions_behind (nothing_decided (hanan_grid_of ps)) judge.room.path
   pub splits : judge.splits ≡ s.splits
   pub cuts_due : judge.cuts_due ≡ s.cuts_due

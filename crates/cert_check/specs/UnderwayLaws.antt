@@ -5,7 +5,10 @@ use Rattle.std.proofs.Math.Logic.{∥∥₁_prop}
 use Rattle.points_in.specs.declared.point.Point.{Point}
 use Rattle.net_graph.specs.declared.state.EdgeState.TheVariants.{Undecided}
 use Rattle.net_graph.specs.Graph.{Graph}
-use Rattle.net_graph.specs.Decision.{Decided}
+use Rattle.net_graph.specs.Decision.{Decided, IsVertexUndecided, states_of}
+use Rattle.cert_tree.specs.declared.split.SplitOn.{SplitOn}
+use Rattle.cert_tree.specs.declared.split.SplitOn.TheVariants.{Edge, Vertex}
+use Rattle.cert_tree.specs.Decisions.{IsUndecidedSplit}
 use Rattle.cut_cert.specs.declared.reader.EventReader.{EventReader}
 use Rattle.cert_check.specs.declared.verdict.Cause.{Cause}
 use Rattle.cert_check.specs.declared.judge.Judge.{Judge}
@@ -17,12 +20,18 @@ use Rattle.cert_check.specs.Ways.{StandsOnWay}
 use Rattle.cert_check.specs.Standing.{IsJudgeOn}
 use Rattle.cert_check.specs.Underway.{IsUnderway}
 
-IsWay-prop : (top : Decided) (path : List Turn) → IsProp (IsWay top path)
-IsWay-prop top [] = Unit-prop
-IsWay-prop top (t ∷ above) =
-    let here : IsProp (slice_get (decision_along top above).edges t.edge ≡ Some Undecided) =
-    hlevel (codes, Coded-set) in
-    ×_prop here (IsWay-prop top above)
+IsVertexUndecided-prop : (g : Graph) (d : Decided) (v : ℕ) → IsProp (IsVertexUndecided g d v)
+IsVertexUndecided-prop g d v = hlevel (le_prop)
+
+IsUndecidedSplit-prop : (g : Graph) (d : Decided) (on : SplitOn) → IsProp (IsUndecidedSplit g d on)
+IsUndecidedSplit-prop g d (Edge e) =
+    let is : IsProp (slice_get (states_of g d) e ≡ Some Undecided) = hlevel (codes, Coded-set) in is
+IsUndecidedSplit-prop g d (Vertex v) = IsVertexUndecided-prop g d v
+
+IsWay-prop : (g : Graph) (top : Decided) (path : List Turn) → IsProp (IsWay g top path)
+IsWay-prop g top [] = Unit-prop
+IsWay-prop g top (t ∷ above) =
+    ×_prop (IsUndecidedSplit-prop g (decision_along top above) t.on) (IsWay-prop g top above)
 
 HasRows-prop : (g : Graph) (kept : Kept) → IsProp (HasRows g kept)
 HasRows-prop g kept = hlevel (codes, Coded-set)

@@ -1,13 +1,19 @@
 //! The judge of an answer's lines, one after another.
 
-ghost use Rattle.std.specs.Prelude.{◌≡◌, ◌+◌, ◌*◌, List, [], Bool, Option, Some, IfSome, IfNone, false, length, replicate};
+ghost use Rattle.std.specs.Prelude.{ℕ, ◌≡◌, ◌+◌, ◌*◌, List, [], Bool, Option, Some, IfSome, IfNone, IfOk, IfErr, false, length, replicate};
 ghost use Rattle.points_in.specs.declared.point.Point.{Point};
+ghost use Rattle.net_graph.specs.Graph.{Graph};
+ghost use Rattle.net_graph.specs.Decision.{Decided};
 ghost use Rattle.hanan_grid.specs.Grid.{hanan_grid_of};
+ghost use Rattle.cert_tree.specs.Decisions.{IsUndecidedSplit};
 ghost use Rattle.cert_check.specs.Lines.Behind.{Ended};
-ghost use Rattle.cert_check.specs.Judged.{SoFar, Passes, Fails, Judges, IsNetworkRight, IsNetworkWrong, nothing_told, with_cuts_due};
+ghost use Rattle.cert_check.specs.Splits.{IsNameOfSplit, MaySplitOn, SplitFault, SplitOnFault};
+ghost use Rattle.cert_check.specs.Ways.{HasState};
+ghost use Rattle.cert_check.specs.Judged.{SoFar, Passes, Fails, Judges, IsNetworkRight, IsNetworkWrong, decision_due, nothing_told, with_cuts_due, with_split};
 ghost use Rattle.cert_check.specs.Standing.{StandsFor, IsJudgeOn};
 
 use crate::border::layout_of;
+use crate::decided::is_split_undecided;
 use crate::edges::EdgesRead;
 use crate::end::end_verdict;
 use crate::leaf::read_cut;
@@ -15,7 +21,8 @@ use crate::network::network_fault;
 use crate::room::Room;
 use crate::verdict::{Cause, Finished, Verdict};
 use crate::way::{go_on, go_outside, length_inside};
-use cut_cert::{AnswerHead, Event, Row};
+use cert_tree::SplitOn;
+use cut_cert::{AnswerHead, Event, Row, SplitName};
 use hanan_grid::{EdgeName, Grid};
 use net_graph::{EdgeSet, VertexSet};
 
@@ -138,8 +145,8 @@ impl Judge {
         )
     }
 
-    // Judges a split by the name of its edge.
-    fn judge_split(&mut self, grid: &Grid, line: u64, name: &EdgeName) -> Option<Cause>
+    // Judges a split by the name of its edge or its vertex.
+    fn judge_split(&mut self, grid: &Grid, line: u64, name: &SplitName) -> Option<Cause>
         requires sizes { IsJudgeOn grid.now self.old }
         ensures sizes { IsJudgeOn grid.now self.new }
         ensures passes { IfNone result ((s : SoFar) (members : Option (List Bool)) → StandsFor grid.now s self.old
@@ -148,16 +155,32 @@ impl Judge {
             → StandsFor grid.now s self.old
             → Fails grid.now s line (Event.Split name.now) members cause self.new.edges) }
     {
-        let Some(edge) = grid.edge_named(name) else {
-            return Some(Cause::OffGrid(line));
-        };
-        if !self.room.is_undecided(edge) {
-            return Some(Cause::Decided { line, edge });
+        match split_named(grid, line, name) {
+            Ok(on) => self.judge_split_on(grid, line, on),
+            Err(cause) => Some(cause),
+        }
+    }
+
+    // Judges a split on an edge or a vertex of the grid.
+    fn judge_split_on(&mut self, grid: &Grid, line: u64, on: SplitOn) -> Option<Cause>
+        requires sizes { IsJudgeOn grid.now self.old }
+        requires state { HasState self.old.room.decided on }
+        ensures sizes { IsJudgeOn grid.now self.new }
+        ensures passes { IfNone result ((s : SoFar) → StandsFor grid.now s self.old
+            → MaySplitOn (hanan_grid_of grid.now) (decision_due grid.now s) s.splits on
+            × StandsFor grid.now (with_split grid.now s on) self.new) }
+        ensures fault { IfSome result (λ cause. (s : SoFar) → StandsFor grid.now s self.old
+            → SplitOnFault (hanan_grid_of grid.now) (decision_due grid.now s) s.splits on line cause) }
+        ensures edges { self.new.edges ≡ self.old.edges }
+    {
+        let g = grid.graph();
+        if !is_split_undecided(&self.room, g, on) {
+            return Some(decided_cause(line, on));
         }
         if self.splits >= MOST_SPLITS {
             return Some(Cause::TooDeep(line));
         }
-        go_outside(&mut self.room, grid.graph(), edge);
+        go_outside(&mut self.room, g, on);
         self.splits += 1;
         None
     }
@@ -230,5 +253,35 @@ impl Judge {
             verdict: end_verdict(&self.head, found),
             network: self.edges.into_network(),
         }
+    }
+}
+
+// The edge or the vertex of the grid that a split is on, by its name. An `Err` is why the line is wrong where there is
+// none.
+fn split_named(grid: &Grid, line: u64, name: &SplitName) -> Result<SplitOn, Cause>
+    ensures named { IfOk result (λ on. IsNameOfSplit grid.now name.now on) }
+    ensures fault { IfErr result (λ cause. (d : Decided) (splits : ℕ)
+        → SplitFault grid.now d splits name.now line cause) }
+{
+    match name {
+        SplitName::Edge(name) => match grid.edge_named(name) {
+            Some(edge) => Ok(SplitOn::Edge(edge)),
+            None => Err(Cause::OffGrid(line)),
+        },
+        SplitName::Vertex(point) => match grid.vertex_at(*point) {
+            Some(vertex) => Ok(SplitOn::Vertex(vertex)),
+            None => Err(Cause::OffGridVertex(line)),
+        },
+    }
+}
+
+// Why the line of a split is wrong that is on what is decided.
+fn decided_cause(line: u64, on: SplitOn) -> Cause
+    ensures { (g : Graph) (d : Decided) (splits : ℕ) → (IsUndecidedSplit g d on → ⊥)
+        → SplitOnFault g d splits on line result }
+{
+    match on {
+        SplitOn::Edge(edge) => Cause::Decided { line, edge },
+        SplitOn::Vertex(vertex) => Cause::DecidedVertex { line, vertex },
     }
 }

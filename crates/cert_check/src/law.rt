@@ -1,6 +1,7 @@
 //! Laws of verdicts, and of answers that are accepted.
 
 ghost use Rattle.cert_check.specs.Accepted.{AcceptedBoundHolds};
+ghost use Rattle.cert_check.specs.UpgradeLaw.{UpgradingKeepsVerdict};
 ghost use Rattle.cert_check.specs.VerdictLaw.{OneVerdict};
 
 use cert_tree::tree_bounds_every_network;
@@ -18,6 +19,14 @@ pub fn accepted_bound_holds()
 /// gives is the only one. A law: the call does nothing, and its caller knows the fact from there on.
 pub fn one_verdict()
     ensures { OneVerdict }
+{
+    one_reading();
+}
+
+/// An answer's text of at most 2^28 bytes has the verdict of the same answer's text in version 2, with the same line
+/// where it names one. A law: the call does nothing, and its caller knows the fact from there on.
+pub fn upgrading_keeps_verdict()
+    ensures { UpgradingKeepsVerdict }
 {
     one_reading();
 }

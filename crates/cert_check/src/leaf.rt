@@ -1,20 +1,21 @@
 //! The cuts of a leaf, as they are read.
 
-ghost use Rattle.std.specs.Prelude.{◌≡◌, ◌+◌, ◌<◌, ◌≤◌, ◌↔◌, ◌⊎◌, ℕ, true, false, List, [], ◌∷◌, ◌++◌, length, Contains, slice_get, slice_index, Some, IsTrue, IfOk, IfErr, IfNone, IfSome};
+ghost use Rattle.std.specs.Prelude.{◌≡◌, ◌+◌, ◌<◌, ◌≤◌, ◌↔◌, ◌⊎◌, ℕ, true, false, List, [], ◌∷◌, ◌++◌, length, slice_index, IsTrue, IfOk, IfErr, IfNone, IfSome};
 ghost use Rattle.net_graph.specs.declared.packing.Cut.{Cut};
-ghost use Rattle.net_graph.specs.declared.state.EdgeState.{EdgeState};
 ghost use Rattle.net_graph.specs.Flags.{has};
 ghost use Rattle.net_graph.specs.Graph.{HasEndsBelow};
-ghost use Rattle.net_graph.specs.Decision.{Decided, EndsInside, decided_of};
+ghost use Rattle.net_graph.specs.Decision.{EndsInside, IsMet, IsRequired};
 ghost use Rattle.net_graph.specs.Packing.{IsCut, room_of};
 ghost use Rattle.cert_check.specs.Cuts.{PacksCut, CutFault, cut_of};
-ghost use Rattle.cert_check.specs.Loads.{HasRows, IsLeafOf, IsOverload, KeepsDecision, KeepsLoads, LoadsBelow, LoadsOnly, SameWay};
+ghost use Rattle.cert_check.specs.Loads.{HasRows, IsLeafOf, IsOverload, KeepsLoads, LoadsBelow, LoadsOnly, SameWay};
 ghost use Rattle.cert_check.specs.Strips.{IsLaidOut, IsStrip};
-ghost use Rattle.cert_check.specs.Ways.{StandsOnWay};
+ghost use Rattle.cert_check.specs.Ways.{HasState, RequiresOn, StandsOnWay};
 
 use crate::border::{Layout, Strip, parted_in, strip_at};
+use crate::decided::state_at;
 use crate::room::Room;
 use crate::verdict::Cause;
+use cert_tree::SplitOn;
 use net_graph::{Edge, EdgeState, NetGraph, VertexSet, enters, holds_terminal};
 
 /// A load that is above its room.
@@ -39,11 +40,11 @@ pub(crate) fn read_cut(
     requires laid_out { IsLaidOut g.now layout }
     ensures rows { HasRows g.now room.new }
     ensures way { SameWay room.old room.new }
-    ensures passes { IfNone result ((d : Decided) (cuts : List Cut) → KeepsDecision g.now d room.old
-        → IsLeafOf g.now cuts room.old → PacksCut g.now d cuts (cut_of weight members.now)
+    ensures passes { IfNone result ((cuts : List Cut) → IsLeafOf g.now cuts room.old
+        → PacksCut g.now room.old.decided cuts (cut_of weight members.now)
         × IsLeafOf g.now (cuts ++ cut_of weight members.now ∷ []) room.new) }
-    ensures fault { IfSome result (λ cause. (d : Decided) (cuts : List Cut) → KeepsDecision g.now d room.old
-        → IsLeafOf g.now cuts room.old → CutFault g.now d cuts (cut_of weight members.now) line cause) }
+    ensures fault { IfSome result (λ cause. (cuts : List Cut) → IsLeafOf g.now cuts room.old
+        → CutFault g.now room.old.decided cuts (cut_of weight members.now) line cause) }
 {
     if let Some(cause) = set_fault(room, g, line, members) {
         return Some(cause);
@@ -68,9 +69,9 @@ fn load_arcs(
     ensures way { SameWay room.old room.new }
     ensures leaf { IfNone result ((cuts : List Cut) → IsLeafOf g.now cuts room.old
         → IsLeafOf g.now (cuts ++ cut_of weight members.now ∷ []) room.new) }
-    ensures fault { IfSome result (λ cause. (d : Decided) (cuts : List Cut) → KeepsDecision g.now d room.old
-        → IsCut g.now d members.now → IsLeafOf g.now cuts room.old
-        → CutFault g.now d cuts (cut_of weight members.now) line cause) }
+    ensures fault { IfSome result (λ cause. (cuts : List Cut) → IsCut g.now room.old.decided members.now
+        → IsLeafOf g.now cuts room.old
+        → CutFault g.now room.old.decided cuts (cut_of weight members.now) line cause) }
 {
     for place in 0..2 * layout.rows - 1 {
         let strip = strip_at(layout, place);
@@ -98,9 +99,9 @@ fn load_strip(
     ensures loads { IfNone result ((cuts : List Cut)
         → LoadsBelow g.now cuts (cut_of weight members.now) strip.edge room.old
         → LoadsBelow g.now cuts (cut_of weight members.now) (strip.edge + strip.count) room.new) }
-    ensures fault { IfSome result (λ cause. (d : Decided) (cuts : List Cut) → KeepsDecision g.now d room.old
-        → IsCut g.now d members.now → LoadsBelow g.now cuts (cut_of weight members.now) strip.edge room.old
-        → CutFault g.now d cuts (cut_of weight members.now) line cause) }
+    ensures fault { IfSome result (λ cause. (cuts : List Cut) → IsCut g.now room.old.decided members.now
+        → LoadsBelow g.now cuts (cut_of weight members.now) strip.edge room.old
+        → CutFault g.now room.old.decided cuts (cut_of weight members.now) line cause) }
 {
     // Few vertices, so their numbers are within 32 bits.
     prove!(g.vertex_count() <= 2500);
@@ -110,7 +111,8 @@ fn load_strip(
     while marks != 0 {
         let gap = marks.trailing_zeros();
         n += gap;
-        if let Err(over) = load_edge(room, n, g.edge(n), weight, members) {
+        let state = state_at(room, g, n);
+        if let Err(over) = load_edge(room, n, g.edge(n), state, weight, members) {
             return Some(Cause::Overload {
                 line,
                 edge: n,
@@ -124,29 +126,29 @@ fn load_strip(
     None
 }
 
-// Loads that arc of an edge which enters the set, if it has a room. An `Err` is its load where that is above its room.
+// Loads that arc of an edge in this state which enters the set, if it has a room. An `Err` is its load where that is
+// above its room.
 fn load_edge(
     room: &mut Room,
     n: u32,
     e: Edge,
+    state: EdgeState,
     weight: u64,
     members: &VertexSet,
 ) -> Result<(), Excess>
     requires there { n < length room.old.there }
     requires back { n < length room.old.back }
-    requires states { n < length room.old.states }
     requires ends { HasEndsBelow (length members.now) e }
     ensures only { LoadsOnly n room.old room.new }
-    ensures passes { IfOk result (λ _. (cuts : List Cut) (state : EdgeState) → slice_get room.old.states n ≡ Some state
+    ensures passes { IfOk result (λ _. (cuts : List Cut)
         → KeepsLoads state e cuts (slice_index room.old.there n) (slice_index room.old.back n)
         → KeepsLoads state e (cuts ++ cut_of weight members.now ∷ [])
         (slice_index room.new.there n) (slice_index room.new.back n)) }
-    ensures over { IfErr result (λ over. (cuts : List Cut) (state : EdgeState)
-        → slice_get room.old.states n ≡ Some state
+    ensures over { IfErr result (λ over. (cuts : List Cut)
         → KeepsLoads state e cuts (slice_index room.old.there n) (slice_index room.old.back n)
         → IsOverload state e (cuts ++ cut_of weight members.now ∷ []) members.now over) }
 {
-    let Some(limit) = arc_room(room.state(n), &e) else {
+    let Some(limit) = arc_room(state, &e) else {
         return Ok(());
     };
     if enters(members, e.a, e.b) {
@@ -192,9 +194,9 @@ fn with_weight(load: u64, weight: u64, room: u64) -> Result<u64, Excess>
 fn set_fault(room: &Room, g: &NetGraph, line: u64, members: &VertexSet) -> Option<Cause>
     requires on_way { StandsOnWay g.now room.now }
     requires size { length members.now ≡ g.now.vertices }
-    ensures passes { IfNone result ((d : Decided) → KeepsDecision g.now d room.now → IsCut g.now d members.now) }
-    ensures fault { IfSome result (λ cause. (d : Decided) (cuts : List Cut) (weight : ℕ)
-        → KeepsDecision g.now d room.now → CutFault g.now d cuts (cut_of weight members.now) line cause) }
+    ensures passes { IfNone result (IsCut g.now room.now.decided members.now) }
+    ensures fault { IfSome result (λ cause. (cuts : List Cut) (weight : ℕ)
+        → CutFault g.now room.now.decided cuts (cut_of weight members.now) line cause) }
 {
     if members.has(g.root()) {
         return Some(Cause::RootInCut(line));
@@ -205,32 +207,42 @@ fn set_fault(room: &Room, g: &NetGraph, line: u64, members: &VertexSet) -> Optio
     None
 }
 
-// Whether the set holds a terminal or an end of an inside edge: where no vertex is decided, a required vertex.
+// Whether the set holds a required vertex.
 fn holds_required(room: &Room, g: &NetGraph, members: &VertexSet) -> bool
     requires on_way { StandsOnWay g.now room.now }
     requires size { length members.now ≡ g.now.vertices }
-    ensures { IsTrue result ↔ ((v : ℕ) × (Contains g.now.terminals v
-        ⊎ EndsInside g.now (decided_of room.now.states []) v) × (has members.now v ≡ true)) }
+    ensures { IsTrue result ↔ ((v : ℕ) × IsRequired g.now room.now.decided v × (has members.now v ≡ true)) }
 {
-    holds_terminal(g, members) || holds_inside_end(room, g, members)
+    holds_terminal(g, members) || holds_decided(room, g, members)
 }
 
-// Whether the set holds an end of an inside edge. Each inside edge has its split on the way.
-fn holds_inside_end(room: &Room, g: &NetGraph, members: &VertexSet) -> bool
+// Whether the set holds an end of an inside edge or a met vertex. Each of these edges and vertices has its split on the
+// way.
+fn holds_decided(room: &Room, g: &NetGraph, members: &VertexSet) -> bool
     requires on_way { StandsOnWay g.now room.now }
     requires size { length members.now ≡ g.now.vertices }
-    ensures { IsTrue result ↔ ((v : ℕ) × EndsInside g.now (decided_of room.now.states []) v
+    ensures { IsTrue result ↔ ((v : ℕ) × (EndsInside g.now room.now.decided v ⊎ IsMet room.now.decided v)
         × (has members.now v ≡ true)) }
 {
-    // Few edges, so their numbers are within 32 bits.
-    prove!(g.edge_count() <= 4900);
     for place in 0..room.depth() {
-        let edge = room.turn(place).edge as u32;
-        if room.is_inside(edge) && holds_end(members, g.edge(edge)) {
+        if holds_by(room, g, members, room.turn(place).on) {
             return true;
         }
     }
     false
+}
+
+// Whether the set holds a vertex that is required by what a split is on.
+fn holds_by(room: &Room, g: &NetGraph, members: &VertexSet, on: SplitOn) -> bool
+    requires rows { HasRows g.now room.now }
+    requires size { length members.now ≡ g.now.vertices }
+    requires state { HasState room.now.decided on }
+    ensures { IsTrue result ↔ ((v : ℕ) × RequiresOn g.now room.now.decided on v × (has members.now v ≡ true)) }
+{
+    match on {
+        SplitOn::Edge(n) => room.is_inside(n) && holds_end(members, g.edge(n)),
+        SplitOn::Vertex(v) => room.is_met(v) && members.has(v),
+    }
 }
 
 // Whether the set holds an end of the edge.

@@ -3,6 +3,8 @@
 
 mod border;
 mod checker;
+mod code;
+mod decided;
 mod edges;
 mod end;
 mod judge;
@@ -18,6 +20,6 @@ mod way;
 mod workroom;
 
 pub use checker::Checker;
-pub use law::{accepted_bound_holds, one_verdict};
+pub use law::{accepted_bound_holds, one_verdict, upgrading_keeps_verdict};
 pub use verdict::{Cause, Finished, Verdict};
 pub use workroom::Workroom;

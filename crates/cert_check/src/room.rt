@@ -2,18 +2,22 @@
 
 ghost use Rattle.std.specs.Prelude.{◌≡◌, ℕ, ◌+◌, ◌*◌, ◌<◌, ◌≤◌, ◌↔◌, List, [], ◌∷◌, length, drop, replicate, slice_get, slice_index, slice_set, Some, IsTrue, IfSome, IfNone};
 ghost use Rattle.net_graph.specs.Network.{IsNetwork, IsFirstApart};
-ghost use Rattle.cert_check.specs.Room.{nothing_kept, path_start, state_of};
+ghost use Rattle.net_graph.specs.Decision.{IsMet, IsMissed, with_edge, with_vertex};
+ghost use Rattle.cert_check.specs.Room.{nothing_kept, path_start, vertices_start};
 ghost use Rattle.cert_check.specs.declared.turn.Turn.{Turn};
 
+use crate::code::{
+    number_from, numbers_from, state_from, turn_from, vertex_number_from, vertex_state_from,
+};
 use crate::listed::{clear_listed, list_loaded, write_load};
 use crate::turn::Turn;
 use cut_cert::Row;
-use net_graph::{EdgeSet, EdgeState, NetGraph, first_apart_within};
+use net_graph::{EdgeSet, EdgeState, NetGraph, VertexState, first_apart_within};
 use std::marker::Model;
 
 /// A row of numbers in which an answer on a graph is checked. It has the load of each arc, the state of each edge, the
-/// list of the edges that are loaded, and the way of splits to the node that is read. A search may use the numbers of
-/// the list, which is then made anew.
+/// list of the edges that are loaded, the state of each vertex, and the way of splits to the node that is read. A search
+/// may use the numbers of the list, which is then made anew.
 #[derive(Debug, Drop)]
 pub(crate) struct Room {
     row: Row,
@@ -45,7 +49,7 @@ impl Room {
         ensures { result ≡ nothing_kept edges vertices }
     {
         let mut row = row;
-        clear_numbers(&mut row, 3 * edges);
+        clear_numbers(&mut row, 3 * edges + 3 * vertices);
         Room {
             row,
             edges,
@@ -101,36 +105,61 @@ impl Room {
         self.loaded = 0;
     }
 
-    /// The state of an edge.
-    pub(crate) fn state(&self, n: u32) -> EdgeState
-        requires { n < length self.now.states }
-        ensures { slice_get self.now.states n ≡ Some result }
+    /// What is decided of an edge itself, whatever its ends.
+    pub(crate) fn edge_state(&self, n: u32) -> EdgeState
+        requires { n < length self.now.decided.edges }
+        ensures { slice_get self.now.decided.edges n ≡ Some result }
     {
         state_from(self.row.get(2 * self.edges + n))
     }
 
     /// Whether an edge is inside.
     pub(crate) fn is_inside(&self, n: u32) -> bool
-        requires { n < length self.now.states }
-        ensures { IsTrue result ↔ (slice_get self.now.states n ≡ Some EdgeState.Inside) }
+        requires { n < length self.now.decided.edges }
+        ensures { IsTrue result ↔ (slice_get self.now.decided.edges n ≡ Some EdgeState.Inside) }
     {
-        matches!(self.state(n), EdgeState::Inside)
-    }
-
-    /// Whether an edge is undecided.
-    pub(crate) fn is_undecided(&self, n: u32) -> bool
-        requires { n < length self.now.states }
-        ensures { IsTrue result ↔ (slice_get self.now.states n ≡ Some EdgeState.Undecided) }
-    {
-        matches!(self.state(n), EdgeState::Undecided)
+        matches!(self.edge_state(n), EdgeState::Inside)
     }
 
     /// Writes the state of an edge.
-    pub(crate) fn set_state(&mut self, n: u32, state: EdgeState)
-        requires { n < length self.old.states }
-        ensures { self.new ≡ record self.old { states = slice_set self.old.states n state } }
+    pub(crate) fn set_edge(&mut self, n: u32, state: EdgeState)
+        requires { n < length self.old.decided.edges }
+        ensures { self.new ≡ record self.old { decided = with_edge self.old.decided n state } }
     {
         self.row.set(2 * self.edges + n, number_from(state));
+    }
+
+    /// What is decided of a vertex.
+    pub(crate) fn vertex_state(&self, v: u32) -> VertexState
+        requires { v < length self.now.decided.vertices }
+        ensures { slice_get self.now.decided.vertices v ≡ Some result }
+    {
+        vertex_state_from(self.row.get(vertex_place(self.edges, self.vertices, v)))
+    }
+
+    /// Whether a vertex is met.
+    pub(crate) fn is_met(&self, v: u32) -> bool
+        requires { v < length self.now.decided.vertices }
+        ensures { IsTrue result ↔ IsMet self.now.decided v }
+    {
+        matches!(self.vertex_state(v), VertexState::Met)
+    }
+
+    /// Whether a vertex is missed.
+    pub(crate) fn is_missed(&self, v: u32) -> bool
+        requires { v < length self.now.decided.vertices }
+        ensures { IsTrue result ↔ IsMissed self.now.decided v }
+    {
+        matches!(self.vertex_state(v), VertexState::Missed)
+    }
+
+    /// Writes the state of a vertex.
+    pub(crate) fn set_vertex(&mut self, v: u32, state: VertexState)
+        requires { v < length self.old.decided.vertices }
+        ensures { self.new ≡ record self.old { decided = with_vertex self.old.decided v state } }
+    {
+        let place = vertex_place(self.edges, self.vertices, v);
+        self.row.set(place, vertex_number_from(state));
     }
 
     /// The lowest split on the way, if there is one.
@@ -157,10 +186,7 @@ impl Room {
         ensures { slice_get self.now.path place ≡ Some result }
     {
         let at = path_place(self.edges, self.vertices, self.depth - 1 - place);
-        Turn {
-            edge: self.row.get(at),
-            inside: self.row.get(at + 1) == 1,
-        }
+        turn_from(self.row.get(at) as u32, self.row.get(at + 1))
     }
 
     /// Goes down by one more split.
@@ -169,8 +195,9 @@ impl Room {
         ensures { self.new ≡ record self.old { path = turn ∷ self.old.path } }
     {
         let place = path_place(self.edges, self.vertices, self.depth);
-        self.row.set(place, turn.edge);
-        self.row.set(place + 1, u64::from(turn.inside));
+        let (number, code) = numbers_from(turn);
+        self.row.set(place, u64::from(number));
+        self.row.set(place + 1, u64::from(code));
         self.depth += 1;
     }
 
@@ -179,7 +206,7 @@ impl Room {
     pub(crate) fn first_apart(&mut self, g: &NetGraph, set: &EdgeSet) -> Option<u8>
         requires size { length set.now ≡ length g.now.edges }
         requires few { length g.now.terminals ≤ 255 }
-        requires vertices { self.old.vertices ≡ g.now.vertices }
+        requires vertices { length self.old.decided.vertices ≡ g.now.vertices }
         ensures none { IfNone result (IsNetwork g.now set.now) }
         ensures first { IfSome result (IsFirstApart g.now set.now) }
         ensures kept { self.new ≡ self.old }
@@ -214,6 +241,16 @@ fn clear_numbers(row: &mut Row, count: u32)
     }
 }
 
+// Where the state of a vertex stands in the row.
+fn vertex_place(edges: u32, vertices: u32, v: u32) -> u32
+    requires few_edges { edges ≤ 4900 }
+    requires few_vertices { vertices ≤ 2500 }
+    requires vertex { v < vertices }
+    ensures { result ≡ vertices_start edges vertices + v }
+{
+    3 * edges + 2 * vertices + v
+}
+
 // Where a split of the way stands in the row.
 fn path_place(edges: u32, vertices: u32, depth: u32) -> u32
     requires few_edges { edges ≤ 4900 }
@@ -222,26 +259,4 @@ fn path_place(edges: u32, vertices: u32, depth: u32) -> u32
     ensures { result ≡ path_start edges vertices + 2 * depth }
 {
     3 * edges + 3 * vertices + 2 * depth
-}
-
-// The state that a number stands for.
-fn state_from(number: u64) -> EdgeState
-    ensures { result ≡ state_of number }
-{
-    match number {
-        0 => EdgeState::Undecided,
-        1 => EdgeState::Inside,
-        _ => EdgeState::Outside,
-    }
-}
-
-// The number that stands for a state.
-fn number_from(state: EdgeState) -> u64
-    ensures { state_of result ≡ state }
-{
-    match state {
-        EdgeState::Undecided => 0,
-        EdgeState::Inside => 1,
-        EdgeState::Outside => 2,
-    }
 }

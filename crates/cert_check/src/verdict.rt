@@ -2,13 +2,15 @@
 
 use net_graph::EdgeSet;
 
-/// Why an answer is refused. Lines count from 1, edges and terminals from 0.
+/// Why an answer is refused. Lines count from 1; edges, vertices and terminals from 0.
 #[derive(Clone, Copy, Debug, PartialEq, Eq)]
 pub enum Cause {
     /// The line in which the text ceases to begin an answer's text.
     NotAnswer(u64),
     /// The line names no edge of the grid.
     OffGrid(u64),
+    /// The line names no vertex of the grid.
+    OffGridVertex(u64),
     /// The line's edge doesn't have a higher number than the edges before it.
     EdgeOrder(u64),
     /// The edges don't join this terminal to the first one, though all those before it.
@@ -22,6 +24,11 @@ pub enum Cause {
     Decided {
         line: u64,
         edge: u32,
+    },
+    /// The line is a split on a vertex that isn't undecided there: the root, a required vertex, or a missed one.
+    DecidedVertex {
+        line: u64,
+        vertex: u32,
     },
     /// The line is the 256th split.
     TooDeep(u64),

@@ -1,1 +1,2 @@
 pub mod EdgeBoundLemmas
+pub mod BeginningLemmas

@@ -1,1 +1,2 @@
 pub mod EdgeBound
+pub mod Beginning

@@ -1,5 +1,6 @@
 -- What is said of the faults that tools share, and the statuses that they end with.
-use Rattle.std.specs.Prelude.{ℕ, List, ◌++◌, codes, decimal}
+use Rattle.std.specs.Prelude.{ℕ, Bool, if◌then◌else◌, List, ◌++◌, codes, decimal}
+use Rattle.format_fault.specs.Texts.{total_text}
 use Rattle.frame.specs.declared.status.FaultStatus.{FaultStatus}
 use Rattle.frame.specs.declared.status.FaultStatus.TheVariants as ends
 use Rattle.frame.specs.declared.take.InputFault.{InputFault}
@@ -35,10 +36,6 @@ abbrev pub file_fault_status : FileFault → FaultStatus
 file_fault_status file_fault.Unread = ends.Unread
 file_fault_status (file_fault.TooLong limit) = ends.TooLarge
 
--- what is said of a grid whose edges sum to a total that is too great
-abbrev pub total_text : ℕ → List ℕ
-total_text total = codes "the grid is too long: " ++ decimal total
-
 -- a text gives no grid
 abbrev pub list_fault_text : ListFault → List ℕ
 list_fault_text (list_fault.BadNumber at) = codes "not a whole number at byte " ++ decimal at
@@ -73,3 +70,7 @@ text_fault_text text (text_fault.Text fault) = text fault
 abbrev pub text_fault_status : {F : Type 0} → (F → FaultStatus) → TextFault F → FaultStatus
 text_fault_status status (text_fault.Input fault) = input_fault_status fault
 text_fault_status status (text_fault.Text fault) = status fault
+
+-- a text has a fault, as the crate of its format says it: it passes a limit, or is malformed
+abbrev pub format_fault_status : Bool → FaultStatus
+format_fault_status passes_limit = if passes_limit then ends.TooLarge else ends.Malformed

@@ -5,11 +5,12 @@ ghost use Rattle.text_out.specs.Gathers.{Gathers};
 ghost use Rattle.frame.specs.Taking.{KeepsFiles};
 ghost use Rattle.points_in.specs.Text.{HasPointCause};
 ghost use Rattle.frame.specs.Points.{IsListFault, ReadsGrid, ReadsPointsFile};
-ghost use Rattle.frame.specs.FaultTexts.{list_fault_text, list_fault_status, points_fault_text, points_fault_status, total_text};
+ghost use Rattle.frame.specs.FaultTexts.{list_fault_text, list_fault_status, points_fault_text, points_fault_status};
 
 use crate::fault::Fault;
 use crate::status::FaultStatus;
 use crate::take::{FileFault, take_file};
+use format_fault::write_total;
 use hanan_grid::{Grid, GridFault};
 use points_in::{PointFault, read_points};
 use rst_outside::{Shelf, Sink};
@@ -152,13 +153,4 @@ fn write_at<R: Sink>(block: &mut Block, err: &mut R, fault: &[u8], at: u64)
 {
     literal(block, err, fault);
     number(block, err, at);
-}
-
-/// Writes what is said of a grid whose edges sum to this total, which is too great.
-#[tactic(auto, using(text_out::specs::GatherLaws::pieces))]
-pub fn write_total<R: Sink>(block: &mut Block, err: &mut R, total: u128)
-    ensures { Gathers (R.state err.old) block.old (total_text total) (R.state err.new) block.new }
-{
-    literal(block, err, b"the grid is too long: ");
-    number(block, err, total);
 }

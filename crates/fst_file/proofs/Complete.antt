@@ -13,8 +13,8 @@ use Rattle.points_in.specs.Terminals.{AreDistinct}
 use Rattle.full_tree.specs.declared.code.Tree.{Tree}
 use Rattle.full_tree.specs.Order.{tree_cmp, IsInFileOrder}
 use Rattle.text_lines.specs.Lines.{empty_line}
-use Rattle.fst_file.specs.declared.fault.FileFault.{FileFault}
-use Rattle.fst_file.specs.declared.fault.FileFault.TheVariants.{BadLine}
+use Rattle.fst_file.specs.declared.fault.FstFault.{FstFault}
+use Rattle.fst_file.specs.declared.fault.FstFault.TheVariants.{BadLine}
 use Rattle.fst_file.specs.Value.{FstValue, IsTreeOf, IsFstValue, grid_total}
 use Rattle.fst_file.specs.Words.{title_words, end_words, points_words, trees_words, point_words, tree_words}
 use Rattle.fst_file.specs.Text.{fst_lines}
@@ -24,11 +24,11 @@ use Rattle.fst_file.proofs.Steps.{judges_pass}
 use Rattle.fst_file.proofs.Codes.{fits_form}
 
 -- these lines come to an outcome of such a kind, whatever their number
-abbrev pub Comes : (Result FstValue FileFault → Type 0) → Told → List (List (List ℕ)) → Type 0
-Comes P t ls = (n : ℕ) → (o : Result FstValue FileFault) × Judges t n ls o × P o
+abbrev pub Comes : (Result FstValue FstFault → Type 0) → Told → List (List (List ℕ)) → Type 0
+Comes P t ls = (n : ℕ) → (o : Result FstValue FstFault) × Judges t n ls o × P o
 
 -- one line that passes
-comes_pass : (P : Result FstValue FileFault → Type 0) (t t' : Told) (words : List (List ℕ)) (ls : List (List (List ℕ))) → 0 < length ls
+comes_pass : (P : Result FstValue FstFault → Type 0) (t t' : Told) (words : List (List ℕ)) (ls : List (List (List ℕ))) → 0 < length ls
     → Passes t words t' → Comes P t' ls → Comes P t (words ∷ ls)
 comes_pass P t t' words ls more passes come = λ n.
     let rest = come (n + 1) in
@@ -50,7 +50,7 @@ is_point told rest p all =
     subst IsPoint (get_or-append_seam told p rest p) (all (length told) p (omega (arith, length-append told (p ∷ rest))))
 
 -- the lines of points
-points_come : (P : Result FstValue FileFault → Type 0) (rest told all : List Point) (tail : List (List (List ℕ))) → 0 < length tail
+points_come : (P : Result FstValue FstFault → Type 0) (rest told all : List Point) (tail : List (List (List ℕ))) → 0 < length tail
     → all ≡ told ++ rest → AreDistinct all → All IsPoint all → grid_total all < 2 ^ 63 → Comes P (points zero all) tail
     → Comes P (points (length rest) told) (map point_words rest ++ tail)
 points_come P [] told all tail more is distinct are fits come =
@@ -88,7 +88,7 @@ follows [] rest t ordered = tt
 follows (u ∷ told) rest t ordered = follows_last (u ∷ told) rest t (omega arith) ordered
 
 -- the lines of trees
-trees_come : (P : Result FstValue FileFault → Type 0) (ps : List Point) (rest told all : List Tree) (tail : List (List (List ℕ))) → 0 < length tail
+trees_come : (P : Result FstValue FstFault → Type 0) (ps : List Point) (rest told all : List Tree) (tail : List (List (List ℕ))) → 0 < length tail
     → length ps ≤ 50 → all ≡ told ++ rest → AllByRecursion (IsTreeOf ps) rest → IsInFileOrder all → Comes P (trees ps zero all) tail
     → Comes P (trees ps (length rest) told) (map tree_words rest ++ tail)
 trees_come P ps [] told all tail more few is right ordered come =
@@ -119,7 +119,7 @@ lines_before v tail =
     ∙ ap (λ l. map point_words v.points ++ (trees_words (length v.trees) ∷ l)) (append_assoc (map tree_words v.trees) (end_words ∷ []) tail))
 
 -- they lead to the end
-pub file_comes : (P : Result FstValue FileFault → Type 0) (v : FstValue) (tail : List (List (List ℕ))) → 0 < length tail → IsFstValue v
+pub file_comes : (P : Result FstValue FstFault → Type 0) (v : FstValue) (tail : List (List (List ℕ))) → 0 < length tail → IsFstValue v
     → Comes P (ended v.points v.trees) tail → Comes P nothing (fst_lines v ++ tail)
 file_comes P v tail more is come =
     let ps = v.points in
@@ -143,7 +143,7 @@ file_comes P v tail more is come =
 
 -- what stands behind the end decides
 pub behind_end : (v : FstValue) (ls : List (List (List ℕ))) → 0 < length ls
-    → Comes (λ o. ((ls ≡ empty_line ∷ []) × (o ≡ Ok v)) ⊎ ((f : FileFault) × (o ≡ Err f))) (ended v.points v.trees) ls
+    → Comes (λ o. ((ls ≡ empty_line ∷ []) × (o ≡ Ok v)) ⊎ ((f : FstFault) × (o ≡ Err f))) (ended v.points v.trees) ls
 behind_end v [] some = absurd (omega arith)
 behind_end v (([] ∷ []) ∷ []) some = λ n. (Ok v, inl (refl, refl), inl (refl, refl))
 behind_end v ([] ∷ []) some = λ n. (Err (BadLine n), inr (λ e. cc, refl), inr (BadLine n, refl))

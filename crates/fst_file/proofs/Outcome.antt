@@ -3,8 +3,8 @@ use Rattle.std.specs.Prelude.{ℕ, zero, suc, ◌≡◌, ◌+◌, List, [], ◌�
 use Rattle.std.proofs.Common.{arith, sym, ap, ◌∙◌, subst, inl, inr}
 use Rattle.points_in.specs.declared.point.Point.{Point}
 use Rattle.full_tree.specs.declared.code.Tree.{Tree}
-use Rattle.fst_file.specs.declared.fault.FileFault.{FileFault}
-use Rattle.fst_file.specs.declared.fault.FileFault.TheVariants.{TooLong}
+use Rattle.fst_file.specs.declared.fault.FstFault.{FstFault}
+use Rattle.fst_file.specs.declared.fault.FstFault.TheVariants.{TooLong}
 use Rattle.fst_file.specs.Value.{FstValue, IsTreeOf, grid_total}
 use Rattle.fst_file.specs.Faults.{Told, nothing, title, points, trees, ended, Passes, Fails, IsTreeFault, Follows}
 use Rattle.fst_file.specs.Judged.{Judges, Ends}
@@ -21,13 +21,13 @@ passes_one (trees ps (suc due) ts) a b words (s, ss, xs, ys, f) (t, st, xt, yt, 
 passes_one (ended ps ts) a b words p q = absurd p
 
 -- a tree that is right has no fault
-tree_right : (ps : List Point) (ts : List Tree) (n : ℕ) (t : Tree) (f : FileFault) → IsTreeOf ps t → Follows ts t → IsTreeFault ps ts n t f → ⊥
+tree_right : (ps : List Point) (ts : List Tree) (n : ℕ) (t : Tree) (f : FstFault) → IsTreeOf ps t → Follows ts t → IsTreeFault ps ts n t f → ⊥
 tree_right ps ts n t f right follows (inl (out, is)) = out right.form
 tree_right ps ts n t f right follows (inr (inl (form, other, is))) = other right.length_is
 tree_right ps ts n t f right follows (inr (inr (one, late, is))) = late follows
 
 -- and one that is wrong has one fault
-tree_fault_one : (ps : List Point) (ts : List Tree) (n : ℕ) (t : Tree) (f g : FileFault) → IsTreeFault ps ts n t f → IsTreeFault ps ts n t g → f ≡ g
+tree_fault_one : (ps : List Point) (ts : List Tree) (n : ℕ) (t : Tree) (f g : FstFault) → IsTreeFault ps ts n t f → IsTreeFault ps ts n t g → f ≡ g
 tree_fault_one ps ts n t f g (inl (a, e)) (inl (b, e')) = e ∙ sym e'
 tree_fault_one ps ts n t f g (inl (a, e)) (inr (inl (form, other, e'))) = absurd (a form)
 tree_fault_one ps ts n t f g (inl (a, e)) (inr (inr (one, late, e'))) = absurd (a one.form)
@@ -39,7 +39,7 @@ tree_fault_one ps ts n t f g (inr (inr (one, late, e))) (inr (inl (form, other, 
 tree_fault_one ps ts n t f g (inr (inr (one, late, e))) (inr (inr (one', late', e'))) = e ∙ sym e'
 
 -- a line that passes doesn't fail
-not_both : (t a : Told) (n : ℕ) (words : List (List ℕ)) (f : FileFault) → Passes t words a → Fails t n words f → ⊥
+not_both : (t a : Told) (n : ℕ) (words : List (List ℕ)) (f : FstFault) → Passes t words a → Fails t n words f → ⊥
 not_both nothing a n words f (e, is) (other, g) = other e
 not_both title a n words f (m, sm, lm, hm, is) (inl (none, g)) = none m sm
 not_both title a n words f (m, sm, lm, hm, is) (inr (inl (k, sk, zk, g))) = omega (arith, points_one words m k sm sk)
@@ -62,7 +62,7 @@ not_both (trees ps (suc due) ts) a n words f (t, st, right, follows, is) (inr (s
 not_both (ended ps ts) a n words f passes g = passes
 
 -- a line that fails has one fault
-fails_one : (t : Told) (n : ℕ) (words : List (List ℕ)) (f g : FileFault) → Fails t n words f → Fails t n words g → f ≡ g
+fails_one : (t : Told) (n : ℕ) (words : List (List ℕ)) (f g : FstFault) → Fails t n words f → Fails t n words g → f ≡ g
 fails_one nothing n words f g (x, e) (y, e') = e ∙ sym e'
 fails_one title n words f g (inl (none, e)) (inl (none', e')) = e ∙ sym e'
 fails_one title n words f g (inl (none, e)) (inr (inl (k, sk, zk, e'))) = absurd (none k sk)
@@ -100,7 +100,7 @@ fails_one (trees ps (suc due) ts) n words f g (inr (s, ss, wrong)) (inr (t, st, 
 fails_one (ended ps ts) n words f g e e' = e ∙ sym e'
 
 -- the end comes to one outcome
-ends_one : (t : Told) (n : ℕ) (last : List (List ℕ)) (o o' : Result FstValue FileFault) → Ends t n last o → Ends t n last o' → o ≡ o'
+ends_one : (t : Told) (n : ℕ) (last : List (List ℕ)) (o o' : Result FstValue FstFault) → Ends t n last o → Ends t n last o' → o ≡ o'
 ends_one nothing n last o o' e e' = e ∙ sym e'
 ends_one title n last o o' e e' = e ∙ sym e'
 ends_one (points due ps) n last o o' e e' = e ∙ sym e'
@@ -111,7 +111,7 @@ ends_one (ended ps ts) n last o o' (inr (other, e)) (inl (y, e')) = absurd (othe
 ends_one (ended ps ts) n last o o' (inr (other, e)) (inr (other', e')) = e ∙ sym e'
 
 -- so does what is left of a text
-pub judges_one : (t : Told) (n : ℕ) (ls : List (List (List ℕ))) (o o' : Result FstValue FileFault) → Judges t n ls o → Judges t n ls o' → o ≡ o'
+pub judges_one : (t : Told) (n : ℕ) (ls : List (List (List ℕ))) (o o' : Result FstValue FstFault) → Judges t n ls o → Judges t n ls o' → o ≡ o'
 judges_one t n [] o o' j j' = absurd j
 judges_one t n (last ∷ []) o o' j j' = ends_one t n last o o' j j'
 judges_one t n (words ∷ next ∷ more) o o' (inl (f, fails, e)) (inl (g, fails', e')) = e ∙ ap Err (fails_one t n words f g fails fails') ∙ sym e'

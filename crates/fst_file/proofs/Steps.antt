@@ -4,21 +4,21 @@ use Rattle.std.proofs.Common.{arith, refl, sym, ap, subst, inl, inr}
 use Rattle.points_in.specs.declared.point.Point.{Point}
 use Rattle.full_tree.specs.declared.code.Tree.{Tree}
 use Rattle.text_lines.specs.Lines.{LinesLeft, empty_line}
-use Rattle.fst_file.specs.declared.fault.FileFault.{FileFault}
-use Rattle.fst_file.specs.declared.fault.FileFault.TheVariants.{BadLine, TooManyPoints, RepeatedPoint, TooLong, TooManyTrees, NotInForm, WrongLength, OutOfOrder, Memory}
+use Rattle.fst_file.specs.declared.fault.FstFault.{FstFault}
+use Rattle.fst_file.specs.declared.fault.FstFault.TheVariants.{BadLine, TooManyPoints, RepeatedPoint, TooLong, TooManyTrees, NotInForm, WrongLength, OutOfOrder, Memory}
 use Rattle.fst_file.specs.Value.{FstValue}
 use Rattle.fst_file.specs.Faults.{Told, nothing, title, points, trees, ended, Passes, Fails, SpellsPoint}
 use Rattle.fst_file.specs.Judged.{Judges}
 use Rattle.fst_file.specs.Left.{TakesLine, IsOpen, JudgesLeft, IsFaultLeft, LeadsTo, JudgesPoints}
 
 -- a line that passes, behind which another one stands
-pub judges_pass : (t t' : Told) (n : ℕ) (words : List (List ℕ)) (ls : List (List (List ℕ))) (o : Result FstValue FileFault) → 0 < length ls
+pub judges_pass : (t t' : Told) (n : ℕ) (words : List (List ℕ)) (ls : List (List (List ℕ))) (o : Result FstValue FstFault) → 0 < length ls
     → Passes t words t' → Judges t' (n + 1) ls o → Judges t n (words ∷ ls) o
 judges_pass t t' n words [] o more passes judged = absurd (omega arith)
 judges_pass t t' n words (l ∷ ls) o more passes judged = inr (t', passes, judged)
 
 -- a line that fails
-pub judges_fail : (t : Told) (n : ℕ) (words : List (List ℕ)) (ls : List (List (List ℕ))) (f : FileFault) → 0 < length ls
+pub judges_fail : (t : Told) (n : ℕ) (words : List (List ℕ)) (ls : List (List (List ℕ))) (f : FstFault) → 0 < length ls
     → Fails t n words f → Judges t n (words ∷ ls) (Err f)
 judges_fail t n words [] f more fails = absurd (omega arith)
 judges_fail t n words (l ∷ ls) f more fails = inl (f, fails, refl)
@@ -31,7 +31,7 @@ line_passes before after words t t' taken passes = λ o judged.
     subst (λ ls. Judges t before.number ls o) (sym taken.lines)
     (judges_pass t t' before.number words after.lines o taken.more passes later)
 
-pub line_fails : (before after : LinesLeft) (words : List (List ℕ)) (t : Told) (f : FileFault) → TakesLine before words after
+pub line_fails : (before after : LinesLeft) (words : List (List ℕ)) (t : Told) (f : FstFault) → TakesLine before words after
     → Fails t before.number words f → JudgesLeft t before (Err f)
 line_fails before after words t f taken fails =
     subst (λ ls. Judges t before.number ls (Err f)) (sym taken.lines) (judges_fail t before.number words after.lines f taken.more fails)
@@ -50,7 +50,7 @@ ends_short (last ∷ []) n one t is = ends_open t n last is
 ends_short (l ∷ m ∷ ls) n one t is = absurd (omega arith)
 
 -- a fault that is no want of memory
-pub fault_left : (t : Told) (left : LinesLeft) (f : FileFault) → JudgesLeft t left (Err f) → IsFaultLeft t left f
+pub fault_left : (t : Told) (left : LinesLeft) (f : FstFault) → JudgesLeft t left (Err f) → IsFaultLeft t left f
 fault_left t left (BadLine n) judged = judged
 fault_left t left (TooManyPoints n) judged = judged
 fault_left t left (RepeatedPoint n) judged = judged
@@ -62,7 +62,7 @@ fault_left t left (OutOfOrder n) judged = judged
 fault_left t left (Memory e) judged = tt
 
 -- a fault of what is left later is one of what was left before
-pub leads_fault : (t t' : Told) (before after : LinesLeft) (f : FileFault) → LeadsTo t before t' after → IsFaultLeft t' after f → IsFaultLeft t before f
+pub leads_fault : (t t' : Told) (before after : LinesLeft) (f : FstFault) → LeadsTo t before t' after → IsFaultLeft t' after f → IsFaultLeft t before f
 leads_fault t t' before after (BadLine n) leads is = leads (Err (BadLine n)) is
 leads_fault t t' before after (TooManyPoints n) leads is = leads (Err (TooManyPoints n)) is
 leads_fault t t' before after (RepeatedPoint n) leads is = leads (Err (RepeatedPoint n)) is
@@ -75,7 +75,7 @@ leads_fault t t' before after (Memory e) leads is = tt
 
 -- one more point
 pub point_leads : (before after : LinesLeft) (words : List (List ℕ)) (p : Point) (ps qs : List Point) → TakesLine before words after
-    → SpellsPoint words p → ¬ Contains ps p → qs ≡ ps ++ p ∷ [] → (due : ℕ) (o : Result FstValue FileFault) → JudgesPoints due qs after o
+    → SpellsPoint words p → ¬ Contains ps p → qs ≡ ps ++ p ∷ [] → (due : ℕ) (o : Result FstValue FstFault) → JudgesPoints due qs after o
     → JudgesLeft (points (suc due) ps) before o
 point_leads before after words p ps qs taken spells new is zero o (inl judged) =
     line_passes before after words (points (suc zero) ps) (points zero qs) taken (p, spells, new, λ last. rw (sym is) judged.0, ap (points zero) is) o judged.1

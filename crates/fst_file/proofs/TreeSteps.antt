@@ -14,7 +14,7 @@ use Rattle.full_tree.specs.Code.{HasFewMembers}
 use Rattle.full_tree.specs.Form.{IsInForm}
 use Rattle.full_tree.specs.Order.{tree_cmp, IsInFileOrder}
 use Rattle.full_tree.specs.OrderLaws.{tree_cmp_total}
-use Rattle.fst_file.specs.declared.fault.FileFault.{FileFault}
+use Rattle.fst_file.specs.declared.fault.FstFault.{FstFault}
 use Rattle.fst_file.specs.Value.{IsTreeOf}
 use Rattle.fst_file.specs.Faults.{IsTreeFault, Follows}
 use Rattle.fst_file.specs.Left.{StandsForCode}
@@ -26,7 +26,7 @@ same_tree kept t e f =
     ap (λ n. tree n kept.code) e ∙ ap (tree t.length) f
 
 -- what is wrong with the kept tree is wrong with the spelled one
-pub kept_fault : (ps : List Point) (ts : List Tree) (n : ℕ) (kept t : Tree) (f : FileFault) → length ps ≤ 50 → kept.length ≡ t.length
+pub kept_fault : (ps : List Point) (ts : List Tree) (n : ℕ) (kept t : Tree) (f : FstFault) → length ps ≤ 50 → kept.length ≡ t.length
     → StandsForCode kept.code t.code → IsTreeFault ps ts n kept f → IsTreeFault ps ts n t f
 kept_fault ps ts n kept t f fifty e stands (inl (out, is)) =
     inl (λ form. out (subst (IsInForm ps) (sym (stands ps fifty (inl form))) form), is)

@@ -4,8 +4,8 @@ use Rattle.std.proofs.Common.{arith, refl, sym, ap, ◌∙◌, subst, inl, inr}
 use Rattle.std.proofs.lemmas.List.{append-nil}
 use Rattle.text_lines.specs.Lines.{lines_of, empty_line}
 use Rattle.text_lines.specs.LineLaws.{lines_of_one, lines_of-text_of, lines_some}
-use Rattle.fst_file.specs.declared.fault.FileFault.{FileFault}
-use Rattle.fst_file.specs.declared.fault.FileFault.TheVariants.{BadLine, TooManyPoints, RepeatedPoint, TooLong, TooManyTrees, NotInForm, WrongLength, OutOfOrder, Memory}
+use Rattle.fst_file.specs.declared.fault.FstFault.{FstFault}
+use Rattle.fst_file.specs.declared.fault.FstFault.TheVariants.{BadLine, TooManyPoints, RepeatedPoint, TooLong, TooManyTrees, NotInForm, WrongLength, OutOfOrder, Memory}
 use Rattle.fst_file.specs.Value.{FstValue, IsFstValue}
 use Rattle.fst_file.specs.Text.{fst_lines, fst_text, SpellsFstFile}
 use Rattle.fst_file.specs.Faults.{nothing}
@@ -30,10 +30,10 @@ spells bytes v judged =
 
 -- what a value's text with bytes behind it comes to
 text_comes : (v : FstValue) (more : List ℕ) → IsFstValue v
-    → (o : Result FstValue FileFault) × IsOutcome (fst_text v ++ more) o
-    × (((lines_of more ≡ empty_line ∷ []) × (o ≡ Ok v)) ⊎ ((f : FileFault) × (o ≡ Err f)))
+    → (o : Result FstValue FstFault) × IsOutcome (fst_text v ++ more) o
+    × (((lines_of more ≡ empty_line ∷ []) × (o ≡ Ok v)) ⊎ ((f : FstFault) × (o ≡ Err f)))
 text_comes v more is =
-    let kind : Result FstValue FileFault → Type 0 = λ o. ((lines_of more ≡ empty_line ∷ []) × (o ≡ Ok v)) ⊎ ((f : FileFault) × (o ≡ Err f)) in
+    let kind : Result FstValue FstFault → Type 0 = λ o. ((lines_of more ≡ empty_line ∷ []) × (o ≡ Ok v)) ⊎ ((f : FstFault) × (o ≡ Err f)) in
     let come = file_comes kind v (lines_of more) (lines_some more) is (behind_end v (lines_of more) (lines_some more)) 1 in
     (come.0, subst (λ ls. Judges nothing 1 ls come.0) (sym (lines_behind v more is)) come.1, come.2)
 
@@ -53,18 +53,18 @@ one_spelling bytes more v w sv sw =
     let same : come.0 ≡ Ok w = judges_one nothing 1 (lines_of (bytes ++ more)) come.0 (Ok w) whole (comes_to (bytes ++ more) w sw) in
     by_kind come.0 same come.2
   where
-    by_kind : (o : Result FstValue FileFault) → o ≡ Ok w → ((lines_of more ≡ empty_line ∷ []) × (o ≡ Ok v)) ⊎ ((f : FileFault) × (o ≡ Err f))
+    by_kind : (o : Result FstValue FstFault) → o ≡ Ok w → ((lines_of more ≡ empty_line ∷ []) × (o ≡ Ok v)) ⊎ ((f : FstFault) × (o ≡ Err f))
         → (v ≡ w) × (more ≡ [])
     by_kind o is (inl (none, e)) = (cc, lines_of_one more [] none)
     by_kind o is (inr (f, e)) = cc
 
 -- what was read is spelled
-pub value_spelled : (bytes : List ℕ) (r : Result FstValue FileFault) → IfOk r (λ v. IsOutcome bytes (Ok v)) → IfOk r (SpellsFstFile bytes)
+pub value_spelled : (bytes : List ℕ) (r : Result FstValue FstFault) → IfOk r (λ v. IsOutcome bytes (Ok v)) → IfOk r (SpellsFstFile bytes)
 value_spelled bytes (Ok v) is = spells bytes v is
 value_spelled bytes (Err f) is = tt
 
 -- what was answered is the outcome, but for want of memory
-pub answers : (bytes : List ℕ) (r o : Result FstValue FileFault) → IfOk r (λ v. IsOutcome bytes (Ok v)) → IfErr r (IsFirstFault bytes)
+pub answers : (bytes : List ℕ) (r o : Result FstValue FstFault) → IfOk r (λ v. IsOutcome bytes (Ok v)) → IfErr r (IsFirstFault bytes)
     → IsOutcome bytes o → Answers r o
 answers bytes (Ok v) o ok err is = judges_one nothing 1 (lines_of bytes) (Ok v) o ok is
 answers bytes (Err (BadLine n)) o ok err is = judges_one nothing 1 (lines_of bytes) (Err (BadLine n)) o err is

@@ -8,8 +8,8 @@ use Rattle.full_tree.specs.declared.code.Tree.{Tree}
 use Rattle.full_tree.specs.Form.{IsInForm}
 use Rattle.full_tree.specs.Pieces.{code_length}
 use Rattle.full_tree.specs.Order.{tree_cmp}
-use Rattle.fst_file.specs.declared.fault.FileFault.{FileFault}
-use Rattle.fst_file.specs.declared.fault.FileFault.TheVariants.{BadLine, TooManyPoints, RepeatedPoint, TooLong, TooManyTrees, NotInForm, WrongLength, OutOfOrder}
+use Rattle.fst_file.specs.declared.fault.FstFault.{FstFault}
+use Rattle.fst_file.specs.declared.fault.FstFault.TheVariants.{BadLine, TooManyPoints, RepeatedPoint, TooLong, TooManyTrees, NotInForm, WrongLength, OutOfOrder}
 use Rattle.fst_file.specs.Value.{IsTreeOf, grid_total}
 use Rattle.fst_file.specs.Words.{title_words, end_words, points_words, trees_words, point_words, tree_words, IsSpelled}
 
@@ -72,7 +72,7 @@ Passes (trees ps (suc due) ts) words t' =
 Passes (ended ps ts) words t' = ⊥
 
 -- a spelled tree is wrong behind these
-abbrev pub IsTreeFault : List Point → List Tree → ℕ → Tree → FileFault → Type 0
+abbrev pub IsTreeFault : List Point → List Tree → ℕ → Tree → FstFault → Type 0
 IsTreeFault ps ts n t f =
     (¬ IsInForm ps t.code × (f ≡ NotInForm n))
     ⊎ (IsInForm ps t.code × (t.length ≢ code_length ps t.code)
@@ -80,7 +80,7 @@ IsTreeFault ps ts n t f =
     ⊎ (IsTreeOf ps t × ¬ Follows ts t × (f ≡ OutOfOrder n))
 
 -- the next line, of number n, is wrong behind what was told
-abbrev pub Fails : Told → ℕ → List (List ℕ) → FileFault → Type 0
+abbrev pub Fails : Told → ℕ → List (List ℕ) → FstFault → Type 0
 Fails nothing n words f = (words ≢ title_words) × (f ≡ BadLine n)
 Fails title n words f =
     (SpellsNoCount points_words words × (f ≡ BadLine n))

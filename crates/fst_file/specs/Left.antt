@@ -5,8 +5,8 @@ use Rattle.points_in.specs.declared.point.Point.{Point}
 use Rattle.full_tree.specs.declared.code.TreeCode.{TreeCode}
 use Rattle.full_tree.specs.Form.{IsInForm}
 use Rattle.text_lines.specs.Lines.{LinesLeft}
-use Rattle.fst_file.specs.declared.fault.FileFault.{FileFault}
-use Rattle.fst_file.specs.declared.fault.FileFault.TheVariants.{TooLong, Memory}
+use Rattle.fst_file.specs.declared.fault.FstFault.{FstFault}
+use Rattle.fst_file.specs.declared.fault.FstFault.TheVariants.{TooLong, Memory}
 use Rattle.fst_file.specs.Value.{FstValue, grid_total}
 use Rattle.fst_file.specs.Faults.{Told, points, ended, IsTooLong}
 use Rattle.fst_file.specs.Judged.{Judges}
@@ -23,21 +23,21 @@ IsOpen (ended ps ts) = ⊥
 IsOpen _ = Unit {0}
 
 -- what the text that is left comes to
-abbrev pub JudgesLeft : Told → LinesLeft → Result FstValue FileFault → Type 0
+abbrev pub JudgesLeft : Told → LinesLeft → Result FstValue FstFault → Type 0
 JudgesLeft told left o = Judges told left.number left.lines o
 
 -- its first fault, where it has one; want of memory has no cause in it
-abbrev pub IsFaultLeft : Told → LinesLeft → FileFault → Type 0
+abbrev pub IsFaultLeft : Told → LinesLeft → FstFault → Type 0
 IsFaultLeft told left (Memory e) = Unit {0}
 IsFaultLeft told left f = JudgesLeft told left (Err f)
 
 -- it comes to what the text that is left later comes to
 abbrev pub LeadsTo : Told → LinesLeft → Told → LinesLeft → Type 0
 LeadsTo told before told' after =
-    (o : Result FstValue FileFault) → JudgesLeft told' after o → JudgesLeft told before o
+    (o : Result FstValue FstFault) → JudgesLeft told' after o → JudgesLeft told before o
 
 -- Behind a point line: where all points were told, their grid decides first.
-abbrev pub JudgesPoints : ℕ → List Point → LinesLeft → Result FstValue FileFault → Type 0
+abbrev pub JudgesPoints : ℕ → List Point → LinesLeft → Result FstValue FstFault → Type 0
 JudgesPoints zero ps left o =
     ((grid_total ps < 2 ^ 63) × JudgesLeft (points zero ps) left o)
     ⊎ ((total : ℕ) × IsTooLong ps total × (o ≡ Err (TooLong total)))

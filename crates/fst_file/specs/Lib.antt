@@ -5,3 +5,4 @@ pub mod Faults
 pub mod Judged
 pub mod Left
 pub mod Pieces
+pub mod Said

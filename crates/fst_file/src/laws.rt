@@ -1,14 +1,14 @@
 //! Laws of the text of a file. The functions do nothing: each is there for its clauses.
 
 ghost use Rattle.std.specs.Prelude.{◌≡◌, ◌↔◌, ℕ, List, [], ◌++◌, Result, Ok};
-ghost use Rattle.fst_file.specs.declared.fault.FileFault.{FileFault};
+ghost use Rattle.fst_file.specs.declared.fault.FstFault.{FstFault};
 ghost use Rattle.fst_file.specs.Value.{FstValue};
 ghost use Rattle.fst_file.specs.Text.{SpellsFstFile};
 ghost use Rattle.fst_file.specs.Judged.{IsOutcome};
 
 /// Bytes come to one outcome at most: to one value, or to one first fault.
 pub fn one_outcome()
-    ensures { (bytes : List ℕ) (o o' : Result FstValue FileFault) → IsOutcome bytes o → IsOutcome bytes o'
+    ensures { (bytes : List ℕ) (o o' : Result FstValue FstFault) → IsOutcome bytes o → IsOutcome bytes o'
         → o ≡ o' }
 {}
 

@@ -12,7 +12,7 @@ mod tree_line;
 mod trees;
 mod write;
 
-pub use fault::FileFault;
+pub use fault::FstFault;
 pub use file::FstFile;
 pub use head::MAX_TREES;
 pub use laws::{one_outcome, one_reading, values_are_spelled};

@@ -5,17 +5,17 @@ ghost use Rattle.std.specs.Fmt.{decimal};
 ghost use Rattle.fst_file.specs.Faults.{Told};
 ghost use Rattle.fst_file.specs.Left.{TakesLine, IsOpen, JudgesLeft};
 
-use crate::fault::FileFault;
+use crate::fault::FstFault;
 use text_lines::{LineWords, TextLines};
 
 // The words of the next line. An `Err` says that the text ends too soon.
-pub(crate) fn whole_line<'a>(text: &mut TextLines<'a>) -> Result<LineWords<'a>, FileFault>
+pub(crate) fn whole_line<'a>(text: &mut TextLines<'a>) -> Result<LineWords<'a>, FstFault>
     ensures taken { IfOk result (λ words. TakesLine text.old words text.new) }
     ensures ended { IfErr result (λ f. (told : Told) → IsOpen told → JudgesLeft told text.old (Err f)) }
 {
     match text.next_line() {
         Some(words) => Ok(words),
-        None => Err(FileFault::BadLine(text.number())),
+        None => Err(FstFault::BadLine(text.number())),
     }
 }
 

@@ -7,7 +7,7 @@ ghost use Rattle.fst_file.specs.Value.{IsTreeOf, AreTreesOf};
 ghost use Rattle.fst_file.specs.Faults.{IsTreeFault, Follows, trees as trees_told};
 ghost use Rattle.fst_file.specs.Left.{JudgesLeft, IsFaultLeft, LeadsTo};
 
-use crate::fault::FileFault;
+use crate::fault::FstFault;
 use crate::line::whole_line;
 use crate::tree_line::tree_in;
 use full_tree::{Tree, TreeList, in_form, tree_length, tree_order};
@@ -18,19 +18,19 @@ use std::cmp::Ordering;
 use text_lines::TextLines;
 
 // What is wrong with a tree in a line behind these trees.
-fn tree_fault(grid: &Grid, trees: &TreeList, line: u64, tree: &Tree) -> Option<FileFault>
+fn tree_fault(grid: &Grid, trees: &TreeList, line: u64, tree: &Tree) -> Option<FstFault>
     requires { AllByRecursion (IsTreeOf grid.now) trees.now }
     ensures fault { IfSome result (IsTreeFault grid.now trees.now line tree.now) }
     ensures tree { IfNone result (IsTreeOf grid.now tree.now) }
     ensures follows { IfNone result (Follows trees.now tree.now) }
 {
     if !in_form(grid, &tree.code) {
-        return Some(FileFault::NotInForm(line));
+        return Some(FstFault::NotInForm(line));
     }
     let found = tree_length(grid, &tree.code);
     let printed = tree.length;
     if printed != found {
-        return Some(FileFault::WrongLength {
+        return Some(FstFault::WrongLength {
             line,
             printed,
             found,
@@ -39,7 +39,7 @@ fn tree_fault(grid: &Grid, trees: &TreeList, line: u64, tree: &Tree) -> Option<F
     if follows(trees, tree) {
         None
     } else {
-        Some(FileFault::OutOfOrder(line))
+        Some(FstFault::OutOfOrder(line))
     }
 }
 
@@ -62,7 +62,7 @@ fn next_tree(
     text: &mut TextLines<'_>,
     grid: &Grid,
     trees: &TreeList,
-) -> Result<Tree, FileFault>
+) -> Result<Tree, FstFault>
     requires { AllByRecursion (IsTreeOf grid.now) trees.now }
     ensures ok { IfOk result (λ t. (due : ℕ) → LeadsTo (trees_told grid.now (suc due) trees.now) text.old
         (trees_told grid.now due (trees.now ++ t ∷ [])) text.new) }
@@ -76,7 +76,7 @@ fn next_tree(
     let line = text.number();
     let mut words = whole_line(text)?;
     let Some(tree) = tree_in(alloc, &mut words) else {
-        return Err(FileFault::BadLine(line));
+        return Err(FstFault::BadLine(line));
     };
     match tree_fault(grid, trees, line, &tree) {
         Some(fault) => Err(fault),
@@ -90,7 +90,7 @@ pub(crate) fn read_trees(
     text: &mut TextLines<'_>,
     grid: &Grid,
     count: u32,
-) -> Result<TreeList, FileFault>
+) -> Result<TreeList, FstFault>
     requires { count ≤ 20000 }
     ensures ok { IfOk result (λ ts. LeadsTo (trees_told grid.now count []) text.old
         (trees_told grid.now 0 ts) text.new) }

@@ -47,9 +47,19 @@ fn tell_ascent<F: Rule>(
     requires place { AnswersAPlace (F.chooses rule) }
 {
     let g = graph(alloc, call)?;
-    let d = decision(alloc, call, &g)?;
-    let chooser = Chooser::new(rule);
-    tell_ascent_under(alloc, call, &g, &d, &chooser, answer)
+    tell_ascent_on(alloc, call, &g, &Chooser::new(rule), answer)
+}
+
+// The same on a graph.
+fn tell_ascent_on<F: Rule>(
+    alloc: Global,
+    call: &Call,
+    g: &NetGraph,
+    chooser: &Chooser<F>,
+    answer: &mut String,
+) -> Result<(), Fault> {
+    let d = decision(alloc, call, g)?;
+    tell_ascent_under(alloc, call, g, &d, chooser, answer)
 }
 
 // The same under a decision.
@@ -161,6 +171,29 @@ fn tell_carried<F: Rule>(
     requires feasible { IsFeasible g.now carried.decision carried.packing }
     requires costs { carried.costs ≡ costs_of g.now.edges (states_of g.now carried.decision) carried.packing }
 {
+    tell_start(&carried.packing, answer)?;
+    let ascent = ascent_from(alloc, g, carried, chooser)?;
+    tell_cuts(answer, &ascent.packing)
+}
+
+// Tells what is carried.
+fn tell_start(packing: &Packing, answer: &mut String) -> Result<(), Fault> {
+    writeln!(answer, "carried")?;
+    tell_cuts(answer, packing)?;
+    Ok(writeln!(answer, "on")?)
+}
+
+// The ascent that goes on with what is carried.
+fn ascent_from<F: Rule>(
+    alloc: Global,
+    g: &NetGraph,
+    carried: FurtherStart,
+    chooser: &Chooser<F>,
+) -> Result<Ascent, Fault>
+    requires decision { IsDecisionFor g.now carried.decision }
+    requires feasible { IsFeasible g.now carried.decision carried.packing }
+    requires costs { carried.costs ≡ costs_of g.now.edges (states_of g.now carried.decision) carried.packing }
+{
     let FurtherStart {
         decision,
         packing,
@@ -169,27 +202,14 @@ fn tell_carried<F: Rule>(
     if packing.len() > 2 * g.edge_count() as usize {
         return Err(Fault::NotAllowed);
     }
-    writeln!(answer, "carried")?;
-    tell_cuts(answer, &packing)?;
-    writeln!(answer, "on")?;
-    let ascent = ascend_with(alloc, g, &decision, packing, costs, chooser)?;
-    tell_cuts(answer, &ascent.packing)
+    Ok(ascend_with(alloc, g, &decision, packing, costs, chooser)?)
 }
 
 /// The place of the candidate that the rule under `rule` chooses, once it is kept. Each line under `candidates` has the number
 /// and the size of one.
 pub fn choice(alloc: Global, call: &Call, answer: &mut String) -> Result<(), Fault> {
     let rule = rule(call.word("rule")?)?;
-    let mut list = Vec::new(alloc);
-    for line in call.text("candidates")?.lines() {
-        match numbers(alloc, line)?.as_slice() {
-            [number, size] => list.push(Candidate {
-                number: narrow(*number)?,
-                size: *size,
-            })?,
-            _ => return Err(Fault::BadNumber),
-        }
-    }
+    let list = candidates(alloc, call.text("candidates")?)?;
     if list.is_empty() {
         return Err(Fault::NotAllowed);
     }
@@ -201,6 +221,26 @@ pub fn choice(alloc: Global, call: &Call, answer: &mut String) -> Result<(), Fau
         { place_by(rule, list) },
     );
     Ok(writeln!(answer, "{place}")?)
+}
+
+// The candidates of lines.
+fn candidates(alloc: Global, lines: &str) -> Result<Vec<Candidate>, Fault> {
+    let mut list = Vec::new(alloc);
+    for line in lines.lines() {
+        list.push(candidate(alloc, line)?)?;
+    }
+    Ok(list)
+}
+
+// The candidate of a line: its number and its size.
+fn candidate(alloc: Global, line: &str) -> Result<Candidate, Fault> {
+    match numbers(alloc, line)?.as_slice() {
+        [number, size] => Ok(Candidate {
+            number: narrow(*number)?,
+            size: *size,
+        }),
+        _ => Err(Fault::BadNumber),
+    }
 }
 
 // The place that any rule chooses.

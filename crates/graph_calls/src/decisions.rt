@@ -16,10 +16,21 @@ use std::alloc::{AllocError, Global};
 /// and which undecided.
 pub fn decision_told(alloc: Global, call: &Call, answer: &mut String) -> Result<(), Fault> {
     let g = graph(alloc, call)?;
-    let d = decision(alloc, call, &g)?.copy()?;
-    tell_states(alloc, &g, &d, answer)?;
-    tell_vertices(answer, "required", &required_vertices(alloc, &g, &d)?)?;
-    tell_vertices(answer, "undecided", &undecided_vertices(alloc, &g, &d)?)
+    tell_decision(alloc, &g, &decision(alloc, call, &g)?.copy()?, answer)
+}
+
+// What a decision says of a graph.
+fn tell_decision(
+    alloc: Global,
+    g: &NetGraph,
+    d: &Decision,
+    answer: &mut String,
+) -> Result<(), Fault>
+    requires { IsDecisionFor g.now d.now }
+{
+    tell_states(alloc, g, d, answer)?;
+    tell_vertices(answer, "required", &required_vertices(alloc, g, d)?)?;
+    tell_vertices(answer, "undecided", &undecided_vertices(alloc, g, d)?)
 }
 
 // Tells of the states of the edges.
@@ -58,26 +69,58 @@ fn undecided_vertices(alloc: Global, g: &NetGraph, d: &Decision) -> Result<Verte
 /// and whether saturated arcs lead to all required vertices.
 pub fn packing_told(alloc: Global, call: &Call, answer: &mut String) -> Result<(), Fault> {
     let g = graph(alloc, call)?;
-    let d = decision(alloc, call, &g)?;
-    let p = packing(alloc, call, &g, "cuts")?.copy()?;
-    tell_packing(alloc, &g, &d, &p, answer)
+    packing_told_on(alloc, call, &g, answer)
+}
+
+// The same on a graph.
+fn packing_told_on(
+    alloc: Global,
+    call: &Call,
+    g: &NetGraph,
+    answer: &mut String,
+) -> Result<(), Fault> {
+    let d = decision(alloc, call, g)?;
+    let p = packing(alloc, call, g, "cuts")?.copy()?;
+    tell_packing(packing_facts(alloc, g, &d, &p)?, answer)
+}
+
+// What is told of a packing.
+#[derive(Clone, Copy)]
+struct PackingFacts {
+    feasible: bool,
+    value: u128,
+    maximal: bool,
 }
 
 // What is told of the packing.
-fn tell_packing(
+fn packing_facts(
     alloc: Global,
     g: &NetGraph,
     d: &Decision,
     p: &Packing,
-    answer: &mut String,
-) -> Result<(), Fault>
+) -> Result<PackingFacts, Fault>
     requires decision { IsDecisionFor g.now d.now }
     requires members { All (λ c. length c.members ≡ g.now.vertices) p.now }
 {
     if p.len() > 1 << 32 {
         return Err(Fault::NotAllowed);
     }
-    writeln!(answer, "feasible {}", feasible(alloc, g, d, p)?)?;
-    writeln!(answer, "value {}", value(g, d, p))?;
-    Ok(writeln!(answer, "maximal {}", maximal(alloc, g, d, p)?)?)
+    Ok(PackingFacts {
+        feasible: feasible(alloc, g, d, p)?,
+        value: value(g, d, p),
+        maximal: maximal(alloc, g, d, p)?,
+    })
+}
+
+// Writes it.
+fn tell_packing(told: PackingFacts, answer: &mut String) -> Result<(), Fault> {
+    let PackingFacts {
+        feasible,
+        value,
+        maximal,
+    } = told;
+    Ok(writeln!(
+        answer,
+        "feasible {feasible}\nvalue {value}\nmaximal {maximal}"
+    )?)
 }

@@ -1,6 +1,7 @@
 //! Bounds of the networks that use an edge.
 
-ghost use Rattle.std.specs.Prelude.{◌<◌, length};
+ghost use Rattle.std.specs.Prelude.{◌≡◌, ◌<◌, length};
+ghost use Rattle.net_graph.specs.Network.{IsNetwork};
 ghost use Rattle.dual_ascent.specs.Choosing.{IsCallableOnSome, AnswersAPlace};
 ghost use Rattle.edge_slack.specs.EdgeBound.{IsInSomeNetwork};
 
@@ -8,9 +9,9 @@ use crate::described::{edges, graph};
 use crate::rules::{place_by, rule};
 use dual_ascent::{Candidate, Chooser, Rule};
 use edge_slack::{edge_bound, taking_in};
-use net_graph::{NetGraph, joins, root_part, value};
+use net_graph::{EdgeSet, NetGraph, joins, root_part, value};
 use row_tables::{Call, Fault};
-use std::alloc::Global;
+use std::alloc::{AllocError, Global};
 
 /// For each edge in the root part of the network under `edges`, the value of the packing that bounds the networks which
 /// use it, by the rule under `rule`.
@@ -38,15 +39,39 @@ fn tell_bounds<F: Rule>(
     requires place { AnswersAPlace (F.chooses rule) }
 {
     let g = graph(alloc, call)?;
-    let network = edges(alloc, call, &g, "edges")?;
-    if !joins(alloc, &g, &network)? {
+    tell_bounds_on(alloc, call, &g, &Chooser::new(rule), answer)
+}
+
+// The same on a graph.
+fn tell_bounds_on<F: Rule>(
+    alloc: Global,
+    call: &Call,
+    g: &NetGraph,
+    chooser: &Chooser<F>,
+    answer: &mut String,
+) -> Result<(), Fault> {
+    let network = edges(alloc, call, g, "edges")?;
+    if !joins(alloc, g, &network)? {
         return Err(Fault::NotAllowed);
     }
-    let part = root_part(alloc, &g, &network)?;
-    let chooser = Chooser::new(rule);
+    tell_bounds_of(alloc, g, &network, chooser, answer)
+}
+
+// Adds the line of each edge of the network's root part.
+fn tell_bounds_of<F: Rule>(
+    alloc: Global,
+    g: &NetGraph,
+    network: &EdgeSet,
+    chooser: &Chooser<F>,
+    answer: &mut String,
+) -> Result<(), Fault>
+    requires size { length network.now ≡ length g.now.edges }
+    requires joins { IsNetwork g.now network.now }
+{
+    let part = root_part(alloc, g, network)?;
     for e in 0..g.edge_count() {
         if part.has(e) {
-            tell_bound(alloc, &g, e, &chooser, answer)?;
+            tell_bound(alloc, g, e, chooser, answer)?;
         }
     }
     Ok(())
@@ -63,9 +88,22 @@ fn tell_bound<F: Rule>(
     requires edge { e < length g.now.edges }
     requires network { IsInSomeNetwork g.now e }
 {
+    let bound = bound_of(alloc, g, e, chooser)?;
+    Ok(writeln!(answer, "edge {e} bound {bound}")?)
+}
+
+// The value of the packing that bounds the networks which use an edge.
+fn bound_of<F: Rule>(
+    alloc: Global,
+    g: &NetGraph,
+    e: u32,
+    chooser: &Chooser<F>,
+) -> Result<u128, AllocError>
+    requires edge { e < length g.now.edges }
+    requires network { IsInSomeNetwork g.now e }
+{
     let few = g.edge_count() <= 4900;
     prove!(few);
     let packing = edge_bound(alloc, g, e, chooser)?;
-    let d = taking_in(alloc, g, e)?;
-    Ok(writeln!(answer, "edge {e} bound {}", value(g, &d, &packing))?)
+    Ok(value(g, &taking_in(alloc, g, e)?, &packing))
 }

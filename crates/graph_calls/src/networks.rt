@@ -34,11 +34,18 @@ fn tell_network(
     answer: &mut String,
 ) -> Result<(), Fault> {
     let set = edges(alloc, call, g, "edges")?;
+    tell_set(alloc, g, &set, answer)
+}
+
+// What is told of a set.
+fn tell_set(alloc: Global, g: &NetGraph, set: &EdgeSet, answer: &mut String) -> Result<(), Fault>
+    requires { length set.now ≡ length g.now.edges }
+{
     if g.terminal_count() > 255 {
         return Err(Fault::NotAllowed);
     }
-    tell_joined(joined(alloc, g, &set)?, answer)?;
-    tell_edges(answer, "root part", &root_part(alloc, g, &set)?)
+    tell_joined(joined(alloc, g, set)?, answer)?;
+    tell_edges(answer, "root part", &root_part(alloc, g, set)?)
 }
 
 // What is told of the set but for its root part.
@@ -62,9 +69,10 @@ fn tell_joined(told: NetworkFacts, answer: &mut String) -> Result<(), Fault> {
         within,
         length,
     } = told;
-    writeln!(answer, "joins {joins}")?;
-    writeln!(answer, "apart {apart:?}, in lent room {within:?}")?;
-    Ok(writeln!(answer, "length {length}")?)
+    Ok(writeln!(
+        answer,
+        "joins {joins}\napart {apart:?}, in lent room {within:?}\nlength {length}"
+    )?)
 }
 
 // The first terminal apart, by a search in lent room of one number more than there are vertices.

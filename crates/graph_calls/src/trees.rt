@@ -16,14 +16,26 @@ use std::alloc::{AllocError, Global};
 /// how many splits and leaves it has, its nodes, its value, and of each leaf its cuts and the state of the edge.
 pub fn tree(alloc: Global, call: &Call, answer: &mut String) -> Result<(), Fault> {
     let g = graph(alloc, call)?;
+    tree_on(alloc, call, &g, answer)
+}
+
+// The same on a graph.
+fn tree_on(alloc: Global, call: &Call, g: &NetGraph, answer: &mut String) -> Result<(), Fault> {
     let e = only(alloc, call.text("split")?)?;
     if e >= g.edge_count() {
         return Err(Fault::NotAllowed);
     }
-    let outside = packing(alloc, call, &g, "outside")?;
-    let inside = packing(alloc, call, &g, "inside")?;
-    let tree = split_tree(alloc, &g, e, outside, inside)?;
-    tell_tree(alloc, &g, e, &tree, answer)
+    tell_tree(alloc, g, e, &given_tree(alloc, call, g, e)?, answer)
+}
+
+// The tree with the packings that a row gives.
+fn given_tree(alloc: Global, call: &Call, g: &NetGraph, e: u32) -> Result<CertTree, Fault>
+    requires { e < length g.now.edges }
+    ensures { IfOk result (HasUndecidedSplits g.now (nothing_decided g.now)) }
+{
+    let outside = packing(alloc, call, g, "outside")?;
+    let inside = packing(alloc, call, g, "inside")?;
+    split_tree(alloc, g, e, outside, inside)
 }
 
 // What is told of the tree.

@@ -6,13 +6,12 @@ ghost use Rattle.hanan_grid.specs.Grid.{hanan_grid_of};
 ghost use Rattle.packing_judge.specs.Outcome.{IsOutcomeFor};
 
 use crate::bound::{Bound, judged};
+use cut_groups::Tree;
 use hanan_grid::Grid;
-use net_graph::{EdgeSet, Packing, length};
+use net_graph::{EdgeSet, length};
+use planar_cuts::PlanarCuts;
 use std::alloc::{AllocError, Global};
 use tight_packing::{Budget, Proposal, propose};
-
-// Longer networks are refused: the sums of an exchange are 64 bits wide.
-const MAX_LENGTH: u64 = 1 << 42;
 
 /// How an exchange ended.
 #[derive(Debug, Drop)]
@@ -24,18 +23,14 @@ pub enum Outcome {
     Impossible(Option<Bound>),
     /// The budget is spent, or the network isn't a clean one. The bound is what is at hand.
     Exhausted(Option<Bound>),
-    /// The network is longer than 2^42.
-    TooLong,
 }
 
 /// Looks for a packing whose value is the length of a network on a grid. The exchange cleans the network first: an edge of
-/// each cycle goes, and what joins no terminal. `start` has cuts to begin with, as those of an ascent. Equal arguments give
-/// equal results. An `Err` is want of memory.
+/// each cycle goes, and what joins no terminal. Equal arguments give equal results. An `Err` is want of memory.
 pub fn exchange(
     alloc: Global,
     grid: &Grid,
     network: &EdgeSet,
-    start: &Packing,
     budget: Budget,
 ) -> Result<Outcome, AllocError>
     requires { length network.now ≡ length (hanan_grid_of grid.now).edges }
@@ -44,12 +39,11 @@ pub fn exchange(
 {
     let graph = grid.graph();
     let length = length(graph, network);
-    if length > MAX_LENGTH {
-        return Ok(Outcome::TooLong);
-    }
-    let Some(proposal) = propose(alloc, grid, network, start, budget)? else {
+    let Some(tree) = Tree::of(alloc, graph, network)? else {
         return Ok(Outcome::Exhausted(None));
     };
+    let mut finder = PlanarCuts::new(alloc, grid, &tree)?;
+    let proposal = propose(alloc, graph, tree, length, &mut finder, budget)?;
     let Proposal {
         packing,
         is_impossible,

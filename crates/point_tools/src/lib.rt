@@ -5,8 +5,6 @@ mod distinct_list;
 mod drawing;
 mod drawn_list;
 mod stp_points;
-mod stp_points_fault;
 
 pub use drawing::points;
 pub use stp_points::{located_has_no_fault, stp2points};
-pub use stp_points_fault::StpPointsFault;

@@ -11,8 +11,7 @@ ghost use Rattle.point_tools.specs.DistinctList.{distinct_text, distinct_status}
 ghost use Rattle.point_tools.specs.StpPoints.{stp_points_of, LocatesPoints, PrintsLocated, LocatedHasNoFault, EndsStp2points};
 
 use crate::distinct_list::DistinctList;
-use crate::stp_points_fault::StpPointsFault;
-use frame::{TEXT_LIMIT, TextFault, conclude, take_input};
+use frame::{TEXT_LIMIT, TextFault, apart, conclude, take_input};
 use points_in::Points;
 use rst_outside::{Sink, Source};
 use std::alloc::{AllocError, Global};
@@ -43,7 +42,7 @@ pub fn located_has_no_fault()
 fn find<I: Source>(
     alloc: Global,
     input: &mut I,
-) -> Result<Result<DistinctList, TextFault<StpPointsFault>>, AllocError>
+) -> Result<Result<DistinctList, TextFault<StpFault>>, AllocError>
     ensures finds { (shelf : ShelfState) → IfOk result (λ found. FromText TEXT_LIMIT PrintsLocated
         (readable (I.state input.old) shelf) (readable (I.state input.new) shelf)
         (print_of distinct_text distinct_status found)) }
@@ -60,24 +59,10 @@ fn find<I: Source>(
 }
 
 // The points of a text; or why there are none. An `Err` is want of memory.
-fn located(alloc: Global, bytes: &[u8]) -> Result<Result<Points, StpPointsFault>, AllocError>
+fn located(alloc: Global, bytes: &[u8]) -> Result<Result<Points, StpFault>, AllocError>
     ensures { IfOk result (LocatesPoints bytes.now) }
 {
-    match read_located(alloc, bytes) {
-        Ok(points) => Ok(Ok(points)),
-        Err(StpFault::NoMagic) => Ok(Err(StpPointsFault::NoMagic)),
-        Err(StpFault::BadLine(line)) => Ok(Err(StpPointsFault::BadLine { line })),
-        Err(StpFault::LeftOut(line)) => Ok(Err(StpPointsFault::LeftOut { line })),
-        Err(StpFault::NodeOutOfRange(line)) => Ok(Err(StpPointsFault::NodeOutOfRange { line })),
-        Err(StpFault::WrongCount(section)) => Ok(Err(StpPointsFault::WrongCount { section })),
-        Err(StpFault::MissingSection(section)) => {
-            Ok(Err(StpPointsFault::MissingSection { section }))
-        }
-        Err(StpFault::NoTerminals) => Ok(Err(StpPointsFault::NoTerminals)),
-        Err(StpFault::NoCoordinates(node)) => Ok(Err(StpPointsFault::NoCoordinates { node })),
-        Err(StpFault::TooManyPoints(node)) => Ok(Err(StpPointsFault::TooManyPoints { node })),
-        Err(StpFault::Memory(error)) => Err(error),
-    }
+    apart(read_located(alloc, bytes))
 }
 
 // The points of a text, or the first fault.

@@ -1,5 +1,6 @@
 //! Tables of rows, as the programs of the gate read them: a text cut into sections by its marker lines, texts that
-//! sections name and change, numbers, and the calls that a table describes. How a table is written: docs/ROWS.md.
+//! sections name and change, numbers, the calls that a table describes, and the running of its rows. How a table is
+//! written: docs/ROWS.md.
 #![tactic(auto)]
 
 mod call;
@@ -8,6 +9,7 @@ mod counting;
 mod difference;
 mod fault;
 mod reader;
+mod running;
 mod section;
 mod text;
 mod texts;
@@ -18,6 +20,7 @@ pub use counting::{count, number, numbers, status};
 pub use difference::{LineDifference, first_difference};
 pub use fault::{Fault, TableFault};
 pub use reader::{Asked, CallReader};
+pub use running::{RowRunner, run_table, run_tables};
 pub use section::{Section, sections_of};
 pub use text::{NamedText, Text};
 pub use texts::{Texts, named, no_lines};

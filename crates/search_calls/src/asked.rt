@@ -3,6 +3,7 @@
 ghost use Rattle.std.specs.Prelude.{IfOk};
 ghost use Rattle.branch.specs.States.{IsNetworkOf};
 
+use branch::SplitKind;
 use graph_calls::described::edges;
 use net_graph::{EdgeSet, NetGraph, joins};
 use row_tables::{Call, Fault};
@@ -42,5 +43,17 @@ pub fn split_rule(call: &Call) -> Result<SplitRule, Fault> {
         SplitRule::from_str(call.word("split")?).map_err(|_| Fault::NotAllowed)
     } else {
         Ok(SplitRule::Longest)
+    }
+}
+
+/// What leaves are split on, under the key `kind`: `edges` or `vertices`; edges where there is none.
+pub fn split_kind(call: &Call) -> Result<SplitKind, Fault> {
+    if !call.has("kind") {
+        return Ok(SplitKind::Edges);
+    }
+    match call.word("kind")? {
+        "edges" => Ok(SplitKind::Edges),
+        "vertices" => Ok(SplitKind::Vertices),
+        _ => Err(Fault::NotAllowed),
     }
 }

@@ -3,7 +3,7 @@
 ghost use Rattle.std.specs.Prelude.{◌<◌, length};
 ghost use Rattle.dual_ascent.specs.Choosing.{IsCallableOnSome, AnswersAPlace};
 
-use crate::asked::{ascent_rule, network, small, split_rule};
+use crate::asked::{ascent_rule, network, small, split_kind, split_rule};
 use crate::telling::{tell_edges, tell_solved};
 use branch::{Search, Step, saturated_network, solve_graph};
 use dual_ascent::{Candidate, Chooser, Rule, ascend};
@@ -66,7 +66,8 @@ fn solve<F: Rule, G: Rule>(
 ) -> Result<(), Fault> {
     let first = network(alloc, call, g)?;
     let allowed = small(call, "openings")?;
-    let solved = solve_graph(alloc, g, first, allowed, ascent, split)?;
+    let kind = split_kind(call)?;
+    let solved = solve_graph(alloc, g, first, allowed, ascent, split, kind)?;
     tell_solved(answer, &solved)
 }
 
@@ -81,7 +82,8 @@ fn steps<F: Rule, G: Rule>(
     answer: &mut String,
 ) -> Result<(), Fault> {
     let first = network(alloc, call, g)?;
-    let mut search = Search::start(alloc, g, first, ascent, split)?;
+    let kind = split_kind(call)?;
+    let mut search = Search::start(alloc, g, first, ascent, split, kind)?;
     search.raise(Packing::empty(alloc))?;
     if let Some(shown) = search.shown() {
         tell_edges(answer, "shown", shown)?;

@@ -14,7 +14,7 @@ use Rattle.frame.specs.Outside.{Readable, readable}
 use Rattle.frame.specs.Ends.{print_of}
 use Rattle.frame.specs.FromText.{FromText}
 use Rattle.tree_inputs.specs.declared.generation_fault.GenerationFault.{GenerationFault}
-use Rattle.tree_inputs.specs.declared.fst_fault.FstFault.{FstFault}
+use Rattle.fst_file.specs.declared.fault.FstFault.{FstFault}
 use Rattle.tree_inputs.specs.Files.{ReadsFst}
 use Rattle.tree_inputs.specs.Generation.{GeneratesFst}
 use Rattle.search_rules.specs.declared.options.SearchOptions.{SearchOptions}

@@ -14,6 +14,8 @@ use Rattle.cert_tree.specs.declared.split.SplitOn.{SplitOn}
 use Rattle.cert_tree.specs.Tree.{Tree}
 use Rattle.cert_tree.specs.Preorder.{split_count}
 use Rattle.branch.specs.declared.solved.Solved.{Solved}
+use Rattle.branch.specs.declared.split_kind.SplitKind.{SplitKind}
+use Rattle.branch.specs.declared.split_kind.SplitKind.TheVariants as kind
 use Rattle.branch.specs.Leaves.{DecidedLeaf, leaves_of}
 use Rattle.branch.specs.States.{IsOpenLeaf}
 use Rattle.branch.specs.RunLaws.{EndsRunOfOpenings-longer}
@@ -80,13 +82,13 @@ module _ (g : Graph) (openings first_length : ℕ) (s : Solved) (holds : IsSolve
   }
 
 -- The same where memory may be wanting, of a graph and a first length that are known as others.
-pub told_or_not : {E : Type 0} (g h : Graph) (openings first_length n : ℕ) (found : Result Solved E) → h ≡ g → n ≡ first_length →
-    IfOk found (IsSolved h n) → IfOk found (λ s. SplitsEdges s.tree) → IfOk found (λ s. split_count s.tree ≤ openings) →
+pub told_or_not : {E : Type 0} (g h : Graph) (asked : SplitKind) (openings first_length n : ℕ) (found : Result Solved E) → h ≡ g → asked ≡ kind.Edges →
+    n ≡ first_length → IfOk found (IsSolved h n) → IfOk found (λ s. asked ≡ kind.Edges → SplitsEdges s.tree) → IfOk found (λ s. split_count s.tree ≤ openings) →
     IfOk found (λ s. s.optimal ≡ false → split_count s.tree ≡ openings) → IfOk found (IsTold g openings first_length)
-told_or_not g h openings first_length n (Ok s) graph first solved edges few stopped =
+told_or_not g h asked openings first_length n (Ok s) graph is first solved edges few stopped =
     told g openings first_length s
-    (subst (λ (m : ℕ). IsSolved g m s) first (subst (λ (k : Graph). IsSolved k n s) graph solved)) edges few stopped
-told_or_not g h openings first_length n (Err memory) graph first solved edges few stopped = tt
+    (subst (λ (m : ℕ). IsSolved g m s) first (subst (λ (k : Graph). IsSolved k n s) graph solved)) (edges is) few stopped
+told_or_not g h asked openings first_length n (Err memory) graph is first solved edges few stopped = tt
 
 -- The answer that tells it can be written.
 pub told_fits : (g : Graph) (openings first_length : ℕ) (note : ConcatNote) (s : Solved) → openings ≤ 255 → IsTold g openings first_length s →

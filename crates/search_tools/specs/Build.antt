@@ -15,8 +15,8 @@ use Rattle.frame.specs.Ends.{Print, Ends}
 use Rattle.frame.specs.FaultTexts.{text_fault_text, text_fault_status}
 use Rattle.frame.specs.FromText.{FromText}
 use Rattle.frame.specs.Leaves.{LeavesShelf}
-use Rattle.tree_inputs.specs.FstFaults.{fst_fault_text, fst_fault_status}
-use Rattle.tree_inputs.specs.Files.{ReadsFst}
+use Rattle.fst_file.specs.Said.{fst_fault_text}
+use Rattle.tree_inputs.specs.Files.{ReadsFst, fst_fault_status}
 use Rattle.search_rules.specs.declared.options.SearchOptions.{SearchOptions}
 use Rattle.search_tools.specs.declared.build_fault.BuildFault.{BuildFault}
 use Rattle.search_tools.specs.declared.build_fault.BuildFault.TheVariants.{InFile, Apart}
@@ -32,14 +32,17 @@ abbrev pub build_fault_status : BuildFault → FaultStatus
 build_fault_status (InFile fault) = fst_fault_status fault
 build_fault_status (Apart place) = Malformed
 
--- What `bb` finds in a text: an answer for the points and the trees of the file that it spells; or why it spells none; or
--- the first point that all trees together don't join to the first one.
+-- What `bb` finds in a text: an answer for the points and the trees of the file that it spells; or why it spells none;
+-- or the first point that all trees together don't join to the first one.
 abbrev pub Builds : SearchOptions → List ℕ → Result Print BuildFault → Type 0
-Builds options bytes (Ok print) = (file : FstValue) × (network : List Bool) × (tree : Tree SplitOn) × (note : ConcatNote)
+Builds options bytes (Ok print) =
+    (file : FstValue) × (network : List Bool) × (tree : Tree SplitOn) × (note : ConcatNote)
     × SpellsFstFile bytes file × IsPermitted options file.points file.trees network tree note
     × (print ≡ search_print options.openings file.points network tree note)
 Builds options bytes (Err (InFile fault)) = ReadsFst bytes (Err fault)
-Builds options bytes (Err (Apart place)) = (file : FstValue) × SpellsFstFile bytes file × IsFirstApart (length file.points) file.trees (all_of file.trees) place
+Builds options bytes (Err (Apart place)) =
+    (file : FstValue) × SpellsFstFile bytes file
+    × IsFirstApart (length file.points) file.trees (all_of file.trees) place
 
 -- A run of `bb` under these options.
 abbrev pub EndsBb : SearchOptions → Outside → Outside → ℕ → Type 0

@@ -18,8 +18,8 @@ use Rattle.frame.specs.Ends.{Print}
 use Rattle.search_rules.specs.declared.options.SearchOptions.{SearchOptions}
 use Rattle.search_tools.specs.Solution.{IsSearched, bound_of, solution}
 
--- What an answer tells of the concatenations of a list of trees of n terminals is true: some concatenation has the total,
--- which is at most that of a least joining by the list's pairs, where these join all. Where it says least no
+-- What an answer tells of the concatenations of a list of trees of n terminals is true: some concatenation has the
+-- total, which is at most that of a least joining by the list's pairs, where these join all. Where it says least no
 -- concatenation has a smaller total; else the search for one was spent, as a trail of all its allowed splits shows.
 pub record IsConcatNote (allowed n : ℕ) (trees : List FullTree) (note : ConcatNote) : Type 0 where
   pub set : List Bool
@@ -27,7 +27,8 @@ pub record IsConcatNote (allowed n : ℕ) (trees : List FullTree) (note : Concat
   pub total : note.total ≡ total_of trees set
   pub pairs : IsUpToPairs n trees note.total
   pub least : note.least ≡ true → IsLeastTotal n trees note.total
-  pub spent : note.least ≡ false → (trail : Trail) × (splits_of trail ≡ allowed) × IsSpentTrail n trees note.total trail
+  pub spent : note.least ≡ false →
+      (trail : Trail) × (splits_of trail ≡ allowed) × IsSpentTrail n trees note.total trail
 
 -- the text of the answer
 abbrev pub search_text : ℕ → List Point → List Bool → Tree SplitOn → ConcatNote → List ℕ
@@ -35,10 +36,10 @@ search_text openings ps network tree note = answer_text (solution openings ps ne
 
 -- A network of the grid of the points, a tree of cuts and a note on the full trees that an answer may tell under these
 -- options. The text that tells all of this is accepted as an answer for the points. The tree has at most as many splits
--- as openings are allowed, and exactly as many where its value is below the network's length; each of its leaves has few
--- cuts, and is maximal where its value is below the length. The note is true of the full trees, and the network is no
--- longer than its total. Network and tree end a run of openings whose first network is no longer than this total. The
--- text has fewer than 2^32 bytes.
+-- as openings are allowed, and exactly as many where its value is below the network's length; each of its leaves has
+-- few cuts, and is maximal where its value is below the length. The note is true of the full trees, and the network is
+-- no longer than its total. Network and tree end a run of openings whose first network is no longer than this total.
+-- The text has fewer than 2^32 bytes.
 pub record IsPermitted (options : SearchOptions) (ps : List Point) (trees : List FullTree) (network : List Bool)
     (tree : Tree SplitOn) (note : ConcatNote) : Type 0 where
   pub accepted : IsAccepted ps (search_text options.openings ps network tree note)

@@ -1,5 +1,5 @@
--- What the tools that search tell of a network, of a tree that bounds every network from below, and of the concatenation
--- that the network is made of.
+-- What the tools that search tell of a network, of a tree that bounds every network from below, and of the
+-- concatenation that the network is made of.
 use Rattle.std.specs.Prelude.{ℕ, ◌≡◌, ◌+◌, ◌*◌, ◌<◌, ◌≤◌, ◌==◌, Bool, List, length, min, All}
 use Rattle.points_in.specs.declared.point.Point.{Point}
 use Rattle.net_graph.specs.Graph.{Graph}
@@ -34,7 +34,8 @@ bound_of g network tree = min (value_on g tree) (length_of g network)
 -- allowed where its value is below the network's length, and never more; they are on edges. Each leaf has few cuts,
 -- and one whose value is below the length is maximal. Network and tree end a run of openings whose first network is
 -- no longer than a first length.
-pub record IsSearched (g : Graph) (openings first_length : ℕ) (network : List Bool) (tree : Tree SplitOn) : Type 0 where
+pub record IsSearched (g : Graph) (openings first_length : ℕ) (network : List Bool)
+    (tree : Tree SplitOn) : Type 0 where
   pub network_of : IsNetworkOf g network
   pub valid : IsValidTree g (nothing_decided g) tree
   pub bounds : IsLowerBound g (bound_of g network tree)

@@ -23,9 +23,11 @@ use Rattle.search_tools.specs.Permitted.{IsPermitted, search_text, search_print}
 use Rattle.search_tools.specs.Steps.{IsFor, IsSpelled, solution_text, solution_status}
 
 -- a text that spells the answer of a network and a tree is accepted
-accepted_solution : (openings first_length : ℕ) (ps : List Point) (set : List Bool) (tree : Tree SplitOn) (note : ConcatNote) →
-    SpellsAnswer (hanan_grid_of ps).vertices (search_text openings ps set tree note) (solution openings ps set tree note) →
-    IsSearched (hanan_grid_of ps) openings first_length set tree → All (IsNodeOn (hanan_grid_of ps)) (nodes_of tree) → split_count tree ≤ 255 →
+accepted_solution : (openings first_length : ℕ) (ps : List Point) (set : List Bool) (tree : Tree SplitOn)
+    (note : ConcatNote) →
+    let g = hanan_grid_of ps in
+    SpellsAnswer g.vertices (search_text openings ps set tree note) (solution openings ps set tree note) →
+    IsSearched g openings first_length set tree → All (IsNodeOn g) (nodes_of tree) → split_count tree ≤ 255 →
     IsAccepted ps (search_text openings ps set tree note)
 accepted_solution openings first_length ps set tree note spells searched nodes few = (
   solution openings ps set tree note,
@@ -47,7 +49,8 @@ accepted_solution openings first_length ps set tree note spells searched nodes f
 )
 
 -- what the answer for points and trees tells
-pub told_value : (options : SearchOptions) (ps : List Point) (trees : List FullTree) (s : Solution) → IsFor options ps trees s →
+pub told_value : (options : SearchOptions) (ps : List Point) (trees : List FullTree) (s : Solution) →
+    IsFor options ps trees s →
     value_of s.grid s.answer ≡ solution options.openings ps s.answer.network s.answer.tree s.answer.head.concat
 told_value options ps trees s is =
     let told : AnswerHead → WrittenAnswer =
@@ -55,14 +58,16 @@ told_value options ps trees s is =
     ap (λ (h : List Point). value_of h s.answer) is.grid ∙ ap told is.head
 
 -- The answer for points and trees is one that may be printed, where its text spells it.
-pub permitted_answer : (options : SearchOptions) (ps : List Point) (trees : List FullTree) (s : Solution) → IsFor options ps trees s → IsSpelled s →
+pub permitted_answer : (options : SearchOptions) (ps : List Point) (trees : List FullTree) (s : Solution) →
+    IsFor options ps trees s → IsSpelled s →
     IsPermitted options ps trees s.answer.network s.answer.tree s.answer.head.concat
 permitted_answer options ps trees s is spells =
     let told = told_value options ps trees s is in
     let note = s.answer.head.concat in
     let text = search_text options.openings ps s.answer.network s.answer.tree note in
     let written = solution options.openings ps s.answer.network s.answer.tree note in
-    let fits : IsAnswerOn (hanan_grid_of ps) s.answer = subst (λ (h : List Point). IsAnswerOn (hanan_grid_of h) s.answer) is.grid is.fits in record {
+    let fits : IsAnswerOn (hanan_grid_of ps) s.answer =
+    subst (λ (h : List Point). IsAnswerOn (hanan_grid_of h) s.answer) is.grid is.fits in record {
       accepted =
           accepted_solution options.openings note.total ps s.answer.network s.answer.tree note
           (subst (λ (h : List Point). SpellsAnswer (hanan_grid_of h).vertices text written) is.grid
@@ -75,9 +80,11 @@ permitted_answer options ps trees s is spells =
     }
 
 -- It is printed as the answer of the points.
-pub printed_answer : (options : SearchOptions) (ps : List Point) (trees : List FullTree) (s : Solution) → IsFor options ps trees s →
+pub printed_answer : (options : SearchOptions) (ps : List Point) (trees : List FullTree) (s : Solution) →
+    IsFor options ps trees s →
     let print : Print = record { text = solution_text s; status = solution_status s } in
     print ≡ search_print options.openings ps s.answer.network s.answer.tree s.answer.head.concat
 printed_answer options ps trees s is =
-    let of_written : WrittenAnswer → Print = λ w. record { text = answer_text w; status = cond w.head.optimal Done Stopped } in
+    let of_written : WrittenAnswer → Print =
+    λ w. record { text = answer_text w; status = cond w.head.optimal Done Stopped } in
     ap of_written (told_value options ps trees s is)

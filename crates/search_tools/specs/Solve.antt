@@ -32,10 +32,11 @@ pub record IsSolved (options : SearchOptions) (k : ℕ) (bytes : List ℕ) (ps :
   pub are_kept : AreKeptTrees generated trees
   pub permitted : IsPermitted options (terminals_of ps) trees network tree note
 
--- What `solve` finds in a text: such an answer for the points that it lists; or why it lists none, or that there are more
--- than 20,000 full trees.
+-- What `solve` finds in a text: such an answer for the points that it lists; or why it lists none, or that there are
+-- more than 20,000 full trees.
 abbrev pub Solves : SearchOptions → ℕ → List ℕ → Result Print GenerationFault → Type 0
-Solves options k bytes (Ok print) = (ps : List Point) × (network : List Bool) × (tree : Tree SplitOn) × (note : ConcatNote)
+Solves options k bytes (Ok print) =
+    (ps : List Point) × (network : List Bool) × (tree : Tree SplitOn) × (note : ConcatNote)
     × IsSolved options k bytes ps network tree note
     × (print ≡ search_print options.openings (terminals_of ps) network tree note)
 Solves options k bytes (Err fault) = GeneratesFst k bytes (Err fault)

@@ -26,7 +26,7 @@ use Rattle.frame.specs.declared.status.AnswerStatus.TheVariants.{Done, Stopped}
 use Rattle.frame.specs.Points.{ListsPoints}
 use Rattle.frame.specs.declared.text_fault.TextFault.{TextFault}
 use Rattle.frame.specs.declared.text_fault.TextFault.TheVariants.{Input, Text}
-use Rattle.tree_inputs.specs.declared.fst_fault.FstFault.{FstFault}
+use Rattle.fst_file.specs.declared.fault.FstFault.{FstFault}
 use Rattle.tree_inputs.specs.declared.generation_fault.GenerationFault.{GenerationFault}
 use Rattle.tree_inputs.specs.Files.{ReadsFst}
 use Rattle.tree_inputs.specs.Generation.{GeneratesFst}
@@ -92,15 +92,17 @@ IsPrintable s = IsAnswerOn (hanan_grid_of s.grid) s.answer
 abbrev pub IsSpelled : Solution → Type 0
 IsSpelled s = SpellsAnswer (hanan_grid_of s.grid).vertices (solution_text s) (value_of s.grid s.answer)
 
--- The answer tells a network of the grid and a tree of cuts, as a search from a network ends with them that is no longer
--- than a concatenation of these trees.
+-- The answer tells a network of the grid and a tree of cuts, as a search from a network ends with them that is no
+-- longer than a concatenation of these trees.
 pub record IsFor (options : SearchOptions) (ps : List Point) (trees : List FullTree) (s : Solution) : Type 0 where
   pub grid : s.grid ≡ ps
-  pub searched : IsSearched (hanan_grid_of ps) options.openings s.answer.head.concat.total s.answer.network s.answer.tree
+  pub searched :
+      IsSearched (hanan_grid_of ps) options.openings s.answer.head.concat.total s.answer.network s.answer.tree
   pub concat : IsConcatNote options.concat (length ps) trees s.answer.head.concat
   pub short : length_of (hanan_grid_of ps) s.answer.network ≤ s.answer.head.concat.total
   pub head : s.answer.head
-      ≡ head_with options.openings (length_of (hanan_grid_of ps) s.answer.network) (value_on (hanan_grid_of ps) s.answer.tree) s.answer.head.concat
+      ≡ head_with options.openings (length_of (hanan_grid_of ps) s.answer.network)
+      (value_on (hanan_grid_of ps) s.answer.tree) s.answer.head.concat
   pub fits : IsPrintable s
   pub few_bytes : length (solution_text s) < 2 ^ 32
 
@@ -111,19 +113,25 @@ SolvesFile options file (Err place) = IsFirstApart (length file.points) file.tre
 
 -- Such an answer for the kept ones of a file's trees.
 abbrev pub SolvesPruned : SearchOptions → FstValue → Solution → Type 0
-SolvesPruned options file s = (trees : List FullTree) × AreKeptTrees file.trees trees × IsFor options file.points trees s
+SolvesPruned options file s =
+    (trees : List FullTree) × AreKeptTrees file.trees trees × IsFor options file.points trees s
 
 -- What `solve` finds in a text: an answer for the points that it lists and for the kept trees of theirs.
 abbrev pub FindsSolution : SearchOptions → ℕ → List ℕ → Result Solution GenerationFault → Type 0
-FindsSolution options k bytes (Ok s) = (ps : List Point) × (generated : List FullTree) × (trees : List FullTree) × ListsPoints bytes ps
-    × AreTreesOf (terminals_of ps) k generated × AreKeptTrees generated trees × IsFor options (terminals_of ps) trees s
+FindsSolution options k bytes (Ok s) =
+    (ps : List Point) × (generated : List FullTree) × (trees : List FullTree) × ListsPoints bytes ps
+    × AreTreesOf (terminals_of ps) k generated × AreKeptTrees generated trees
+    × IsFor options (terminals_of ps) trees s
 FindsSolution options k bytes (Err fault) = GeneratesFst k bytes (Err fault)
 
 -- What `bb` finds in a text: an answer for the file that it spells.
 abbrev pub FindsBuilt : SearchOptions → List ℕ → Result Solution BuildFault → Type 0
-FindsBuilt options bytes (Ok s) = (file : FstValue) × SpellsFstFile bytes file × IsFor options file.points file.trees s
+FindsBuilt options bytes (Ok s) =
+    (file : FstValue) × SpellsFstFile bytes file × IsFor options file.points file.trees s
 FindsBuilt options bytes (Err (InFile fault)) = ReadsFst bytes (Err fault)
-FindsBuilt options bytes (Err (Apart place)) = (file : FstValue) × SpellsFstFile bytes file × IsFirstApart (length file.points) file.trees (all_of file.trees) place
+FindsBuilt options bytes (Err (Apart place)) =
+    (file : FstValue) × SpellsFstFile bytes file
+    × IsFirstApart (length file.points) file.trees (all_of file.trees) place
 
 -- why an input is no file of full trees, as a fault of `bb`
 abbrev pub fault_of_file : TextFault FstFault → TextFault BuildFault

@@ -22,10 +22,12 @@ use Rattle.search_tools.specs.Permitted.{IsPermitted, search_text, status_of_bou
 use Rattle.search_tools.specs.Truth.{SearchesTruly}
 
 -- The status is 0 exactly where the bound is the length.
-pub zero_where_equal : (bound length status : ℕ) → status ≡ answer_code (status_of_bound bound length) → (status ≡ 0) ↔ (bound ≡ length)
+pub zero_where_equal : (bound length status : ℕ) → status ≡ answer_code (status_of_bound bound length) →
+    (status ≡ 0) ↔ (bound ≡ length)
 zero_where_equal bound length status is = elim (eqb_tells bound length) [
   | inl (holds, equal) ↦ let ends : status ≡ 0 = rw holds at is in (λ zero. equal, λ same. ends)
-  | inr (fails, apart) ↦ let ends : status ≡ 3 = rw fails at is in (λ zero. absurd (omega arith), λ same. absurd (apart same))
+  | inr (fails, apart) ↦
+      let ends : status ≡ 3 = rw fails at is in (λ zero. absurd (omega arith), λ same. absurd (apart same))
 ]
 
 -- Where the status is 3 the value is below the length.
@@ -39,10 +41,12 @@ value_below value length status exact three =
     (cases_lt value length)
 
 -- An answer that may be printed and was, with its status, is true.
-pub searches_truly : (options : SearchOptions) (ps : List Point) (trees : List FullTree) (network : List Bool) (tree : Tree SplitOn) (note : ConcatNote) (before after : Outside) (status : ℕ) →
+pub searches_truly : (options : SearchOptions) (ps : List Point) (trees : List FullTree) (network : List Bool)
+    (tree : Tree SplitOn) (note : ConcatNote) (before after : Outside) (status : ℕ) →
     IsPermitted options ps trees network tree note →
     Appended before.written.out.taken (search_text options.openings ps network tree note) after.written.out.taken →
-    status ≡ answer_code (status_of_bound (bound_of (hanan_grid_of ps) network tree) (length_of (hanan_grid_of ps) network)) →
+    (let g = hanan_grid_of ps in
+    status ≡ answer_code (status_of_bound (bound_of g network tree) (length_of g network))) →
     SearchesTruly options ps trees before after status
 searches_truly options ps trees network tree note before after status permitted appended ends =
     let g = hanan_grid_of ps in
@@ -55,7 +59,10 @@ searches_truly options ps trees network tree note before after status permitted 
       printed = appended;
       bound = permitted.searched.bounds;
       agrees = exact;
-      shortest = λ zero. (permitted.searched.network_of.joins, λ other joins. let bounds = permitted.searched.bounds other joins in let equal = exact.0 zero in omega (arith, bounds, equal));
+      shortest = λ zero.
+          (permitted.searched.network_of.joins, λ other joins.
+          let bounds = permitted.searched.bounds other joins in
+          let equal = exact.0 zero in omega (arith, bounds, equal));
       stopped = λ three.
           let all : split_count tree ≡ options.openings =
           permitted.searched.stopped (value_below (value_on g tree) (length_of g network) status exact three) in

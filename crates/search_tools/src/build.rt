@@ -1,4 +1,5 @@
-//! The tool `bb`: a file of full trees comes in, the answer of a network no longer than a concatenation of them goes out.
+//! The tool `bb`: a file of full trees comes in, the answer of a network no longer than a concatenation of them goes
+//! out.
 
 ghost use Rattle.std.specs.Prelude.{◌≡◌, IfOk};
 ghost use Rattle.rst_outside.specs.Shelf.{ShelfState};
@@ -11,10 +12,11 @@ ghost use Rattle.search_tools.specs.Steps.{FindsBuilt, fault_of_file};
 use crate::build_fault::BuildFault;
 use crate::solution::{Solution, solution_of};
 use frame::{TEXT_LIMIT, TextFault, conclude};
+use fst_file::FstFault;
 use rst_outside::{Sink, Source};
 use search_rules::SearchOptions;
 use std::alloc::{AllocError, Global};
-use tree_inputs::{FstFault, take_fst};
+use tree_inputs::take_fst;
 
 /// Runs `bb`: reads a file of full trees from the input and prints the answer of a network that is no longer than a
 /// concatenation of them. Gives the status that the program ends with.

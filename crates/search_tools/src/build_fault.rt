@@ -4,17 +4,17 @@ ghost use Rattle.text_out.specs.Gathers.{Gathers};
 ghost use Rattle.search_tools.specs.Build.{build_fault_text, build_fault_status};
 
 use frame::{Fault, FaultStatus};
+use fst_file::FstFault;
 use rst_outside::Sink;
 use text_out::{Block, literal, number};
-use tree_inputs::FstFault;
 
 /// Why a text gives no network for the trees of a file.
 #[derive(Clone, Copy, Debug, PartialEq, Eq)]
 pub enum BuildFault {
     /// It is no file of full trees.
     InFile(FstFault),
-    /// All trees of the file together don't join the point at this place, counted from 0, to the first one; it is the first
-    /// such point.
+    /// All trees of the file together don't join the point at this place, counted from 0, to the first one; it is the
+    /// first such point.
     Apart(u8),
 }
 

@@ -24,9 +24,9 @@ pub struct Found {
     pub note: ConcatNote,
 }
 
-/// The union of the trees of a concatenation, of a least one where the search for it comes to its end within the allowed
-/// splits, without what no terminal needs, and made shorter where a local search finds how; or the place of the first terminal that all trees together leave
-/// apart. An outer `Err` is want of memory.
+/// The union of the trees of a concatenation, of a least one where the search for it comes to its end within the
+/// allowed splits, without what no terminal needs, and made shorter where a local search finds how; or the place of the
+/// first terminal that all trees together leave apart. An outer `Err` is want of memory.
 pub fn network_on(
     alloc: Global,
     grid: &Grid,

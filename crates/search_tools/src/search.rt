@@ -10,25 +10,25 @@ ghost use Rattle.branch.specs.States.{IsNetworkOf};
 ghost use Rattle.search_tools.specs.Steps.{IsTold};
 
 use crate::network::DESCENTS;
-use branch::{Search, Solved};
+use branch::{Search, Solved, SplitKind};
 use dual_ascent::{Candidate, Chooser, Rule};
 use hanan_grid::Grid;
-use net_graph::{EdgeSet, Packing, length};
+use net_graph::{EdgeSet, length};
 use network_judge::shortened;
 use packing_judge::{Bound, Outcome, exchange};
 use search_rules::{SearchOptions, ascent_place, split_place};
 use std::alloc::{AllocError, Global};
 use tight_packing::Budget;
 
-/// At most so many exchanges are made, each but the first from what the one before came to: against a shorter network, or
-/// with a new budget.
+/// At most so many exchanges are made, each but the first against a shorter network, or with a new budget and other draws.
 const MOST_EXCHANGES: u8 = 3;
 
-/// What each but the first may do. It begins near the length, and needs less.
+/// What each but the first may do, with other draws.
 const FURTHER_BUDGET: Budget = Budget {
     rounds: 200,
     searches: 200_000,
     moves: 2_000_000,
+    seed: 20240608,
 };
 
 /// What a search finds that begins with a network of a grid. Its first leaf is that of an ascent from no cut. Where this
@@ -93,7 +93,7 @@ fn searched_by<F: Rule, G: Rule>(
     search.solve(openings)
 }
 
-// The search with its first leaf. An `Err` is want of memory.
+// The search with its first leaf. It splits on edges, as the text of an answer does. An `Err` is want of memory.
 fn begun<'a, F: Rule, G: Rule>(
     alloc: Global,
     grid: &'a Grid,
@@ -103,10 +103,12 @@ fn begun<'a, F: Rule, G: Rule>(
 ) -> Result<Search<'a, F, G>, AllocError>
     requires { IsNetworkOf (hanan_grid_of grid.now) first }
     ensures graph { IfOk result (λ s. s.graph ≡ hanan_grid_of grid.now) }
+    ensures kind { IfOk result (λ s. s.kind ≡ SplitKind.Edges) }
     ensures first { IfOk result (λ s. s.first_length ≡ length_of (hanan_grid_of grid.now) first) }
     ensures leaf { IfOk result (λ s. split_count s.tree ≡ 0) }
 {
-    let mut search = Search::start(alloc, grid.graph(), first, ascent, split)?;
+    let kind = SplitKind::Edges;
+    let mut search = Search::start(alloc, grid.graph(), first, ascent, split, kind)?;
     for exchange in 0..MOST_EXCHANGES {
         let budget = if exchange == 0 {
             Budget::USUAL
@@ -133,6 +135,7 @@ fn raise_by_exchange<F: Rule, G: Rule>(
     ensures further { IfOk result (λ further.
         length_of search.old.graph search.new.network < length_of search.old.graph search.old.network → IsTrue further) }
     ensures graph { OnOk result (search.new.graph ≡ search.old.graph) }
+    ensures kind { OnOk result (search.new.kind ≡ search.old.kind) }
     ensures first { OnOk result (search.new.first_length ≡ search.old.first_length) }
     ensures leaf { OnOk result (split_count search.new.tree ≡ 0) }
 {
@@ -141,7 +144,6 @@ fn raise_by_exchange<F: Rule, G: Rule>(
         alloc,
         grid,
         search.network(),
-        search.tree().packing(0),
         budget,
     )?;
     let Some(bound) = bound else {
@@ -167,6 +169,7 @@ fn offer_shorter<F: Rule, G: Rule>(
 ) -> Result<(), AllocError>
     requires graph { search.old.graph ≡ hanan_grid_of grid.now }
     ensures graph { OnOk result (search.new.graph ≡ search.old.graph) }
+    ensures kind { OnOk result (search.new.kind ≡ search.old.kind) }
     ensures first { OnOk result (search.new.first_length ≡ search.old.first_length) }
     ensures tree { OnOk result (search.new.tree ≡ search.old.tree) }
 {
@@ -189,18 +192,16 @@ fn exchanged(
     alloc: Global,
     grid: &Grid,
     network: &EdgeSet,
-    start: &Packing,
     budget: Budget,
 ) -> Result<ExchangeEnd, AllocError>
     requires { length network.now ≡ length (hanan_grid_of grid.now).edges }
     ensures { IfOk result (λ found. IfSome found.bound (IsBoundOf (hanan_grid_of grid.now))) }
 {
-    let outcome = exchange(alloc, grid, network, start, budget)?;
+    let outcome = exchange(alloc, grid, network, budget)?;
     let is_spent = matches!(outcome, Outcome::Exhausted(_));
     let bound = match outcome {
         Outcome::Tight(bound) => Some(bound),
         Outcome::Impossible(bound) | Outcome::Exhausted(bound) => bound,
-        Outcome::TooLong => None,
     };
     Ok(ExchangeEnd { bound, is_spent })
 }

@@ -43,8 +43,9 @@ impl Answer for Solution {
     }
 }
 
-/// The answer for the points of a file: what a search finds that begins with a network no longer than a concatenation of the
-/// file's trees; or the place of the first point that all trees together leave apart. An outer `Err` is want of memory.
+/// The answer for the points of a file: what a search finds that begins with a network no longer than a concatenation
+/// of the file's trees; or the place of the first point that all trees together leave apart. An outer `Err` is want of
+/// memory.
 pub fn solution_of(
     alloc: Global,
     file: FstFile,

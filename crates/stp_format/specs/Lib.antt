@@ -3,6 +3,7 @@ pub mod Numbers
 pub mod Value
 pub mod Sections
 pub mod Reading
+pub mod Said
 pub mod Located
 pub mod Text
 pub mod Left

@@ -1,7 +1,13 @@
-//! Why bytes are no STP file, and why a file gives no points.
+//! Why bytes are no STP file, and why a file gives no points; and what is said of it.
 
-use std::alloc::{AllocError, AllocFailed};
-use thiserror::Error;
+ghost use Rattle.std.specs.Prelude.{◌≡◌};
+ghost use Rattle.text_out.specs.Gathers.{Gathers};
+ghost use Rattle.stp_format.specs.Said.{section_name, section_text, node_text, stp_fault_text, stp_passes_limit, IsMemory};
+
+use format_fault::{FormatFault, write_line};
+use rst_outside::Sink;
+use std::alloc::AllocError;
+use text_out::{Block, literal, number};
 
 /// A section of which a fault can speak.
 #[derive(Clone, Copy, Debug, PartialEq, Eq)]
@@ -16,38 +22,28 @@ pub enum StpSection {
 
 /// The first fault of the lines of an STP file, or the first reason why its terminals give no points, or want of
 /// memory. Lines and nodes are counted from 1.
-#[derive(Debug, Drop, Error)]
+#[derive(Clone, Copy, Debug, PartialEq, Eq)]
 pub enum StpFault {
     /// The first line doesn't begin with the format's number.
-    #[error("not an STP file")]
     NoMagic,
     /// The line is not in the format. A text without an end has its fault in the line counted as one more than
     /// its line feeds.
-    #[error("line {0} is not in the format")]
     BadLine(u64),
     /// The line has what STP has, but this profile has not.
-    #[error("line {0} is left out of this profile")]
     LeftOut(u64),
     /// The line names a node below 1 or above the count of the nodes.
-    #[error("line {0} names no node")]
     NodeOutOfRange(u64),
     /// The section has more or fewer lines than it says.
-    #[error("a section has a wrong count")]
     WrongCount(StpSection),
     /// The section is missing, or stands behind one that needs it.
-    #[error("a section is missing")]
     MissingSection(StpSection),
     /// There is no terminal.
-    #[error("no terminals")]
     NoTerminals,
     /// The terminal has no point.
-    #[error("node {0} has no coordinates")]
     NoCoordinates(u32),
     /// The terminal's point is the 51st distinct one.
-    #[error("more than 50 points at node {0}")]
     TooManyPoints(u32),
     /// Want of memory.
-    #[error("there is not enough memory for the file")]
     Memory(AllocError),
 }
 
@@ -59,5 +55,81 @@ impl From<AllocError> for StpFault {
 
     fn from(error: AllocError) -> StpFault {
         StpFault::Memory(error)
+    }
+}
+
+impl FormatFault for StpFault {
+    ghost text = { stp_fault_text };
+
+    ghost passes_limit = { stp_passes_limit };
+
+    ghost IsMemory = { IsMemory };
+
+    fn passes_limit(&self) -> bool {
+        matches!(self, StpFault::TooManyPoints(_))
+    }
+
+    fn write<S: Sink>(&self, block: &mut Block, sink: &mut S) {
+        match self {
+            StpFault::NoMagic => literal(block, sink, b"not an STP file"),
+            StpFault::BadLine(line) => write_line(block, sink, *line, b" is not in the format"),
+            StpFault::LeftOut(line) => {
+                write_line(block, sink, *line, b" is left out of this profile")
+            }
+            StpFault::NodeOutOfRange(line) => write_line(block, sink, *line, b" names no node"),
+            StpFault::WrongCount(section) => {
+                write_section(block, sink, *section, b" has a wrong count")
+            }
+            StpFault::MissingSection(section) => {
+                write_section(block, sink, *section, b" is missing")
+            }
+            StpFault::NoTerminals => literal(block, sink, b"no terminals"),
+            StpFault::NoCoordinates(node) => {
+                write_node(block, sink, b"node ", *node, b" has no coordinates")
+            }
+            StpFault::TooManyPoints(node) => {
+                write_node(block, sink, b"more than 50 points at node ", *node, b"")
+            }
+            StpFault::Memory(_) => literal(block, sink, b"out of memory"),
+        }
+    }
+
+    fn of_text(self) -> Result<StpFault, AllocError> {
+        match self {
+            StpFault::Memory(error) => Err(error),
+            fault => Ok(fault),
+        }
+    }
+}
+
+// Writes what is said of a section.
+#[tactic(auto, using(text_out::specs::GatherLaws::pieces))]
+fn write_section<S: Sink>(block: &mut Block, sink: &mut S, section: StpSection, said: &[u8])
+    ensures { Gathers (S.state sink.old) block.old (section_text section said.now) (S.state sink.new) block.new }
+{
+    literal(block, sink, b"section ");
+    literal(block, sink, name_of(section));
+    literal(block, sink, said);
+}
+
+// Writes what is said of a node.
+#[tactic(auto, using(text_out::specs::GatherLaws::pieces))]
+fn write_node<S: Sink>(block: &mut Block, sink: &mut S, before: &[u8], node: u32, after: &[u8])
+    ensures { Gathers (S.state sink.old) block.old (node_text before.now node after.now)
+        (S.state sink.new) block.new }
+{
+    literal(block, sink, before);
+    number(block, sink, node);
+    literal(block, sink, after);
+}
+
+// The name of a section.
+fn name_of(section: StpSection) -> &'static [u8]
+    ensures { result.now ≡ section_name section }
+{
+    match section {
+        StpSection::Graph => b"Graph",
+        StpSection::Terminals => b"Terminals",
+        StpSection::Coordinates => b"Coordinates",
     }
 }

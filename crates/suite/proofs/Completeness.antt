@@ -40,13 +40,13 @@ use Rattle.cert_check.specs.Accepted.{IsAccepted, IsAccepting}
 use Rattle.points_in.specs.Text.{IsPointText}
 use Rattle.fst_file.specs.Value.{FstValue}
 use Rattle.fst_file.specs.Text.{SpellsFstFile}
-use Rattle.tree_inputs.specs.declared.fst_fault.FstFault.{FstFault}
-use Rattle.tree_inputs.specs.FstFaults.{fst_fault_text, fst_fault_status}
-use Rattle.tree_inputs.specs.Files.{ReadsFst, SpelledHasNoFault, OneReading}
-use Rattle.point_tools.specs.declared.stp_points_fault.StpPointsFault.{StpPointsFault}
+use Rattle.fst_file.specs.declared.fault.FstFault.{FstFault}
+use Rattle.fst_file.specs.Said.{fst_fault_text}
+use Rattle.tree_inputs.specs.Files.{ReadsFst, SpelledHasNoFault, OneReading, fst_fault_status}
+use Rattle.stp_format.specs.declared.fault.StpFault.{StpFault}
 use Rattle.point_tools.specs.Points.{PrintsDrawn, EndsPoints}
-use Rattle.point_tools.specs.StpPointsFaults.{stp_points_fault_text, stp_points_fault_status}
-use Rattle.point_tools.specs.StpPoints.{LocatesPoints, PrintsLocated, LocatedHasNoFault, EndsStp2points}
+use Rattle.stp_format.specs.Said.{stp_fault_text}
+use Rattle.point_tools.specs.StpPoints.{LocatesPoints, PrintsLocated, LocatedHasNoFault, EndsStp2points, stp_fault_status}
 use Rattle.tree_tools.specs.Dump.{Dumps, EndsDumpfst}
 use Rattle.tree_tools.specs.Graph.{GraphsFile, EndsFst2graph}
 use Rattle.tree_tools.specs.Pruning.{PrunesFile, EndsPrunefst}
@@ -255,14 +255,14 @@ points_completes drawing before after status ends = λ writes.
 
 -- an input that is an STP file with points for its terminals has no fault
 stp_faultless : LocatedHasNoFault → (before after : Readable) (bytes : List ℕ) (ps : List Point) → HasInput TEXT_LIMIT before.input after.input bytes → LocatesPoints bytes (Ok ps) →
-    (fault : TextFault StpPointsFault) → FromText TEXT_LIMIT PrintsLocated before after (Err fault) → ⊥
+    (fault : TextFault StpFault) → FromText TEXT_LIMIT PrintsLocated before after (Err fault) → ⊥
 stp_faultless law before after bytes ps has located (text_fault.Input fault) is = input_is_taken TEXT_LIMIT before.input after.input bytes fault has is
 stp_faultless law before after bytes ps has located (text_fault.Text fault) (taken, whole, is) =
     law bytes ps fault located (subst (λ b. LocatesPoints b (Err fault)) (whole_input_is TEXT_LIMIT before.input after.input bytes taken has whole) is)
 
 pub stp_completes : LocatedHasNoFault → (before after : Outside) (status : ℕ) → EndsStp2points before after status → Completes (Some Stp2points) before after status
 stp_completes law before after status ends = λ bytes ps has located writes.
-    elim (complete_ends (text_fault_status stp_points_fault_status) (text_fault_text stp_points_fault_text) (codes "stp2points") (FromText TEXT_LIMIT PrintsLocated) LeavesShelf before after status
+    elim (complete_ends (text_fault_status stp_fault_status) (text_fault_text stp_fault_text) (codes "stp2points") (FromText TEXT_LIMIT PrintsLocated) LeavesShelf before after status
     (stp_faultless law before.read after.read bytes ps has located) writes ends) [
       | inl seven ↦ inr seven
       | inr (print, (taken, whole, (other, found, of_points)), answers) ↦ inl (answers ∙ ap (λ (p : Print). answer_code p.status) of_points)

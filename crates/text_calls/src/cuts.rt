@@ -1,9 +1,10 @@
 //! Texts that end too soon.
 
-use fst_file::{FileFault, read_file};
+use crate::given::said_of;
+use fst_file::read_file;
 use row_tables::{Call, Fault};
 use std::alloc::Global;
-use stp_format::{StpFault, read_stp};
+use stp_format::read_stp;
 
 /// What is told of prefixes in a row, and of how many.
 #[derive(Drop)]
@@ -59,8 +60,7 @@ pub(crate) fn cuts(alloc: Global, call: &Call, answer: &mut String) -> Result<()
 fn told_of_stp(alloc: Global, text: &[u8]) -> Result<String, Fault> {
     match read_stp(alloc, text) {
         Ok(_) => Ok(String::from_str(alloc, "a file")?),
-        Err(StpFault::Memory(error)) => Err(Fault::from(error)),
-        Err(fault) => Ok(format!(in alloc; "{fault}")?),
+        Err(fault) => said_of(alloc, fault),
     }
 }
 
@@ -68,7 +68,6 @@ fn told_of_stp(alloc: Global, text: &[u8]) -> Result<String, Fault> {
 fn told_of_fst(alloc: Global, text: &[u8]) -> Result<String, Fault> {
     match read_file(alloc, text) {
         Ok(_) => Ok(String::from_str(alloc, "a file")?),
-        Err(FileFault::Memory(error)) => Err(Fault::from(error)),
-        Err(fault) => Ok(format!(in alloc; "{fault}")?),
+        Err(fault) => said_of(alloc, fault),
     }
 }

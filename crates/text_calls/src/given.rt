@@ -1,11 +1,13 @@
-//! What rows give to sources and sinks in memory.
+//! What rows give to sources and sinks in memory, and what these have in the end.
 
 ghost use Rattle.std.specs.Prelude.{◌≤◌, IfOk};
 
+use format_fault::FormatFault;
 use row_tables::{Call, Fault, count};
 use rst_outside::{MemSink, MemSource};
 use std::alloc::Global;
 use std::str::from_utf8;
+use text_out::{Block, finish};
 
 /// How many bytes a sink takes where the row doesn't say it.
 const ROOM: usize = 1 << 16;
@@ -29,6 +31,16 @@ pub(crate) fn sink(alloc: Global, call: &Call) -> Result<MemSink, Fault> {
 /// The bytes as a text.
 pub(crate) fn shown(bytes: &[u8]) -> Result<&str, Fault> {
     from_utf8(bytes).map_err(|_| Fault::NotUtf8)
+}
+
+/// What is said of a fault of a text. An `Err` may be want of memory, its own or that of the reader.
+pub(crate) fn said_of<F: FormatFault + Drop>(alloc: Global, fault: F) -> Result<String, Fault> {
+    let fault = fault.of_text()?;
+    let mut sink = MemSink::with_room(alloc, ROOM, ROOM, Vec::new(alloc))?;
+    let mut block = Block::new();
+    fault.write(&mut block, &mut sink);
+    let _ = finish(block, &mut sink);
+    Ok(String::from_str(alloc, shown(sink.bytes())?)?)
 }
 
 // The step of a row: 1 or more, and 4096 where it says none.

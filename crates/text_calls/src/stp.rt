@@ -1,16 +1,15 @@
 //! STP files, read and written back.
 
-use crate::given::{shown, sink as given_sink};
+use crate::given::{said_of, shown, sink as given_sink};
 use row_tables::{Call, Fault};
 use std::alloc::Global;
-use stp_format::{StpFault, StpFile, read_stp, write_stp};
+use stp_format::{StpFile, read_stp, write_stp};
 
 /// The fault of the STP file under `file`; or what it holds, and the file as it is written.
 pub(crate) fn stp(alloc: Global, call: &Call, answer: &mut String) -> Result<(), Fault> {
     let file = match read_stp(alloc, call.bytes("file")?) {
         Ok(file) => file,
-        Err(StpFault::Memory(error)) => return Err(Fault::from(error)),
-        Err(fault) => return Ok(writeln!(answer, "{fault}")?),
+        Err(fault) => return Ok(writeln!(answer, "{}", said_of(alloc, fault)?)?),
     };
     tell_file(&file, answer)?;
     tell_written(alloc, call, &file, answer)

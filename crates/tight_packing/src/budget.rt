@@ -3,19 +3,22 @@
 /// How much work may be done; it is looked at between rounds.
 #[derive(Clone, Copy, Debug)]
 pub struct Budget {
-    /// Rounds of sweeps, new cuts and multipliers.
+    /// Rounds of sweeps with new cuts, and multipliers.
     pub rounds: u32,
     /// Searches for a new cut.
     pub searches: u32,
     /// Moves of weight from one cut to another.
     pub moves: u32,
+    /// The seed of the drawn numbers: another seed is another attempt.
+    pub seed: u64,
 }
 
 impl Budget {
-    /// What closes most draws of 50 points: they take about a quarter of it.
+    /// What closes most draws of 50 points: they take about a third of it.
     pub const USUAL: Budget = Budget {
-        rounds: 400,
+        rounds: 250,
         searches: 400_000,
         moves: 4_000_000,
+        seed: 20240607,
     };
 }

@@ -1,67 +1,85 @@
-//! What a curve in the dual encloses.
+//! The vertex set of a cut, made of the arcs that enter it.
 
-use crate::cells::{NONE, at, set};
-use crate::dual::Dual;
-use crate::mesh::{Arc, Mesh};
-use crate::side::Side;
+ghost use Rattle.std.specs.Prelude.{◌≡◌, length, IfOk};
+
+use cut_groups::{NONE, at, ends_of, set};
+use net_graph::{NetGraph, VertexSet};
 use std::alloc::{AllocError, Global};
 
 /// Work space.
 #[derive(Drop)]
 pub struct Flood {
-    // The curve that crossed each edge last.
+    // The cut that each edge is at the border of, by the number of its flood.
     walls: Vec<u32>,
-    curve: u32,
-    waiting: Vec<u32>,
+    number: u32,
+    // The vertices reached, in their order.
+    reached: Vec<u32>,
 }
 
 impl Flood {
     /// The work space. An `Err` is want of memory.
-    pub fn new(alloc: Global, mesh: &Mesh) -> Result<Flood, AllocError> {
+    pub fn new(alloc: Global, graph: &NetGraph) -> Result<Flood, AllocError> {
         Ok(Flood {
-            walls: vec![in alloc; 0; mesh.arcs.len() / 2]?,
-            curve: 0,
-            waiting: Vec::new(alloc),
+            walls: vec![in alloc; 0; graph.edges().len()]?,
+            number: 0,
+            reached: Vec::new(alloc),
         })
     }
 
-    /// The vertices enclosed, with the head of the arc `number`, by the curve across it that was
-    /// found last. An `Err` is want of memory.
-    pub fn enclosed(&mut self, mesh: &Mesh, dual: &Dual, number: u32) -> Result<Side, AllocError> {
-        self.curve = self.curve.wrapping_add(1);
-        let arc = mesh.arc(number);
-        set(&mut self.walls, number / 2, self.curve);
-        let mut face = arc.from_face;
-        for _ in 0..mesh.faces {
-            if face == arc.to_face {
-                break;
-            }
-            let crossed = dual.via(face);
-            set(&mut self.walls, crossed / 2, self.curve);
-            face = mesh.arc(crossed).from_face;
+    /// The vertices that are reached from the head of an arc without crossing its edge or those of other arcs. An
+    /// `Err` is want of memory.
+    pub fn filled(
+        &mut self,
+        alloc: Global,
+        graph: &NetGraph,
+        arc: u32,
+        others: &[u32],
+    ) -> Result<VertexSet, AllocError>
+        ensures { IfOk result (λ set. length set ≡ graph.now.vertices) }
+    {
+        self.number = self.number.wrapping_add(1);
+        set(&mut self.walls, arc / 2, self.number);
+        for other in others {
+            set(&mut self.walls, *other / 2, self.number);
         }
-        self.fill(mesh, arc)
+        let mut members = VertexSet::empty(alloc, graph.vertex_count())?;
+        self.reached.clear();
+        self.reach(&mut members, ends_of(graph, arc).head)?;
+        for rank in 0..graph.vertex_count() {
+            let vertex = at(&self.reached, rank, NONE);
+            self.go_on(graph, &mut members, vertex)?;
+        }
+        Ok(members)
     }
 
-    // The vertices that are reached from the head of an arc without crossing the curve. An `Err` is
-    // want of memory.
-    fn fill(&mut self, mesh: &Mesh, arc: Arc) -> Result<Side, AllocError> {
-        let mut side = Side::empty();
-        side.add(arc.head);
-        self.waiting.clear();
-        self.waiting.push(arc.head)?;
-        for _ in 0..mesh.vertices {
-            let Some(vertex) = self.waiting.pop() else {
-                break;
-            };
-            for next in mesh.leaving(vertex) {
-                let head = mesh.arc(next).head;
-                if next != NONE && at(&self.walls, next / 2, 0) != self.curve && !side.has(head) {
-                    side.add(head);
-                    self.waiting.push(head)?;
-                }
+    // Reaches the vertices beside one. An `Err` is want of memory.
+    fn go_on(
+        &mut self,
+        graph: &NetGraph,
+        members: &mut VertexSet,
+        vertex: u32,
+    ) -> Result<(), AllocError>
+        ensures { length members.new ≡ length members.old }
+    {
+        if vertex >= graph.vertex_count() {
+            return Ok(());
+        }
+        for arc in graph.arcs_from(vertex) {
+            if at(&self.walls, arc.number / 2, 0) != self.number {
+                self.reach(members, arc.to)?;
             }
         }
-        Ok(side)
+        Ok(())
+    }
+
+    // Reaches a vertex. An `Err` is want of memory.
+    fn reach(&mut self, members: &mut VertexSet, vertex: u32) -> Result<(), AllocError>
+        ensures { length members.new ≡ length members.old }
+    {
+        if vertex < members.len() && !members.has(vertex) {
+            members.add(vertex);
+            self.reached.push(vertex)?;
+        }
+        Ok(())
     }
 }

@@ -1,16 +1,18 @@
-//! The best whole packing met: its value is the tree's length, and it may overload arcs.
+//! The best packing met, in whole units.
 
-use crate::cells::at;
-use crate::mesh::Mesh;
+use crate::loads::{Loads, PARTS};
 use crate::pool::Pool;
-use crate::side::Side;
+use cut_groups::{at, count, set};
 use std::alloc::{AllocError, Global};
 
 /// A cut that is kept, with its weight in units.
 #[derive(Clone, Copy)]
 pub struct KeptCut {
-    pub side: Side,
     pub weight: i64,
+    pub group: u32,
+    // The arcs off the tree that enter it: the places of the first and behind the last.
+    first: u32,
+    end: u32,
 }
 
 /// The best packing met.
@@ -18,8 +20,9 @@ pub struct KeptCut {
 pub struct Kept {
     /// Its overload in units.
     pub overload: i64,
-    /// Its cuts.
+    /// Its cuts, each with some weight.
     pub cuts: Vec<KeptCut>,
+    entered: Vec<u32>,
 }
 
 impl Kept {
@@ -28,6 +31,7 @@ impl Kept {
         Kept {
             overload: i64::MAX,
             cuts: Vec::new(alloc),
+            entered: Vec::new(alloc),
         }
     }
 
@@ -38,53 +42,76 @@ impl Kept {
         }
         self.overload = overload;
         self.cuts.clear();
+        self.entered.clear();
         for cut in 0..pool.len() {
             let weight = at(weights, cut, 0);
-            if let Some(side) = pool.side(cut) {
-                if weight > 0 {
-                    self.cuts.push(KeptCut {
-                        side: *side,
-                        weight,
-                    })?;
-                }
+            if weight > 0 {
+                let first = count(&self.entered);
+                self.entered.extend_from_slice(pool.entered(cut))?;
+                self.cuts.push(KeptCut {
+                    weight,
+                    group: pool.cut(cut).group,
+                    first,
+                    end: count(&self.entered),
+                })?;
             }
         }
         Ok(())
     }
 
-    /// Takes the overload off, from the heaviest cuts first. An `Err` is want of memory.
-    pub fn relieve(&mut self, mesh: &Mesh) -> Result<(), AllocError> {
+    /// The arcs off the tree that enter a cut.
+    pub fn entered(&self, cut: KeptCut) -> &[u32] {
+        entered_of(&self.entered, cut)
+    }
+
+    /// Takes the overload off, from the heaviest cuts first; cuts without weight go. An `Err` is want of memory.
+    pub fn relieve(&mut self, alloc: Global, loads: &Loads) -> Result<(), AllocError> {
         if self.overload == 0 {
             return Ok(());
         }
         self.cuts
             .sort_by_key(|cut| i64::MAX.wrapping_sub(cut.weight))?;
-        for (number, arc) in mesh.arcs.iter().enumerate() {
-            let number = u32::try_from(number).unwrap_or(0);
-            let mut excess = self.load(mesh, number).wrapping_sub(arc.length);
-            for cut in self.cuts.iter_mut() {
-                if excess <= 0 {
-                    break;
-                }
-                if mesh.enters(&cut.side, number) {
-                    let taken = excess.min(cut.weight);
-                    cut.weight = cut.weight.wrapping_sub(taken);
-                    excess = excess.wrapping_sub(taken);
-                }
-            }
+        let mut excess = Vec::new(alloc);
+        for arc in 0..loads.len() {
+            let length = loads.limit(arc).capacity / PARTS;
+            excess.push(length.wrapping_neg())?;
         }
+        for cut in &self.cuts {
+            add_to_all(&mut excess, entered_of(&self.entered, *cut), cut.weight);
+        }
+        for cut in self.cuts.iter_mut() {
+            let arcs = entered_of(&self.entered, *cut);
+            let taken = most_of(&excess, arcs).max(0).min(cut.weight);
+            cut.weight = cut.weight.wrapping_sub(taken);
+            add_to_all(&mut excess, arcs, taken.wrapping_neg());
+        }
+        self.cuts.retain(|cut| cut.weight > 0);
         self.overload = 0;
         Ok(())
     }
+}
 
-    // The load of an arc.
-    fn load(&self, mesh: &Mesh, arc: u32) -> i64 {
-        let mut sum = 0i64;
-        for cut in &self.cuts {
-            if mesh.enters(&cut.side, arc) {
-                sum = sum.wrapping_add(cut.weight);
-            }
-        }
-        sum
+// The arcs off the tree that enter a cut.
+fn entered_of(entered: &Vec<u32>, cut: KeptCut) -> &[u32] {
+    match entered.get(cut.first as usize..cut.end as usize) {
+        Some(arcs) => arcs,
+        None => &[],
     }
+}
+
+// Adds to the numbers of some arcs.
+fn add_to_all(numbers: &mut [i64], arcs: &[u32], amount: i64) {
+    for arc in arcs {
+        let sum = at(numbers, *arc, 0).wrapping_add(amount);
+        set(numbers, *arc, sum);
+    }
+}
+
+// The greatest number of some arcs.
+fn most_of(numbers: &[i64], arcs: &[u32]) -> i64 {
+    let mut most = i64::MIN;
+    for arc in arcs {
+        most = most.max(at(numbers, *arc, i64::MIN));
+    }
+    most
 }

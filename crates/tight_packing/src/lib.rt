@@ -3,28 +3,24 @@
 #![tactic(auto)]
 
 mod budget;
-mod cells;
-mod clean;
-mod dual;
+mod cuts;
 mod farkas;
 mod flood;
 mod kept;
 mod line;
 mod loads;
-mod mesh;
+mod marks;
 mod method;
 mod multipliers;
-mod oracle;
 mod pool;
 mod random;
 mod rounding;
 mod rounds;
-mod side;
+mod scale;
 mod start;
 mod state;
 mod sweep;
 mod tidy;
-mod tree;
 mod unit_cuts;
 mod unit_search;
 mod units;

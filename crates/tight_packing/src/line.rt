@@ -1,32 +1,50 @@
 //! The line search: how much weight goes from one cut of a group to another.
 
 use crate::loads::Loads;
-use crate::mesh::Mesh;
+use crate::marks::Marks;
 use crate::pool::Pool;
 use std::alloc::{AllocError, Global};
+
+// Steps of the secant search: the amount need not be the best to the last part.
+const STEPS: u8 = 6;
 
 /// A move of weight from a cut to another of its group, by the arcs that enter just one of them.
 #[derive(Drop)]
 pub struct Line {
+    marks: Marks,
     // The overloads of the arcs whose loads fall.
     falling: Vec<i64>,
     // The loads above the thresholds, or below them, of the arcs whose loads rise.
     rising: Vec<i64>,
 }
 
+// Half the slope of the potential at some amount, and by how much it grows with a further part.
+#[derive(Clone, Copy)]
+struct Slope {
+    height: i64,
+    growth: i64,
+}
+
+// The amounts at which the slope is below 0 and not below.
+#[derive(Clone, Copy)]
+struct Bracket {
+    low: i64,
+    high: i64,
+}
+
 impl Line {
-    /// No move. It takes no memory.
-    pub fn new(alloc: Global) -> Line {
-        Line {
+    /// No move. An `Err` is want of memory.
+    pub fn new(alloc: Global, arcs: u32) -> Result<Line, AllocError> {
+        Ok(Line {
+            marks: Marks::none(alloc, arcs)?,
             falling: Vec::new(alloc),
             rising: Vec::new(alloc),
-        }
+        })
     }
 
     /// Takes the arcs of a move. An `Err` is want of memory.
     pub fn draw(
         &mut self,
-        mesh: &Mesh,
         pool: &Pool,
         loads: &Loads,
         from: u32,
@@ -34,66 +52,117 @@ impl Line {
     ) -> Result<(), AllocError> {
         self.falling.clear();
         self.rising.clear();
-        let (Some(left), Some(entered)) = (pool.side(from), pool.side(to)) else {
-            return Ok(());
-        };
+        self.marks.mark(pool.entered(to));
         for arc in pool.entered(from) {
             let over = loads.over(*arc);
-            if over > 0 && !mesh.enters(entered, *arc) {
+            if over > 0 && !self.marks.has(*arc) {
                 self.falling.push(over)?;
             }
         }
+        self.marks.mark(pool.entered(from));
         for arc in pool.entered(to) {
-            if !mesh.enters(left, *arc) {
+            if !self.marks.has(*arc) {
                 self.rising.push(loads.excess(*arc))?;
             }
         }
         Ok(())
     }
 
-    /// How many grains, of at most so many, lower the potential most.
-    pub fn best(&self, most: i64, grain: i64) -> i64 {
-        if most < 1 || self.change(0, grain) >= 0 {
+    /// The amount, of at most a weight and in whole grains, that lowers the potential most, or nearly so; 0 where
+    /// none does.
+    pub fn best(&self, weight: i64, grain: i64) -> i64 {
+        let most = weight.checked_div(grain).unwrap_or(0);
+        let half = grain / 2;
+        if most < 1 || self.slope(half).height >= 0 {
             return 0;
         }
-        let mut good = 0i64;
-        let mut bad = most;
-        for _ in 0..64 {
-            let gap = bad.wrapping_sub(good);
-            if gap <= 1 {
-                break;
-            }
-            let middle = good.wrapping_add(gap.wrapping_shr(1));
-            if self.change(middle, grain) < 0 {
-                good = middle;
-            } else {
-                bad = middle;
-            }
-        }
-        bad
+        let amount = self.lowest(most.wrapping_mul(grain)).wrapping_add(half);
+        let grains = amount.checked_div(grain).unwrap_or(0);
+        grains.max(1).min(most).wrapping_mul(grain)
     }
 
-    // The change of the potential from a number of grains to the next one. It grows with the
-    // number, since the potential is convex.
-    fn change(&self, grains: i64, grain: i64) -> i128 {
-        let moved = grains.wrapping_mul(grain);
-        let mut sum = 0i128;
-        for over in &self.falling {
-            let before = over.wrapping_sub(moved).max(0);
-            let after = before.wrapping_sub(grain).max(0);
-            sum = sum.wrapping_add(difference_of_squares(after, before));
+    // The amount, of at most so much, at which the slope is 0, or nearly so: secant steps within a bracket.
+    fn lowest(&self, most: i64) -> i64 {
+        let mut bracket = Bracket { low: 0, high: most };
+        let mut amount = 0i64;
+        let mut slope = self.slope(0);
+        for _ in 0..STEPS {
+            let next = bracket.next(amount, slope);
+            if next == amount {
+                break;
+            }
+            amount = next;
+            slope = self.slope(amount);
+            bracket.narrow(amount, slope);
+            let is_near = slope.height <= 0 && slope.height.wrapping_add(slope.growth) > 0;
+            if is_near || bracket.high.wrapping_sub(bracket.low) <= 1 {
+                break;
+            }
         }
+        if slope.height > 0 {
+            let up = slope.height.wrapping_add(slope.growth).wrapping_sub(1);
+            let back = up.checked_div(slope.growth).unwrap_or(0);
+            amount = amount.wrapping_sub(back).max(bracket.low);
+        }
+        amount
+    }
+
+    // The slope at an amount.
+    fn slope(&self, amount: i64) -> Slope {
+        let mut slope = Slope {
+            height: 0,
+            growth: 0,
+        };
         for excess in &self.rising {
-            let after = excess.wrapping_add(moved).wrapping_add(grain).max(0);
-            let before = excess.wrapping_add(moved).max(0);
-            sum = sum.wrapping_add(difference_of_squares(after, before));
+            slope.rise(excess.wrapping_add(amount));
         }
-        sum
+        for over in &self.falling {
+            slope.fall(over.wrapping_sub(amount));
+        }
+        slope
     }
 }
 
-// The square of a number less that of another.
-#[inline]
-fn difference_of_squares(a: i64, b: i64) -> i128 {
-    i128::from(a.wrapping_sub(b)).wrapping_mul(i128::from(a.wrapping_add(b)))
+impl Slope {
+    // Takes in an arc whose load rises, and is by so much above its threshold.
+    #[inline]
+    fn rise(&mut self, over: i64) {
+        if over > 0 {
+            self.height = self.height.wrapping_add(over);
+            self.growth = self.growth.wrapping_add(1);
+        }
+    }
+
+    // Takes in an arc whose load falls, and is by so much above its threshold.
+    #[inline]
+    fn fall(&mut self, over: i64) {
+        if over > 0 {
+            self.height = self.height.wrapping_sub(over);
+            self.growth = self.growth.wrapping_add(1);
+        }
+    }
+}
+
+impl Bracket {
+    // The amount to be tried after another one.
+    fn next(self, amount: i64, slope: Slope) -> i64 {
+        let Some(step) = slope.height.wrapping_neg().checked_div(slope.growth) else {
+            return amount;
+        };
+        let next = amount.wrapping_add(step);
+        if next <= self.low {
+            let gap = self.high.wrapping_sub(self.low);
+            return self.low.wrapping_add(gap / 2);
+        }
+        next.min(self.high)
+    }
+
+    // Takes an amount as an end.
+    fn narrow(&mut self, amount: i64, slope: Slope) {
+        if slope.height < 0 {
+            self.low = amount;
+        } else {
+            self.high = amount;
+        }
+    }
 }

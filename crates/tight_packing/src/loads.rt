@@ -1,18 +1,17 @@
-//! The loads of the arcs, and what is above their thresholds.
+//! The loads of the arcs, what is above their thresholds, and the prices that follow from it.
 
-use crate::cells::{at, count, set};
-use crate::mesh::Mesh;
-use crate::tree::Tree;
+use cut_groups::{BLOCKED, Tree, at, count, set};
+use net_graph::NetGraph;
 use std::alloc::{AllocError, Global};
 
 /// Parts of a unit of weight.
 pub const PARTS: i64 = 16;
 
+/// What an arc costs is this times its overload, and a small charge.
+pub const OVER_FACTOR: i64 = 16;
+
 // Units kept free on each arc at first; the rounding spends them.
 const RESERVE: i64 = 4;
-
-// Overloads are shifted to at most this many bits in prices.
-const PRICE_BITS: u32 = 30;
 
 /// The limits of an arc, in parts.
 #[derive(Clone, Copy)]
@@ -30,10 +29,11 @@ pub struct Loads {
     limits: Vec<Limit>,
     // Of each arc its load less its threshold.
     excess: Vec<i64>,
+    // Of each arc what it costs beside its overload: `BLOCKED` on the tree.
+    charges: Vec<i64>,
+    prices: Vec<i64>,
     // Thresholds are not lowered below this.
     lowest: i64,
-    // Prices are overloads without this many lower bits.
-    shift: u32,
 }
 
 /// The limits of no arc.
@@ -44,29 +44,49 @@ pub const NO_LIMIT: Limit = Limit {
 };
 
 impl Loads {
-    /// No load. An `Err` is want of memory.
-    pub fn none(alloc: Global, mesh: &Mesh, tree: &Tree) -> Result<Loads, AllocError> {
-        let mut limits = Vec::new(alloc);
-        let mut excess = Vec::new(alloc);
-        let mut lowest = 0i64;
-        for arc in &mesh.arcs {
-            let capacity = arc.length.wrapping_mul(PARTS);
-            let reserve = (RESERVE * PARTS).min(capacity.wrapping_shr(1));
-            let threshold = capacity.wrapping_sub(reserve);
-            limits.push(Limit {
-                capacity,
-                threshold,
-                marked: false,
-            })?;
-            excess.push(0i64.wrapping_sub(threshold))?;
+    /// No load, where lengths are counted in a unit. An `Err` is want of memory.
+    pub fn none(
+        alloc: Global,
+        graph: &NetGraph,
+        tree: &Tree,
+        unit: u64,
+    ) -> Result<Loads, AllocError> {
+        let arcs = graph.edges().len().saturating_mul(2);
+        let mut loads = Loads {
+            limits: Vec::new(alloc),
+            excess: Vec::new(alloc),
+            charges: vec![in alloc; 1; arcs]?,
+            prices: vec![in alloc; 1; arcs]?,
+            lowest: 0,
+        };
+        for edge in graph.edges() {
+            let units = edge.length.checked_div(unit).unwrap_or(0);
+            let length = i64::try_from(units).unwrap_or(0);
+            loads.push(length)?;
+            loads.push(length)?;
         }
-        lowest = lowest.wrapping_sub(tree.length.wrapping_mul(PARTS));
-        Ok(Loads {
-            limits,
-            excess,
-            lowest,
-            shift: 0,
-        })
+        for group in 0..tree.groups() {
+            let arc = tree.arc(group);
+            let length = loads.limit(arc).capacity;
+            loads.lowest = loads.lowest.wrapping_sub(length);
+            set(&mut loads.charges, arc, BLOCKED);
+            set(&mut loads.prices, arc, BLOCKED);
+        }
+        Ok(loads)
+    }
+
+    // Appends an arc of a length in units. An `Err` is want of memory.
+    fn push(&mut self, length: i64) -> Result<(), AllocError> {
+        let capacity = length.wrapping_mul(PARTS);
+        let reserve = (RESERVE * PARTS).min(capacity.wrapping_shr(1));
+        let threshold = capacity.wrapping_sub(reserve);
+        self.limits.push(Limit {
+            capacity,
+            threshold,
+            marked: false,
+        })?;
+        self.excess.push(threshold.wrapping_neg())?;
+        Ok(())
     }
 
     /// The limits of an arc.
@@ -96,10 +116,15 @@ impl Loads {
         at(&self.excess, arc, 0).max(0)
     }
 
-    /// What an arc costs: the overload without its lower bits.
+    /// Whether an arc is on the tree.
+    pub fn is_blocked(&self, arc: u32) -> bool {
+        at(&self.charges, arc, BLOCKED) == BLOCKED
+    }
+
+    /// The prices of all arcs: by their overload, and a charge.
     #[inline]
-    pub fn price(&self, arc: u32) -> i64 {
-        self.over(arc).wrapping_shr(self.shift)
+    pub fn prices(&self) -> &[i64] {
+        self.prices.as_slice()
     }
 
     /// Adds to the load of an arc.
@@ -107,6 +132,23 @@ impl Loads {
     pub fn add(&mut self, arc: u32, amount: i64) {
         if let Some(excess) = self.excess.get_mut(arc as usize) {
             *excess = excess.wrapping_add(amount);
+        }
+        self.price_anew(arc);
+    }
+
+    // Sets the price of an arc.
+    #[inline]
+    fn price_anew(&mut self, arc: u32) {
+        let over = self.over(arc).wrapping_mul(OVER_FACTOR);
+        let price = at(&self.charges, arc, BLOCKED).wrapping_add(over);
+        set(&mut self.prices, arc, price.min(BLOCKED));
+    }
+
+    /// Charges an arc off the tree.
+    pub fn charge(&mut self, arc: u32, charge: i64) {
+        if !self.is_blocked(arc) {
+            set(&mut self.charges, arc, charge);
+            self.price_anew(arc);
         }
     }
 
@@ -122,6 +164,7 @@ impl Loads {
             marked: true,
         };
         set(&mut self.limits, arc, limit);
+        self.price_anew(arc);
     }
 
     /// What the loads are above the capacities, in all.
@@ -142,14 +185,5 @@ impl Loads {
             sum = sum.wrapping_add(over.wrapping_mul(over));
         }
         sum
-    }
-
-    /// Chooses the shift, so that every price has at most 30 bits.
-    pub fn choose_shift(&mut self) {
-        let mut most = 0i64;
-        for excess in &self.excess {
-            most = most.max(*excess);
-        }
-        self.shift = (64 - most.leading_zeros().min(64)).saturating_sub(PRICE_BITS);
     }
 }

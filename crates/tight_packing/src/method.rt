@@ -1,78 +1,70 @@
 //! The exchange method.
 
-ghost use Rattle.std.specs.Prelude.{◌≡◌, length, All, IfOk, IfSome};
-ghost use Rattle.hanan_grid.specs.Grid.{hanan_grid_of};
+ghost use Rattle.std.specs.Prelude.{◌≡◌, length, All, IfOk};
 
 use crate::budget::Budget;
-use crate::kept::Kept;
+use crate::flood::Flood;
 use crate::rounds::{Ending, Rounds};
-use crate::side::Side;
+use crate::scale::unit_for;
 use crate::state::State;
-use hanan_grid::Grid;
-use net_graph::{Cut, EdgeSet, NetGraph, Packing, VertexSet};
+use cut_groups::{CutFinder, Tree};
+use net_graph::{Cut, NetGraph, Packing};
 use std::alloc::{AllocError, Global};
 
 /// What an exchange proposes.
 #[derive(Debug, Drop)]
 pub struct Proposal {
-    /// Cuts of the grid's vertices. That they fit into the rooms is not promised.
+    /// Cuts of the graph's vertices. That they fit into the rooms is not promised.
     pub packing: Packing,
     /// Whether there is no packing whose value is the network's length. That is computed and not proved.
     pub is_impossible: bool,
 }
 
-/// Looks for a packing whose value is the length of a network on a grid, of at most 2^42: of a longer one what comes is of
-/// no use. The network is first cleaned: an edge of each cycle goes, and what joins no terminal. `start` has cuts to begin
-/// with, as those of an ascent. None where the network doesn't join the terminals. Equal arguments give equal results. An
-/// `Err` is want of memory.
-pub fn propose(
+/// Looks for a packing whose value is the length of a network in a graph, from its tree; the length is `aim`. Where
+/// it is over 2^53 times the greatest common divisor of the lengths of edges, these are rounded down, and the value
+/// stays below the length. Equal arguments give equal results. An `Err` is want of memory.
+pub fn propose<F: CutFinder>(
     alloc: Global,
-    grid: &Grid,
-    network: &EdgeSet,
-    start: &Packing,
+    graph: &NetGraph,
+    tree: Tree,
+    aim: u64,
+    finder: &mut F,
     budget: Budget,
-) -> Result<Option<Proposal>, AllocError>
-    ensures { IfOk result (λ found. IfSome found (λ proposal.
-        All (λ c. length c.members ≡ (hanan_grid_of grid.now).vertices) proposal.packing)) }
+) -> Result<Proposal, AllocError>
+    ensures { IfOk result (λ proposal.
+        All (λ c. length c.members ≡ graph.now.vertices) proposal.packing) }
 {
-    let Some(mut state) = State::along(alloc, grid, network)? else {
-        return Ok(None);
-    };
-    state.start(start)?;
-    let ending = Rounds::new().play(&mut state, budget)?;
-    state.kept.relieve(&state.mesh)?;
-    let packing = packing_of(alloc, grid.graph(), &state.kept)?;
-    Ok(Some(Proposal {
+    let unit = unit_for(graph, aim);
+    let mut state = State::along(alloc, graph, tree, unit, budget.seed)?;
+    state.start(finder)?;
+    let terminals = graph.terminals().len();
+    let ending = Rounds::new(terminals).play(&mut state, finder, budget)?;
+    state.kept.relieve(alloc, &state.loads)?;
+    let packing = packing_of(alloc, graph, &state, unit)?;
+    Ok(Proposal {
         packing,
         is_impossible: ending == Ending::Impossible,
-    }))
+    })
 }
 
 // What was kept, as a packing. An `Err` is want of memory.
-fn packing_of(alloc: Global, graph: &NetGraph, kept: &Kept) -> Result<Packing, AllocError>
+fn packing_of(
+    alloc: Global,
+    graph: &NetGraph,
+    state: &State,
+    unit: u64,
+) -> Result<Packing, AllocError>
     ensures { IfOk result (All (λ c. length c.members ≡ graph.now.vertices)) }
 {
     let mut packing = Packing::empty(alloc);
-    for cut in &kept.cuts {
-        if cut.weight > 0 {
-            packing.push(Cut {
-                weight: cut.weight.unsigned_abs(),
-                members: members_of(alloc, graph.vertex_count(), &cut.side)?,
-            })?;
-        }
+    let mut flood = Flood::new(alloc, graph)?;
+    for cut in &state.kept.cuts {
+        let arc = state.tree.arc(cut.group);
+        let others = state.kept.entered(*cut);
+        packing.push(Cut {
+            weight: cut.weight.unsigned_abs().wrapping_mul(unit),
+            members: flood.filled(alloc, graph, arc, others)?,
+        })?;
     }
     Ok(packing)
-}
-
-// The vertices below a count that a side has. An `Err` is want of memory.
-fn members_of(alloc: Global, count: u32, side: &Side) -> Result<VertexSet, AllocError>
-    ensures { IfOk result (λ set. length set ≡ count) }
-{
-    let mut set = VertexSet::empty(alloc, count)?;
-    for vertex in 0..count {
-        if side.has(vertex) {
-            set.add(vertex);
-        }
-    }
-    Ok(set)
 }

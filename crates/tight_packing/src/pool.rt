@@ -1,10 +1,8 @@
 //! The pool: cuts that the tree enters once, in groups by the arc of the tree that enters them.
+//! Until it is handed out a cut is the list of the arcs off the tree that enter it.
 
-use crate::cells::{NONE, at, count, set};
 use crate::loads::Loads;
-use crate::mesh::Mesh;
-use crate::side::Side;
-use crate::tree::Tree;
+use cut_groups::{NONE, at, count, set};
 use std::alloc::{AllocError, Global};
 
 /// A cut of the pool.
@@ -13,8 +11,6 @@ pub struct Cut {
     /// In parts.
     pub weight: i64,
     pub group: u32,
-    /// How many vertices it has.
-    pub size: u32,
     /// For how many rounds it hasn't been the cheapest of its group.
     pub age: u32,
     /// The next cut of its group, or `NONE`.
@@ -22,6 +18,8 @@ pub struct Cut {
     // The arcs off the tree that enter it: the places of the first and behind the last.
     first: u32,
     end: u32,
+    // A number made of these arcs: equal cuts have equal ones.
+    print: u64,
 }
 
 /// Cuts. In each group the weights sum to the length of its arc, except where a function says
@@ -29,30 +27,37 @@ pub struct Cut {
 #[derive(Drop)]
 pub struct Pool {
     cuts: Vec<Cut>,
-    sides: Vec<Side>,
     entered: Vec<u32>,
     // The first and the last cut of each group.
     firsts: Vec<u32>,
     lasts: Vec<u32>,
 }
 
-/// What became of a side that was offered to the pool.
+/// What became of a cut that was offered to the pool.
 #[derive(Clone, Copy)]
 pub enum Offered {
-    Refused,
     Known(u32),
     Taken(u32),
+}
+
+impl Offered {
+    /// The number of the cut.
+    pub fn cut(self) -> u32 {
+        match self {
+            Offered::Known(cut) | Offered::Taken(cut) => cut,
+        }
+    }
 }
 
 /// No cut.
 pub const NO_CUT: Cut = Cut {
     weight: 0,
     group: NONE,
-    size: 0,
     age: 0,
     next: NONE,
     first: 0,
     end: 0,
+    print: 0,
 };
 
 impl Pool {
@@ -60,7 +65,6 @@ impl Pool {
     pub fn empty(alloc: Global, groups: u32) -> Result<Pool, AllocError> {
         Ok(Pool {
             cuts: Vec::new(alloc),
-            sides: Vec::new(alloc),
             entered: Vec::new(alloc),
             firsts: vec![in alloc; NONE; groups as usize]?,
             lasts: vec![in alloc; NONE; groups as usize]?,
@@ -83,6 +87,12 @@ impl Pool {
         at(&self.cuts, cut, NO_CUT)
     }
 
+    /// A cut, if it is there.
+    #[inline]
+    pub fn get(&self, cut: u32) -> Option<&Cut> {
+        self.cuts.get(cut as usize)
+    }
+
     /// The first cut of a group, or `NONE`.
     #[inline]
     pub fn first(&self, group: u32) -> u32 {
@@ -98,16 +108,18 @@ impl Pool {
         }
     }
 
-    /// The vertices of a cut.
-    #[inline]
-    pub fn side(&self, cut: u32) -> Option<&Side> {
-        self.sides.get(cut as usize)
-    }
-
     /// The arcs off the tree that enter a cut.
     #[inline]
     pub fn entered(&self, cut: u32) -> &[u32] {
-        let cut = self.cut(cut);
+        match self.cuts.get(cut as usize) {
+            Some(cut) => self.entered_by(cut),
+            None => &[],
+        }
+    }
+
+    // The arcs off the tree that enter a cut.
+    #[inline]
+    fn entered_by(&self, cut: &Cut) -> &[u32] {
         match self.entered.get(cut.first as usize..cut.end as usize) {
             Some(arcs) => arcs,
             None => &[],
@@ -115,33 +127,35 @@ impl Pool {
     }
 
     /// What a cut costs: the overloads of the arcs off the tree that enter it.
-    pub fn cost(&self, cut: u32, loads: &Loads) -> i64 {
+    #[inline]
+    pub fn cost(&self, cut: &Cut, loads: &Loads) -> i64 {
         let mut sum = 0i64;
-        for arc in self.entered(cut) {
-            sum = sum.wrapping_add(loads.over(*arc));
+        for arc in self.entered_by(cut) {
+            sum = sum.saturating_add(loads.over(*arc));
         }
         sum
     }
 
-    /// The least price of a group's cuts, or the default where it has none.
-    pub fn least_price(&self, group: u32, loads: &Loads, default: i64) -> i64 {
-        let mut least = default;
-        let mut cut = self.first(group);
+    /// The least cost of a group's cuts; `None` where it has none.
+    pub fn least_cost(&self, group: u32, loads: &Loads) -> Option<i64> {
+        let mut least = None;
+        let mut number = self.first(group);
         for _ in 0..self.len() {
-            if cut == NONE {
+            let Some(cut) = self.cuts.get(number as usize) else {
                 break;
-            }
-            least = least.min(self.price(cut, loads));
-            cut = self.next(cut);
+            };
+            let cost = self.cost(cut, loads);
+            least = Some(least.map_or(cost, |before: i64| before.min(cost)));
+            number = cut.next;
         }
         least
     }
 
-    // The price of a cut: those of the arcs off the tree that enter it.
-    fn price(&self, cut: u32, loads: &Loads) -> i64 {
+    /// The price of a cut: those of the arcs off the tree that enter it.
+    pub fn price(&self, cut: u32, prices: &[i64]) -> i64 {
         let mut sum = 0i64;
         for arc in self.entered(cut) {
-            sum = sum.wrapping_add(loads.price(*arc));
+            sum = sum.saturating_add(at(prices, *arc, 0));
         }
         sum
     }
@@ -163,57 +177,27 @@ impl Pool {
         }
     }
 
-    /// Offers a side: it is taken in with weight 0 if the tree enters it once, it has a terminal
-    /// and not the root, and it isn't there. An `Err` is want of memory.
-    pub fn offer(&mut self, mesh: &Mesh, tree: &Tree, side: &Side) -> Result<Offered, AllocError> {
-        let start = self.entered.len();
-        let cut = self.entry(mesh, tree, side)?;
-        if cut.group == NONE || side.has(tree.root) || !tree.holds_terminal(cut.group, side) {
-            self.entered.truncate(start);
-            return Ok(Offered::Refused);
-        }
-        if let Some(known) = self.find(cut, side) {
-            self.entered.truncate(start);
+    /// Offers a cut of a group by the arcs off the tree that enter it: it is taken in with weight 0 if it isn't
+    /// there. An `Err` is want of memory.
+    pub fn offer(&mut self, group: u32, arcs: &[u32]) -> Result<Offered, AllocError> {
+        let print = print_of(arcs);
+        if let Some(known) = self.find(group, print) {
             return Ok(Offered::Known(known));
         }
         let number = self.len();
-        self.sides.push(*side)?;
-        self.append(cut)?;
+        let mut cut = NO_CUT;
+        cut.group = group;
+        cut.print = print;
+        self.append(cut, arcs)?;
         Ok(Offered::Taken(number))
     }
 
-    // Appends the arcs that enter a side, and makes its cut; the group is `NONE` unless the tree
-    // enters once. An `Err` is want of memory.
-    fn entry(&mut self, mesh: &Mesh, tree: &Tree, side: &Side) -> Result<Cut, AllocError> {
-        let mut cut = NO_CUT;
-        cut.first = count(&self.entered);
-        let mut entries = 0u32;
-        for (number, arc) in mesh.arcs.iter().enumerate() {
-            if side.has(arc.head) && !side.has(arc.tail) {
-                let number = u32::try_from(number).unwrap_or(NONE);
-                let group = tree.group(number);
-                if group == NONE {
-                    self.entered.push(number)?;
-                } else {
-                    cut.group = group;
-                    entries = entries.wrapping_add(1);
-                }
-            }
-        }
-        if entries != 1 {
-            cut.group = NONE;
-        }
-        cut.end = count(&self.entered);
-        cut.size = side.len();
-        Ok(cut)
-    }
-
-    // The cut with a side, if it is there.
-    fn find(&self, like: Cut, side: &Side) -> Option<u32> {
-        let mut number = self.first(like.group);
+    // The cut of a group with a print, if it is there.
+    fn find(&self, group: u32, print: u64) -> Option<u32> {
+        let mut number = self.first(group);
         for _ in 0..self.len() {
             let cut = self.cuts.get(number as usize)?;
-            if cut.size == like.size && self.side(number) == Some(side) {
+            if cut.print == print {
                 return Some(number);
             }
             number = cut.next;
@@ -221,12 +205,15 @@ impl Pool {
         None
     }
 
-    // Appends a cut, whose side and arcs are there. An `Err` is want of memory.
-    fn append(&mut self, cut: Cut) -> Result<(), AllocError> {
+    // Appends a cut with its arcs. An `Err` is want of memory.
+    fn append(&mut self, cut: Cut, arcs: &[u32]) -> Result<(), AllocError> {
         let number = self.len();
         let last = at(&self.lasts, cut.group, NONE);
         let mut cut = cut;
         cut.next = NONE;
+        cut.first = count(&self.entered);
+        self.entered.extend_from_slice(arcs)?;
+        cut.end = count(&self.entered);
         self.cuts.push(cut)?;
         set(&mut self.lasts, cut.group, number);
         match self.cuts.get_mut(last as usize) {
@@ -239,7 +226,6 @@ impl Pool {
     /// Drops all cuts.
     pub fn clear(&mut self) {
         self.cuts.clear();
-        self.sides.clear();
         self.entered.clear();
         self.firsts.fill(NONE);
         self.lasts.fill(NONE);
@@ -248,14 +234,19 @@ impl Pool {
     /// Copies a cut of another pool, one round older. An `Err` is want of memory.
     pub fn copy(&mut self, other: &Pool, number: u32) -> Result<(), AllocError> {
         let mut cut = other.cut(number);
-        let Some(side) = other.side(number) else {
-            return Ok(());
-        };
-        cut.first = count(&self.entered);
-        self.entered.extend_from_slice(other.entered(number))?;
-        cut.end = count(&self.entered);
         cut.age = cut.age.wrapping_add(1);
-        self.sides.push(*side)?;
-        self.append(cut)
+        self.append(cut, other.entered(number))
     }
+}
+
+// A number made of some arcs in any order: the sum of a mixed number of each.
+fn print_of(arcs: &[u32]) -> u64 {
+    let mut sum = 0u64;
+    for arc in arcs {
+        let mixed = u64::from(*arc)
+            .wrapping_add(1)
+            .wrapping_mul(0x9e37_79b9_7f4a_7c15);
+        sum = sum.wrapping_add(mixed.wrapping_mul(mixed ^ mixed.wrapping_shr(29)));
+    }
+    sum
 }

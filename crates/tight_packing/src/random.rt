@@ -1,10 +1,8 @@
-//! Drawn numbers, from one fixed seed: equal inputs give equal results.
+//! Drawn numbers, from a seed: equal inputs give equal results.
 
-use crate::cells::{at, set};
+use cut_groups::{at, set};
 use rand_core::utils::NextWord;
 use rand_pcg::Pcg32;
-
-const SEED: u64 = 20240607;
 
 const STREAM: u64 = 721347520444481703;
 
@@ -15,10 +13,10 @@ pub struct Random {
 }
 
 impl Random {
-    /// The generator, at its seed.
-    pub fn new() -> Random {
+    /// The generator, at a seed.
+    pub fn new(seed: u64) -> Random {
         Random {
-            generator: Pcg32::new(SEED, STREAM),
+            generator: Pcg32::new(seed, STREAM),
         }
     }
 

@@ -1,50 +1,68 @@
-//! The rounding of weights.
+//! The rounding of weights, group by group.
 
-use crate::cells::NONE;
+use crate::loads::PARTS;
 use crate::state::State;
+use cut_groups::{NONE, at, set};
 use std::alloc::AllocError;
 
 impl State {
-    /// Rounds all weights to multiples of a grain, in which they move from now on. In each group
-    /// the running sum is rounded, larger cuts first: each weight moves by at most one grain, and
-    /// since the sum of the group is a multiple already it stays. An `Err` is want of memory.
-    pub fn coarsen(&mut self, grain: i64) -> Result<(), AllocError> {
-        self.grain = grain;
-        for group in 0..self.tree.groups() {
-            self.gather(group)?;
-            let mut sum = 0i64;
-            let mut given = 0i64;
-            for (_, cut) in &self.members {
-                let weight = self.pool.cut(*cut).weight;
-                sum = sum.wrapping_add(weight);
-                let rounded = rounded(sum, grain);
-                let change = rounded.wrapping_sub(given).wrapping_sub(weight);
+    /// Rounds the weights of a group to whole units, in which they move from now on. The running
+    /// sum is rounded, larger cuts first: each weight moves by at most one unit, and since the sum of
+    /// the group is whole already it stays. An `Err` is want of memory.
+    pub fn coarsen(&mut self, group: u32) -> Result<(), AllocError> {
+        set(&mut self.grains, group, PARTS);
+        self.gather(group)?;
+        let mut sum = 0i64;
+        let mut given = 0i64;
+        for (_, cut) in &self.members {
+            let weight = self.pool.cut(*cut).weight;
+            sum = sum.wrapping_add(weight);
+            let rounded = rounded(sum);
+            let change = rounded.wrapping_sub(given).wrapping_sub(weight);
+            if change != 0 {
                 self.pool.give(*cut, change, &mut self.loads);
-                given = rounded;
             }
+            given = rounded;
         }
         Ok(())
     }
 
-    // Gathers the cuts of a group, larger ones first. An `Err` is want of memory.
+    /// Rounds all groups. An `Err` is want of memory.
+    pub fn coarsen_all(&mut self) -> Result<(), AllocError> {
+        for group in 0..self.tree.groups() {
+            self.coarsen(group)?;
+        }
+        Ok(())
+    }
+
+    /// Lets all groups move parts of a unit again.
+    pub fn refine_all(&mut self) {
+        self.grains.fill(1);
+    }
+
+    // Puts the cuts of a group in order: larger weights first. An `Err` is want of memory.
     fn gather(&mut self, group: u32) -> Result<(), AllocError> {
         self.members.clear();
-        let mut number = self.pool.first(group);
+        let mut cut = self.pool.first(group);
         for _ in 0..self.pool.len() {
-            if number == NONE {
+            if cut == NONE {
                 break;
             }
-            let cut = self.pool.cut(number);
-            self.members.push((NONE - cut.size, number))?;
-            number = self.pool.next(number);
+            let weight = self.pool.cut(cut).weight;
+            self.members.push((i64::MAX.wrapping_sub(weight), cut))?;
+            cut = self.pool.next(cut);
         }
         self.members.sort()
     }
+
+    /// The group at a place of the order in which groups are rounded.
+    pub fn group_to_round(&self, place: u32) -> u32 {
+        at(&self.rounding, place, NONE)
+    }
 }
 
-// The multiple of a grain that is nearest to a sum, of two the greater.
-fn rounded(sum: i64, grain: i64) -> i64 {
-    let twice = sum.wrapping_mul(2).wrapping_add(grain);
-    let grains = twice.checked_div(grain.wrapping_mul(2)).unwrap_or(0);
-    grains.wrapping_mul(grain)
+// A weight rounded to whole units, halves up.
+fn rounded(weight: i64) -> i64 {
+    let units = weight.wrapping_add(PARTS / 2) / PARTS;
+    units.wrapping_mul(PARTS)
 }

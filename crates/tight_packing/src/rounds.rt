@@ -1,49 +1,67 @@
-//! The rounds: sweeps, the two phases, new cuts and multipliers.
+//! The rounds: sweeps, multipliers, the rounding of the groups and the search in units.
 
 use crate::budget::Budget;
-use crate::cells::at;
 use crate::loads::PARTS;
 use crate::state::State;
+use crate::unit_search::UnitLimits;
+use cut_groups::CutFinder;
 use std::alloc::AllocError;
 
-// Sweeps in a round, fewer where one moves nothing.
-const SWEEPS: u8 = 20;
+// Sweeps in a round.
+const SWEEPS: u8 = 5;
 
 // A round that lowers the potential by less than this many percent stagnates.
 const STALL_PERCENT: i128 = 3;
 
-// Rounds before the multipliers begin, and of the fine phase after that.
-const FINE_ROUNDS: u32 = 50;
+// The multipliers begin after so many rounds, or when the potential stagnates.
+const FIRST_ROUNDS: u32 = 4;
 
-// The longest stay in the whole phase; then it is back to the fine phase.
+// Rounds with multipliers after which the groups are rounded, however great the overload.
+const FINE_ROUNDS: u32 = 100;
+
+// The least rounds of a later fine phase.
+const LEAST_FINE_ROUNDS: u32 = 10;
+
+// In each round of the rounding so many parts of the groups become whole: all are after so many rounds.
+const ROUNDING_ROUNDS: u32 = 10;
+
+// Rounds in which all groups are whole; then it is back to the fine phase.
 const WHOLE_ROUNDS: u32 = 30;
 
-// A unit search is tried at this overload in units, or after so many rounds of the whole phase; so
-// many rounds are between two.
+// The overload in units at which the rounding begins shrinks by this with each return to the fine phase, to no less
+// than the least.
+const SHRINKING_BY: i64 = 2;
+
+const SHRINKING_OF: i64 = 5;
+
+const LEAST_FINE_EXCESS: i64 = 10;
+
+// A unit search is tried at this overload in units, or after so many whole rounds; so many rounds
+// are between two.
 const UNIT_EXCESS: i64 = 20;
 
 const UNIT_WAIT: u32 = 8;
 
 const UNIT_GAP: u32 = 4;
 
-// The steps of a unit search at first, doubled after every four searches, and at most.
+// The steps and pairs of a unit search at first, doubled after every four searches, and at most.
 const UNIT_STEPS: u32 = 500;
 
 const MOST_UNIT_STEPS: u32 = 8000;
 
-// New cuts are looked for after so many rounds, and at once if the last search found one for each
-// third group.
-const SEARCH_GAP: u32 = 3;
+const UNIT_PAIRS: u32 = 1_000_000;
 
-const SEARCH_SHARE: u32 = 3;
+const MOST_UNIT_PAIRS: u32 = 20_000_000;
 
-// Terminals tried for new cuts of a group, and when the potential stagnates or in the whole phase.
-const TRIES: u32 = 2;
+// Terminals tried for new cuts of a group, and when the potential stagnates or groups are rounded.
+const TRIES: u32 = 3;
 
 const MORE_TRIES: u32 = 6;
 
-// Rounds between two tests that no packing exists.
-const TEST_GAP: u32 = 10;
+// Rounds between two tests that no packing exists: of the fine phase, and else.
+const TEST_GAP: u32 = 5;
+
+const LATE_TEST_GAP: u32 = 10;
 
 /// How the rounds ended.
 #[derive(Clone, Copy, PartialEq, Eq)]
@@ -53,56 +71,69 @@ pub enum Ending {
     Exhausted,
 }
 
-// Whether weights move in parts of a unit or in whole units.
+// Whether all weights move in parts of a unit, or groups become whole.
 #[derive(Clone, Copy, PartialEq, Eq)]
 enum Phase {
     Fine,
-    Whole,
+    Rounding,
 }
 
 /// Where the rounds stand.
 #[derive(Clone, Copy)]
 pub struct Rounds {
     phase: Phase,
-    // The potential after the last round of this phase.
+    // The round in which the phase began, and how often the fine phase was come back to.
+    phase_since: u32,
+    returns: u32,
+    // The overload in units at which the rounding begins.
+    fine_excess: i64,
+    // How many groups are whole.
+    whole: u32,
+    // The potential after the last round.
     last_potential: Option<i128>,
     is_stagnant: bool,
-    // The round in which the multipliers began.
+    // The round in which the multipliers began, or the fine phase after a rounding.
     multiplying_since: Option<u32>,
-    phase_since: u32,
     unit_searches: u32,
-    unit_steps: u32,
+    unit_limits: UnitLimits,
     last_unit_search: Option<u32>,
-    last_search: Option<u32>,
-    last_found: u32,
 }
 
 impl Rounds {
-    /// Before the first round.
-    pub fn new() -> Rounds {
+    /// Before the first round, for so many terminals.
+    pub fn new(terminals: usize) -> Rounds {
         Rounds {
             phase: Phase::Fine,
+            phase_since: 0,
+            returns: 0,
+            fine_excess: first_fine_excess(terminals),
+            whole: 0,
             last_potential: None,
             is_stagnant: false,
             multiplying_since: None,
-            phase_since: 0,
             unit_searches: 0,
-            unit_steps: UNIT_STEPS,
+            unit_limits: UnitLimits {
+                steps: UNIT_STEPS,
+                pairs: UNIT_PAIRS,
+            },
             last_unit_search: None,
-            last_search: None,
-            last_found: 0,
         }
     }
 
     /// Plays rounds until the outcome is decided or the budget is spent. An `Err` is want of
     /// memory.
-    pub fn play(&mut self, state: &mut State, budget: Budget) -> Result<Ending, AllocError> {
-        let ending = self.decided(state, budget)?;
+    pub fn play<F: CutFinder>(
+        &mut self,
+        state: &mut State,
+        finder: &mut F,
+        budget: Budget,
+    ) -> Result<Ending, AllocError> {
+        let ending = self.decided(state, finder, budget)?;
         if ending == Ending::Tight {
             return Ok(ending);
         }
-        state.coarsen(PARTS)?;
-        state.unit_search(self.unit_steps)?;
+        state.coarsen_all()?;
+        state.unit_search(finder, self.unit_limits)?;
         Ok(if state.kept.overload == 0 {
             Ending::Tight
         } else {
@@ -110,14 +141,19 @@ impl Rounds {
         })
     }
 
-    // Plays rounds until the outcome is decided or the budget is spent.
-    fn decided(&mut self, state: &mut State, budget: Budget) -> Result<Ending, AllocError> {
+    // Plays rounds until the outcome is decided or the budget is spent. An `Err` is want of memory.
+    fn decided<F: CutFinder>(
+        &mut self,
+        state: &mut State,
+        finder: &mut F,
+        budget: Budget,
+    ) -> Result<Ending, AllocError> {
         for _ in 0..budget.rounds {
             let work = state.work;
             if work.searches >= budget.searches || work.moves >= budget.moves {
                 break;
             }
-            if let Some(ending) = self.round(state)? {
+            if let Some(ending) = self.round(state, finder)? {
                 return Ok(ending);
             }
         }
@@ -125,25 +161,35 @@ impl Rounds {
     }
 
     // One round; an ending where the outcome is decided. An `Err` is want of memory.
-    fn round(&mut self, state: &mut State) -> Result<Option<Ending>, AllocError> {
+    fn round<F: CutFinder>(
+        &mut self,
+        state: &mut State,
+        finder: &mut F,
+    ) -> Result<Option<Ending>, AllocError> {
         for _ in 0..SWEEPS {
-            if state.sweep()? == 0 {
-                break;
-            }
+            state.sweep(finder, self.tries())?;
         }
         self.note_potential(state.loads.potential());
-        self.advance(state)?;
-        if self.phase == Phase::Whole && self.whole_round(state)? {
+        state.tidier.tidy(&mut state.pool)?;
+        self.begin_rounding(state);
+        if self.phase == Phase::Rounding && self.rounding_round(state, finder)? {
             return Ok(Some(Ending::Tight));
         }
-        if self.is_time_to_test(state) && state.is_impossible()? {
+        if self.is_time_to_test(state) && state.is_impossible(finder)? {
             return Ok(Some(Ending::Impossible));
         }
-        self.new_cuts(state)?;
-        state.tidier.tidy(&mut state.pool)?;
-        state.work.rounds = state.work.rounds.saturating_add(1);
         self.multiply(state);
+        state.work.rounds = state.work.rounds.saturating_add(1);
         Ok(None)
+    }
+
+    // How many terminals are tried for new cuts of a group.
+    fn tries(&self) -> u32 {
+        if self.is_stagnant || self.phase == Phase::Rounding {
+            MORE_TRIES
+        } else {
+            TRIES
+        }
     }
 
     // Notes whether the potential stagnates.
@@ -158,96 +204,111 @@ impl Rounds {
         self.last_potential = Some(potential);
     }
 
-    // Goes from the fine to the whole phase when the overload is small or the multipliers have
-    // worked long enough. An `Err` is want of memory.
-    fn advance(&mut self, state: &mut State) -> Result<(), AllocError> {
+    // Begins the rounding when the overload is small or the multipliers have worked long enough.
+    fn begin_rounding(&mut self, state: &mut State) {
+        let round = state.work.rounds;
         let is_long = match self.multiplying_since {
-            Some(since) => state.work.rounds.wrapping_sub(since) >= FINE_ROUNDS,
+            Some(since) => round.wrapping_sub(since) >= FINE_ROUNDS,
             None => false,
         };
-        let is_small = state.loads.true_excess() <= fine_excess(state).wrapping_mul(PARTS);
+        let is_small = state.loads.true_excess() <= self.fine_excess.wrapping_mul(PARTS)
+            && (self.returns == 0 || round.wrapping_sub(self.phase_since) >= LEAST_FINE_ROUNDS);
         if self.phase == Phase::Fine && (is_small || is_long) {
-            self.enter(state, Phase::Whole, PARTS)?;
+            self.phase = Phase::Rounding;
+            self.phase_since = round;
+            self.whole = 0;
+            state.random.shuffle(&mut state.rounding);
         }
-        Ok(())
     }
 
-    // Enters a phase, with its grain. An `Err` is want of memory.
-    fn enter(&mut self, state: &mut State, phase: Phase, grain: i64) -> Result<(), AllocError> {
-        self.phase = phase;
-        self.phase_since = state.work.rounds;
-        self.last_potential = None;
-        state.coarsen(grain)
-    }
-
-    // The unit search of a round in the whole phase, where it is due; whether it found a packing
-    // without overload. An `Err` is want of memory.
-    fn whole_round(&mut self, state: &mut State) -> Result<bool, AllocError> {
-        let excess = state.loads.true_excess();
-        let round = state.work.rounds;
-        let stay = round.wrapping_sub(self.phase_since);
-        let is_ripe = excess <= UNIT_EXCESS.wrapping_mul(PARTS) || stay >= UNIT_WAIT;
-        let is_due = is_past(self.last_unit_search, round, UNIT_GAP);
-        if excess == 0 || (is_ripe && is_due) {
-            self.last_unit_search = Some(round);
-            state.unit_search(self.unit_steps)?;
-            if state.kept.overload == 0 {
-                return Ok(true);
-            }
-            self.unit_searches = self.unit_searches.wrapping_add(1);
-            if self.unit_searches % 4 == 0 {
-                self.double_unit_steps();
-            }
+    // A round in which groups become whole or all are; whether it found a packing without overload. An `Err` is want of
+    // memory.
+    fn rounding_round<F: CutFinder>(
+        &mut self,
+        state: &mut State,
+        finder: &mut F,
+    ) -> Result<bool, AllocError> {
+        let stay = state.work.rounds.wrapping_sub(self.phase_since);
+        self.round_groups(state, stay)?;
+        if self.whole >= state.tree.groups() && self.try_units(state, finder, stay)? {
+            return Ok(true);
         }
-        if stay >= WHOLE_ROUNDS {
-            self.enter(state, Phase::Fine, 1)?;
-            self.multiplying_since = Some(round);
-            self.double_unit_steps();
+        if stay >= ROUNDING_ROUNDS + WHOLE_ROUNDS {
+            self.refine(state);
         }
         Ok(false)
     }
 
+    // Makes some groups whole. An `Err` is want of memory.
+    fn round_groups(&mut self, state: &mut State, stay: u32) -> Result<(), AllocError> {
+        let groups = state.tree.groups();
+        let share = groups.div_ceil(ROUNDING_ROUNDS);
+        let aim = share.saturating_mul(stay.saturating_add(1)).min(groups);
+        for place in self.whole..aim {
+            let group = state.group_to_round(place);
+            state.coarsen(group)?;
+        }
+        self.whole = self.whole.max(aim);
+        Ok(())
+    }
+
+    // The unit search, where it is due; whether it found a packing without overload. An `Err` is want of memory.
+    fn try_units<F: CutFinder>(
+        &mut self,
+        state: &mut State,
+        finder: &mut F,
+        stay: u32,
+    ) -> Result<bool, AllocError> {
+        let excess = state.loads.true_excess();
+        let round = state.work.rounds;
+        let is_ripe = excess <= UNIT_EXCESS * PARTS || stay >= ROUNDING_ROUNDS + UNIT_WAIT;
+        if excess != 0 && !(is_ripe && is_past(self.last_unit_search, round, UNIT_GAP)) {
+            return Ok(false);
+        }
+        self.last_unit_search = Some(round);
+        state.unit_search(finder, self.unit_limits)?;
+        self.unit_searches = self.unit_searches.wrapping_add(1);
+        if self.unit_searches % 4 == 0 {
+            let pairs = self.unit_limits.pairs.saturating_mul(2);
+            self.unit_limits.pairs = pairs.min(MOST_UNIT_PAIRS);
+            self.double_unit_steps();
+        }
+        Ok(state.kept.overload == 0)
+    }
+
+    // Goes back to the fine phase.
+    fn refine(&mut self, state: &mut State) {
+        self.phase = Phase::Fine;
+        self.phase_since = state.work.rounds;
+        self.multiplying_since = Some(state.work.rounds);
+        self.returns = self.returns.saturating_add(1);
+        let excess = self.fine_excess.wrapping_mul(SHRINKING_BY) / SHRINKING_OF;
+        self.fine_excess = excess.max(LEAST_FINE_EXCESS);
+        self.double_unit_steps();
+        self.whole = 0;
+        state.refine_all();
+    }
+
     // Doubles the steps of a unit search.
     fn double_unit_steps(&mut self) {
-        self.unit_steps = self.unit_steps.saturating_mul(2).min(MOST_UNIT_STEPS);
+        let steps = self.unit_limits.steps.saturating_mul(2);
+        self.unit_limits.steps = steps.min(MOST_UNIT_STEPS);
     }
 
     // Whether it is time to test that no packing exists.
     fn is_time_to_test(&self, state: &State) -> bool {
-        match self.multiplying_since {
-            Some(since) => state.work.rounds.wrapping_sub(since) % TEST_GAP == TEST_GAP - 1,
-            None => false,
-        }
-    }
-
-    // Looks for new cuts of all groups, unless the last search found few and is recent. An `Err` is
-    // want of memory.
-    fn new_cuts(&mut self, state: &mut State) -> Result<(), AllocError> {
         let round = state.work.rounds;
-        let is_few = self.last_found < state.tree.groups() / SEARCH_SHARE;
-        if is_few && !is_past(self.last_search, round, SEARCH_GAP) {
-            return Ok(());
+        match (self.multiplying_since, self.phase) {
+            (None, _) => false,
+            (Some(since), Phase::Fine) => round.wrapping_sub(since) % TEST_GAP == TEST_GAP - 1,
+            (Some(_), Phase::Rounding) => round % LATE_TEST_GAP == LATE_TEST_GAP - 1,
         }
-        self.last_search = Some(round);
-        self.last_found = 0;
-        state.set_prices();
-        let tries = if self.is_stagnant || self.phase == Phase::Whole {
-            MORE_TRIES
-        } else {
-            TRIES
-        };
-        for visit in 0..state.tree.groups() {
-            let group = at(&state.order, visit, 0);
-            let found = state.find_cuts(group, tries)?;
-            self.last_found = self.last_found.wrapping_add(found);
-        }
-        Ok(())
     }
 
     // Raises the multipliers, where it is time.
     fn multiply(&mut self, state: &mut State) {
         let round = state.work.rounds;
-        let is_late = round >= FINE_ROUNDS || self.phase == Phase::Whole;
+        let is_late = round.saturating_add(1) >= FIRST_ROUNDS || self.phase == Phase::Rounding;
         if self.multiplying_since.is_none() && (self.is_stagnant || is_late) {
             self.multiplying_since = Some(round);
         }
@@ -265,12 +326,13 @@ fn is_past(last: Option<u32>, round: u32, gap: u32) -> bool {
     }
 }
 
-// The overload in units at which the fine phase ends: with more terminals there are more arcs to
-// repair.
-fn fine_excess(state: &State) -> i64 {
-    match state.tree.terminals() {
-        0..=20 => 6,
-        21..=30 => 10,
-        _ => 15,
+// The overload in units at which the rounding first begins: with more terminals there are more arcs
+// to repair.
+fn first_fine_excess(terminals: usize) -> i64 {
+    match terminals {
+        0..=20 => 20,
+        21..=30 => 40,
+        31..=40 => 80,
+        _ => 120,
     }
 }

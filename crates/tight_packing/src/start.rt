@@ -1,74 +1,114 @@
-//! The start: the cuts of a given packing, and a cheap cut for each group that lacks weight.
+//! The first weights: in turns each group gives a share of its length to its cheapest cut.
 
-use crate::cells::NONE;
-use crate::dual::BLOCKED;
-use crate::loads::PARTS;
-use crate::pool::Offered;
-use crate::side::Side;
 use crate::state::State;
-use net_graph::{Packing, VertexSet};
+use cut_groups::{BLOCKED, CutFinder, NONE, Wanted, at};
 use std::alloc::AllocError;
 
+// Turns, and how many groups are served between two draws of the charges.
+const TURNS: i64 = 10;
+
+const GROUPS_TO_CHARGES: u32 = 16;
+
+// A search for a first cut begins with this limit and takes four times as much where it finds none.
+const FIRST_LIMIT: i64 = 1 << 12;
+
+const MOST_DOUBLINGS: u32 = 25;
+
+// A cheapest cut so far, `NONE` where there is none yet, and its price.
+#[derive(Clone, Copy)]
+struct Cheapest {
+    cut: u32,
+    price: i64,
+}
+
 impl State {
-    /// Takes the weights of the given cuts that fit, then fills every group up to its sum. An `Err`
-    /// is want of memory.
-    pub fn start(&mut self, start: &Packing) -> Result<(), AllocError> {
-        for cut in start.cuts() {
-            let side = side_of(&cut.members);
-            let weight = i64::try_from(cut.weight).unwrap_or(0).wrapping_mul(PARTS);
-            match self.pool.offer(&self.mesh, &self.tree, &side)? {
-                Offered::Taken(cut) | Offered::Known(cut) => self
-                    .pool
-                    .give(cut, weight, &mut self.loads),
-                Offered::Refused => {}
-            }
-        }
-        self.set_prices();
-        for group in 0..self.tree.groups() {
-            let missing = self.fit(group);
-            if missing > 0 {
-                self.fill(group, missing)?;
+    /// Gives each group its length. An `Err` is want of memory.
+    pub fn start<F: CutFinder>(&mut self, finder: &mut F) -> Result<(), AllocError> {
+        for turn in 1..TURNS + 1 {
+            self.random.shuffle(&mut self.order);
+            for visit in 0..self.tree.groups() {
+                if visit % GROUPS_TO_CHARGES == 0 {
+                    self.draw_charges();
+                }
+                let group = at(&self.order, visit, NONE);
+                self.give_share(finder, group, turn)?;
             }
         }
         Ok(())
     }
 
-    // Takes off what a group has above its sum, and tells what it lacks.
-    fn fit(&mut self, group: u32) -> i64 {
-        let mut missing = self.loads.limit(self.tree.arc(group)).capacity;
+    // Gives the cheapest cut of a group what it shall have more after a turn than before. An `Err` is want of memory.
+    fn give_share<F: CutFinder>(
+        &mut self,
+        finder: &mut F,
+        group: u32,
+        turn: i64,
+    ) -> Result<(), AllocError> {
+        let length = self.loads.limit(self.tree.arc(group)).capacity;
+        let share = share_of(length, turn).wrapping_sub(share_of(length, turn.wrapping_sub(1)));
+        if share <= 0 {
+            return Ok(());
+        }
+        let mut cheapest = self.cheapest_known(group);
+        for place in 0..self.tree.terminal_count(group) {
+            let terminal = self.tree.terminal(group, place);
+            self.look_below(finder, group, terminal, &mut cheapest)?;
+        }
+        self.pool.give(cheapest.cut, share, &mut self.loads);
+        Ok(())
+    }
+
+    // The cheapest cut that a group has.
+    fn cheapest_known(&self, group: u32) -> Cheapest {
+        let mut cheapest = Cheapest {
+            cut: NONE,
+            price: BLOCKED,
+        };
         let mut cut = self.pool.first(group);
         for _ in 0..self.pool.len() {
             if cut == NONE {
                 break;
             }
-            let weight = self.pool.cut(cut).weight;
-            let kept = weight.min(missing);
-            self.pool
-                .give(cut, kept.wrapping_sub(weight), &mut self.loads);
-            missing = missing.wrapping_sub(kept);
+            let price = self.pool.price(cut, self.loads.prices());
+            if price < cheapest.price {
+                cheapest = Cheapest { cut, price };
+            }
             cut = self.pool.next(cut);
         }
-        missing
+        cheapest
     }
 
-    // Gives the cheapest cut of a group what the group lacks. An `Err` is want of memory.
-    fn fill(&mut self, group: u32, missing: i64) -> Result<(), AllocError> {
-        let place = self.random.below(self.tree.terminal_count(group));
-        let terminal = self.tree.terminal(group, place);
-        let _ = self.new_cut(group, terminal, BLOCKED)?;
-        let cheapest = self.extremes(group).cheap;
-        self.pool.give(cheapest, missing, &mut self.loads);
+    // Looks for a cheaper cut of a group with a terminal, with growing limits. An `Err` is want of memory.
+    fn look_below<F: CutFinder>(
+        &mut self,
+        finder: &mut F,
+        group: u32,
+        terminal: u32,
+        cheapest: &mut Cheapest,
+    ) -> Result<(), AllocError> {
+        let mut limit = FIRST_LIMIT;
+        for _ in 0..MOST_DOUBLINGS {
+            let wanted = Wanted {
+                group,
+                terminal,
+                limit: limit.min(cheapest.price),
+            };
+            if let Some(price) = self.search(finder, wanted)? {
+                let cut = self.pool.offer(group, &self.found)?.cut();
+                *cheapest = Cheapest { cut, price };
+                break;
+            }
+            if limit >= cheapest.price {
+                break;
+            }
+            limit = limit.saturating_mul(4);
+        }
         Ok(())
     }
 }
 
-// A set of vertices.
-fn side_of(members: &VertexSet) -> Side {
-    let mut side = Side::empty();
-    for vertex in 0..members.len() {
-        if members.has(vertex) {
-            side.add(vertex);
-        }
-    }
-    side
+// What a group of a length has after so many turns.
+fn share_of(length: i64, turns: i64) -> i64 {
+    let share = i128::from(length).wrapping_mul(i128::from(turns)) / i128::from(TURNS);
+    i64::try_from(share).unwrap_or(length)
 }

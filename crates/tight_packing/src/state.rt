@@ -1,24 +1,21 @@
 //! What the exchange works with.
 
-use crate::dual::Dual;
-use crate::flood::Flood;
 use crate::kept::Kept;
 use crate::line::Line;
 use crate::loads::Loads;
-use crate::mesh::Mesh;
 use crate::pool::Pool;
 use crate::random::Random;
 use crate::tidy::Tidier;
-use crate::tree::Tree;
 use crate::units::Units;
-use hanan_grid::Grid;
-use net_graph::EdgeSet;
+use cut_groups::Tree;
+use net_graph::NetGraph;
 use std::alloc::{AllocError, Global};
 
 /// The work done.
 #[derive(Clone, Copy)]
 pub struct Work {
     pub rounds: u32,
+    pub sweeps: u32,
     pub searches: u32,
     pub moves: u32,
 }
@@ -26,20 +23,22 @@ pub struct Work {
 /// A tree, a pool of cuts along it, and the work space.
 #[derive(Drop)]
 pub struct State {
-    pub mesh: Mesh,
     pub tree: Tree,
     pub pool: Pool,
     pub loads: Loads,
-    /// Weights move in multiples of so many parts.
-    pub grain: i64,
-    /// The groups in the order of their visits.
+    /// The weights of each group move in multiples of so many parts.
+    pub grains: Vec<i64>,
+    /// The groups in the order of their visits, and in that of their rounding.
     pub order: Vec<u32>,
+    pub rounding: Vec<u32>,
     /// The cuts of a group, with their order.
-    pub members: Vec<(u32, u32)>,
+    pub members: Vec<(i64, u32)>,
     /// Of each group how many searches in a row found no new cut.
     pub failures: Vec<u32>,
-    pub dual: Dual,
-    pub flood: Flood,
+    /// The arcs of the cut that was found last.
+    pub found: Vec<u32>,
+    /// Prices other than those of the loads.
+    pub prices: Vec<i64>,
     pub line: Line,
     pub tidier: Tidier,
     pub units: Units,
@@ -49,49 +48,48 @@ pub struct State {
 }
 
 impl State {
-    /// The empty pool along a network on a grid; `None` where it doesn't join the terminals. An
-    /// `Err` is want of memory.
+    /// The empty pool along a tree, where lengths are counted in a unit. An `Err` is want of memory.
     pub fn along(
         alloc: Global,
-        grid: &Grid,
-        network: &EdgeSet,
-    ) -> Result<Option<State>, AllocError> {
-        let mesh = Mesh::of(alloc, grid)?;
-        let tree = Tree::of(alloc, &mesh, network, grid.graph().terminals())?;
-        match tree {
-            Some(tree) => Ok(Some(State::new(alloc, mesh, tree)?)),
-            None => Ok(None),
-        }
-    }
-
-    // The empty pool along a tree. An `Err` is want of memory.
-    fn new(alloc: Global, mesh: Mesh, tree: Tree) -> Result<State, AllocError> {
+        graph: &NetGraph,
+        tree: Tree,
+        unit: u64,
+        seed: u64,
+    ) -> Result<State, AllocError> {
         let groups = tree.groups();
-        let mut order = Vec::new(alloc);
-        for group in 0..groups {
-            order.push(group)?;
-        }
+        let loads = Loads::none(alloc, graph, &tree, unit)?;
+        let arcs = loads.len();
         Ok(State {
             pool: Pool::empty(alloc, groups)?,
-            loads: Loads::none(alloc, &mesh, &tree)?,
-            grain: 1,
-            order,
+            loads,
+            grains: vec![in alloc; 1; groups as usize]?,
+            order: numbers_below(alloc, groups)?,
+            rounding: numbers_below(alloc, groups)?,
             members: Vec::new(alloc),
             failures: vec![in alloc; 0; groups as usize]?,
-            dual: Dual::of(alloc, &mesh, &tree)?,
-            flood: Flood::new(alloc, &mesh)?,
-            line: Line::new(alloc),
+            found: Vec::new(alloc),
+            prices: Vec::new(alloc),
+            line: Line::new(alloc, arcs)?,
             tidier: Tidier::new(alloc, groups)?,
-            units: Units::new(alloc),
+            units: Units::new(alloc, arcs)?,
             kept: Kept::none(alloc),
-            random: Random::new(),
+            random: Random::new(seed),
             work: Work {
                 rounds: 0,
+                sweeps: 0,
                 searches: 0,
                 moves: 0,
             },
-            mesh,
             tree,
         })
     }
+}
+
+// The numbers below a count. An `Err` is want of memory.
+fn numbers_below(alloc: Global, count: u32) -> Result<Vec<u32>, AllocError> {
+    let mut numbers = Vec::new(alloc);
+    for number in 0..count {
+        numbers.push(number)?;
+    }
+    Ok(numbers)
 }

@@ -1,37 +1,50 @@
 //! Sweeps: in each group weight goes from the dearest cut that has some to the cheapest cut.
 
-use crate::cells::{NONE, at};
 use crate::state::State;
+use cut_groups::{CutFinder, NONE, at};
 use std::alloc::AllocError;
 
 // Moves that a group may make in one sweep.
 const MOVES_PER_GROUP: u8 = 3;
 
-/// The dearest cut with weight and the cheapest cut of a group, with their costs; `NONE` where
-/// there is none.
+// A group looks for new cuts in one sweep of so many.
+const SWEEPS_TO_NEW_CUTS: u32 = 10;
+
+// Charges are drawn anew every so many sweeps.
+const SWEEPS_TO_CHARGES: u32 = 4;
+
+// The dearest cut with weight and the cheapest cut of a group, with their costs; `NONE` where
+// there is none.
 #[derive(Clone, Copy)]
-pub struct Extremes {
-    pub dear: u32,
-    pub most: i64,
-    pub cheap: u32,
-    pub least: i64,
+struct Extremes {
+    dear: u32,
+    most: i64,
+    cheap: u32,
+    least: i64,
 }
 
 impl State {
-    /// Visits each group in drawn order, and tells how many moves were made; the potential doesn't
-    /// grow. An `Err` is want of memory.
-    pub fn sweep(&mut self) -> Result<u32, AllocError> {
-        let before = self.work.moves;
+    /// Visits each group in drawn order: a group whose turn it is first looks for new cuts, for so many terminals. An
+    /// `Err` is want of memory.
+    pub fn sweep<F: CutFinder>(&mut self, finder: &mut F, tries: u32) -> Result<(), AllocError> {
+        if self.work.sweeps % SWEEPS_TO_CHARGES == 0 {
+            self.draw_charges();
+        }
+        self.work.sweeps = self.work.sweeps.wrapping_add(1);
         self.random.shuffle(&mut self.order);
         for visit in 0..self.tree.groups() {
             let group = at(&self.order, visit, NONE);
+            let turn = group.wrapping_mul(7).wrapping_add(self.work.sweeps);
+            if turn % SWEEPS_TO_NEW_CUTS == 0 {
+                self.find_cuts(finder, group, tries)?;
+            }
             for _ in 0..MOVES_PER_GROUP {
                 if !self.move_in(group)? {
                     break;
                 }
             }
         }
-        Ok(self.work.moves.wrapping_sub(before))
+        Ok(())
     }
 
     // Moves weight in a group, and tells whether that lowered the potential. An `Err` is want of
@@ -42,16 +55,11 @@ impl State {
             return Ok(false);
         }
         self.pool.refresh(extremes.cheap);
-        self.line.draw(
-            &self.mesh,
-            &self.pool,
-            &self.loads,
-            extremes.dear,
-            extremes.cheap,
-        )?;
+        self.line
+            .draw(&self.pool, &self.loads, extremes.dear, extremes.cheap)?;
+        let grain = at(&self.grains, group, 1);
         let weight = self.pool.cut(extremes.dear).weight;
-        let most = weight.checked_div(self.grain).unwrap_or(0);
-        let amount = self.line.best(most, self.grain).wrapping_mul(self.grain);
+        let amount = self.line.best(weight, grain);
         if amount == 0 {
             return Ok(false);
         }
@@ -62,22 +70,22 @@ impl State {
         Ok(true)
     }
 
-    /// The dearest cut with weight and the cheapest cut of a group, of equals the first.
-    pub fn extremes(&self, group: u32) -> Extremes {
+    // The dearest cut with weight and the cheapest cut of a group, of equals the first.
+    fn extremes(&self, group: u32) -> Extremes {
         let mut extremes = Extremes {
             dear: NONE,
             most: 0,
             cheap: NONE,
             least: 0,
         };
-        let mut cut = self.pool.first(group);
+        let mut number = self.pool.first(group);
         for _ in 0..self.pool.len() {
-            if cut == NONE {
+            let Some(cut) = self.pool.get(number) else {
                 break;
-            }
+            };
             let cost = self.pool.cost(cut, &self.loads);
-            extremes.compare(cut, cost, self.pool.cut(cut).weight > 0);
-            cut = self.pool.next(cut);
+            extremes.compare(number, cost, cut.weight > 0);
+            number = cut.next;
         }
         extremes
     }
@@ -85,6 +93,7 @@ impl State {
 
 impl Extremes {
     // Takes a further cut into account.
+    #[inline]
     fn compare(&mut self, cut: u32, cost: i64, has_weight: bool) {
         if has_weight && (self.dear == NONE || cost > self.most) {
             self.dear = cut;

@@ -1,7 +1,7 @@
 //! The pool kept small: cuts without weight that were not cheap for long are dropped.
 
-use crate::cells::NONE;
 use crate::pool::Pool;
+use cut_groups::NONE;
 use std::alloc::{AllocError, Global};
 use std::mem;
 

@@ -1,14 +1,12 @@
 //! The unit search: a tabu search (Glover 1986) that moves single units off overloaded arcs.
 
-use crate::cells::{NONE, at, count};
 use crate::random::Random;
 use crate::state::State;
+use cut_groups::{CutFinder, NONE, at, count};
 use std::alloc::AllocError;
 
-// A search ends after so many steps without a new best, or pairs of cuts looked at.
+// A search ends after so many steps without a new best.
 const PATIENCE: u32 = 1000;
-
-const MOST_PAIRS: u32 = 20_000_000;
 
 // New cuts are looked for every so many steps.
 const STEPS_TO_NEW_CUTS: u32 = 20;
@@ -18,8 +16,17 @@ const LEAST_REST: u32 = 2;
 
 const REST_SPREAD: u32 = 8;
 
-/// The best move of a unit so far, with the number of those as good; `NONE` where there is none
-/// yet.
+/// How far a unit search may go.
+#[derive(Clone, Copy)]
+pub struct UnitLimits {
+    /// Steps, each of which moves a unit.
+    pub steps: u32,
+    /// Pairs of cuts looked at.
+    pub pairs: u32,
+}
+
+// The best move of a unit so far, with the number of those as good; `NONE` where there is none
+// yet.
 #[derive(Clone, Copy)]
 struct Pick {
     change: i64,
@@ -33,16 +40,18 @@ impl State {
     /// Searches for whole units without overload, from the weights of the pool, which are whole
     /// units, and keeps the best packing met. The pool may gain cuts of weight 0. An `Err` is want
     /// of memory.
-    pub fn unit_search(&mut self, steps: u32) -> Result<(), AllocError> {
-        self.units.begin(&self.mesh, &self.pool)?;
+    pub fn unit_search<F: CutFinder>(
+        &mut self,
+        finder: &mut F,
+        limits: UnitLimits,
+    ) -> Result<(), AllocError> {
+        self.units.begin(&self.loads, &self.pool)?;
         let mut best = self.units.total;
         let mut improved = 0u32;
         let mut pairs = 0u32;
-        for step in 1..steps.saturating_add(1) {
-            if self.units.total <= 0
-                || pairs > MOST_PAIRS
-                || step.wrapping_sub(improved) > PATIENCE
-            {
+        for step in 1..limits.steps.saturating_add(1) {
+            let is_late = pairs > limits.pairs || step.wrapping_sub(improved) > PATIENCE;
+            if self.units.total <= 0 || is_late {
                 break;
             }
             pairs = pairs.saturating_add(self.unit_move(step)?);
@@ -52,7 +61,7 @@ impl State {
                 self.units.keep()?;
             }
             if step % STEPS_TO_NEW_CUTS == 0 && self.units.total > 0 {
-                self.unit_cuts()?;
+                self.unit_cuts(finder)?;
             }
         }
         self.kept.offer(&self.pool, self.units.best(), best)
@@ -98,14 +107,16 @@ impl State {
 
     // Looks at the moves from a cut to others of its group that an arc doesn't enter.
     fn offer_moves(&mut self, pick: &mut Pick, from: u32, arc: u32, step: u32) {
+        let gain = self.units.set_giver(&self.pool, from);
         let mut to = self.pool.first(self.pool.cut(from).group);
         for _ in 0..self.pool.len() {
-            let Some(side) = self.pool.side(to) else {
+            if to == NONE {
                 break;
-            };
-            if to != from && !self.units.rests(to, step) && !self.mesh.enters(side, arc) {
-                let change = self.units.change(&self.mesh, &self.pool, from, to);
-                pick.offer(change, from, to, &mut self.random);
+            }
+            if to != from && !self.units.rests(to, step) {
+                if let Some(loss) = self.units.loss(&self.pool, to, arc) {
+                    pick.offer(loss.wrapping_sub(gain), from, to, &mut self.random);
+                }
             }
             to = self.pool.next(to);
         }

@@ -1,10 +1,10 @@
 //! Weights in whole units, and the overload of the arcs.
 
-use crate::cells::{NONE, at, count, set};
-use crate::loads::PARTS;
-use crate::mesh::Mesh;
+use crate::loads::{Loads, PARTS};
+use crate::marks::Marks;
 use crate::pool::Pool;
 use crate::users::Users;
+use cut_groups::{NONE, at, count, set};
 use std::alloc::{AllocError, Global};
 
 /// Whole units on the cuts of a pool.
@@ -25,12 +25,14 @@ pub struct Units {
     places: Vec<u32>,
     // The weights of the least overload met.
     best: Vec<i64>,
+    // The arcs of the cut that gives a unit.
+    giver: Marks,
 }
 
 impl Units {
-    /// No cut. It takes no memory.
-    pub fn new(alloc: Global) -> Units {
-        Units {
+    /// No cut, among so many arcs. An `Err` is want of memory.
+    pub fn new(alloc: Global, arcs: u32) -> Result<Units, AllocError> {
+        Ok(Units {
             total: 0,
             users: Users::new(alloc),
             overloaded: Vec::new(alloc),
@@ -39,24 +41,26 @@ impl Units {
             excess: Vec::new(alloc),
             places: Vec::new(alloc),
             best: Vec::new(alloc),
-        }
+            giver: Marks::none(alloc, arcs)?,
+        })
     }
 
     /// Takes the weights of a pool, which are whole units. An `Err` is want of memory.
-    pub fn begin(&mut self, mesh: &Mesh, pool: &Pool) -> Result<(), AllocError> {
+    pub fn begin(&mut self, loads: &Loads, pool: &Pool) -> Result<(), AllocError> {
         self.total = 0;
         self.overloaded.clear();
         self.weights.clear();
         self.resting.clear();
         self.excess.clear();
         self.places.clear();
-        self.users.clear(count(&mesh.arcs))?;
-        for arc in &mesh.arcs {
-            self.excess.push(0i64.wrapping_sub(arc.length))?;
+        self.users.clear(loads.len())?;
+        for arc in 0..loads.len() {
+            let length = loads.limit(arc).capacity / PARTS;
+            self.excess.push(length.wrapping_neg())?;
             self.places.push(NONE)?;
         }
         for cut in 0..pool.len() {
-            let weight = pool.cut(cut).weight.checked_div(PARTS).unwrap_or(0);
+            let weight = pool.cut(cut).weight / PARTS;
             self.add_cut(pool, cut)?;
             self.give(pool, cut, weight)?;
         }
@@ -116,24 +120,39 @@ impl Units {
         self.best.as_slice()
     }
 
-    /// The change of the overload if one unit goes from a cut to another.
+    /// Notes the cut that gives a unit, and tells how much of the overload that takes off.
+    pub fn set_giver(&mut self, pool: &Pool, cut: u32) -> i64 {
+        self.giver.mark(pool.entered(cut));
+        let mut gain = 0i64;
+        for arc in pool.entered(cut) {
+            if self.excess(*arc) > 0 {
+                gain = gain.wrapping_add(1);
+            }
+        }
+        gain
+    }
+
+    /// Whether the cut that gives a unit is entered by an arc.
     #[inline]
-    pub fn change(&self, mesh: &Mesh, pool: &Pool, from: u32, to: u32) -> i64 {
-        let (Some(left), Some(entered)) = (pool.side(from), pool.side(to)) else {
-            return 0;
-        };
-        let mut change = 0i64;
-        for arc in pool.entered(to) {
-            if self.excess(*arc) >= 0 && !mesh.enters(left, *arc) {
-                change = change.wrapping_add(1);
+    pub fn gives_at(&self, arc: u32) -> bool {
+        self.giver.has(arc)
+    }
+
+    /// How much a unit more on a cut adds to the overload, once the giver has lost it; `None` where the cut is
+    /// entered by an arc that is to be relieved.
+    #[inline]
+    pub fn loss(&self, pool: &Pool, cut: u32, relieved: u32) -> Option<i64> {
+        let mut loss = 0i64;
+        for arc in pool.entered(cut) {
+            if *arc == relieved {
+                return None;
+            }
+            let excess = self.excess(*arc);
+            if excess > 0 || (excess == 0 && !self.giver.has(*arc)) {
+                loss = loss.wrapping_add(1);
             }
         }
-        for arc in pool.entered(from) {
-            if self.excess(*arc) > 0 && !mesh.enters(entered, *arc) {
-                change = change.wrapping_sub(1);
-            }
-        }
-        change
+        Some(loss)
     }
 
     // Adds to the load of an arc. An `Err` is want of memory.

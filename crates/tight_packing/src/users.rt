@@ -1,6 +1,6 @@
 //! The cuts that each arc enters.
 
-use crate::cells::{NONE, at, count, set};
+use cut_groups::{NONE, at, count, set};
 use std::alloc::{AllocError, Global};
 
 /// A cut that an arc enters, and where the next one stands, or `NONE`.

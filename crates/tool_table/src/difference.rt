@@ -2,7 +2,7 @@
 
 use crate::outcome::Outcome;
 use crate::row::{Relation, Row};
-use row_tables::{LineDifference, first_difference};
+use row_tables::{Fault, LineDifference, first_difference};
 use std::alloc::{AllocError, Global};
 use std::fmt;
 
@@ -35,12 +35,21 @@ impl fmt::Display for Difference {
     }
 }
 
+/// Adds a line to the report for all that differs, or one that says `ok`, and tells whether nothing differs.
+pub fn tell(alloc: Global, row: &Row, came: &Outcome, report: &mut String) -> Result<bool, Fault> {
+    let name = row.name.as_str();
+    let found = differences(alloc, row, came)?;
+    if found.is_empty() {
+        writeln!(report, "{name}: ok")?;
+    }
+    for difference in &found {
+        writeln!(report, "{name}: {difference}")?;
+    }
+    Ok(found.is_empty())
+}
+
 /// All that differs.
-pub fn differences(
-    alloc: Global,
-    row: &Row,
-    came: &Outcome,
-) -> Result<Vec<Difference>, AllocError> {
+fn differences(alloc: Global, row: &Row, came: &Outcome) -> Result<Vec<Difference>, AllocError> {
     let mut found = Vec::new(alloc);
     if came.status != row.status {
         found.push(Difference::Status {

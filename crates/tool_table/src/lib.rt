@@ -5,8 +5,6 @@
 mod difference;
 mod outcome;
 mod row;
-mod session;
 mod table;
 
-pub use session::run_table;
 pub use table::Reader;

@@ -1,8 +1,11 @@
-//! The reader of a table's sections, which makes rows of them.
+//! The reader of a table's sections, which makes rows of them and runs these.
 
+use crate::difference::tell;
+use crate::outcome::outcome_of;
 use crate::row::{Relation, Row, Wanted};
 use row_tables::{
-    Fault, NamedText, Section, Text, Texts, change, count, named, no_lines, numbers, status,
+    Fault, NamedText, RowRunner, Section, Text, Texts, change, count, named, no_lines, numbers,
+    status,
 };
 use std::alloc::Global;
 
@@ -37,40 +40,11 @@ impl Reader {
         }
     }
 
-    /// Begins a table: no row is open, and no text can be changed.
-    pub fn begin(&mut self) {
-        self.row = None;
-        self.place = Place::Nowhere;
-    }
-
-    /// Takes a section, and gives the row that it ends.
-    pub fn take(&mut self, section: Section<'_>) -> Result<Option<Row>, Fault> {
-        match section.key {
-            "status" => return Ok(Some(self.end_row(section)?)),
-            "text" => self.add_text(section)?,
-            "row" => self.begin_row(section)?,
-            "line" | "line_feed" | "no_line_feed" | "times" => {
-                let alloc = self.alloc;
-                change(alloc, self.last_text().ok_or(Fault::NoText)?, section)?;
-            }
-            _ => self.add_to_row(section)?,
-        }
-        Ok(None)
-    }
-
-    /// Ends a table: no row may be open.
-    pub fn end(&self) -> Result<(), Fault> {
-        if self.row.is_some() {
-            return Err(Fault::NoStatus);
-        }
-        Ok(())
-    }
-
     /// Names a text.
     fn add_text(&mut self, section: Section<'_>) -> Result<(), Fault> {
         let (name, of) = named(section.argument)?;
         let text = self.texts.text(of, section.text)?;
-        self.keep(name, text)?;
+        self.texts.keep(name, text)?;
         self.place = Place::Named;
         Ok(())
     }
@@ -168,10 +142,46 @@ impl Reader {
             Place::Err => Some(&mut self.row.as_mut()?.err.text),
         }
     }
+}
 
-    /// Keeps a text under a name that is new, as what a row printed under the name of the row.
-    pub fn keep(&mut self, name: &str, text: Text) -> Result<(), Fault> {
-        self.texts.keep(name, text)
+impl RowRunner for Reader {
+    type Row = Row;
+
+    /// Begins a table: no row is open, and no text can be changed.
+    fn begin(&mut self) {
+        self.row = None;
+        self.place = Place::Nowhere;
+    }
+
+    /// Takes a section, and gives the row that it ends.
+    fn take(&mut self, section: Section<'_>) -> Result<Option<Row>, Fault> {
+        match section.key {
+            "status" => return Ok(Some(self.end_row(section)?)),
+            "text" => self.add_text(section)?,
+            "row" => self.begin_row(section)?,
+            "line" | "line_feed" | "no_line_feed" | "times" => {
+                let alloc = self.alloc;
+                change(alloc, self.last_text().ok_or(Fault::NoText)?, section)?;
+            }
+            _ => self.add_to_row(section)?,
+        }
+        Ok(None)
+    }
+
+    /// Ends a table: no row may be open.
+    fn end(&self) -> Result<(), Fault> {
+        if self.row.is_some() {
+            return Err(Fault::NoStatus);
+        }
+        Ok(())
+    }
+
+    /// Runs a row, and adds its lines to the report. What it prints is a text with the row's name, for the rows behind.
+    fn run(&mut self, alloc: Global, row: &Row, report: &mut String) -> Result<bool, Fault> {
+        let outcome = outcome_of(alloc, row)?;
+        let is_ok = tell(alloc, row, &outcome, report)?;
+        self.texts.keep(row.name.as_str(), Text::once(outcome.out))?;
+        Ok(is_ok)
     }
 }
 

@@ -1,29 +1,36 @@
--- A text that spells a file has no fault.
-use Rattle.std.proofs.Common.{ℕ, ◌≡◌, List, Result, Ok, Err, ◌↔◌}
-use Rattle.fst_file.specs.declared.fault.FileFault.{FileFault}
+-- What a reader of files answers is what the bytes come to, and a text that spells a file has no fault.
+use Rattle.std.proofs.Common.{ℕ, ◌≡◌, List, Result, Ok, Err, IfOk, IfErr, ◌↔◌, sym, subst}
+use Rattle.fst_file.specs.declared.fault.FstFault.{FstFault}
+use Rattle.fst_file.specs.declared.fault.FstFault.TheVariants.{Memory}
 use Rattle.fst_file.specs.Value.{FstValue}
 use Rattle.fst_file.specs.Text.{SpellsFstFile}
 use Rattle.fst_file.specs.Judged.{IsOutcome, IsFirstFault}
-use Rattle.tree_inputs.specs.declared.fst_fault.FstFault.{FstFault}
-use Rattle.tree_inputs.specs.declared.fst_fault.FstFault.TheVariants.{BadLine, TooManyPoints, RepeatedPoint, GridTooLong, TooManyTrees, NotInForm, WrongLength, OutOfOrder}
-use Rattle.tree_inputs.specs.Files.{file_fault_of, SpelledHasNoFault}
+use Rattle.fst_file.specs.Said.{IsMemory}
+use Rattle.tree_inputs.specs.Files.{ReadsFst, SpelledHasNoFault}
 
--- a fault is an outcome, since it is no want of memory
-fault_is_outcome : (bytes : List ℕ) (fault : FstFault) → IsFirstFault bytes (file_fault_of fault) → IsOutcome bytes (Err (file_fault_of fault))
-fault_is_outcome bytes (BadLine line) is = is
-fault_is_outcome bytes (TooManyPoints line) is = is
-fault_is_outcome bytes (RepeatedPoint line) is = is
-fault_is_outcome bytes (GridTooLong total) is = is
-fault_is_outcome bytes (TooManyTrees line) is = is
-fault_is_outcome bytes (NotInForm line) is = is
-fault_is_outcome bytes (WrongLength line printed found) is = is
-fault_is_outcome bytes (OutOfOrder line) is = is
+-- a first fault is what the bytes come to, but for want of memory
+fault_of_bytes : (bytes : List ℕ) (fault : FstFault) → IsFirstFault bytes fault → (IsMemory fault → ⊥) → IsOutcome bytes (Err fault)
+fault_of_bytes bytes (Memory error) is other = absurd (other tt)
+fault_of_bytes bytes fault is other = is
+
+-- an answer of the reader that is no want of memory
+read_apart : (bytes : List ℕ) (read found : Result FstValue FstFault) → IfOk read (SpellsFstFile bytes) →
+    IfErr read (IsFirstFault bytes) → found ≡ read → IfErr found (λ fault. IsMemory fault → ⊥) → ReadsFst bytes found
+read_apart bytes read (Ok file) spelled first same told = subst (λ r. IfOk r (SpellsFstFile bytes)) (sym same) spelled
+read_apart bytes read (Err fault) spelled first same told =
+    (subst (λ r. IfErr r (IsFirstFault bytes)) (sym same) first, told)
+
+pub reads_apart : {E : Type 0} (bytes : List ℕ) (read : Result FstValue FstFault) (result : Result (Result FstValue FstFault) E) →
+    IfOk read (SpellsFstFile bytes) → IfErr read (IsFirstFault bytes) → IfOk result (λ found. found ≡ read) →
+    IfOk result (λ found. IfErr found (λ fault. IsMemory fault → ⊥)) → IfOk result (ReadsFst bytes)
+reads_apart bytes read (Ok found) spelled first same told = read_apart bytes read found spelled first same told
+reads_apart bytes read (Err error) spelled first same told = tt
 
 -- bytes that come to one outcome at most, and to the value that they spell, have no fault beside it
 pub no_fault_spelled :
-    ((bytes : List ℕ) (o o' : Result FstValue FileFault) → IsOutcome bytes o → IsOutcome bytes o' → o ≡ o') →
+    ((bytes : List ℕ) (o o' : Result FstValue FstFault) → IsOutcome bytes o → IsOutcome bytes o' → o ≡ o') →
     ((bytes : List ℕ) (v : FstValue) → IsOutcome bytes (Ok v) ↔ SpellsFstFile bytes v) → SpelledHasNoFault
-no_fault_spelled one spelled bytes file fault spells is =
-    let same : Ok file ≡ Err (file_fault_of fault) =
-    one bytes (Ok file) (Err (file_fault_of fault)) ((spelled bytes file).1 spells) (fault_is_outcome bytes fault is) in
+no_fault_spelled one spelled bytes file fault spells (is, told) =
+    let same : Ok file ≡ Err fault =
+    one bytes (Ok file) (Err fault) ((spelled bytes file).1 spells) (fault_of_bytes bytes fault is told) in
     absurd cc

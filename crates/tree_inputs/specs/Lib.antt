@@ -1,4 +1,3 @@
-pub mod FstFaults
 pub mod Files
 pub mod GenerationFaults
 pub mod Generation

@@ -7,9 +7,8 @@ ghost use Rattle.frame.specs.Taking.{TakesSome};
 ghost use Rattle.frame.specs.FromText.{FromText};
 ghost use Rattle.tree_inputs.specs.Files.{ReadsFst};
 
-use crate::fst_fault::FstFault;
-use frame::{TEXT_LIMIT, TextFault, take_input};
-use fst_file::{FileFault, FstFile, read_file};
+use frame::{TEXT_LIMIT, TextFault, apart, take_input};
+use fst_file::{FstFault, FstFile, read_file};
 use rst_outside::Source;
 use std::alloc::{AllocError, Global};
 
@@ -32,30 +31,9 @@ pub fn take_fst<I: Source>(
     }
 }
 
-/// The file of full trees that a text spells; or its first fault. An `Err` is want of memory.
-pub fn fst_in(alloc: Global, bytes: &[u8]) -> Result<Result<FstFile, FstFault>, AllocError>
+// The file of full trees that a text spells; or its first fault. An `Err` is want of memory.
+fn fst_in(alloc: Global, bytes: &[u8]) -> Result<Result<FstFile, FstFault>, AllocError>
     ensures { IfOk result (ReadsFst bytes.now) }
 {
-    match read_file(alloc, bytes) {
-        Ok(file) => Ok(Ok(file)),
-        Err(FileFault::BadLine(line)) => Ok(Err(FstFault::BadLine { line })),
-        Err(FileFault::TooManyPoints(line)) => Ok(Err(FstFault::TooManyPoints { line })),
-        Err(FileFault::RepeatedPoint(line)) => Ok(Err(FstFault::RepeatedPoint { line })),
-        Err(FileFault::TooLong { total }) => Ok(Err(FstFault::GridTooLong { total })),
-        Err(FileFault::TooManyTrees(line)) => Ok(Err(FstFault::TooManyTrees { line })),
-        Err(FileFault::NotInForm(line)) => Ok(Err(FstFault::NotInForm { line })),
-        Err(
-            FileFault::WrongLength {
-                line,
-                printed,
-                found,
-            },
-        ) => Ok(Err(FstFault::WrongLength {
-            line,
-            printed,
-            found,
-        })),
-        Err(FileFault::OutOfOrder(line)) => Ok(Err(FstFault::OutOfOrder { line })),
-        Err(FileFault::Memory(error)) => Err(error),
-    }
+    apart(read_file(alloc, bytes))
 }

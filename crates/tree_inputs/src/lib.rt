@@ -1,15 +1,13 @@
 //! Full trees as what tools work on: read from a file, or generated from points.
 #![tactic(auto)]
 
-mod fst_fault;
 mod fst_input;
 mod generation;
 mod generation_fault;
 mod laws;
 mod pruning;
 
-pub use fst_fault::FstFault;
-pub use fst_input::{fst_in, take_fst};
+pub use fst_input::take_fst;
 pub use generation::{MOST_MEMBERS, take_generated, trees_of};
 pub use generation_fault::GenerationFault;
 pub use laws::spelled_has_no_fault;

@@ -6,7 +6,7 @@ use Rattle.frame.specs.declared.text_fault.TextFault.TheVariants.{Input, Text}
 use Rattle.frame.specs.Outside.{Readable}
 use Rattle.frame.specs.Ends.{print_of}
 use Rattle.frame.specs.FromText.{FromText}
-use Rattle.tree_inputs.specs.declared.fst_fault.FstFault.{FstFault}
+use Rattle.fst_file.specs.declared.fault.FstFault.{FstFault}
 use Rattle.tree_tools.specs.declared.listing.Listing.{Listing}
 use Rattle.tree_tools.specs.Dump.{Dumps, dump_print}
 use Rattle.tree_tools.specs.Listing.{FindsListing, listing_text, listing_status}

@@ -6,7 +6,7 @@ use Rattle.frame.specs.declared.text_fault.TextFault.TheVariants.{Input, Text}
 use Rattle.frame.specs.Outside.{Readable}
 use Rattle.frame.specs.Ends.{print_of}
 use Rattle.frame.specs.FromText.{FromText}
-use Rattle.tree_inputs.specs.declared.fst_fault.FstFault.{FstFault}
+use Rattle.fst_file.specs.declared.fault.FstFault.{FstFault}
 use Rattle.tree_tools.specs.declared.graph_answer.GraphAnswer.{GraphAnswer}
 use Rattle.tree_tools.specs.Graph.{GraphsFile}
 use Rattle.tree_tools.specs.GraphAnswer.{FindsGraph, graph_answer_text, graph_answer_status}

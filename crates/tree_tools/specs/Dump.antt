@@ -10,9 +10,9 @@ use Rattle.frame.specs.Ends.{Print, Ends}
 use Rattle.frame.specs.FaultTexts.{text_fault_text, text_fault_status}
 use Rattle.frame.specs.FromText.{FromText}
 use Rattle.frame.specs.Leaves.{LeavesShelf}
-use Rattle.tree_inputs.specs.declared.fst_fault.FstFault.{FstFault}
-use Rattle.tree_inputs.specs.FstFaults.{fst_fault_text, fst_fault_status}
-use Rattle.tree_inputs.specs.Files.{ReadsFst}
+use Rattle.fst_file.specs.declared.fault.FstFault.{FstFault}
+use Rattle.fst_file.specs.Said.{fst_fault_text}
+use Rattle.tree_inputs.specs.Files.{ReadsFst, fst_fault_status}
 
 -- what is printed of a file: the list of its trees, with or without their pieces
 abbrev pub dump_print : Bool → FstValue → Print

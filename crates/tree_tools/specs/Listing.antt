@@ -7,7 +7,7 @@ use Rattle.frame.specs.declared.take.TheConstants.{TEXT_LIMIT}
 use Rattle.frame.specs.declared.text_fault.TextFault.{TextFault}
 use Rattle.frame.specs.Outside.{Readable}
 use Rattle.frame.specs.FromText.{FromText}
-use Rattle.tree_inputs.specs.declared.fst_fault.FstFault.{FstFault}
+use Rattle.fst_file.specs.declared.fault.FstFault.{FstFault}
 use Rattle.tree_tools.specs.declared.listing.Listing.{Listing}
 use Rattle.tree_inputs.specs.Files.{ReadsFst}
 

@@ -11,9 +11,9 @@ use Rattle.frame.specs.FaultTexts.{text_fault_text, text_fault_status}
 use Rattle.frame.specs.FromText.{FromText}
 use Rattle.frame.specs.Leaves.{LeavesShelf}
 use Rattle.tree_tools.specs.declared.file_answer.FileAnswer.{FileAnswer}
-use Rattle.tree_inputs.specs.declared.fst_fault.FstFault.{FstFault}
-use Rattle.tree_inputs.specs.FstFaults.{fst_fault_text, fst_fault_status}
-use Rattle.tree_inputs.specs.Files.{ReadsFst}
+use Rattle.fst_file.specs.declared.fault.FstFault.{FstFault}
+use Rattle.fst_file.specs.Said.{fst_fault_text}
+use Rattle.tree_inputs.specs.Files.{ReadsFst, fst_fault_status}
 use Rattle.tree_inputs.specs.Pruning.{IsPruned}
 use Rattle.tree_tools.specs.Generation.{fst_print}
 

@@ -9,9 +9,10 @@ ghost use Rattle.tree_tools.specs.Listing.{FindsListing};
 
 use crate::listing::Listing;
 use frame::{TextFault, conclude};
+use fst_file::FstFault;
 use rst_outside::{Sink, Source};
 use std::alloc::{AllocError, Global};
-use tree_inputs::{FstFault, take_fst};
+use tree_inputs::take_fst;
 
 /// Runs `dumpfst`: reads a file of full trees from the input and prints its trees, each with its members and its
 /// length, and with its straight pieces where `pieces` says so. Gives the status that the program ends with.

@@ -9,9 +9,10 @@ ghost use Rattle.tree_tools.specs.GraphAnswer.{FindsGraph};
 
 use crate::graph_answer::GraphAnswer;
 use frame::{TextFault, conclude};
+use fst_file::FstFault;
 use rst_outside::{Sink, Source};
 use std::alloc::{AllocError, Global};
-use tree_inputs::{FstFault, take_fst};
+use tree_inputs::take_fst;
 
 /// Runs `fst2graph`: reads a file of full trees from the input and prints the grid of its points as an STP file.
 /// Gives the status that the program ends with.

@@ -9,9 +9,10 @@ ghost use Rattle.tree_tools.specs.Pruning.{EndsPrunefst, FindsPruned};
 
 use crate::file_answer::FileAnswer;
 use frame::{TEXT_LIMIT, TextFault, conclude};
+use fst_file::FstFault;
 use rst_outside::{Sink, Source};
 use std::alloc::{AllocError, Global};
-use tree_inputs::{FstFault, pruned, take_fst};
+use tree_inputs::{pruned, take_fst};
 
 /// Runs `prunefst`: reads a file of full trees from the input and prints the file of the same points and of the trees
 /// that pruning keeps. Gives the status that the program ends with.

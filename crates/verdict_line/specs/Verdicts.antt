@@ -2,7 +2,7 @@
 use Rattle.std.specs.Prelude.{ℕ, Bool, List, ◌++◌, codes, decimal}
 use Rattle.cut_cert.specs.Text.{status_word}
 use Rattle.cert_check.specs.declared.verdict.Cause.{Cause}
-use Rattle.cert_check.specs.declared.verdict.Cause.TheVariants.{NotAnswer, OffGrid, EdgeOrder, NotJoined, WrongLength, Decided, TooDeep, RootInCut, IdleCut, Overload, WrongBound, WrongStatus}
+use Rattle.cert_check.specs.declared.verdict.Cause.TheVariants.{NotAnswer, OffGrid, OffGridVertex, EdgeOrder, NotJoined, WrongLength, Decided, DecidedVertex, TooDeep, RootInCut, IdleCut, Overload, WrongBound, WrongStatus}
 use Rattle.cert_check.specs.declared.verdict.Verdict.{Verdict}
 use Rattle.cert_check.specs.declared.verdict.Verdict.TheVariants as verdict
 use Rattle.frame.specs.declared.status.AnswerStatus.{AnswerStatus}
@@ -23,9 +23,14 @@ about_point point = codes "point " ++ decimal point ++ codes " is not joined"
 abbrev pub about_number : List ℕ → ℕ → ℕ → List ℕ
 about_number name printed found = name ++ codes " says " ++ decimal printed ++ codes ", found " ++ decimal found
 
--- what is said of a line that decides an edge which a split above it decides
+-- what is said of a line that decides an edge which isn't undecided there
 abbrev pub about_decided : ℕ → ℕ → List ℕ
 about_decided line edge = about_line line (codes " decides edge ") ++ decimal edge ++ codes " again"
+
+-- what is said of a line of a split on a vertex that isn't undecided there
+abbrev pub about_decided_vertex : ℕ → ℕ → List ℕ
+about_decided_vertex line vertex =
+    about_line line (codes " splits on vertex ") ++ decimal vertex ++ codes ", which is decided"
 
 -- what is said of a line whose cut loads an edge above its room
 abbrev pub about_load : ℕ → ℕ → ℕ → ℕ → List ℕ
@@ -36,10 +41,12 @@ about_load line edge load room = about_line line (codes " loads edge ") ++ decim
 abbrev pub cause_text : Cause → List ℕ
 cause_text (NotAnswer line) = about_line line (codes " is not in the format")
 cause_text (OffGrid line) = about_line line (codes " names no grid edge")
+cause_text (OffGridVertex line) = about_line line (codes " names no grid vertex")
 cause_text (EdgeOrder line) = about_line line (codes " is out of order")
 cause_text (NotJoined point) = about_point point
 cause_text (WrongLength printed found) = about_number (codes "length") printed found
 cause_text (Decided line edge) = about_decided line edge
+cause_text (DecidedVertex line vertex) = about_decided_vertex line vertex
 cause_text (TooDeep line) = about_line line (codes " is split 256")
 cause_text (RootInCut line) = about_line line (codes " has the root in its cut")
 cause_text (IdleCut line) = about_line line (codes " cuts off no required vertex")

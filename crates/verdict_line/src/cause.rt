@@ -1,7 +1,7 @@
 //! The causes of a refusal, as they are told.
 
 ghost use Rattle.text_out.specs.Gathers.{Gathers};
-ghost use Rattle.verdict_line.specs.Verdicts.{cause_text, refusal, about_line, about_point, about_number, about_decided, about_load};
+ghost use Rattle.verdict_line.specs.Verdicts.{cause_text, refusal, about_line, about_point, about_number, about_decided, about_decided_vertex, about_load};
 
 use cert_check::Cause;
 use rst_outside::Sink;
@@ -23,12 +23,18 @@ fn write_cause<O: Sink>(block: &mut Block, out: &mut O, cause: Cause)
     match cause {
         Cause::NotAnswer(line) => write_about_line(block, out, line, b" is not in the format"),
         Cause::OffGrid(line) => write_about_line(block, out, line, b" names no grid edge"),
+        Cause::OffGridVertex(line) => {
+            write_about_line(block, out, line, b" names no grid vertex")
+        }
         Cause::EdgeOrder(line) => write_about_line(block, out, line, b" is out of order"),
         Cause::NotJoined(point) => write_about_point(block, out, point),
         Cause::WrongLength { printed, found } => {
             write_about_number(block, out, b"length", printed, found)
         }
         Cause::Decided { line, edge } => write_about_decided(block, out, line, edge),
+        Cause::DecidedVertex { line, vertex } => {
+            write_about_decided_vertex(block, out, line, vertex)
+        }
         Cause::TooDeep(line) => write_about_line(block, out, line, b" is split 256"),
         Cause::RootInCut(line) => write_about_line(block, out, line, b" has the root in its cut"),
         Cause::IdleCut(line) => {
@@ -85,7 +91,7 @@ fn write_about_number<O: Sink>(
     number(block, out, found);
 }
 
-// What is said of a line that decides an edge which a split above it decides.
+// What is said of a line that decides an edge which isn't undecided there.
 #[tactic(auto, using(text_out::specs::GatherLaws::pieces))]
 fn write_about_decided<O: Sink>(block: &mut Block, out: &mut O, line: u64, edge: u32)
     ensures { Gathers (O.state out.old) block.old (about_decided line edge) (O.state out.new) block.new }
@@ -93,6 +99,16 @@ fn write_about_decided<O: Sink>(block: &mut Block, out: &mut O, line: u64, edge:
     write_about_line(block, out, line, b" decides edge ");
     number(block, out, edge);
     literal(block, out, b" again");
+}
+
+// What is said of a line of a split on a vertex that isn't undecided there.
+#[tactic(auto, using(text_out::specs::GatherLaws::pieces))]
+fn write_about_decided_vertex<O: Sink>(block: &mut Block, out: &mut O, line: u64, vertex: u32)
+    ensures { Gathers (O.state out.old) block.old (about_decided_vertex line vertex) (O.state out.new) block.new }
+{
+    write_about_line(block, out, line, b" splits on vertex ");
+    number(block, out, vertex);
+    literal(block, out, b", which is decided");
 }
 
 // What is said of a line whose cut loads an edge above its room.

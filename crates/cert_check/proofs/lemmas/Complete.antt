@@ -14,7 +14,7 @@ use Rattle.cut_cert.specs.declared.head.AnswerHead.{AnswerHead}
 use Rattle.cut_cert.specs.declared.event.Event.TheVariants as event
 use Rattle.cut_cert.specs.declared.event.AnswerEvent.{AnswerEvent}
 use Rattle.cut_cert.specs.Value.{WrittenAnswer}
-use Rattle.cut_cert.specs.Events.{Told, events_of, tree_told}
+use Rattle.cut_cert.specs.Events.{Told, events_of}
 use Rattle.cut_cert.specs.Answers.{named}
 use Rattle.cut_cert.specs.Spelling.{SpellsAnswer, OneReading}
 use Rattle.cert_check.specs.declared.verdict.Cause.TheVariants.{WrongBound, WrongStatus}
@@ -27,7 +27,7 @@ use Rattle.cert_check.specs.Lines.Behind.{Ended, Ceased, Further}
 use Rattle.cert_check.specs.Judged.{SoFar, bound_found, decision_due, least_with, nothing_told, Judges}
 use Rattle.cert_check.specs.Verdicts.{IsJudged, IsVerdict, byte_limit}
 use Rattle.cert_check.specs.Accepted.{Accepts, IsAccepted, IsAccepting}
-use Rattle.cert_check.proofs.lemmas.ToldParts.{edges_told, proof_told}
+use Rattle.cert_check.proofs.lemmas.ToldParts.{edges_told, events_of-told, proof_told, tree_told}
 use Rattle.cert_check.proofs.lemmas.LineSteps.{JudgesTold, passed}
 use Rattle.cert_check.proofs.lemmas.Runs.{Runs}
 use Rattle.cert_check.proofs.lemmas.Fresh.{IsFresh}
@@ -122,7 +122,8 @@ edges_accepted ps bytes answer network tree n f accepts judged =
 -- the lines of an answer are accepted
 answer_accepted : (ps : List Point) (bytes : List ℕ) (answer : WrittenAnswer) (network : List Bool) (tree : Tree SplitOn) (f : Finished)
     → Accepts ps bytes answer network tree → Judges ps (nothing_told ps) (events_of answer) Ended f → IsAccepting f.verdict
-answer_accepted ps bytes answer network tree f accepts judged =
+answer_accepted ps bytes answer network tree f accepts of_events =
+    let judged = subst (λ es. Judges ps (nothing_told ps) es Ended f) (events_of-told answer) of_events in
     let count : Told = (event.EdgeCount (length answer.edges), None) in
     let body = edges_told answer.edges ++ proof_told answer.tree in
     let (s1, told1, after1) = passed ps (nothing_told ps) 6 (event.Head answer.head, None) (count ∷ body) f (λ cause fails. fails) judged in
@@ -134,7 +135,7 @@ answer_accepted ps bytes answer network tree f accepts judged =
 -- ---- the bytes
 
 -- the verdict on the lines of bytes that spell an answer is that on all lines of the answer
-judged_whole : OneReading → (ps : List Point) (bytes : List ℕ) (answer : WrittenAnswer) (events : List AnswerEvent) (behind : Behind) (f : Finished)
+pub judged_whole : OneReading → (ps : List Point) (bytes : List ℕ) (answer : WrittenAnswer) (events : List AnswerEvent) (behind : Behind) (f : Finished)
     → SpellsAnswer (hanan_grid_of ps).vertices bytes answer → ReadsLines (hanan_grid_of ps).vertices bytes events behind → Judges ps (nothing_told ps) events behind f →
     Judges ps (nothing_told ps) (events_of answer) Ended f
 judged_whole one ps bytes answer events Ended f spells read judged =

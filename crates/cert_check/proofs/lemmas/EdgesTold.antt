@@ -1,5 +1,5 @@
 -- What edges tell whose lines all pass: the network of their numbers.
-use Rattle.std.proofs.Common.{ℕ, suc, zero, ◌≡◌, ◌+◌, ◌-◌, ◌<◌, Bool, true, false, List, [], ◌∷◌, ◌++◌, length, map, set, replicate, None, refl, sym, ap, ◌∙◌, subst, arith, append_assoc}
+use Rattle.std.proofs.Common.{ℕ, suc, zero, ◌≡◌, ◌+◌, ◌-◌, ◌<◌, Bool, true, false, List, [], ◌∷◌, ◌++◌, length, set, replicate, refl, sym, ap, ◌∙◌, subst, arith, append_assoc}
 use Rattle.std.proofs.lemmas.List.{append-nil, map-append, length-set, length-replicate}
 use Rattle.points_in.specs.declared.point.Point.{Point}
 use Rattle.net_graph.specs.Flags.{has}
@@ -7,14 +7,13 @@ use Rattle.net_graph.specs.Members.{members_from, members_of}
 use Rattle.hanan_grid.specs.declared.name.EdgeName.{EdgeName}
 use Rattle.hanan_grid.specs.Grid.{hanan_grid_of}
 use Rattle.hanan_grid.specs.Names.{name_of_edge}
-use Rattle.cut_cert.specs.declared.event.Event.TheVariants as event
-use Rattle.cut_cert.specs.Events.{Told}
 use Rattle.cut_cert.specs.Answers.{names_of}
 use Rattle.cert_check.specs.Edges.{FollowsEdges}
 use Rattle.cert_check.specs.Networks.{IsMeasured}
 use Rattle.cert_check.specs.Judged.{SoFar, nothing_told, IsNetworkRight}
 use Rattle.cert_check.proofs.lemmas.Fresh.{IsFresh, IsFresh-edge}
 use Rattle.cert_check.proofs.lemmas.Runs.{Runs}
+use Rattle.cert_check.proofs.lemmas.ToldParts.{edges_told}
 
 -- ---- the numbers of a set
 
@@ -55,10 +54,6 @@ members_of-above flags e within above =
     members_from-above 0 flags e within above ∙ ap (λ k. members_of flags ++ k ∷ []) here
 
 -- ---- the lines of edges
-
--- the lines of names
-abbrev pub edges_told : List EdgeName → List Told
-edges_told names = map (λ e. (event.Edge e, None)) names
 
 -- these names were told, each that of an edge of the set, in ascending number
 pub record HasNames (ps : List Point) (network : List Bool) (names : List EdgeName) : Type 0 where

@@ -1,34 +1,35 @@
 -- What a judge stands for behind one more line.
-use Rattle.std.proofs.Common.{ℕ, ◌≡◌, ◌-◌, ◌+◌, ◌^◌, ◌<◌, ◌≤◌, min, Bool, true, false, List, [], ◌∷◌, ◌++◌, length, drop, get_or, slice_get, Some, refl, sym, ap, ◌∙◌, subst, inl, inr, arith}
+use Rattle.std.proofs.Common.{ℕ, ◌≡◌, ◌-◌, ◌+◌, ◌^◌, ◌<◌, min, Bool, true, false, List, [], ◌∷◌, ◌++◌, drop, get_or, slice_get, Some, refl, sym, ap, ◌∙◌, subst, inl, inr, arith}
 use Rattle.std.specs.Prelude.{Option, None, IfSome, IfNone, slice_set}
-use Rattle.std.proofs.lemmas.Bool.{cases_eq}
-use Rattle.std.proofs.lemmas.Option.{same_Some, slice_get_within}
 use Rattle.points_in.specs.declared.point.Point.{Point}
 use Rattle.net_graph.specs.declared.packing.Cut.{Cut}
-use Rattle.net_graph.specs.declared.state.EdgeState.TheVariants.{Undecided, Inside, Outside}
-use Rattle.net_graph.specs.EntryLaws.{slice_get-set_same, slice_get-set_other}
+use Rattle.net_graph.specs.declared.state.EdgeState.TheVariants.{Outside}
 use Rattle.net_graph.specs.Graph.{Graph}
-use Rattle.net_graph.specs.Decision.{Decided, nothing_decided, states_of, with_edge as decide_edge}
+use Rattle.net_graph.specs.Decision.{Decided, nothing_decided, states_of}
 use Rattle.hanan_grid.specs.declared.name.EdgeName.{EdgeName}
 use Rattle.hanan_grid.specs.Grid.{hanan_grid_of}
-use Rattle.hanan_grid.specs.Names.{name_of_edge}
+use Rattle.cert_tree.specs.declared.split.SplitOn.{SplitOn}
 use Rattle.cert_tree.specs.declared.split.SplitOn.TheVariants as split
+use Rattle.cut_cert.specs.Answers.{IsSplitOn}
+use Rattle.cert_tree.specs.Decisions.{IsUndecidedSplit, outside_of, inside_of}
 use Rattle.cut_cert.specs.declared.event.Event.TheVariants as event
+use Rattle.cut_cert.specs.declared.split.SplitName.{SplitName}
+use Rattle.cut_cert.specs.declared.split.SplitName.TheVariants as name
 use Rattle.cert_check.specs.declared.verdict.Cause.{Cause}
 use Rattle.cert_check.specs.declared.judge.Judge.{Judge}
 use Rattle.cert_check.specs.Edges.{FollowsEdges}
 use Rattle.cert_check.specs.Cuts.{PacksCut, CutFault, cut_of}
-use Rattle.cert_check.specs.Splits.{IsDecidedBefore, IsTooDeep, MaySplit}
-use Rattle.cert_check.specs.Path.{decision_along, decisions_behind}
+use Rattle.cert_check.specs.declared.verdict.Cause.TheVariants.{OffGrid, OffGridVertex}
+use Rattle.cert_check.specs.Splits.{IsNameOfSplit, MaySplitOn, SplitFault, SplitOnFault}
+use Rattle.cert_check.specs.Path.{decisions_behind}
 use Rattle.cert_check.specs.Room.{Kept}
-use Rattle.cert_check.specs.Loads.{IsLeafOf, KeepsLoads, SameWay, weight_kept}
-use Rattle.cert_check.specs.Ways.{StandsOnWay, SameLoads, decision_at}
+use Rattle.cert_check.specs.Loads.{HasRows, IsLeafOf, KeepsLoads, SameWay, weight_kept}
+use Rattle.cert_check.specs.Ways.{HasState, StandsOnWay, SameLoads, decision_at}
 use Rattle.cert_check.specs.Judged.{SoFar, Passes, Fails, IsNetworkRight, IsNetworkWrong, decision_due, least_with, with_cut, with_cuts_due, with_edge, with_split}
 use Rattle.cert_check.specs.Standing.{StandsFor}
 use Rattle.cert_check.proofs.lemmas.Loading.{passes_free}
-use Rattle.cert_check.proofs.lemmas.States.{states_kept}
+use Rattle.cert_check.proofs.lemmas.Turns.{state_outside}
 use Rattle.cert_check.proofs.lemmas.Values.{weight_kept-more}
-use Rattle.cert_check.proofs.lemmas.WaySteps.{KeepsDecision-on_way}
 
 -- what follows where no fault was found, and where one was
 pub none_gives : (fault : Option Cause) (P Q : Type 0) → (P → Q) → IfNone fault P → IfNone fault Q
@@ -59,7 +60,7 @@ stands_edges ps old new s s' same head due network decisions splits cuts_due cut
       head = head;
       edges_due = due;
       network = network;
-      decision = ap (λ ds. get_or ds 0 top) decisions ∙ stands.decision ∙ sym (ap (decision_at g) same.room);
+      decision = ap (λ ds. get_or ds 0 top) decisions ∙ stands.decision ∙ sym (ap (λ (k : Kept). k.decided) same.room);
       behind = ap (λ ds. drop 1 ds) decisions ∙ stands.behind ∙ sym (ap (λ (k : Kept). decisions_behind top k.path) same.room);
       splits = same.splits ∙ stands.splits ∙ sym splits;
       cuts_due = same.cuts_due ∙ stands.cuts_due ∙ sym cuts_due;
@@ -124,54 +125,35 @@ count_fails ps count line old mid new cause behind same wrong members s stands =
 
 -- ---- splits
 
--- the edge is undecided under the decision that is due
-due_undecided : (ps : List Point) (s : SoFar) (judge : Judge) (edge : ℕ) → StandsFor ps s judge → StandsOnWay (hanan_grid_of ps) judge.room →
-    slice_get (states_of (hanan_grid_of ps) (decision_due ps s)) edge ≡ slice_get judge.room.states edge
-due_undecided ps s judge edge stands way =
-    let g = hanan_grid_of ps in
-    ap (λ d. slice_get (states_of g d) edge) stands.decision
-    ∙ ap (λ xs. slice_get xs edge) (states_kept g (decision_at g judge.room) judge.room way.rows (KeepsDecision-on_way g judge.room way))
+-- what may be said under what is decided in the room may be said under the decision that is due
+pub split_due : (ps : List Point) (s : SoFar) (judge : Judge) (on : SplitOn) → StandsFor ps s judge →
+    IsUndecidedSplit (hanan_grid_of ps) judge.room.decided on → IsUndecidedSplit (hanan_grid_of ps) (decision_due ps s) on
+split_due ps s judge on stands undecided =
+    subst (λ d. IsUndecidedSplit (hanan_grid_of ps) d on) (sym stands.decision) undecided
 
--- it is decided: the line is wrong
-pub split_decided : (ps : List Point) (name : EdgeName) (edge : ℕ) (s : SoFar) (judge : Judge) → StandsFor ps s judge → StandsOnWay (hanan_grid_of ps) judge.room →
-    edge < length (hanan_grid_of ps).edges → name_of_edge ps edge ≡ name → (slice_get judge.room.states edge ≡ Some Undecided → ⊥) →
-    IsDecidedBefore ps (decision_due ps s) name edge
-split_decided ps name edge s judge stands way inside named decided = record {
-  named = (inside, named);
-  decided = λ undecided. decided (sym (due_undecided ps s judge edge stands way) ∙ undecided);
-}
+pub split_decided : (ps : List Point) (s : SoFar) (judge : Judge) (on : SplitOn) → StandsFor ps s judge →
+    (IsUndecidedSplit (hanan_grid_of ps) judge.room.decided on → ⊥) →
+    IsUndecidedSplit (hanan_grid_of ps) (decision_due ps s) on → ⊥
+split_decided ps s judge on stands decided undecided =
+    decided (subst (λ d. IsUndecidedSplit (hanan_grid_of ps) d on) stands.decision undecided)
 
--- there are 255 splits: the line is wrong
-pub split_too_deep : (ps : List Point) (name : EdgeName) (edge : ℕ) (s : SoFar) (judge : Judge) → StandsFor ps s judge → StandsOnWay (hanan_grid_of ps) judge.room →
-    edge < length (hanan_grid_of ps).edges → name_of_edge ps edge ≡ name → slice_get judge.room.states edge ≡ Some Undecided → 255 ≤ judge.splits →
-    IsTooDeep ps (decision_due ps s) s.splits name
-split_too_deep ps name edge s judge stands way inside named undecided many = record {
-  on = split.Edge edge;
-  named = (inside, named);
-  undecided = due_undecided ps s judge edge stands way ∙ undecided;
-  many = omega (arith, many, stands.splits);
-}
-
--- the loads of a leaf are kept where one more edge is outside
-leaf_outside : (g : Graph) (cuts : List Cut) (edge : ℕ) (old new : Kept) → SameLoads old new → new.states ≡ slice_set old.states edge Outside → edge < length old.states →
-    IsLeafOf g cuts old → IsLeafOf g cuts new
-leaf_outside g cuts edge old new same states within leaf n e state at state_at = elim (cases_eq n edge) [
-  | inl here ↦
-      let written : Some Outside ≡ Some state =
-      sym (slice_get-set_same old.states edge Outside within) ∙ sym (ap (λ k. slice_get (slice_set old.states edge Outside) k) here)
-      ∙ sym (ap (λ xs. slice_get xs n) states) ∙ state_at in
-      let is : Outside ≡ state = same_Some Outside state written in
-      subst (λ x. KeepsLoads x e cuts (get_or new.there n 0) (get_or new.back n 0)) is
-      (passes_free Outside e cuts (get_or new.there n 0) (get_or new.back n 0) refl)
-  | inr apart ↦
-      let before : slice_get old.states n ≡ Some state =
-      sym (slice_get-set_other old.states edge n Outside apart) ∙ sym (ap (λ xs. slice_get xs n) states) ∙ state_at in
-      subst (λ k. KeepsLoads state e cuts k (get_or new.back n 0)) (sym (ap (λ xs. get_or xs n 0) same.there))
-      (subst (λ k. KeepsLoads state e cuts (get_or old.there n 0) k) (sym (ap (λ xs. get_or xs n 0) same.back)) (leaf n e state at before))
-]
+-- the loads of a leaf are kept in the outside part of a split
+leaf_outside : (g : Graph) (cuts : List Cut) (on : SplitOn) (old new : Kept) → SameLoads old new →
+    new.decided ≡ outside_of old.decided on → IsUndecidedSplit g old.decided on → IsLeafOf g cuts old → IsLeafOf g cuts new
+leaf_outside g cuts on old new same decided undecided leaf n e state at state_at =
+    let now : slice_get (states_of g (outside_of old.decided on)) n ≡ Some state =
+    sym (ap (λ d. slice_get (states_of g d) n) decided) ∙ state_at in
+    elim (state_outside g old.decided on n state undecided now) [
+      | inl free ↦
+          subst (λ x. KeepsLoads x e cuts (get_or new.there n 0) (get_or new.back n 0)) (sym free)
+          (passes_free Outside e cuts (get_or new.there n 0) (get_or new.back n 0) refl)
+      | inr before ↦
+          subst (λ k. KeepsLoads state e cuts k (get_or new.back n 0)) (sym (ap (λ xs. get_or xs n 0) same.there))
+          (subst (λ k. KeepsLoads state e cuts (get_or old.there n 0) k) (sym (ap (λ xs. get_or xs n 0) same.back)) (leaf n e state at before))
+    ]
 
 -- the judge behind one more split
-pub record IsBehindSplit (edge : ℕ) (old new : Judge) : Type 0 where
+pub record IsBehindSplit (on : SplitOn) (old new : Judge) : Type 0 where
   pub head : new.head ≡ old.head
   pub edges_due : new.edges_due ≡ old.edges_due
   pub edges : new.edges ≡ old.edges
@@ -179,40 +161,59 @@ pub record IsBehindSplit (edge : ℕ) (old new : Judge) : Type 0 where
   pub cuts_due : new.cuts_due ≡ old.cuts_due
   pub weight : new.weight ≡ old.weight
   pub least : new.least ≡ old.least
-  pub path : new.room.path ≡ record { edge = edge; inside = false } ∷ old.room.path
+  pub path : new.room.path ≡ record { on = on; inside = false } ∷ old.room.path
   pub loads : SameLoads old.room new.room
-  pub states : new.room.states ≡ slice_set old.room.states edge Outside
+  pub decided : new.room.decided ≡ outside_of old.room.decided on
 
-pub split_passes : (ps : List Point) (name : EdgeName) (edge : ℕ) (old new : Judge) (s : SoFar) (members : Option (List Bool)) → IsBehindSplit edge old new → StandsFor ps s old →
-    StandsOnWay (hanan_grid_of ps) old.room → edge < length (hanan_grid_of ps).edges → name_of_edge ps edge ≡ name →
-    slice_get old.room.states edge ≡ Some Undecided → old.splits < 255 → (s' : SoFar) × Passes ps s (event.Split name) members s' × StandsFor ps s' new
-split_passes ps name edge old new s members behind stands way inside named undecided few =
+pub split_passes : (ps : List Point) (on : SplitOn) (old new : Judge) (s : SoFar) → IsBehindSplit on old new → StandsFor ps s old →
+    StandsOnWay (hanan_grid_of ps) old.room → IsUndecidedSplit (hanan_grid_of ps) old.room.decided on → old.splits < 255 →
+    MaySplitOn (hanan_grid_of ps) (decision_due ps s) s.splits on × StandsFor ps (with_split ps s on) new
+split_passes ps on old new s behind stands way undecided few =
     let g = hanan_grid_of ps in
-    let top = nothing_decided g in
-    let on = split.Edge edge in
-    let under = due_undecided ps s old edge stands way ∙ undecided in
-    let may : MaySplit ps (decision_due ps s) s.splits name on = record {
-      named = (inside, named);
-      undecided = under;
-      few = omega (arith, few, stands.splits);
-    } in (
-      with_split ps s on,
-      (on, may, refl),
+    let top = nothing_decided g in (
+      record { undecided = split_due ps s old on stands undecided; few = omega (arith, few, stands.splits) },
       record {
         head = behind.head ∙ stands.head;
         edges_due = behind.edges_due ∙ stands.edges_due;
         network = behind.edges ∙ stands.network;
-        decision = ap (λ (d : Decided). decide_edge d edge Outside) stands.decision ∙ sym (ap (decision_along top) behind.path);
-        behind = ap (λ (d : Decided). decide_edge d edge Inside ∷ drop 1 s.decisions) stands.decision
-            ∙ ap (λ ds. decide_edge (decision_at g old.room) edge Inside ∷ ds) stands.behind
+        decision = ap (λ d. outside_of d on) stands.decision ∙ sym behind.decided;
+        behind = ap (λ d. inside_of d on ∷ drop 1 s.decisions) (stands.decision ∙ way.decided)
+            ∙ ap (λ ds. inside_of (decision_at g old.room) on ∷ ds) stands.behind
             ∙ sym (ap (decisions_behind top) behind.path);
         splits = behind.splits ∙ ap (λ n. n + 1) stands.splits;
         cuts_due = behind.cuts_due ∙ stands.cuts_due;
-        leaf = leaf_outside g s.cuts edge old.room new.room behind.loads behind.states (slice_get_within old.room.states edge Undecided undecided) stands.leaf;
+        leaf = leaf_outside g s.cuts on old.room new.room behind.loads behind.decided undecided stands.leaf;
         weight = behind.weight ∙ stands.weight;
         least = behind.least ∙ stands.least;
       },
     )
+
+-- what was found of what a name names may be said of the name
+SplitFault-named : (ps : List Point) (d : Decided) (splits : ℕ) (name : SplitName) (on : SplitOn) (line : ℕ) (cause : Cause) →
+    IsNameOfSplit ps name on → SplitOnFault (hanan_grid_of ps) d splits on line cause → SplitFault ps d splits name line cause
+SplitFault-named ps d splits (name.Edge e) on n (OffGrid line) named fault = absurd fault
+SplitFault-named ps d splits (name.Vertex p) on n (OffGridVertex line) named fault = absurd fault
+SplitFault-named ps d splits name on n cause named fault = record { on = on; named = named; fault = fault }
+
+has_state : (g : Graph) (kept : Kept) (on : SplitOn) → HasRows g kept → IsSplitOn g on → HasState kept.decided on
+has_state g kept (split.Edge n) rows on = omega (arith, on, rows.edges)
+has_state g kept (split.Vertex v) rows on = omega (arith, on, rows.vertices)
+
+pub has_state_named : (ps : List Point) (name : SplitName) (on : SplitOn) (kept : Kept) → IsNameOfSplit ps name on →
+    HasRows (hanan_grid_of ps) kept → HasState kept.decided on
+has_state_named ps name on kept named rows = has_state (hanan_grid_of ps) kept on rows named.on_grid
+
+pub named_passes : (ps : List Point) (name : SplitName) (on : SplitOn) (s : SoFar) (new : Judge) (members : Option (List Bool)) →
+    IsNameOfSplit ps name on → MaySplitOn (hanan_grid_of ps) (decision_due ps s) s.splits on × StandsFor ps (with_split ps s on) new →
+    (s' : SoFar) × Passes ps s (event.Split name) members s' × StandsFor ps s' new
+named_passes ps name on s new members named (may, stands) =
+    (with_split ps s on, (on, record { named = named; may = may }, refl), stands)
+
+pub named_fails : (ps : List Point) (name : SplitName) (on : SplitOn) (s : SoFar) (line : ℕ) (old new : Judge) (members : Option (List Bool)) (cause : Cause) →
+    IsNameOfSplit ps name on → new.edges ≡ old.edges → StandsFor ps s old → SplitOnFault (hanan_grid_of ps) (decision_due ps s) s.splits on line cause →
+    Fails ps s line (event.Split name) members cause new.edges
+named_fails ps name on s line old new members cause named same stands fault =
+    (SplitFault-named ps (decision_due ps s) s.splits name on line cause named fault, same ∙ stands.network)
 
 -- ---- cuts
 
@@ -236,7 +237,7 @@ stands_behind_cut ps weight set old new s behind stands leaf =
       head = behind.head ∙ stands.head;
       edges_due = behind.edges_due ∙ stands.edges_due;
       network = behind.edges ∙ stands.network;
-      decision = stands.decision ∙ sym (ap (decision_along top) behind.way.path);
+      decision = stands.decision ∙ sym behind.way.decided;
       behind = stands.behind ∙ sym (ap (decisions_behind top) behind.way.path);
       splits = behind.splits ∙ stands.splits;
       cuts_due = behind.cuts_due ∙ stands.cuts_due;
@@ -246,17 +247,17 @@ stands_behind_cut ps weight set old new s behind stands leaf =
     }
 
 -- what may be said of a cut under the decision of the way may be said under the one that is due
-pub PacksCut-due : (ps : List Point) (s : SoFar) (judge : Judge) (c : Cut) → StandsFor ps s judge → PacksCut (hanan_grid_of ps) (decision_at (hanan_grid_of ps) judge.room) s.cuts c →
+pub PacksCut-due : (ps : List Point) (s : SoFar) (judge : Judge) (c : Cut) → StandsFor ps s judge → PacksCut (hanan_grid_of ps) judge.room.decided s.cuts c →
     PacksCut (hanan_grid_of ps) (decision_due ps s) s.cuts c
 PacksCut-due ps s judge c stands packs = subst (λ d. PacksCut (hanan_grid_of ps) d s.cuts c) (sym stands.decision) packs
 
 pub CutFault-due : (ps : List Point) (s : SoFar) (judge : Judge) (c : Cut) (line : ℕ) (cause : Cause) → StandsFor ps s judge →
-    CutFault (hanan_grid_of ps) (decision_at (hanan_grid_of ps) judge.room) s.cuts c line cause → CutFault (hanan_grid_of ps) (decision_due ps s) s.cuts c line cause
+    CutFault (hanan_grid_of ps) judge.room.decided s.cuts c line cause → CutFault (hanan_grid_of ps) (decision_due ps s) s.cuts c line cause
 CutFault-due ps s judge c line cause stands fault = subst (λ d. CutFault (hanan_grid_of ps) d s.cuts c line cause) (sym stands.decision) fault
 
 -- the line passes
 pub cut_passes : (ps : List Point) (weight due : ℕ) (set : List Bool) (old mid new : Judge) (s : SoFar) → IsBehindCut weight old mid → StandsFor ps s old → due ≡ old.cuts_due - 1 →
-    PacksCut (hanan_grid_of ps) (decision_at (hanan_grid_of ps) old.room) s.cuts (cut_of weight set) → IsLeafOf (hanan_grid_of ps) (s.cuts ++ cut_of weight set ∷ []) mid.room →
+    PacksCut (hanan_grid_of ps) old.room.decided s.cuts (cut_of weight set) → IsLeafOf (hanan_grid_of ps) (s.cuts ++ cut_of weight set ∷ []) mid.room →
     ((s : SoFar) → StandsFor ps s mid → StandsFor ps (with_cuts_due ps s due) new) →
     (s' : SoFar) × Passes ps s (event.Cut weight) (Some set) s' × StandsFor ps s' new
 cut_passes ps weight due set old mid new s behind stands less packs leaf then =

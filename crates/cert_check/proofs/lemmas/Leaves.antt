@@ -1,41 +1,39 @@
 -- The cuts of a leaf: what one more of them makes of the loads that are kept.
-use Rattle.std.proofs.Common.{ℕ, ◌≡◌, ◌≢◌, ◌+◌, ◌<◌, ◌≤◌, List, [], ◌∷◌, ◌++◌, length, get_or, slice_get, Some, sym, ap, ◌∙◌, subst, inl, inr, refl, sum_by, false, arith}
+use Rattle.std.proofs.Common.{ℕ, ◌≡◌, Bool, ◌≢◌, ◌+◌, ◌<◌, ◌≤◌, List, [], ◌∷◌, ◌++◌, length, get_or, slice_get, Some, sym, ap, ◌∙◌, subst, inl, inr, refl, sum_by, false, arith}
 use Rattle.std.specs.Prelude.{if◌then◌else◌}
 use Rattle.std.proofs.lemmas.Bool.{cases_eq, cases_lt}
-use Rattle.std.proofs.lemmas.Option.{same_Some, slice_get_within, slice_get-get_or}
+use Rattle.std.proofs.lemmas.Option.{same_Some, slice_get_within}
 use Rattle.std.proofs.lemmas.List.Sums.{sum_by-append, sum_by-cons}
 use Rattle.net_graph.specs.declared.edge.Edge.{Edge}
 use Rattle.net_graph.specs.declared.state.EdgeState.{EdgeState}
-use Rattle.net_graph.specs.declared.state.EdgeState.TheVariants.{Undecided}
 use Rattle.net_graph.specs.declared.packing.Cut.{Cut}
 use Rattle.net_graph.specs.Graph.{Graph}
 use Rattle.net_graph.specs.Decision.{Decided, states_of}
 use Rattle.net_graph.specs.Packing.{IsCut, enters, load}
 use Rattle.net_graph.specs.Feasible.{KeepsRoom}
 use Rattle.cert_check.specs.declared.leaf.Excess.{Excess}
-use Rattle.cert_check.specs.Cuts.{IsFirstOverload, PacksCut}
+use Rattle.cert_check.specs.declared.verdict.Cause.{Cause}
+use Rattle.cert_check.specs.Cuts.{CutFault, IsFirstOverload, PacksCut}
 use Rattle.cert_check.specs.Room.{Kept}
-use Rattle.cert_check.specs.Loads.{HasRows, IsLeafOf, IsOverload, IsLoadKept, KeepsDecision, KeepsEdge, KeepsLoads, LoadsBelow, LoadsOnly, SameWay}
+use Rattle.cert_check.specs.Loads.{HasRows, IsLeafOf, IsOverload, IsLoadKept, KeepsEdge, KeepsLoads, LoadsBelow, LoadsOnly, SameWay}
 use Rattle.cert_check.specs.Strips.{IsWhole}
 use Rattle.cert_check.proofs.lemmas.Loading.{within_room}
-use Rattle.cert_check.proofs.lemmas.States.{states_kept}
 
 -- the loads of another edge stay
 KeepsEdge-elsewhere : (g : Graph) (cuts : List Cut) (n k : ℕ) (old new : Kept) → LoadsOnly n old new → k ≢ n →
     KeepsEdge g cuts old k → KeepsEdge g cuts new k
 KeepsEdge-elsewhere g cuts n k old new only apart keeps e state at state_at =
-    let before = keeps e state at (sym (ap (λ xs. slice_get xs k) only.way.states) ∙ state_at) in
+    let before = keeps e state at (sym (ap (λ d. slice_get (states_of g d) k) only.way.decided) ∙ state_at) in
     subst (λ n. KeepsLoads state e cuts n (get_or new.back k 0)) (sym (only.there k apart))
     (subst (λ n. KeepsLoads state e cuts (get_or old.there k 0) n) (sym (only.back k apart)) before)
 
 -- one edge more
-pub LoadsBelow-more : (g : Graph) (cuts : List Cut) (c : Cut) (n : ℕ) (e : Edge) (old new : Kept) →
-    LoadsOnly n old new → slice_get g.edges n ≡ Some e →
-    ((state : EdgeState) → slice_get old.states n ≡ Some state →
-    KeepsLoads state e cuts (get_or old.there n 0) (get_or old.back n 0) →
+pub LoadsBelow-more : (g : Graph) (cuts : List Cut) (c : Cut) (n : ℕ) (e : Edge) (state : EdgeState) (old new : Kept) →
+    LoadsOnly n old new → slice_get g.edges n ≡ Some e → slice_get (states_of g old.decided) n ≡ Some state →
+    (KeepsLoads state e cuts (get_or old.there n 0) (get_or old.back n 0) →
     KeepsLoads state e (cuts ++ c ∷ []) (get_or new.there n 0) (get_or new.back n 0)) → LoadsBelow g cuts c n old →
     LoadsBelow g cuts c (n + 1) new
-LoadsBelow-more g cuts c n e old new only at passes below = record {
+LoadsBelow-more g cuts c n e state old new only at state_at passes below = record {
   passed = λ k lt. elim (cases_eq k n) [
     | inl is ↦ subst (KeepsEdge g (cuts ++ c ∷ []) new) (sym is) here
     | inr apart ↦ KeepsEdge-elsewhere g (cuts ++ c ∷ []) n k old new only apart (below.passed k (omega arith))
@@ -45,11 +43,14 @@ LoadsBelow-more g cuts c n e old new only at passes below = record {
 }
   where
     here : KeepsEdge g (cuts ++ c ∷ []) new n
-    here x state at_x state_at =
+    here x y at_x at_y =
         let same : e ≡ x = same_Some e x (sym at ∙ at_x) in
-        let before : slice_get old.states n ≡ Some state = sym (ap (λ xs. slice_get xs n) only.way.states) ∙ state_at in
-        subst (λ (y : Edge). KeepsLoads state y (cuts ++ c ∷ []) (get_or new.there n 0) (get_or new.back n 0)) same
-        (passes state before (below.ahead n (omega arith) e state at before))
+        let before : slice_get (states_of g old.decided) n ≡ Some y =
+        sym (ap (λ d. slice_get (states_of g d) n) only.way.decided) ∙ at_y in
+        let same_state : state ≡ y = same_Some state y (sym state_at ∙ before) in
+        subst (λ s. KeepsLoads s x (cuts ++ c ∷ []) (get_or new.there n 0) (get_or new.back n 0)) same_state
+        (subst (λ (z : Edge). KeepsLoads state z (cuts ++ c ∷ []) (get_or new.there n 0) (get_or new.back n 0)) same
+        (passes (below.ahead n (omega arith) e state at state_at)))
 
 -- a cut that an arc doesn't enter loads it no more
 load-none : (cuts : List Cut) (c : Cut) (u v : ℕ) → enters c.members u v ≡ false →
@@ -95,60 +96,64 @@ pub HasRows-only : (g : Graph) (n : ℕ) (old new : Kept) → LoadsOnly n old ne
 HasRows-only g n old new only rows = record {
   there = only.there_size ∙ rows.there;
   back = only.back_size ∙ rows.back;
-  states = ap length only.way.states ∙ rows.states;
-  vertices = only.way.vertices ∙ rows.vertices;
+  edges = ap (λ (d : Decided). length d.edges) only.way.decided ∙ rows.edges;
+  vertices = ap (λ (d : Decided). length d.vertices) only.way.decided ∙ rows.vertices;
 }
 
 -- the way stays twice
 pub SameWay-then : (old mid new : Kept) → SameWay old mid → SameWay mid new → SameWay old new
 SameWay-then old mid new first second = record {
-  states = second.states ∙ first.states;
+  decided = second.decided ∙ first.decided;
   path = second.path ∙ first.path;
-  vertices = second.vertices ∙ first.vertices;
 }
 
 -- an edge whose loads are kept keeps its room
-KeepsRoom-kept : (g : Graph) (d : Decided) (packing : List Cut) (kept : Kept) (n : ℕ) → states_of g d ≡ kept.states →
-    KeepsEdge g packing kept n → KeepsRoom g d packing n
-KeepsRoom-kept g d packing kept n same keeps e state at state_at =
-    let loads = keeps e state at (sym (ap (λ xs. slice_get xs n) same) ∙ state_at) in
+KeepsRoom-kept : (g : Graph) (packing : List Cut) (kept : Kept) (n : ℕ) → KeepsEdge g packing kept n →
+    KeepsRoom g kept.decided packing n
+KeepsRoom-kept g packing kept n keeps e state at state_at =
+    let loads = keeps e state at state_at in
     (within_room state e _ _ loads.forward, within_room state e _ _ loads.backward)
 
--- the decision stands in a room whose way is the same
-pub KeepsDecision-same : (g : Graph) (d : Decided) (old new : Kept) → SameWay old new → KeepsDecision g d old →
-    KeepsDecision g d new
-KeepsDecision-same g d old new way keeps = record { edges = way.states ∙ keeps.edges; vertices = keeps.vertices }
-
 -- a cut with which no arc is loaded above its room may stand there
-pub PacksCut-kept : (g : Graph) (d : Decided) (cuts : List Cut) (c : Cut) (kept : Kept) → HasRows g kept →
-    KeepsDecision g d kept → IsCut g d c.members →
-    IsLeafOf g (cuts ++ c ∷ []) kept → PacksCut g d cuts c
-PacksCut-kept g d cuts c kept rows keeps cut leaf = record {
+pub PacksCut-kept : (g : Graph) (cuts : List Cut) (c : Cut) (old new : Kept) → SameWay old new →
+    IsCut g old.decided c.members → IsLeafOf g (cuts ++ c ∷ []) new → PacksCut g old.decided cuts c
+PacksCut-kept g cuts c old new way cut leaf = record {
   cut = cut;
-  room = λ n. KeepsRoom-kept g d (cuts ++ c ∷ []) kept n (states_kept g d kept rows keeps) (leaf n);
+  room = λ n. subst (λ d. KeepsRoom g d (cuts ++ c ∷ []) n) way.decided
+      (KeepsRoom-kept g (cuts ++ c ∷ []) new n (leaf n));
 }
 
 -- the next edge is the first of which an arc is loaded above its room
-pub IsFirstOverload-kept : (g : Graph) (d : Decided) (cuts : List Cut) (c : Cut) (n : ℕ) (e : Edge) (over : Excess)
-    (kept : Kept) → HasRows g kept → KeepsDecision g d kept →
-    slice_get g.edges n ≡ Some e → LoadsBelow g cuts c n kept →
-    ((state : EdgeState) → slice_get kept.states n ≡ Some state →
-    KeepsLoads state e cuts (get_or kept.there n 0) (get_or kept.back n 0) →
+pub IsFirstOverload-kept : (g : Graph) (cuts : List Cut) (c : Cut) (n : ℕ) (e : Edge) (state : EdgeState) (over : Excess)
+    (kept : Kept) → slice_get g.edges n ≡ Some e → slice_get (states_of g kept.decided) n ≡ Some state →
+    LoadsBelow g cuts c n kept →
+    (KeepsLoads state e cuts (get_or kept.there n 0) (get_or kept.back n 0) →
     IsOverload state e (cuts ++ c ∷ []) c.members over) →
-    IsFirstOverload g d (cuts ++ c ∷ []) c.members n over.load over.room
-IsFirstOverload-kept g d cuts c n e over kept rows keeps at below overloads =
-    let same = states_kept g d kept rows keeps in
-    let state = get_or kept.states n Undecided in
-    let state_at : slice_get kept.states n ≡ Some state =
-    slice_get-get_or kept.states n Undecided (omega (arith, rows.states, slice_get_within g.edges n e at)) in
-    let is = overloads state state_at (below.ahead n (omega arith) e state at state_at) in
+    IsFirstOverload g kept.decided (cuts ++ c ∷ []) c.members n over.load over.room
+IsFirstOverload-kept g cuts c n e state over kept at state_at below overloads =
+    let is = overloads (below.ahead n (omega arith) e state at state_at) in
     record {
       is = e;
       state = state;
       at = at;
-      state_is = ap (λ xs. slice_get xs n) same ∙ state_at;
+      state_is = state_at;
       room_is = is.room;
       entered = is.entered;
       above = is.above;
-      first = λ m lt. KeepsRoom-kept g d (cuts ++ c ∷ []) kept m same (below.passed m lt);
+      first = λ m lt. KeepsRoom-kept g (cuts ++ c ∷ []) kept m (below.passed m lt);
     }
+
+-- the same cut is one under the decision of a room whose way is the same, and its fault is one under the old decision
+pub IsCut-way : (g : Graph) (old new : Kept) (members : List Bool) → SameWay old new → IsCut g old.decided members →
+    IsCut g new.decided members
+IsCut-way g old new members way cut = subst (λ d. IsCut g d members) (sym way.decided) cut
+
+pub CutFault-way : (g : Graph) (old new : Kept) (cuts : List Cut) (c : Cut) (line : ℕ) (cause : Cause) →
+    SameWay old new → CutFault g new.decided cuts c line cause → CutFault g old.decided cuts c line cause
+CutFault-way g old new cuts c line cause way fault = subst (λ d. CutFault g d cuts c line cause) way.decided fault
+
+pub IsFirstOverload-way : (g : Graph) (old new : Kept) (packing : List Cut) (members : List Bool) (n amount room : ℕ) →
+    SameWay old new → IsFirstOverload g new.decided packing members n amount room →
+    IsFirstOverload g old.decided packing members n amount room
+IsFirstOverload-way g old new packing members n amount room way over =
+    subst (λ d. IsFirstOverload g d packing members n amount room) way.decided over

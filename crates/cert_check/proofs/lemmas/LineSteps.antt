@@ -1,7 +1,8 @@
 -- Judging one line after another.
 use Rattle.std.proofs.Common.{ℕ, suc, List, ◌∷◌, inl, inr}
 use Rattle.points_in.specs.declared.point.Point.{Point}
-use Rattle.cut_cert.specs.Events.{Told, numbered}
+use Rattle.cut_cert.specs.Events.{Told}
+use Rattle.cert_check.proofs.lemmas.ToldParts.{numbered}
 use Rattle.cert_check.specs.declared.verdict.Cause.{Cause}
 use Rattle.cert_check.specs.declared.verdict.Finished.{Finished}
 use Rattle.cert_check.specs.Lines.Behind.{Ended}

@@ -1,7 +1,8 @@
 -- Lines that each pass, one after another, and the verdict that accepts behind them.
 use Rattle.std.proofs.Common.{ℕ, suc, ◌≡◌, Bool, List, [], ◌∷◌, ◌++◌, inl, inr, refl, subst}
 use Rattle.points_in.specs.declared.point.Point.{Point}
-use Rattle.cut_cert.specs.Events.{Told, numbered}
+use Rattle.cut_cert.specs.Events.{Told}
+use Rattle.cert_check.proofs.lemmas.ToldParts.{numbered}
 use Rattle.cert_check.specs.declared.verdict.Cause.{Cause}
 use Rattle.cert_check.specs.declared.verdict.Cause.TheVariants.{NotAnswer}
 use Rattle.cert_check.specs.declared.verdict.Verdict.TheVariants.{Accepted, Refused}

@@ -7,7 +7,6 @@ use Rattle.cert_tree.specs.TreeValue.{IsValidTree, tree_value}
 use Rattle.cut_cert.specs.declared.event.Event.TheVariants as event
 use Rattle.cut_cert.specs.Value.{WrittenAnswer}
 use Rattle.cut_cert.specs.Spelling.{FitsTree, SpellsAnswer}
-use Rattle.cut_cert.specs.Events.{answer_told, tree_told, events_of}
 use Rattle.cut_cert.specs.Reading.{IsReadWhole}
 use Rattle.cert_check.specs.declared.verdict.Verdict.TheVariants.{Accepted, TooLong}
 use Rattle.cert_check.specs.declared.verdict.Finished.{Finished}
@@ -20,7 +19,8 @@ use Rattle.cert_check.specs.Verdicts.{IsJudged, IsVerdict}
 use Rattle.cert_check.specs.Accepted.{Accepts, AcceptsAs}
 use Rattle.cert_check.proofs.lemmas.Runs.{Runs, Runs-append, AcceptsBehind, AcceptsBehind-judged, whole_where_accepted}
 use Rattle.cert_check.proofs.lemmas.Fresh.{IsFresh}
-use Rattle.cert_check.proofs.lemmas.EdgesTold.{edges_told, HasNames, HasNames-none, TellsNetwork, TellsNetwork-from_runs}
+use Rattle.cert_check.proofs.lemmas.EdgesTold.{HasNames, HasNames-none, TellsNetwork, TellsNetwork-from_runs}
+use Rattle.cert_check.proofs.lemmas.ToldParts.{answer_told, edges_told, events_of-told, numbered, tree_told}
 use Rattle.cert_check.proofs.lemmas.TreeRead.{tree_read-head, tree_read-least, tree_read-network, tree_read-splits}
 use Rattle.cert_check.proofs.lemmas.TreeTold.{TellsTree, TellsTree-from_runs}
 
@@ -35,12 +35,12 @@ record TellsAnswer (ps : List Point) (s : SoFar) (a : WrittenAnswer) : Type 0 wh
 
 -- where the lines of an answer's tree and its last line pass behind its edges
 TellsAnswer-from_tree : (ps : List Point) (V : ℕ) (begun edged s : SoFar) (a : WrittenAnswer) → begun.head ≡ a.head → TellsNetwork ps begun edged a.edges
-    → Runs ps edged ((event.Tree, None) ∷ (tree_told a.tree ++ (event.End, None) ∷ [])) s → FitsTree V a.tree → TellsAnswer ps s a
+    → Runs ps edged ((event.Tree, None) ∷ (tree_told a.tree ++ (event.End, None) ∷ [])) s → FitsTree a.version V a.tree → TellsAnswer ps s a
 TellsAnswer-from_tree ps V begun edged s a head_is network (m, is, runs) fits =
     let parts = Runs-append ps m s (tree_told a.tree) ((event.End, None) ∷ []) runs in
     let here = subst (λ x. Runs ps x (tree_told a.tree) parts.0) is parts.1 in
     let last : s ≡ parts.0 = parts.2.2 ∙ parts.2.1 in
-    let tells = TellsTree-from_runs ps V edged s a.tree (subst (λ x. Runs ps edged (tree_told a.tree) x) (sym last) here) fits network.fresh.cuts in
+    let tells = TellsTree-from_runs ps a.version V edged s a.tree (subst (λ x. Runs ps edged (tree_told a.tree) x) (sym last) here) fits network.fresh.cuts in
     let head : edged.head ≡ a.head = network.head ∙ head_is in
     let network_is : s.network ≡ edged.network = ap (λ x. x.network) tells.read ∙ tree_read-network ps edged tells.tree in
     record {
@@ -53,7 +53,7 @@ TellsAnswer-from_tree ps V begun edged s a head_is network (m, is, runs) fits =
     }
 
 -- where the lines of an answer all pass
-TellsAnswer-from_runs : (ps : List Point) (V : ℕ) (s : SoFar) (a : WrittenAnswer) → Runs ps (nothing_told ps) (answer_told a) s → FitsTree V a.tree → TellsAnswer ps s a
+TellsAnswer-from_runs : (ps : List Point) (V : ℕ) (s : SoFar) (a : WrittenAnswer) → Runs ps (nothing_told ps) (answer_told a) s → FitsTree a.version V a.tree → TellsAnswer ps s a
 TellsAnswer-from_runs ps V s a (headed, headed_is, (begun, (begun_is, right), runs)) fits =
     let parts = Runs-append ps begun s (edges_told a.edges) ((event.Tree, None) ∷ (tree_told a.tree ++ (event.End, None) ∷ [])) runs in
     let empty : begun.network ≡ (nothing_told ps).network = ap (λ x. x.network) begun_is ∙ ap (λ x. x.network) headed_is in
@@ -107,7 +107,8 @@ pub AcceptsAs-from_judged : (ps : List Point) (bytes : List ℕ) (f : Finished) 
 AcceptsAs-from_judged ps bytes f length bound optimal v is =
     let whole : v.behind ≡ Ended = whole_where_accepted ps (nothing_told ps) v.events v.behind f length bound optimal v.judged is in
     let read : IsReadWhole (hanan_grid_of ps).vertices bytes v.events = subst (ReadsLines (hanan_grid_of ps).vertices bytes v.events) whole v.read in
-    let judged : Judges ps (nothing_told ps) (events_of read.answer) Ended f = rw (whole, read.told) at v.judged in
+    let told : v.events ≡ numbered 6 (answer_told read.answer) = read.told ∙ events_of-told read.answer in
+    let judged : Judges ps (nothing_told ps) (numbered 6 (answer_told read.answer)) Ended f = rw (whole, told) at v.judged in
     Accepts-from_lines ps bytes read.answer f.network length bound optimal read.spells (AcceptsBehind-judged ps (nothing_told ps) 6 (answer_told read.answer) f length bound optimal judged is)
 
 pub AcceptsAs-from_verdict : (ps : List Point) (bytes : List ℕ) (f : Finished) (length bound : ℕ) (optimal : Bool) → IsVerdict ps bytes f → f.verdict ≡ Accepted length bound optimal → AcceptsAs ps bytes f.network length bound optimal

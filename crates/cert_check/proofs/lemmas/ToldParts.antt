@@ -1,14 +1,120 @@
--- The parts of what an answer tells.
-use Rattle.std.specs.Prelude.{List, [], ◌∷◌, ◌++◌, map, None}
+-- What the lines of an answer tell, one after another.
+use Rattle.std.proofs.Common.{ℕ, suc, ◌≡◌, List, [], ◌∷◌, ◌++◌, length, map, Some, None, refl, ap, ◌∙◌}
+use Rattle.net_graph.specs.declared.packing.Cut.{Cut}
 use Rattle.hanan_grid.specs.declared.name.EdgeName.{EdgeName}
-use Rattle.cut_cert.specs.declared.event.Event.TheVariants as event
 use Rattle.cert_tree.specs.Tree.{Tree}
-use Rattle.cut_cert.specs.Events.{Told, tree_told}
+use Rattle.cert_tree.specs.Tree.Tree.{Leaf, Split}
+use Rattle.cut_cert.specs.declared.head.AnswerHead.{AnswerHead}
+use Rattle.cut_cert.specs.declared.split.SplitName.{SplitName}
+use Rattle.cut_cert.specs.declared.split.SplitName.TheVariants as name
+use Rattle.cut_cert.specs.declared.version.Version.{Version}
+use Rattle.cut_cert.specs.declared.version.Version.TheVariants as version
+use Rattle.cut_cert.specs.declared.event.Event.TheVariants as event
+use Rattle.cut_cert.specs.declared.event.AnswerEvent.{AnswerEvent}
+use Rattle.cut_cert.specs.AnswerLine.{Line}
+use Rattle.cut_cert.specs.LineKinds as line
+use Rattle.cut_cert.specs.Value.{WrittenAnswer}
+use Rattle.cut_cert.specs.Lines.{body_lines, proof_lines, split_line, tree_lines}
+use Rattle.cut_cert.specs.Events.{Told, cut_told, event_at, events_from, events_of, head_with, line_told}
 
 -- what the lines of the edges tell
 abbrev pub edges_told : List EdgeName → List Told
 edges_told edges = map (λ e. (event.Edge e, None)) edges
 
+-- what the lines of a tree tell
+abbrev pub tree_told : Tree SplitName → List Told
+tree_told (Leaf cuts) = (event.Leaf (length cuts), None) ∷ map cut_told cuts
+tree_told (Split on outside inside) = (event.Split on, None) ∷ (tree_told outside ++ tree_told inside)
+
 -- what the lines behind the edges tell
-abbrev pub proof_told : Tree EdgeName → List Told
+abbrev pub proof_told : Tree SplitName → List Told
 proof_told t = (event.Tree, None) ∷ (tree_told t ++ (event.End, None) ∷ [])
+
+-- what all lines tell
+abbrev pub answer_told : WrittenAnswer → List Told
+answer_told a = (event.Head a.head, None) ∷ (event.EdgeCount (length a.edges), None)
+    ∷ (edges_told a.edges ++ proof_told a.tree)
+
+-- as events of lines from the line n on
+abbrev pub numbered : ℕ → List Told → List AnswerEvent
+numbered n [] = []
+numbered n (t ∷ ts) = record { line = n; event = t.0; members = t.1 } ∷ numbered (suc n) ts
+
+-- ---- lines of which each tells something
+
+-- each line tells one of these, and nothing of the head
+abbrev EachTells : AnswerHead → List Line → List Told → Type 0
+EachTells h [] [] = Unit {0}
+EachTells h [] (t ∷ ts) = ⊥
+EachTells h (l ∷ ls) [] = ⊥
+EachTells h (l ∷ ls) (t ∷ ts) =
+    (line_told (head_with h l) l ≡ Some t) × (head_with h l ≡ h) × EachTells h ls ts
+
+-- so these are their events
+events_from-each : (h : AnswerHead) (n : ℕ) (ls : List Line) (ts : List Told) → EachTells h ls ts →
+    events_from h n ls ≡ numbered n ts
+events_from-each h n [] [] tells = refl
+events_from-each h n [] (t ∷ ts) tells = absurd tells
+events_from-each h n (l ∷ ls) [] tells = absurd tells
+events_from-each h n (l ∷ ls) (t ∷ ts) (told, same, rest) =
+    ap (λ x. event_at n x ++ events_from (head_with h l) (suc n) ls) told
+    ∙ ap (λ k. event_at n (Some t) ++ events_from k (suc n) ls) same
+    ∙ ap (λ es. record { line = n; event = t.0; members = t.1 } ∷ es) (events_from-each h (suc n) ls ts rest)
+
+EachTells-append : (h : AnswerHead) (ls ls' : List Line) (ts ts' : List Told) → EachTells h ls ts →
+    EachTells h ls' ts' → EachTells h (ls ++ ls') (ts ++ ts')
+EachTells-append h [] ls' [] ts' tells tells' = tells'
+EachTells-append h [] ls' (t ∷ ts) ts' tells tells' = absurd tells
+EachTells-append h (l ∷ ls) ls' [] ts' tells tells' = absurd tells
+EachTells-append h (l ∷ ls) ls' (t ∷ ts) ts' (told, same, rest) tells' =
+    (told, same, EachTells-append h ls ls' ts ts' rest tells')
+
+-- ---- the parts of an answer
+
+cuts_tell : (h : AnswerHead) (cuts : List Cut) → EachTells h (map line.Cut cuts) (map cut_told cuts)
+cuts_tell h [] = tt
+cuts_tell h (c ∷ cuts) = (refl, refl, cuts_tell h cuts)
+
+edges_tell : (h : AnswerHead) (edges : List EdgeName) → EachTells h (map line.Edge edges) (edges_told edges)
+edges_tell h [] = tt
+edges_tell h (e ∷ edges) = (refl, refl, edges_tell h edges)
+
+-- the line of a split tells its name in each version
+split_tells : (h : AnswerHead) (v : Version) (on : SplitName) (ls : List Line) (ts : List Told) → EachTells h ls ts →
+    EachTells h (split_line v on ∷ ls) ((event.Split on, None) ∷ ts)
+split_tells h v (name.Vertex p) ls ts rest = (refl, refl, rest)
+split_tells h version.One (name.Edge e) ls ts rest = (refl, refl, rest)
+split_tells h version.Two (name.Edge e) ls ts rest = (refl, refl, rest)
+
+tree_tells : (h : AnswerHead) (v : Version) (t : Tree SplitName) → EachTells h (tree_lines v t) (tree_told t)
+tree_tells h v (Leaf cuts) = (refl, refl, cuts_tell h cuts)
+tree_tells h v (Split on outside inside) =
+    split_tells h v on (tree_lines v outside ++ tree_lines v inside) (tree_told outside ++ tree_told inside)
+    (EachTells-append h (tree_lines v outside) (tree_lines v inside) (tree_told outside) (tree_told inside)
+    (tree_tells h v outside) (tree_tells h v inside))
+
+proof_tells : (h : AnswerHead) (v : Version) (t : Tree SplitName) → EachTells h (proof_lines v t) (proof_told t)
+proof_tells h v t = (
+  refl,
+  refl,
+  EachTells-append h (tree_lines v t) (line.End ∷ []) (tree_told t) ((event.End, None) ∷ [])
+      (tree_tells h v t) (refl, refl, tt),
+)
+
+-- what the lines behind the head tell
+abbrev body_told : WrittenAnswer → List Told
+body_told a = (event.EdgeCount (length a.edges), None) ∷ (edges_told a.edges ++ proof_told a.tree)
+
+body_tells : (h : AnswerHead) (a : WrittenAnswer) → EachTells h (body_lines a) (body_told a)
+body_tells h a = (
+  refl,
+  refl,
+  EachTells-append h (map line.Edge a.edges) (proof_lines a.version a.tree) (edges_told a.edges)
+      (proof_told a.tree) (edges_tell h a.edges) (proof_tells h a.version a.tree),
+)
+
+-- the events of an answer: its head ends with line 6
+pub events_of-told : (a : WrittenAnswer) → events_of a ≡ numbered 6 (answer_told a)
+events_of-told a =
+    ap (λ es. record { line = 6; event = event.Head a.head; members = None } ∷ es)
+    (events_from-each a.head 7 (body_lines a) (body_told a) (body_tells a.head a))

@@ -3,20 +3,20 @@ use Rattle.std.proofs.Common.{ℕ, ◌≡◌, ◌+◌, ◌≤◌, List, [], ◌+
 use Rattle.std.proofs.lemmas.List.Elements.{All-nil, All-cons, All-head, All-tail, All-append}
 use Rattle.std.proofs.lemmas.List.{get_or_append_left, get_or-append-add}
 use Rattle.points_in.specs.declared.point.Point.{Point}
-use Rattle.hanan_grid.specs.declared.name.EdgeName.{EdgeName}
 use Rattle.hanan_grid.specs.Grid.{hanan_grid_of}
 use Rattle.cert_tree.specs.declared.split.SplitOn.{SplitOn}
-use Rattle.cert_tree.specs.declared.split.SplitOn.TheVariants as split
 use Rattle.cert_tree.specs.Tree.{Tree}
 use Rattle.cert_tree.specs.Tree.Tree.{Leaf, Split}
 use Rattle.cert_tree.specs.Preorder.{nodes_of, split_count}
 use Rattle.cert_tree.specs.TreeValue.{IsValidTree}
 use Rattle.cut_cert.specs.Spelling.{FitsTree}
-use Rattle.cut_cert.specs.Events.{tree_told}
-use Rattle.cut_cert.specs.Answers.{IsNodeOn, IsSplitOn, named, split_name}
-use Rattle.cert_check.specs.Splits.{IsNameOfSplit, MaySplit}
+use Rattle.cut_cert.specs.declared.split.SplitName.{SplitName}
+use Rattle.cut_cert.specs.declared.version.Version.{Version}
+use Rattle.cut_cert.specs.Answers.{IsNodeOn, named, split_name}
+use Rattle.cert_check.specs.Splits.{MaySplit}
 use Rattle.cert_check.specs.Judged.{SoFar, decision_due, with_split}
 use Rattle.cert_check.proofs.lemmas.Runs.{Runs, Runs-append, Runs-join}
+use Rattle.cert_check.proofs.lemmas.ToldParts.{tree_told}
 use Rattle.cert_check.proofs.lemmas.LeafTold.{leaf_told, leaf_passes}
 use Rattle.cert_check.proofs.lemmas.TreeRead.{tree_read, tree_read-cuts, tree_read-inside, tree_read-splits}
 
@@ -28,7 +28,7 @@ All-back : {X : Type 0} (P : X → Type 0) (xs ys : List X) → All P (xs ++ ys)
 All-back P xs ys all i d below = subst P (get_or-append-add xs ys i d) (all (length xs + i) d (omega (arith, length-append xs ys)))
 
 -- behind lines that tell a tree, a valid one was read
-pub record TellsTree (ps : List Point) (s s' : SoFar) (told : Tree EdgeName) : Type 0 where
+pub record TellsTree (ps : List Point) (s s' : SoFar) (told : Tree SplitName) : Type 0 where
   pub tree : Tree SplitOn
   pub named_tree : told ≡ named ps tree
   pub splits : All (IsNodeOn (hanan_grid_of ps)) (nodes_of tree)
@@ -36,18 +36,9 @@ pub record TellsTree (ps : List Point) (s s' : SoFar) (told : Tree EdgeName) : T
   pub read : s' ≡ tree_read ps s tree
   pub few : s.splits ≤ 255 → s'.splits ≤ 255
 
--- what a name names is on an edge
-on_of_name : (ps : List Point) (name : EdgeName) (on : SplitOn) → IsNameOfSplit ps name on → IsSplitOn (hanan_grid_of ps) on
-on_of_name ps name (split.Edge e) is = is.0
-on_of_name ps name (split.Vertex v) is = is
-
-name_of_on : (ps : List Point) (name : EdgeName) (on : SplitOn) → IsNameOfSplit ps name on → split_name ps on ≡ name
-name_of_on ps name (split.Edge e) is = is.1
-name_of_on ps name (split.Vertex v) is = absurd is
-
 -- where the lines of a tree pass
-pub TellsTree-from_runs : (ps : List Point) (V : ℕ) (s s' : SoFar) (told : Tree EdgeName) → Runs ps s (tree_told told) s' → FitsTree V told → s.cuts ≡ [] → TellsTree ps s s' told
-TellsTree-from_runs ps V s s' (Leaf cuts) runs fits are =
+pub TellsTree-from_runs : (ps : List Point) (v : Version) (V : ℕ) (s s' : SoFar) (told : Tree SplitName) → Runs ps s (tree_told told) s' → FitsTree v V told → s.cuts ≡ [] → TellsTree ps s s' told
+TellsTree-from_runs ps v V s s' (Leaf cuts) runs fits are =
     let leaf = leaf_told ps V s s' cuts runs fits.each are in
     record {
       tree = Leaf cuts;
@@ -57,29 +48,24 @@ TellsTree-from_runs ps V s s' (Leaf cuts) runs fits are =
       read = leaf.0;
       few = λ before. omega (arith, before, ap (λ (x : SoFar). x.splits) leaf.0);
     }
-TellsTree-from_runs ps V s s' (Split name outside inside) (m, (on, may, is), runs) fits are =
+TellsTree-from_runs ps v V s s' (Split name outside inside) (m, (on, may, is), runs) fits are =
     let g = hanan_grid_of ps in
     let parts = Runs-append ps m s' (tree_told outside) (tree_told inside) runs in
     let below = subst (λ x. Runs ps x (tree_told outside) parts.0) is parts.1 in
-    let first = TellsTree-from_runs ps V (with_split ps s on) parts.0 outside below fits.1 are in
+    let first = TellsTree-from_runs ps v V (with_split ps s on) parts.0 outside below fits.1 are in
     let mid = tree_read ps (with_split ps s on) first.tree in
     let behind = subst (λ x. Runs ps x (tree_told inside) s') first.read parts.2 in
-    let second = TellsTree-from_runs ps V mid s' inside behind fits.2 (tree_read-cuts ps (with_split ps s on) first.tree) in
-    let names = name_of_on ps name on may.named in
+    let second = TellsTree-from_runs ps v V mid s' inside behind fits.2 (tree_read-cuts ps (with_split ps s on) first.tree) in
+    let names = may.named.named in
     record {
       tree = Split on first.tree second.tree;
       named_tree = ap (λ n. Split n outside inside) (sym names) ∙ ap (λ t. Split (split_name ps on) t inside) first.named_tree ∙ ap (λ t. Split (split_name ps on) (named ps first.tree) t) second.named_tree;
-      splits = All-cons (IsNodeOn g) (Some on) (nodes_of first.tree ++ nodes_of second.tree) (on_of_name ps name on may.named)
+      splits = All-cons (IsNodeOn g) (Some on) (nodes_of first.tree ++ nodes_of second.tree) may.named.on_grid
           (All-append (IsNodeOn g) (nodes_of first.tree) (nodes_of second.tree) first.splits second.splits);
-      valid = (may.undecided, first.valid, subst (λ d. IsValidTree g d second.tree) (tree_read-inside ps s on first.tree) second.valid);
+      valid = (may.may.undecided, first.valid, subst (λ d. IsValidTree g d second.tree) (tree_read-inside ps s on first.tree) second.valid);
       read = second.read;
-      few = λ before. second.few (omega (arith, first.few (omega (arith, may.few)), ap (λ (x : SoFar). x.splits) first.read));
+      few = λ before. second.few (omega (arith, first.few (omega (arith, may.may.few)), ap (λ (x : SoFar). x.splits) first.read));
     }
-
--- the name of a split's edge is its name
-named_on : (ps : List Point) (on : SplitOn) → IsSplitOn (hanan_grid_of ps) on → IsNameOfSplit ps (split_name ps on) on
-named_on ps (split.Edge e) inside = (inside, refl)
-named_on ps (split.Vertex v) inside = inside
 
 -- the lines of a valid tree pass
 pub tree_passes : (ps : List Point) (s : SoFar) (t : Tree SplitOn) → All (IsNodeOn (hanan_grid_of ps)) (nodes_of t) → IsValidTree (hanan_grid_of ps) (decision_due ps s) t →
@@ -91,9 +77,8 @@ tree_passes ps s (Split on outside inside) nodes valid few are =
     let here = All-head (IsNodeOn g) (Some on) (nodes_of outside ++ nodes_of inside) nodes in
     let s1 = with_split ps s on in
     let may : MaySplit ps (decision_due ps s) s.splits (split_name ps on) on = record {
-      named = named_on ps on here;
-      undecided = valid.0;
-      few = omega arith;
+      named = record { on_grid = here; named = refl };
+      may = record { undecided = valid.0; few = omega arith };
     } in
     let s2 = tree_read ps s1 outside in
     let first = tree_passes ps s1 outside (All-front (IsNodeOn g) (nodes_of outside) (nodes_of inside) behind) valid.1 (omega arith) are in

@@ -1,13 +1,13 @@
 -- How an open leaf is opened.
 use Rattle.std.proofs.Common.{◌<◌, ◌^◌, arith}
-use Rattle.branch.proofs.OpeningLemmas.{note_decided, note_can_split, place_within, place_small, parent_costs, parent_feasible, is_opening}
+use Rattle.branch.proofs.OpeningLemmas.{note_decided, note_can_split, place_within, place_small, parent_costs, parent_feasible, own_undecided, one_more_outside, one_more_inside, is_opening}
 use Rattle.branch.proofs.next_opening.opening_at.Goals as goal
 
-pub edge_to_split-requires-clause-decision : goal.edge_to_split-requires-clause-decision
-edge_to_split-requires-clause-decision _ c = note_decided _ _ _ _ c.requires.search c.requires.next c.index-note.ensures
+pub split_choice-requires-clause-decision : goal.split_choice-requires-clause-decision
+split_choice-requires-clause-decision _ c = note_decided _ _ _ _ c.requires.search c.requires.next c.index-note.ensures
 
-pub edge_to_split-requires-clause-can : goal.edge_to_split-requires-clause-can
-edge_to_split-requires-clause-can _ c = note_can_split _ _ _ _ c.requires.search c.requires.next c.index-note.ensures
+pub split_choice-requires-clause-can : goal.split_choice-requires-clause-can
+split_choice-requires-clause-can _ c = note_can_split _ _ _ _ c.requires.search c.requires.next c.index-note.ensures
 
 pub overflow_cast-place : goal.overflow_cast-place
 overflow_cast-place _ c =
@@ -16,8 +16,8 @@ overflow_cast-place _ c =
 pub packing-parent-requires : goal.packing-parent-requires
 packing-parent-requires _ c = place_within _ _ _ _ c.requires.search c.requires.next c.index-note.ensures
 
-pub with_outside-requires-clause-decision : goal.with_outside-requires-clause-decision
-with_outside-requires-clause-decision _ c = note_decided _ _ _ _ c.requires.search c.requires.next c.index-note.ensures
+pub decided_outside-requires-clause-decision : goal.decided_outside-requires-clause-decision
+decided_outside-requires-clause-decision _ c = note_decided _ _ _ _ c.requires.search c.requires.next c.index-note.ensures
 
 pub child_of-requires-clause-before : goal.child_of-requires-clause-before
 child_of-requires-clause-before _ c = note_decided _ _ _ _ c.requires.search c.requires.next c.index-note.ensures
@@ -28,8 +28,8 @@ child_of-requires-clause-feasible _ c = parent_feasible _ _ _ _ c.requires.searc
 pub child_of-requires-clause-costs : goal.child_of-requires-clause-costs
 child_of-requires-clause-costs _ c = parent_costs _ _ _ _ c.requires.search c.requires.next c.index-note.ensures _ c.packing-parent.ensures
 
-pub with_inside-requires-clause-decision : goal.with_inside-requires-clause-decision
-with_inside-requires-clause-decision _ c = note_decided _ _ _ _ c.requires.search c.requires.next c.index-note.ensures
+pub decided_inside-requires-clause-decision : goal.decided_inside-requires-clause-decision
+decided_inside-requires-clause-decision _ c = note_decided _ _ _ _ c.requires.search c.requires.next c.index-note.ensures
 
 pub child_of-requires-2-clause-before : goal.child_of-requires-2-clause-before
 child_of-requires-2-clause-before _ c = note_decided _ _ _ _ c.requires.search c.requires.next c.index-note.ensures
@@ -44,11 +44,25 @@ pub overflow_cast-result : goal.overflow_cast-result
 overflow_cast-result _ c =
     let small : c.args.place < 2 ^ 31 = place_small _ _ _ _ c.requires.search c.requires.next c.index-note.ensures c.requires.few in omega arith
 
+pub decided_outside-requires-clause-undecided : goal.decided_outside-requires-clause-undecided
+decided_outside-requires-clause-undecided _ c = own_undecided _ _ _ c.in_ok-on.ensures.own
+
+pub decided_inside-requires-clause-undecided : goal.decided_inside-requires-clause-undecided
+decided_inside-requires-clause-undecided _ c = own_undecided _ _ _ c.in_ok-on.ensures.own
+
+pub child_of-requires-clause-one_more : goal.child_of-requires-clause-one_more
+child_of-requires-clause-one_more _ c =
+    one_more_outside _ _ _ _ (own_undecided _ _ _ c.in_ok-on.ensures.own) c.in_ok-decided_outside.ensures.value
+
+pub child_of-requires-2-clause-one_more : goal.child_of-requires-2-clause-one_more
+child_of-requires-2-clause-one_more _ c =
+    one_more_inside _ _ _ _ (own_undecided _ _ _ c.in_ok-on.ensures.own) c.in_ok-decided_inside.ensures.value
+
 pub returns : goal.returns
 returns _ c =
     is_opening _ _ _ _ c.requires.search c.requires.next c.index-note.ensures _ _ _ _ c.in_ok-outside.outside c.in_ok-inside.inside
-    c.in_ok-best.best c.in_ok-best-2.best c.in_ok-best-3.best c.in_ok-e.ensures
-    c.in_ok-with_outside.ensures.value c.in_ok-with_inside.ensures.value c.packing-parent.ensures
+    c.in_ok-best.best c.in_ok-best-2.best c.in_ok-best-3.best c.in_ok-on.ensures.own c.in_ok-on.ensures.kind
+    c.in_ok-decided_outside.ensures.value c.in_ok-decided_inside.ensures.value c.packing-parent.ensures
     c.in_ok-outside.ensures.note c.in_ok-outside.ensures.begins c.in_ok-inside.ensures.note c.in_ok-inside.ensures.begins
     c.in_ok-best.ensures c.in_ok-best-2.ensures.no_longer c.in_ok-best-2.ensures.own
     c.in_ok-best-3.ensures.best c.in_ok-best-3.ensures.no_longer c.in_ok-best-3.ensures.own

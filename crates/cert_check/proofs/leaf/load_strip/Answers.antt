@@ -1,8 +1,8 @@
-use Rattle.std.proofs.Common.{ℕ, ◌+◌, refl, arith}
+use Rattle.std.proofs.Common.{ℕ, ◌+◌, [], ◌∷◌, ◌++◌, refl, arith}
 use Rattle.std.specs.Int.{trailing_zeros}
 use Rattle.std.proofs.Common.{w64}
 use Rattle.cert_check.specs.Cuts.{cut_of}
-use Rattle.cert_check.proofs.lemmas.Leaves.{HasRows-only, IsFirstOverload-kept, KeepsDecision-same, LoadsBelow-more, LoadsBelow-whole, SameWay-then}
+use Rattle.cert_check.proofs.lemmas.Leaves.{HasRows-only, IsFirstOverload-kept, IsFirstOverload-way, LoadsBelow-more, LoadsBelow-whole, SameWay-then}
 use Rattle.cert_check.proofs.lemmas.Marks.{mark_within, whole_before, marks_behind, whole_behind}
 use Rattle.cert_check.proofs.leaf.load_strip.Goals as goal
 
@@ -27,27 +27,27 @@ load_edge-requires-clause-back c =
     c.loop-marks.invariant.marks (omega arith) (omega arith) in
     omega (arith, inside, c.requires.strip.edges, c.loop-marks.invariant.rows.back)
 
-pub load_edge-requires-clause-states : goal.load_edge-requires-clause-states
-load_edge-requires-clause-states c =
+pub state_at-state-requires-clause-edge : goal.state_at-state-requires-clause-edge
+state_at-state-requires-clause-edge c =
     let inside = mark_within c.args.g.now c.args.members.now c.loop-marks.marks c.loop-marks.n
     (c.args.strip.edge + c.args.strip.count)
     c.loop-marks.invariant.marks (omega arith) (omega arith) in
-    omega (arith, inside, c.requires.strip.edges, c.loop-marks.invariant.rows.states)
+    omega (arith, inside, c.requires.strip.edges)
 
 pub returns-in-Err-clause-fault : goal.returns-in-Err-clause-fault
-returns-in-Err-clause-fault c d cuts keeps cut below =
+returns-in-Err-clause-fault c cuts cut below =
     let cut_read = cut_of c.args.weight c.args.members.now in
     let next : ℕ = c.loop-marks.n + trailing_zeros w64 c.loop-marks.marks in
     let reached = LoadsBelow-whole c.args.g.now cuts cut_read c.loop-marks.n next c.loop-marks.room (omega arith)
     (whole_before c.args.g.now c.args.members.now c.loop-marks.marks c.loop-marks.n
     (c.args.strip.edge + c.args.strip.count)
-    c.loop-marks.invariant.marks (omega arith) (omega arith)) (c.loop-marks.invariant.loads cuts below) in (
+    c.loop-marks.invariant.marks (omega arith) (omega arith)) (c.loop-marks.invariant.loads cuts below) in
+    let over = IsFirstOverload-kept c.args.g.now cuts cut_read next c.edge.result c.state_at-state.result c.in-Err.over
+    c.loop-marks.room c.edge.ensures.edge c.state_at-state.ensures reached (c.in-Err.ensures.over cuts) in (
       refl,
       cut,
-      IsFirstOverload-kept c.args.g.now d cuts cut_read next c.edge.result c.in-Err.over c.loop-marks.room
-          c.loop-marks.invariant.rows
-          (KeepsDecision-same c.args.g.now d c.args.room.now c.loop-marks.room c.loop-marks.invariant.way keeps)
-          c.edge.ensures.edge reached (c.in-Err.ensures.over cuts),
+      IsFirstOverload-way c.args.g.now c.args.room.now c.loop-marks.room (cuts ++ cut_read ∷ []) c.args.members.now next
+          c.in-Err.over.load c.in-Err.over.room c.loop-marks.invariant.way over,
     )
 
 pub loop-marks-preserved : goal.loop-marks-preserved
@@ -64,8 +64,9 @@ loop-marks-preserved c =
           (whole_before c.args.g.now c.args.members.now c.loop-marks.marks c.loop-marks.n
           (c.args.strip.edge + c.args.strip.count)
           c.loop-marks.invariant.marks (omega arith) (omega arith)) (c.loop-marks.invariant.loads cuts below) in
-          LoadsBelow-more c.args.g.now cuts cut_read next c.edge.result c.loop-marks.room c.load_edge.new.room
-          c.load_edge.ensures.only c.edge.ensures.edge (c.in_default.ensures.passes cuts) reached;
+          LoadsBelow-more c.args.g.now cuts cut_read next c.edge.result c.state_at-state.result c.loop-marks.room
+          c.load_edge.new.room c.load_edge.ensures.only c.edge.ensures.edge c.state_at-state.ensures
+          (c.in_default.ensures.passes cuts) reached;
       marks = marks_behind c.args.g.now c.args.members.now c.loop-marks.marks c.loop-marks.n
           (c.args.strip.edge + c.args.strip.count)
           (trailing_zeros w64 c.loop-marks.marks) c.loop-marks.invariant.marks

@@ -1,6 +1,6 @@
 use Rattle.std.proofs.Common.{Option, Some, None, IfNone, IfSome}
 use Rattle.cert_check.specs.Cuts.{cut_of}
-use Rattle.cert_check.proofs.lemmas.Leaves.{KeepsDecision-same, PacksCut-kept}
+use Rattle.cert_check.proofs.lemmas.Leaves.{PacksCut-kept}
 use Rattle.cert_check.proofs.leaf.read_cut.Goals as goal
 
 -- what follows from what clauses say where there is no value, and where there is one
@@ -13,20 +13,18 @@ IfSome-then None p then = tt
 IfSome-then (Some x) p then = then x p
 
 pub returns-in-Some-clause-fault : goal.returns-in-Some-clause-fault
-returns-in-Some-clause-fault c d cuts keeps leaf = c.in-Some.ensures.fault d cuts c.args.weight keeps
+returns-in-Some-clause-fault c cuts leaf = c.in-Some.ensures.fault cuts c.args.weight
 
 pub returns-clause-passes : goal.returns-clause-passes
 returns-clause-passes c =
     IfNone-then c.load_arcs.result c.load_arcs.ensures.leaf
-    (λ more d cuts keeps leaf. (
-      PacksCut-kept c.args.g.now d cuts (cut_of c.args.weight c.args.members.now) c.load_arcs.new.room
-          c.load_arcs.ensures.rows
-          (KeepsDecision-same c.args.g.now d c.args.room.now c.load_arcs.new.room c.load_arcs.ensures.way keeps)
-          (c.in_default.ensures.passes d keeps) (more cuts leaf),
+    (λ more cuts leaf. (
+      PacksCut-kept c.args.g.now cuts (cut_of c.args.weight c.args.members.now) c.args.room.now c.load_arcs.new.room
+          c.load_arcs.ensures.way c.in_default.ensures.passes (more cuts leaf),
       more cuts leaf,
     ))
 
 pub returns-clause-fault : goal.returns-clause-fault
 returns-clause-fault c =
     IfSome-then c.load_arcs.result c.load_arcs.ensures.fault
-    (λ cause fault d cuts keeps leaf. fault d cuts keeps (c.in_default.ensures.passes d keeps) leaf)
+    (λ cause fault cuts leaf. fault cuts c.in_default.ensures.passes leaf)

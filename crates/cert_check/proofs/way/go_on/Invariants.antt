@@ -7,8 +7,8 @@ use Rattle.cert_check.proofs.way.go_on.Given as goal
 -- the same nodes are due as at the start, and the loads stay
 abbrev pub invariant-loop-turn : goal.invariant-loop-turn
 invariant-loop-turn l = record {
-  stands : StandsOnWay l.g l.room;
-  behind : decisions_behind (nothing_decided l.g) l.room.path ≡ decisions_behind (nothing_decided l.g) l.fn.room.path;
+  stands : StandsOnWay l._g l.room;
+  behind : decisions_behind (nothing_decided l._g) l.room.path ≡ decisions_behind (nothing_decided l._g) l.fn.room.path;
   depth : length l.room.path ≤ length l.fn.room.path;
   loads : SameLoads l.fn.room l.room;
 }

@@ -1,7 +1,7 @@
 -- Where no whole line is left, the text ends too soon.
 use Rattle.std.specs.Prelude.{Err}
 use Rattle.std.proofs.Common.{sym, ap, ◌∙◌, subst}
-use Rattle.fst_file.specs.declared.fault.FileFault.TheVariants.{BadLine}
+use Rattle.fst_file.specs.declared.fault.FstFault.TheVariants.{BadLine}
 use Rattle.fst_file.specs.Judged.{Judges}
 use Rattle.fst_file.proofs.Steps.{ends_short}
 use Rattle.fst_file.proofs.line.whole_line.Goals as goal

@@ -3,14 +3,14 @@ use Rattle.std.specs.Prelude.{ℕ, zero, suc, ◌+◌, ◌-◌, ◌<◌, ◌≤�
 use Rattle.std.proofs.Common.{arith}
 use Rattle.std.proofs.lemmas.Result.{err_from_is_err_and}
 use Rattle.text_lines.specs.Lines.{LinesLeft}
-use Rattle.fst_file.specs.declared.fault.FileFault.{FileFault}
+use Rattle.fst_file.specs.declared.fault.FstFault.{FstFault}
 use Rattle.fst_file.specs.Faults.{points}
 use Rattle.fst_file.specs.Left.{JudgesLeft, IsFaultLeft}
 use Rattle.fst_file.proofs.Steps.{fault_left, leads_fault}
 use Rattle.fst_file.proofs.points.read_points.Goals as goal
 
 -- the first point is wrong
-no_point : (count : ℕ) (left : LinesLeft) (f : FileFault) → 0 < count → ((due : ℕ) → JudgesLeft (points (suc due) []) left (Err f))
+no_point : (count : ℕ) (left : LinesLeft) (f : FstFault) → 0 < count → ((due : ℕ) → JudgesLeft (points (suc due) []) left (Err f))
     → IsFaultLeft (points count []) left f
 no_point zero left f some judged = absurd (omega arith)
 no_point (suc due) left f some judged = fault_left (points (suc due) []) left f (judged due)

@@ -6,7 +6,8 @@ use Rattle.frame.specs.FaultTexts.{text_fault_text, text_fault_status}
 use Rattle.frame.specs.FromText.{FromText}
 use Rattle.frame.specs.Leaves.{LeavesShelf}
 use Rattle.tree_tools.specs.Dump.{Dumps}
-use Rattle.tree_inputs.specs.FstFaults.{fst_fault_text, fst_fault_status}
+use Rattle.fst_file.specs.Said.{fst_fault_text}
+use Rattle.tree_inputs.specs.Files.{fst_fault_status}
 use Rattle.tree_tools.specs.Listing.{listing_text, listing_status}
 use Rattle.tree_tools.proofs.DumpLaws.{found_or_not}
 use Rattle.tree_tools.proofs.dump.dumpfst.Goals as goal

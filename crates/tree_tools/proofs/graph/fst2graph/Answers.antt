@@ -6,7 +6,8 @@ use Rattle.frame.specs.FaultTexts.{text_fault_text, text_fault_status}
 use Rattle.frame.specs.FromText.{FromText}
 use Rattle.frame.specs.Leaves.{LeavesShelf}
 use Rattle.tree_tools.specs.Graph.{GraphsFile}
-use Rattle.tree_inputs.specs.FstFaults.{fst_fault_text, fst_fault_status}
+use Rattle.fst_file.specs.Said.{fst_fault_text}
+use Rattle.tree_inputs.specs.Files.{fst_fault_status}
 use Rattle.tree_tools.specs.GraphAnswer.{graph_answer_text, graph_answer_status}
 use Rattle.tree_tools.proofs.GraphLaws.{found_or_not}
 use Rattle.tree_tools.proofs.graph.fst2graph.Goals as goal

@@ -12,3 +12,6 @@ returns-in-TooDeep g c = rw c.in-TooDeep.is c.write_about_line-in-TooDeep.ensure
 
 pub returns-in-WrongBound : goal.returns-in-WrongBound
 returns-in-WrongBound g c = rw c.in-WrongBound.is c.write_about_number-in-WrongBound.ensures
+
+pub returns-in-OffGridVertex : goal.returns-in-OffGridVertex
+returns-in-OffGridVertex g c = rw c.in-OffGridVertex.is c.write_about_line-in-OffGridVertex.ensures

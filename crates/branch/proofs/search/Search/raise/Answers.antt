@@ -16,7 +16,7 @@ returns-in_ok-self-inside-clause-ok _ c =
     c.in_ok-leaf.ensures.note in
     raised c.self.inside.graph.now c.self.inside.kept c.in_ok-self-inside.field-0 c.args.self.now c.index-first.result.now
     c.in_ok-leaf.leaf.note c.in_ok-leaf.leaf.packing c.args.cuts c.self.invariant c.self.view_is c.requires.leaf c.index-first.ensures
-    c.in_ok-self-inside.ensures.first c.in_ok-self-inside.ensures.leaf c.in_ok-self-inside.ensures.notes
+    c.in_ok-self-inside.ensures.kind c.in_ok-self-inside.ensures.first c.in_ok-self-inside.ensures.leaf c.in_ok-self-inside.ensures.notes
     c.in_ok-self-inside.ensures.network of_note c.in_ok-leaf.ensures.begins (omega arith)
 
 pub returns-else-first-leaf-clause-ok : goal.returns-else-first-leaf-clause-ok

@@ -12,7 +12,7 @@ pub loop-made-preserved : goal.loop-made-preserved
 loop-made-preserved _ c =
     let opens = took_split c.loop-made.self c.split_one.new.self c.in_ok-split_one.field-0 c.in_ok-split_one.ensures.step c.in-Split.is in
     let before = c.loop-made.invariant in
-    (opens.graph ∙ before.0, opens.first_length ∙ before.1, opens.splits ∙ ap (λ (n : ℕ). n + 1) before.2)
+    (opens.graph ∙ before.0, opens.first_length ∙ before.1, opens.splits ∙ ap (λ (n : ℕ). n + 1) before.2, opens.kind ∙ before.3)
 
 pub returns-in-Settled-clause-solved : goal.returns-in-Settled-clause-solved
 returns-in-Settled-clause-solved _ c =
@@ -75,5 +75,13 @@ returns-clause-enough _ c = λ enough.
     let before = c.loop-made.invariant in
     let count : split_count c.finish-2.result.tree ≡ c.loop-made._made =
     ap (λ (t : Tree SplitOn). split_count t) c.finish-2.ensures.tree ∙ before.2 in
-    enough_optimal _ _ c.args.allowed c.finish-2.result (solved_of c.loop-made.self _ _ c.finish-2.result before.0 before.1 c.finish-2.ensures.solved)
-    c.finish-2.ensures.edges (λ stopped. omega arith) enough
+    enough_optimal _ _ _ c.args.allowed c.finish-2.result (solved_of c.loop-made.self _ _ c.finish-2.result before.0 before.1 c.finish-2.ensures.solved)
+    (λ asked. c.finish-2.ensures.edges (before.3 ∙ asked)) (λ stopped. omega arith) enough
+
+pub returns-in-Settled-clause-edges : goal.returns-in-Settled-clause-edges
+returns-in-Settled-clause-edges _ c = λ asked.
+    let same = took_none c.loop-made.self c.split_one.new.self c.in_ok-split_one.field-0 c.in_ok-split_one.ensures.step c.in-Settled.is in
+    c.finish.ensures.edges (ap (λ (s : SearchState). s.kind) same ∙ c.loop-made.invariant.3 ∙ asked)
+
+pub returns-clause-edges : goal.returns-clause-edges
+returns-clause-edges _ c = λ asked. c.finish-2.ensures.edges (c.loop-made.invariant.3 ∙ asked)

@@ -1,17 +1,12 @@
 use Rattle.std.proofs.Common.{refl}
-use Rattle.hanan_grid.specs.Grid.{hanan_grid_of}
 use Rattle.cert_check.specs.Cuts.{cut_of}
-use Rattle.cert_check.specs.Ways.{decision_at}
 use Rattle.cert_check.proofs.lemmas.JudgeSteps.{CutFault-due, cut_passes}
-use Rattle.cert_check.proofs.lemmas.WaySteps.{KeepsDecision-on_way}
 use Rattle.cert_check.proofs.judge.Judge.judge_cut.Goals as goal
 
 pub returns-in-Some-clause-fault : goal.returns-in-Some-clause-fault
 returns-in-Some-clause-fault c s stands =
-    let g = hanan_grid_of c.args.grid.now in
     let old = c.args.self.now in
-    let fault = (rw c.graph-g.ensures.graph at c.in-Some.ensures.fault) (decision_at g old.room) s.cuts
-    (KeepsDecision-on_way g old.room c.requires.sizes.way) stands.leaf in (
+    let fault = (rw c.graph-g.ensures.graph at c.in-Some.ensures.fault) s.cuts stands.leaf in (
       CutFault-due c.args.grid.now s old (cut_of c.args.weight c.args.members.now) c.args.line c.in-Some.cause stands
           fault,
       stands.network,
@@ -19,10 +14,8 @@ returns-in-Some-clause-fault c s stands =
 
 pub returns-clause-passes : goal.returns-clause-passes
 returns-clause-passes c s stands =
-    let g = hanan_grid_of c.args.grid.now in
     let old = c.args.self.now in
-    let (packs, leaf) = (rw c.graph-g.ensures.graph at c.in_default.ensures.passes) (decision_at g old.room) s.cuts
-    (KeepsDecision-on_way g old.room c.requires.sizes.way) stands.leaf in
+    let (packs, leaf) = (rw c.graph-g.ensures.graph at c.in_default.ensures.passes) s.cuts stands.leaf in
     cut_passes c.args.grid.now c.args.weight c.saturating_sub.result c.args.members.now old _ c.set_cuts_due.new.self s
     (record {
       head = refl;

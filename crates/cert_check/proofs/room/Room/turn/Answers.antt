@@ -22,4 +22,4 @@ returns c =
     ap (λ p. slice_get p c.args.place) path
     ∙ turns_from-at c.self.inside.row start c.self.inside.depth c.args.place deep
     ∙ ap Some (ap (turn_at c.self.inside.row) (sym c.path_place-at.ensures)
-    ∙ turn_read c.self.inside.row c.path_place-at.result c.get.result c.get-2.result c.get.ensures c.get-2.ensures)
+    ∙ turn_read c.self.inside.row c.path_place-at.result c.get.result c.get-2.result c.get.ensures c.get-2.ensures ∙ sym c.turn_from.ensures)

@@ -1,0 +1,109 @@
+-- Counting the edges of a set that end at a vertex.
+use Rattle.std.proofs.Common.{ℕ, zero, suc, ◌≡◌, ◌+◌, ◌<◌, ◌≤◌, ◌⊎◌, ⊎_elim, inl, inr, Bool, true, false, eqb, List, [], ◌∷◌, length, take, get_or, slice_get, Some, refl, ap, sym, ◌∙◌, arith, add-one}
+use Rattle.std.proofs.lemmas.Bool.{cases_eq, eq-eqb, ne_eqb, or_right}
+use Rattle.std.proofs.lemmas.List.{length-take}
+use Rattle.std.proofs.lemmas.Option.{same_Some, slice_get-get_or}
+use Rattle.net_graph.specs.declared.edge.Edge.{Edge}
+use Rattle.branch.specs.Meeting.{end_count, edges_at}
+
+-- the edge ends at the vertex
+abbrev pub EndsAt : ℕ → Edge → Type 0
+EndsAt v e = (e.a ≡ v) ⊎ (e.b ≡ v)
+
+-- an edge is counted once at an end
+pub end_count-at : (v : ℕ) (e : Edge) → EndsAt v e → end_count v e ≡ 1
+end_count-at v e ends =
+    ⊎_elim
+    (λ (a : e.a ≡ v). rw (eq-eqb e.a v a) refl)
+    (λ (b : e.b ≡ v). rw (or_right (eqb e.a v) (eqb e.b v) (eq-eqb e.b v b)) refl)
+    ends
+
+-- .. and nowhere else
+pub end_count-apart : (v : ℕ) (e : Edge) → (e.a ≡ v → ⊥) → (e.b ≡ v → ⊥) → end_count v e ≡ 0
+end_count-apart v e not_a not_b = rw (ne_eqb e.a v not_a, ne_eqb e.b v not_b) refl
+
+pub end_count-cases : (v : ℕ) (e : Edge) → (EndsAt v e × (end_count v e ≡ 1)) ⊎ (end_count v e ≡ 0)
+end_count-cases v e =
+    ⊎_elim
+    (λ (a : e.a ≡ v). inl (inl a, end_count-at v e (inl a)))
+    (λ (not_a : e.a ≡ v → ⊥).
+    ⊎_elim
+    (λ (b : e.b ≡ v). inl (inr b, end_count-at v e (inr b)))
+    (λ (not_b : e.b ≡ v → ⊥). inr (end_count-apart v e not_a not_b))
+    (cases_eq e.b v))
+    (cases_eq e.a v)
+
+end_count-le : (v : ℕ) (e : Edge) → end_count v e ≤ 1
+end_count-le v e =
+    ⊎_elim
+    (λ (at : EndsAt v e × (end_count v e ≡ 1)). let one = at.1 in omega arith)
+    (λ (none : end_count v e ≡ 0). omega arith)
+    (end_count-cases v e)
+
+pub edges_at-le : (es : List Edge) (set : List Bool) (v : ℕ) → edges_at es set v ≤ length es
+edges_at-le [] set v = omega arith
+edges_at-le (e ∷ es) [] v = omega arith
+edges_at-le (e ∷ es) (true ∷ set) v = omega (arith, end_count-le v e, edges_at-le es set v)
+edges_at-le (e ∷ es) (false ∷ set) v = omega (arith, edges_at-le es set v)
+
+-- one more edge of the set
+pub edges_at-more : (es : List Edge) (set : List Bool) (n v : ℕ) (e : Edge) → slice_get es n ≡ Some e → slice_get set n ≡ Some true →
+    edges_at (take (suc n) es) set v ≡ edges_at (take n es) set v + end_count v e
+edges_at-more [] set n v e at within = absurd cc
+edges_at-more (x ∷ es) [] n v e at within = absurd cc
+edges_at-more (x ∷ es) (true ∷ set) zero v e at within =
+    omega (arith, ap (end_count v) (same_Some x e at))
+edges_at-more (x ∷ es) (false ∷ set) zero v e at within = absurd cc
+edges_at-more (x ∷ es) (true ∷ set) (suc n) v e at within = omega (arith, edges_at-more es set n v e at within)
+edges_at-more (x ∷ es) (false ∷ set) (suc n) v e at within = edges_at-more es set n v e at within
+
+-- one more edge that isn't of the set
+pub edges_at-kept : (es : List Edge) (set : List Bool) (n v : ℕ) → slice_get set n ≡ Some false →
+    edges_at (take (suc n) es) set v ≡ edges_at (take n es) set v
+edges_at-kept [] set zero v out = refl
+edges_at-kept [] set (suc n) v out = refl
+edges_at-kept (x ∷ es) [] n v out = absurd cc
+edges_at-kept (x ∷ es) (true ∷ set) zero v out = absurd cc
+edges_at-kept (x ∷ es) (false ∷ set) zero v out = refl
+edges_at-kept (x ∷ es) (true ∷ set) (suc n) v out = omega (arith, edges_at-kept es set n v out)
+edges_at-kept (x ∷ es) (false ∷ set) (suc n) v out = edges_at-kept es set n v out
+
+-- an edge of the set that ends at the vertex
+pub record IsMeeting (es : List Edge) (set : List Bool) (v : ℕ) : Type 0 where
+  pub number : ℕ
+  pub edge : Edge
+  pub at : slice_get es number ≡ Some edge
+  pub within : slice_get set number ≡ Some true
+  pub ends : EndsAt v edge
+
+meeting_later : (x : Edge) (flag : Bool) (es : List Edge) (set : List Bool) (v : ℕ) → IsMeeting es set v → IsMeeting (x ∷ es) (flag ∷ set) v
+meeting_later x flag es set v m = record { number = suc m.number; edge = m.edge; at = m.at; within = m.within; ends = m.ends }
+
+-- where one is counted, there is one
+pub meeting : (es : List Edge) (set : List Bool) (v : ℕ) → 0 < edges_at es set v → IsMeeting es set v
+meeting [] set v some = absurd (omega arith)
+meeting (e ∷ es) [] v some = absurd (omega arith)
+meeting (e ∷ es) (false ∷ set) v some = meeting_later e false es set v (meeting es set v some)
+meeting (e ∷ es) (true ∷ set) v some =
+    ⊎_elim
+    (λ (at : EndsAt v e × (end_count v e ≡ 1)). record { number = 0; edge = e; at = refl; within = refl; ends = at.0 })
+    (λ (none : end_count v e ≡ 0). meeting_later e true es set v (meeting es set v (omega arith)))
+    (end_count-cases v e)
+
+-- no more are counted than were gone over
+pub edges_at-le_seen : (es : List Edge) (set : List Bool) (n v : ℕ) → edges_at (take n es) set v ≤ n
+edges_at-le_seen es set n v = omega (arith, edges_at-le (take n es) set v, length-take n es)
+
+-- .. as a loop writes the next number
+pub counted_more : (es : List Edge) (set : List Bool) (n v count : ℕ) (e : Edge) → slice_get es n ≡ Some e → slice_get set n ≡ Some true →
+    count ≡ edges_at (take n es) set v → count + end_count v e ≡ edges_at (take (n + 1) es) set v
+counted_more es set n v count e at within is = rw add-one (omega (arith, edges_at-more es set n v e at within))
+
+pub counted_kept : (es : List Edge) (set : List Bool) (n v count : ℕ) → slice_get set n ≡ Some false →
+    count ≡ edges_at (take n es) set v → count ≡ edges_at (take (n + 1) es) set v
+counted_kept es set n v count out is = rw add-one (omega (arith, edges_at-kept es set n v out))
+
+-- what was read of the counts is the count
+pub count_read : (counts : List ℕ) (v read : ℕ) → v < length counts → read ≡ get_or counts v read → read ≡ get_or counts v 0
+count_read counts v read within is =
+    is ∙ same_Some (get_or counts v read) (get_or counts v 0) (sym (slice_get-get_or counts v read within) ∙ slice_get-get_or counts v 0 within)

@@ -1,0 +1,35 @@
+-- One more vertex, which is a candidate or isn't.
+use Rattle.std.proofs.Common.{◌≡◌, ◌<◌, true, false, length, sym, ◌∙◌, arith}
+use Rattle.branch.specs.Meeting.{edges_at}
+use Rattle.branch.proofs.CandidateLemmas.{gathered_more, gathered_kept, no_vertex}
+use Rattle.branch.proofs.MeetingLemmas.{count_read}
+use Rattle.branch.proofs.split_choice.undecided_vertices.Goals as goal
+use Rattle.branch.proofs.split_choice.undecided_vertices.Goals.{then-size-gt0+then-vertex_undecided+in_ok-push, else-size-gt0, else-size-gt0-via-then-size-gt0+else-vertex_undecided, else-size-gt0-via-else-size-gt0}
+
+pub loop-v-preserved : goal.loop-v-preserved
+loop-v-preserved c =
+    let below : c.loop-v.v < c.args.g.now.vertices = omega arith in
+    let size = c.in_ok-counts.ensures.size in
+    let within : c.loop-v.v < length c.in_ok-counts.counts.items = omega arith in
+    let read = count_read c.in_ok-counts.counts.items c.loop-v.v c.index-size.result.now within c.index-size.ensures in
+    let count = c.in_ok-counts.ensures.counts c.loop-v.v below in
+    let sized : c.index-size.result.now ≡ edges_at c.args.g.now.edges c.args.network.now c.loop-v.v = read ∙ count in
+    elim c.if-size-gt0.branch [
+      | then-size-gt0+then-vertex_undecided+in_ok-push w ↦
+          rw (w.list-is, w.in_ok-push.ensures.items)
+          (gathered_more _ _ _ _ _ c.loop-v.invariant (record {
+            undecided = w.vertex_undecided.ensures.0 w.if-vertex_undecided.true;
+            some = let from = w.from.ensures in omega arith;
+            size = let from = w.from.ensures in omega arith;
+          }))
+      | else-size-gt0 w ↦ rw w.list-is (gathered_kept _ _ _ _ c.loop-v.invariant (
+          elim w.else-size-gt0.branch [
+            | else-size-gt0-via-then-size-gt0+else-vertex_undecided v ↦ λ sought.
+                let yes = v.vertex_undecided.ensures.1 sought.1 in
+                let no : true ≡ false = sym yes ∙ v.if-vertex_undecided.false in absurd cc
+            | else-size-gt0-via-else-size-gt0 v ↦ λ sought. let some = sought.0 in let none = v.if-size-gt0 in absurd (omega arith)
+          ]))
+    ]
+
+pub returns-clause-every : goal.returns-clause-every
+returns-clause-every c = no_vertex _ _ _ _ _ c.loop-v.invariant (omega arith)

@@ -1,0 +1,5 @@
+use Rattle.cert_check.proofs.lemmas.Upgrading.{upgraded_verdict}
+use Rattle.cert_check.proofs.law.upgrading_keeps_verdict.Goals as goal
+
+pub returns : goal.returns
+returns c = upgraded_verdict c.one_reading.ensures

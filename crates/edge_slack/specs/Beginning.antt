@@ -1,0 +1,14 @@
+-- What the bounds of edges may begin with.
+use Rattle.std.specs.Prelude.{◌≡◌}
+use Rattle.net_graph.specs.Graph.{Graph}
+use Rattle.net_graph.specs.Decision.{IsDecisionFor, nothing_decided, states_of}
+use Rattle.net_graph.specs.Packing.{IsFeasible}
+use Rattle.dual_ascent.specs.Costs.{costs_of}
+use Rattle.edge_slack.specs.declared.beginning.Beginning.{Beginning}
+
+-- the decision that decides nothing, a packing that is feasible under it, and what this leaves of the rooms of all arcs
+pub record IsBeginning (g : Graph) (b : Beginning) : Type 0 where
+  pub nothing : b.decision ≡ nothing_decided g
+  pub decides : IsDecisionFor g b.decision
+  pub feasible : IsFeasible g b.decision b.packing
+  pub left : b.costs ≡ costs_of g.edges (states_of g b.decision) b.packing

@@ -1,0 +1,104 @@
+//! Running the rows of tables.
+
+use crate::fault::{Fault, TableFault};
+use crate::section::{Section, sections_of};
+use rst_outside::{DirShelf, Shelf, take_named};
+use std::alloc::Global;
+use std::process::ExitCode;
+use std::str::from_utf8;
+use std::{env, io};
+
+/// The greatest number of bytes of a table.
+const LIMIT: u64 = 1 << 26;
+
+/// Reads the sections of tables, one after the other, and runs the rows that they describe.
+pub trait RowRunner {
+    /// A row.
+    type Row: Drop;
+
+    /// Begins a table: no row is open.
+    fn begin(&mut self);
+
+    /// Takes a section, and gives the row that it ends.
+    fn take(&mut self, section: Section<'_>) -> Result<Option<Self::Row>, Fault>;
+
+    /// Ends a table: no row may be open.
+    fn end(&self) -> Result<(), Fault>;
+
+    /// Runs a row, adds its lines to the report, `ok` or what differs, and tells whether nothing does.
+    fn run(&mut self, alloc: Global, row: &Self::Row, report: &mut String) -> Result<bool, Fault>;
+}
+
+/// Runs the rows of the tables that the words of the program name, prints their lines, and gives the status: 1 where a
+/// row differs, or a table cannot be read or has a fault.
+pub fn run_tables<R: RowRunner>(rt: &HostRuntime, runner: &mut R) -> io::Result<ExitCode> {
+    let mut shelf = DirShelf::new(rt);
+    let mut all_well = true;
+    for name in env::args(rt)?.skip(1) {
+        let is_well = runs_well(rt, &mut shelf, runner, name.as_str())?;
+        all_well = all_well && is_well;
+    }
+    Ok(if all_well {
+        ExitCode::SUCCESS
+    } else {
+        ExitCode::FAILURE
+    })
+}
+
+/// Runs the rows of the table in a file, prints their lines, and tells whether all is well.
+fn runs_well<S: Shelf, R: RowRunner>(
+    rt: &HostRuntime,
+    shelf: &mut S,
+    runner: &mut R,
+    name: &str,
+) -> io::Result<bool> {
+    let alloc = rt.alloc();
+    let Ok(table) = take_named(alloc, shelf, name, LIMIT) else {
+        println!(rt; "{name}: cannot be read")?;
+        return Ok(false);
+    };
+    let mut report = String::new(alloc);
+    let outcome = run_table(alloc, runner, &table, &mut report);
+    print!(rt; "{report}")?;
+    match outcome {
+        Ok(is_well) => Ok(is_well),
+        Err(fault) => {
+            println!(rt; "{name}: {fault}")?;
+            Ok(false)
+        }
+    }
+}
+
+/// Runs the rows of a table, adds their lines to the report, and tells whether nothing differs. The first fault of the
+/// table, or of a row, ends the run; the rows before it are in the report.
+pub fn run_table<R: RowRunner>(
+    alloc: Global,
+    runner: &mut R,
+    table: &[u8],
+    report: &mut String,
+) -> Result<bool, TableFault> {
+    let table = from_utf8(table).map_err(|_| Fault::NotUtf8.at(1))?;
+    runner.begin();
+    let mut is_well = true;
+    let mut line = 0;
+    for section in sections_of(alloc, table)? {
+        line = section.line;
+        let is_ok = runs_on(alloc, runner, section, report).map_err(|fault| fault.at(line))?;
+        is_well = is_well && is_ok;
+    }
+    runner.end().map_err(|fault| fault.at(line))?;
+    Ok(is_well)
+}
+
+/// Takes a section, runs the row that it ends, if it ends one, and tells whether nothing differs.
+fn runs_on<R: RowRunner>(
+    alloc: Global,
+    runner: &mut R,
+    section: Section<'_>,
+    report: &mut String,
+) -> Result<bool, Fault> {
+    match runner.take(section)? {
+        Some(row) => runner.run(alloc, &row, report),
+        None => Ok(true),
+    }
+}

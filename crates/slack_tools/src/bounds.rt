@@ -1,0 +1,133 @@
+//! The bounds of a grid's edges.
+
+ghost use Rattle.std.specs.Prelude.{◌≡◌, ◌<◌, ◌≤◌, ◌^◌, length, IfOk, IfSome};
+ghost use Rattle.net_graph.specs.Graph.{total_of};
+ghost use Rattle.net_graph.specs.Packing.{packing_value};
+ghost use Rattle.hanan_grid.specs.Grid.{hanan_grid_of};
+ghost use Rattle.dual_ascent.specs.Choosing.{IsCallableOnSome, AnswersAPlace};
+ghost use Rattle.edge_slack.specs.Beginning.{IsBeginning};
+ghost use Rattle.edge_slack.specs.EdgeBound.{edge_taken_in};
+ghost use Rattle.slack_tools.specs.Bounds.{BoundsEdge, AreEdgeBounds};
+
+use dual_ascent::{Candidate, Chooser, Rule};
+use edge_slack::{Beginning, carried_edge_bound, edge_bound, taking_in};
+use hanan_grid::Grid;
+use net_graph::{NetGraph, Packing, value};
+use search_rules::{AscentRule, ascent_place};
+use std::alloc::{AllocError, Global};
+
+/// For each edge of the grid, by its number, the value of a packing that takes the edge in and decides nothing else, of
+/// an ascent by the rule. An `Err` is want of memory.
+pub(crate) fn edge_bounds(
+    alloc: Global,
+    grid: &Grid,
+    rule: AscentRule,
+) -> Result<Vec<u64>, AllocError>
+    ensures { IfOk result (λ bounds. AreEdgeBounds (hanan_grid_of grid.now) bounds.items) }
+{
+    bounds_by(
+        alloc,
+        grid,
+        |list: &[Candidate]| -> usize
+            requires { 0 < length list.now }
+            ensures { result < length list.now }
+        { ascent_place(rule, list) },
+    )
+}
+
+// The same by any rule. Of each packing only the value is kept.
+fn bounds_by<F: Rule>(alloc: Global, grid: &Grid, rule: F) -> Result<Vec<u64>, AllocError>
+    requires callable { IsCallableOnSome (F.may_choose rule) }
+    requires place { AnswersAPlace (F.chooses rule) }
+    ensures { IfOk result (λ bounds. AreEdgeBounds (hanan_grid_of grid.now) bounds.items) }
+{
+    let chooser = Chooser::new(rule);
+    let start = Beginning::of(alloc, grid.graph(), &chooser)?;
+    bounds_from(alloc, grid, &start, &chooser)
+}
+
+// The same where there may be a packing with which a second ascent of each edge begins.
+fn bounds_from<F: Rule>(
+    alloc: Global,
+    grid: &Grid,
+    start: &Option<Beginning>,
+    chooser: &Chooser<F>,
+) -> Result<Vec<u64>, AllocError>
+    requires { IfSome start.now (IsBeginning (hanan_grid_of grid.now)) }
+    ensures { IfOk result (λ bounds. AreEdgeBounds (hanan_grid_of grid.now) bounds.items) }
+{
+    let mut bounds = Vec::new(alloc);
+    for edge in 0..grid.graph().edge_count() {
+        bounds.push(bound_of(alloc, grid, edge, start, chooser)?)?;
+    }
+    Ok(bounds)
+}
+
+// The greater of two bounds of an edge: of an ascent from no cut, and of one that begins with the cuts which the first
+// packing carries. An `Err` is want of memory.
+fn bound_of<F: Rule>(
+    alloc: Global,
+    grid: &Grid,
+    edge: u32,
+    start: &Option<Beginning>,
+    chooser: &Chooser<F>,
+) -> Result<u64, AllocError>
+    requires edge { edge < length (hanan_grid_of grid.now).edges }
+    requires start { IfSome start.now (IsBeginning (hanan_grid_of grid.now)) }
+    ensures { IfOk result (BoundsEdge (hanan_grid_of grid.now) edge) }
+{
+    let plain = plain_bound(alloc, grid, edge, chooser)?;
+    match start {
+        Some(start) => Ok(plain.max(carried_bound(alloc, grid, edge, start, chooser)?)),
+        None => Ok(plain),
+    }
+}
+
+// The value of the packing of an ascent from no cut that takes the edge in. An `Err` is want of memory.
+fn plain_bound<F: Rule>(
+    alloc: Global,
+    grid: &Grid,
+    edge: u32,
+    chooser: &Chooser<F>,
+) -> Result<u64, AllocError>
+    requires { edge < length (hanan_grid_of grid.now).edges }
+    ensures { IfOk result (BoundsEdge (hanan_grid_of grid.now) edge) }
+{
+    let graph = grid.graph();
+    let packing = edge_bound(alloc, graph, edge, chooser)?;
+    value_of(alloc, graph, edge, &packing)
+}
+
+// The same of an ascent that begins with the cuts which are carried. An `Err` is want of memory.
+fn carried_bound<F: Rule>(
+    alloc: Global,
+    grid: &Grid,
+    edge: u32,
+    start: &Beginning,
+    chooser: &Chooser<F>,
+) -> Result<u64, AllocError>
+    requires edge { edge < length (hanan_grid_of grid.now).edges }
+    requires start { IsBeginning (hanan_grid_of grid.now) start.now }
+    ensures { IfOk result (BoundsEdge (hanan_grid_of grid.now) edge) }
+{
+    let graph = grid.graph();
+    let packing = carried_edge_bound(alloc, graph, edge, start, chooser)?;
+    value_of(alloc, graph, edge, &packing)
+}
+
+// The value of a packing where the edge is taken in and nothing else decided. An `Err` is want of memory.
+fn value_of(
+    alloc: Global,
+    graph: &NetGraph,
+    edge: u32,
+    packing: &Packing,
+) -> Result<u64, AllocError>
+    requires edge { edge < length graph.now.edges }
+    requires few { length packing.now ≤ 2 ^ 32 }
+    requires within { packing_value graph.now (edge_taken_in graph.now edge) packing.now ≤ total_of graph.now }
+    requires fits { total_of graph.now < 2 ^ 64 }
+    ensures { IfOk result (λ v. v ≡ packing_value graph.now (edge_taken_in graph.now edge) packing.now) }
+{
+    let decision = taking_in(alloc, graph, edge)?;
+    Ok(value(graph, &decision, packing) as u64)
+}

@@ -1,0 +1,34 @@
+//! The bounds of a grid's edges, as an answer of a tool.
+
+ghost use Rattle.slack_tools.specs.SlackAnswer.{answer_text, answer_status, HasEachBound};
+
+use crate::write::write_slack;
+use frame::{Answer, AnswerStatus};
+use hanan_grid::Grid;
+use rst_outside::{PutFault, Sink};
+
+/// A bound for each edge of a grid, of which those above a threshold are printed, or all where there is none.
+#[derive(Debug, Drop)]
+pub(crate) struct SlackAnswer {
+    pub grid: Grid,
+    pub above: Option<u64>,
+    pub bounds: Vec<u64>,
+}
+
+impl Answer for SlackAnswer {
+    ghost text = { answer_text };
+
+    ghost status = { answer_status };
+
+    ghost fits = { HasEachBound };
+
+    ghost told = { λ _. Unit {0} };
+
+    fn status(&self) -> AnswerStatus {
+        AnswerStatus::Done
+    }
+
+    fn write<O: Sink>(&self, out: &mut O) -> Result<(), PutFault> {
+        write_slack(out, &self.grid, self.above, self.bounds.as_slice())
+    }
+}

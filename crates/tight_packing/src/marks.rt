@@ -1,0 +1,37 @@
+//! Marks on arcs.
+
+use cut_groups::{at, set};
+use std::alloc::{AllocError, Global};
+
+/// A set of arcs that is emptied at once.
+#[derive(Drop)]
+pub struct Marks {
+    // The number of the set in which each arc was put last.
+    put: Vec<u64>,
+    number: u64,
+}
+
+impl Marks {
+    /// The empty set among so many arcs. An `Err` is want of memory.
+    pub fn none(alloc: Global, arcs: u32) -> Result<Marks, AllocError> {
+        Ok(Marks {
+            put: vec![in alloc; 0; arcs as usize]?,
+            number: 0,
+        })
+    }
+
+    /// Makes it the set of some arcs.
+    #[inline]
+    pub fn mark(&mut self, arcs: &[u32]) {
+        self.number = self.number.wrapping_add(1);
+        for arc in arcs {
+            set(&mut self.put, *arc, self.number);
+        }
+    }
+
+    /// Whether an arc is in the set.
+    #[inline]
+    pub fn has(&self, arc: u32) -> bool {
+        at(&self.put, arc, 0) == self.number
+    }
+}
