@@ -5,6 +5,7 @@ use Rattle.cut_cert.specs.AnswerLine.{Line}
 use Rattle.cut_cert.specs.LineKinds as line
 use Rattle.cut_cert.specs.Spelling.{SpellsAnswer}
 use Rattle.cut_cert.specs.Value.{WrittenAnswer}
+pub use Rattle.cut_cert.specs.Value.{upgraded}
 use Rattle.answer_upgrade.specs.declared.change.Change.{Change}
 use Rattle.answer_upgrade.specs.declared.change.Change.TheVariants as change
 
