@@ -12,7 +12,7 @@ use Rattle.cut_cert.specs.declared.version.Version.TheVariants as version
 use Rattle.cut_cert.specs.Value.{WrittenAnswer}
 use Rattle.cut_cert.specs.AnswerLine.{Line}
 use Rattle.cut_cert.specs.LineKinds as line
-use Rattle.cut_cert.specs.Words.{set_text, status_word, concat_word, version_word, name_words, point_words}
+use Rattle.cut_cert.specs.Words.{set_text, status_word, concat_word, name_words}
 use Rattle.cut_cert.specs.Lines.{line_bytes, line_text, lines_text, head_lines, network_lines, proof_lines, tree_lines, answer_lines}
 
 -- the text of lines and of one more

@@ -1,5 +1,5 @@
 -- The lines of a network's edges, one flag after another.
-use Rattle.std.proofs.Common.{arith, ℕ, ◌≡◌, ◌+◌, ◌<◌, Bool, true, false, cond, List, [], ◌∷◌, ◌++◌, length, take, refl, ap, sym, ◌∙◌, length-append}
+use Rattle.std.proofs.Common.{ℕ, ◌≡◌, ◌+◌, ◌<◌, Bool, true, false, cond, List, [], ◌∷◌, ◌++◌, length, take, refl, ap, sym, ◌∙◌, length-append}
 use Rattle.std.specs.Prelude.{All, map}
 use Rattle.std.proofs.lemmas.List.{append-nil, map-append, length-map}
 use Rattle.std.proofs.lemmas.List.Elements.{All-push, All-same}
@@ -7,7 +7,6 @@ use Rattle.points_in.specs.declared.point.Point.{Point}
 use Rattle.net_graph.specs.Flags.{has}
 use Rattle.net_graph.specs.Members.{members_of}
 use Rattle.net_graph.specs.MembersLaws.{members_of-more}
-use Rattle.hanan_grid.specs.declared.name.EdgeName.{EdgeName}
 use Rattle.hanan_grid.specs.Names.{name_of_edge}
 use Rattle.cut_cert.specs.LineKinds as line
 use Rattle.cut_cert.specs.Lines.{line_text, lines_text}

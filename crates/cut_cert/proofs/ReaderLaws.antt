@@ -32,7 +32,7 @@ use Rattle.cut_cert.proofs.ReadSoFar.{read_none, read_more, fits_more}
 use Rattle.cut_cert.proofs.ReadLaws.{begins_answer, begun_events, read_whole, stops, stops_unended, stops_at_line, answer_front, front_cases, due_line, no_answer}
 use Rattle.cut_cert.proofs.LineTexts.{line_feeds-append, line_feeds-lacks, line_feeds-lines}
 use Rattle.cut_cert.proofs.Steps.{step-done}
-use Rattle.cut_cert.proofs.Machine.{run-append}
+use Rattle.cut_cert.proofs.Machine.{run-append, answer_value}
 use Rattle.cut_cert.proofs.ScanLines.{start_due, start_left, start_sound, start_ended, some_left, underway, underway-sound, underway-open}
 
 -- ---- the first byte is due
@@ -111,9 +111,11 @@ reads_run V bytes events more old new r on line fed =
       lines = lines;
       unended = All-append (λ c. c ≢ 10) r.begun more r.unended run.within;
       due = λ rest l h.
-          let read = r.due (more ++ rest) l (run.leads.back rest l h) in
-          (read.0, subst (λ x. Read new.kept.version new.kept.stage x l read.0) (sym (append_assoc r.begun more rest))
-          (subst (λ v. Read v new.kept.stage (r.begun ++ (more ++ rest)) l read.0) (sym run.version) (subst (λ s. Read old.kept.version s (r.begun ++ (more ++ rest)) l read.0) (sym run.stage) read.1)));
+          let read = r.due (more ++ rest) l (run.leads.back rest l h) in (
+            read.0,
+            subst (λ x. Read new.kept.version new.kept.stage x l read.0) (sym (append_assoc r.begun more rest))
+                (subst (λ v. Read v new.kept.stage (r.begun ++ (more ++ rest)) l read.0) (sym run.version) (subst (λ s. Read old.kept.version s (r.begun ++ (more ++ rest)) l read.0) (sym run.stage) read.1)),
+          );
       left = λ rest l s' read.
           run.leads.on rest l (r.left (more ++ rest) l s' (subst (λ s. Read old.kept.version s (r.begun ++ (more ++ rest)) l s') run.stage
           (subst (λ v. Read v new.kept.stage (r.begun ++ (more ++ rest)) l s') run.version (subst (λ x. Read new.kept.version new.kept.stage x l s') (append_assoc r.begun more rest) read))));
@@ -262,6 +264,15 @@ ended_whole V bytes events reader r is =
     let both = r.at_end is in
     let text : bytes ≡ lines_text so_far.lines = so_far.text ∙ ap (λ x. lines_text so_far.lines ++ x) both.1 ∙ append-nil (lines_text so_far.lines) in
     subst (λ es. IsReadWhole V bytes es) (sym so_far.told) (read_whole V so_far.lines bytes (so_far.due ∙ ap Some both.0) so_far.fits text)
+
+-- the head was read then
+pub ended_headed : (V : ℕ) (bytes : List ℕ) (events : List AnswerEvent) (reader : EventReader) → Reads V bytes events reader → reader.scan ≡ scan.Ended → 6 < reader.line
+ended_headed V bytes events reader r is =
+    let so_far = r.lines in
+    let told = answer_value V so_far.lines (so_far.due ∙ ap Some (r.at_end is).0) so_far.fits in
+    let count = ap length told.lines in
+    let number = so_far.count in
+    omega arith
 
 -- nothing is due behind the end
 done_dead : (v : Version) (V : ℕ) (s s' : Stage) (bytes : List ℕ) (l : Line) → IsLineRead v V s bytes l s' → s ≡ stage.Done → ⊥

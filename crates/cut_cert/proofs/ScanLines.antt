@@ -319,7 +319,6 @@ behind_corner_some k corner.X2 z name fits =
 behind_corner_some k corner.Y2 z name fits =
     let e : EdgeName = record { x1 = k.name.x1; y1 = k.name.y1; x2 = k.name.x2; y2 = z } in
     ([], name_line k.version k.stage e, record { name = e; fits = record { x1 = name.x1; y1 = name.y1; x2 = name.x2; y2 = fits }; same = (refl, refl, refl, refl); text = refl; line = refl })
-
 behind_corner_some k corner.X z name fits =
     let e : EdgeName = record { x1 = z; y1 = k.name.y1; x2 = k.name.x2; y2 = k.name.y2 } in
     (32 ∷ signed_decimal e.y1, corner_line k corner.X e, record { name = e; fits = record { x1 = fits; y1 = name.y1; x2 = name.x2; y2 = name.y2 }; same = refl; text = refl; line = refl })

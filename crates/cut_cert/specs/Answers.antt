@@ -35,7 +35,12 @@ names_of ps numbers = map (name_of_edge ps) numbers
 
 -- what the text of an answer tells, on the grid of these terminals: it is of version 2
 abbrev pub value_of : List Point → Answer → WrittenAnswer
-value_of ps a = record { version = version.Two; head = a.head; edges = names_of ps (members_of a.network); tree = named ps a.tree }
+value_of ps a = record {
+  version = version.Two;
+  head = a.head;
+  edges = names_of ps (members_of a.network);
+  tree = named ps a.tree;
+}
 
 -- a cut weighs at least 1, and its set is one of the graph's vertices
 pub record IsCutOn (g : Graph) (c : Cut) : Type 0 where

@@ -49,4 +49,5 @@ pub record IsLineRead (v : Version) (V : ℕ) (s : Stage) (bytes : List ℕ) (l 
 
 -- these bytes are no line that is due
 abbrev pub IsNoLine : Version → ℕ → Stage → List ℕ → Type 0
-IsNoLine v V s bytes = (l : Line) (s' : Stage) → FitsLine (version_with v l) V l → step s l ≡ Some s' → bytes ≡ line_bytes l → ⊥
+IsNoLine v V s bytes = (l : Line) (s' : Stage) →
+    FitsLine (version_with v l) V l → step s l ≡ Some s' → bytes ≡ line_bytes l → ⊥

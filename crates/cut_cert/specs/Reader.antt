@@ -30,12 +30,13 @@ set_read reader = reader.kept.members
 -- is what was read of it, and what may follow makes it a line that is due.
 pub record Reads (V : ℕ) (bytes : List ℕ) (events : List AnswerEvent) (reader : EventReader) : Type 0 where
   pub begun : List ℕ
-  pub lines : ReadSoFar V bytes begun reader.kept.stage reader.kept.version reader.head reader.line events
+  pub lines : ReadSoFar V bytes begun reader.kept.stage reader.kept.version reader.head reader.line
+      events
   pub unended : Lacks begun 10
   pub due : (rest : List ℕ) (l : Line) → Left reader.kept reader.scan rest l
       → (s' : Stage) × IsLineRead reader.kept.version V reader.kept.stage (begun ++ rest) l s'
-  pub left : (rest : List ℕ) (l : Line) (s' : Stage) → IsLineRead reader.kept.version V reader.kept.stage (begun ++ rest) l s'
-      → Left reader.kept reader.scan rest l
+  pub left : (rest : List ℕ) (l : Line) (s' : Stage)
+      → IsLineRead reader.kept.version V reader.kept.stage (begun ++ rest) l s' → Left reader.kept reader.scan rest l
   pub sound : IsSound reader.kept reader.scan
   pub name : FitsName reader.kept.name
   pub at_end : reader.scan ≡ scan.Ended → (reader.kept.stage ≡ stage.Done) × (begun ≡ [])
@@ -55,7 +56,8 @@ pub record BeginsWith (V : ℕ) (bytes : List ℕ) (events : List AnswerEvent) :
 
 -- this is the version of each answer that begins with the bytes
 abbrev pub TellsVersion : ℕ → List ℕ → ℕ → Type 0
-TellsVersion V bytes n = (rest : List ℕ) (answer : WrittenAnswer) → SpellsAnswer V (bytes ++ rest) answer → n ≡ version_number answer.version
+TellsVersion V bytes n = (rest : List ℕ) (answer : WrittenAnswer) →
+    SpellsAnswer V (bytes ++ rest) answer → n ≡ version_number answer.version
 
 -- with this byte the bytes cease to begin an answer, in the line n: whatever follows, they stop there
 pub record CeasesAt (V : ℕ) (bytes : List ℕ) (byte n : ℕ) (events : List AnswerEvent) : Type 0 where

@@ -1,5 +1,6 @@
 -- What is still due of a line: the bytes that may follow those that were read of it, and the line that they make.
-use Rattle.std.specs.Prelude.{ℕ, suc, zero, ◌≡◌, ◌<◌, ◌≤◌, ◌+◌, ◌*◌, ◌/◌, ◌^◌, ◌⊎◌, ℤ, pos, negsuc, Bool, true, false, List, [], ◌∷◌, ◌++◌, length, drop, codes, Option, Some}
+use Rattle.std.specs.Prelude.{ℕ, suc, zero, ◌≡◌, ◌<◌, ◌≤◌, ◌+◌, ◌*◌, ◌/◌, ◌^◌, ◌⊎◌, ℤ, pos, negsuc, Bool, true, false}
+use Rattle.std.specs.Prelude.{List, [], ◌∷◌, ◌++◌, length, drop, codes, Option, Some}
 use Rattle.std.specs.Fmt.{decimal, signed_decimal}
 use Rattle.spelled.specs.Words.{Lacks}
 use Rattle.net_graph.specs.Flags.{has}
@@ -280,7 +281,8 @@ IsFork s = ⊥
 abbrev pub IsDead : Kept → Scan → ℕ → Type 0
 IsDead k s byte = (rest : List ℕ) (l : Line) → Left k s (byte ∷ rest) l → ⊥
 
--- where a state is kept to, a byte leads to the next, which is kept to as well, and nothing else of what is kept changes
+-- where a state is kept to, a byte leads to the next, which is kept to as well, and nothing else of what is kept
+-- changes
 pub record IsNext (k : Kept) (s : Scan) (byte : ℕ) (k' : Kept) (s' : Scan) : Type 0 where
   pub leads : LeadsTo k s byte k' s'
   pub sound : IsUnderway k' s'

@@ -34,7 +34,7 @@ pub struct EventReader {
 
 impl EventReader {
     ghost use Rattle.std.specs.Prelude.{ℕ, ◌≡◌, ◌≢◌, ◌+◌, ◌-◌, ◌<◌, ◌≤◌, ◌^◌, false, List, [], ◌∷◌, ◌++◌, length};
-    ghost use Rattle.std.specs.Prelude.{take, replicate, MatchBool, Err, IfOk, IfErr, None, IfSome, IfNone};
+    ghost use Rattle.std.specs.Prelude.{take, replicate, IsTrue, MatchBool, Err, IfOk, IfErr, None, IfSome, IfNone};
     ghost use Rattle.cut_cert.specs.declared.event.AnswerEvent.{AnswerEvent};
     ghost use Rattle.cut_cert.specs.Reading.{IsReadWhole, StopsAt, line_feeds};
     ghost use Rattle.cut_cert.specs.Given.{given};
@@ -191,6 +191,8 @@ impl EventReader {
     pub fn ended(&self) -> bool
         ensures reads { (V : ℕ) (bytes : List ℕ) (events : List AnswerEvent) → Reads V bytes events self.now →
             MatchBool result (IsReadWhole V bytes events) (StopsAt V bytes (line_due self.now) events) }
+        ensures headed { IsTrue result → (V : ℕ) (bytes : List ℕ) (events : List AnswerEvent) →
+            Reads V bytes events self.now → 6 < line_due self.now }
         ensures refused { (n : ℕ) → Refuses self.now n → result ≡ false }
     {
         matches!(self.scan, Scan::Ended)

@@ -6,7 +6,8 @@ ghost use Rattle.text_out.specs.Gathers.{Gathers};
 ghost use Rattle.net_graph.specs.Flags.{has};
 ghost use Rattle.cut_cert.specs.declared.version.Version.TheVariants as version_of;
 ghost use Rattle.cut_cert.specs.LineKinds as line_of;
-ghost use Rattle.cut_cert.specs.Lines.{head_lines, leaf_lines, line_text, lines_text, result_lines, search_lines, split_line};
+ghost use Rattle.cut_cert.specs.Lines.{head_lines, leaf_lines, line_text, lines_text};
+ghost use Rattle.cut_cert.specs.Lines.{result_lines, search_lines, split_line};
 ghost use Rattle.cut_cert.specs.SetLaws.{digit_in_word};
 ghost use Rattle.cut_cert.specs.Spelling.{FitsHead, FitsWeight};
 ghost use Rattle.cut_cert.specs.Words.{concat_word, set_text, status_word};
@@ -93,7 +94,9 @@ fn write_status<S: Sink>(block: &mut Block, sink: &mut S, optimal: bool)
 // The line of the note on the concatenation.
 #[tactic(auto, using(text_out::specs::GatherLaws::pieces))]
 fn write_concat<S: Sink>(block: &mut Block, sink: &mut S, note: &ConcatNote)
-    ensures text { Gathers (S.state sink.old) block.old (line_text (line_of.Concat note.now)) (S.state sink.new) block.new }
+    ensures text { Gathers (S.state sink.old) block.old
+        (line_text (line_of.Concat note.now))
+        (S.state sink.new) block.new }
     ensures total { note.now.total < 2 ^ 128 }
 {
     literal(block, sink, b"concat ");

@@ -1,4 +1,4 @@
-use Rattle.std.proofs.Common.{◌≡◌, ◌+◌, ◌++◌, length, take, ◌∙◌, ap, arith}
+use Rattle.std.proofs.Common.{◌+◌, ◌++◌, length, take, ◌∙◌, ap, arith}
 use Rattle.std.proofs.lemmas.List.{take_all}
 use Rattle.hanan_grid.specs.Grid.{hanan_grid_of}
 use Rattle.cut_cert.specs.declared.version.Version.TheVariants as version

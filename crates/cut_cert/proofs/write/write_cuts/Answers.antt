@@ -1,5 +1,4 @@
 use Rattle.std.proofs.Common.{◌++◌, map, take, ap, ◌∙◌, subst}
-use Rattle.std.proofs.lemmas.List.{take_all}
 use Rattle.std.proofs.lemmas.List.Elements.{All-more}
 use Rattle.text_out.specs.GatherLaws.{gathers_two}
 use Rattle.cut_cert.specs.LineKinds as line

@@ -1,0 +1,3 @@
+pub mod LineChanges
+pub mod StoppedBytes
+pub mod UpgradedLines

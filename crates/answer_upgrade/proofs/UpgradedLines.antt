@@ -1,0 +1,109 @@
+-- The lines of an answer in version 2 are what its lines become.
+use Rattle.std.proofs.Common.{ℕ, ◌≡◌, List, [], ◌∷◌, ◌++◌, length, map, refl, sym, ap, ◌∙◌, arith, append_assoc, length-append}
+use Rattle.std.proofs.lemmas.List.{append-nil, map-append}
+use Rattle.std.proofs.lemmas.List.Concat.{flat_map-append}
+use Rattle.spelled.specs.Words.{Lacks}
+use Rattle.spelled.specs.Fronts.{front_unique, separator_missing}
+use Rattle.net_graph.specs.declared.packing.Cut.{Cut}
+use Rattle.hanan_grid.specs.declared.name.EdgeName.{EdgeName}
+use Rattle.cert_tree.specs.Tree.{Tree}
+use Rattle.cert_tree.specs.Tree.Tree.{Leaf, Split}
+use Rattle.cut_cert.specs.declared.split.SplitName.{SplitName}
+use Rattle.cut_cert.specs.declared.split.SplitName.TheVariants as name
+use Rattle.cut_cert.specs.declared.version.Version.{Version}
+use Rattle.cut_cert.specs.declared.version.Version.TheVariants as version
+use Rattle.cut_cert.specs.AnswerLine.{Line}
+use Rattle.cut_cert.specs.LineKinds as line
+use Rattle.cut_cert.specs.LineFits.{FitsLine, FitsLines, version_with}
+use Rattle.cut_cert.specs.Lines.{line_bytes, line_text, lines_text, split_line, tree_lines, proof_lines, network_lines, head_lines, body_lines, answer_lines}
+use Rattle.cut_cert.specs.Value.{WrittenAnswer}
+use Rattle.answer_upgrade.specs.Upgraded.{upgraded, upgraded_line}
+
+-- ---- the lines of an answer
+
+-- cuts and edges stay
+cuts_stay : (cuts : List Cut) → map upgraded_line (map line.Cut cuts) ≡ map line.Cut cuts
+cuts_stay [] = refl
+cuts_stay (c ∷ cuts) = ap (λ x. line.Cut c ∷ x) (cuts_stay cuts)
+
+edges_stay : (edges : List EdgeName) → map upgraded_line (map line.Edge edges) ≡ map line.Edge edges
+edges_stay [] = refl
+edges_stay (e ∷ edges) = ap (λ x. line.Edge e ∷ x) (edges_stay edges)
+
+-- a split becomes that of version 2
+split_becomes : (v : Version) (on : SplitName) → upgraded_line (split_line v on) ≡ split_line version.Two on
+split_becomes version.One (name.Edge e) = refl
+split_becomes version.Two (name.Edge e) = refl
+split_becomes v (name.Vertex p) = refl
+
+tree_becomes : (v : Version) (t : Tree SplitName) → map upgraded_line (tree_lines v t) ≡ tree_lines version.Two t
+tree_becomes v (Leaf cuts) = ap (λ x. line.Leaf (length cuts) ∷ x) (cuts_stay cuts)
+tree_becomes v (Split on o i) =
+    (λ k. split_becomes v on k ∷ map-append upgraded_line (tree_lines v o) (tree_lines v i) k)
+    ∙ (λ k. split_line version.Two on ∷ (tree_becomes v o k ++ tree_becomes v i k))
+
+proof_becomes : (v : Version) (t : Tree SplitName) → map upgraded_line (proof_lines v t) ≡ proof_lines version.Two t
+proof_becomes v t =
+    ap (λ x. line.Tree ∷ x) (map-append upgraded_line (tree_lines v t) (line.End ∷ []) ∙ ap (λ x. x ++ line.End ∷ []) (tree_becomes v t))
+
+network_stays : (edges : List EdgeName) → map upgraded_line (network_lines edges) ≡ network_lines edges
+network_stays edges = ap (λ x. line.Count (length edges) ∷ x) (edges_stay edges)
+
+pub answer_becomes : (a : WrittenAnswer) → map upgraded_line (answer_lines a) ≡ answer_lines (upgraded a)
+answer_becomes a =
+    map-append upgraded_line (head_lines a.version a.head) (body_lines a)
+    ∙ ap (λ x. head_lines version.Two a.head ++ x)
+    (map-append upgraded_line (network_lines a.edges) (proof_lines a.version a.tree) ∙ (λ k. network_stays a.edges k ++ proof_becomes a.version a.tree k))
+
+-- ---- one line after another
+
+-- the lines that were written and those that are left of a text
+pub record Passed (V : ℕ) (ls : List Line) (rest : List ℕ) : Type 0 where
+  pub done : List Line
+  pub left : List Line
+  pub version : Version
+  pub parts : ls ≡ done ++ left
+  pub fits : FitsLines version V left
+  pub text : rest ≡ lines_text left
+
+pub passed_none : (v : Version) (V : ℕ) (ls : List Line) (bytes : List ℕ) → FitsLines v V ls → bytes ≡ lines_text ls → Passed V ls bytes
+passed_none v V ls bytes fits text = record { done = []; left = ls; version = v; parts = refl; fits = fits; text = text }
+
+-- the next line of those that are left
+pub record Next (V : ℕ) (line_read after : List ℕ) (left : List Line) : Type 0 where
+  pub here : Line
+  pub behind : List Line
+  pub version : Version
+  pub parts : left ≡ here ∷ behind
+  pub fits : FitsLine version V here
+  pub fits_behind : FitsLines version V behind
+  pub told : line_read ≡ line_bytes here
+  pub text : after ≡ lines_text behind
+
+pub next_line : (v : Version) (V : ℕ) (left : List Line) (rest line_read after : List ℕ) → ((w : Version) (U : ℕ) (l : Line) → FitsLine w U l → Lacks (line_bytes l) 10)
+    → FitsLines v V left → rest ≡ lines_text left → rest ≡ line_read ++ 10 ∷ after → Lacks line_read 10 → Next V line_read after left
+next_line v V [] rest line_read after lack fits text parts lacks =
+    let short = ap length (sym parts ∙ text) in absurd (omega (arith, length-append line_read (10 ∷ after)))
+next_line v V (m ∷ ms) rest line_read after lack fits text parts lacks =
+    let first = front_unique 10 line_read (line_bytes m) after (lines_text ms) lacks (lack (version_with v m) V m fits.0)
+    (sym parts ∙ text ∙ append_assoc (line_bytes m) (10 ∷ []) (lines_text ms)) in
+    record { here = m; behind = ms; version = version_with v m; parts = refl; fits = fits.0; fits_behind = fits.1; told = first.0; text = first.1 }
+
+-- it is one line more
+pub done_more : (done left behind : List Line) (here : Line) (ls : List Line) → ls ≡ done ++ left → left ≡ here ∷ behind → ls ≡ (done ++ here ∷ []) ++ behind
+done_more done left behind here ls parts is = parts ∙ ap (λ x. done ++ x) is ∙ sym (append_assoc done (here ∷ []) behind)
+
+pub text_more : (done : List Line) (here : Line) → lines_text (map upgraded_line done) ++ line_text (upgraded_line here) ≡ lines_text (map upgraded_line (done ++ here ∷ []))
+text_more done here =
+    ap (λ x. lines_text (map upgraded_line done) ++ x) (sym (append-nil (line_text (upgraded_line here))))
+    ∙ sym (flat_map-append line_text (map upgraded_line done) (upgraded_line here ∷ []))
+    ∙ ap lines_text (sym (map-append upgraded_line done (here ∷ [])))
+
+-- where no line feed is left, no line is
+pub none_left : (left : List Line) (rest : List ℕ) → rest ≡ lines_text left → Lacks rest 10 → left ≡ []
+none_left [] rest text lacks = refl
+none_left (m ∷ ms) rest text lacks =
+    absurd (separator_missing 10 rest (line_bytes m) (lines_text ms) lacks (text ∙ append_assoc (line_bytes m) (10 ∷ []) (lines_text ms)))
+
+pub all_done : (done left : List Line) (ls : List Line) → ls ≡ done ++ left → left ≡ [] → done ≡ ls
+all_done done left ls parts none = sym (parts ∙ ap (λ x. done ++ x) none ∙ append-nil done)

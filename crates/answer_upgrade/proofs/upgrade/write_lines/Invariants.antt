@@ -1,0 +1,18 @@
+use Rattle.std.proofs.Common.{◌≡◌, ℕ, List, length, map}
+use Rattle.text_out.specs.Gathers.{Gathers}
+use Rattle.cut_cert.specs.declared.version.Version.{Version}
+use Rattle.cut_cert.specs.AnswerLine.{Line}
+use Rattle.cut_cert.specs.LineFits.{FitsLines}
+use Rattle.cut_cert.specs.Lines.{lines_text}
+use Rattle.answer_upgrade.specs.Upgraded.{upgraded_line}
+use Rattle.answer_upgrade.proofs.UpgradedLines.{Passed}
+use Rattle.answer_upgrade.proofs.upgrade.write_lines.Given as goal
+
+-- the lines that are left are those behind the ones that were written
+abbrev pub invariant-lines : goal.invariant-lines
+invariant-lines g l = (v : Version) (V : ℕ) (ls : List Line) → FitsLines v V ls → l.bytes ≡ lines_text ls →
+    (passed : Passed V ls l.rest)
+    × Gathers (g.S.Sink.state l.initial.sink) l.initial.block (lines_text (map upgraded_line passed.done)) (g.S.Sink.state l.sink) l.block
+
+abbrev pub decreases-lines : goal.decreases-lines
+decreases-lines g l = length l.rest

@@ -1,0 +1,14 @@
+-- What is told of bytes that may be an answer's text.
+use Rattle.std.specs.Prelude.{ℕ, ◌≡◌, List}
+use Rattle.cut_cert.specs.declared.event.AnswerEvent.{AnswerEvent}
+use Rattle.cut_cert.specs.Reading.{StopsAt}
+use Rattle.cut_cert.specs.Spelling.{SpellsAnswer}
+use Rattle.cut_cert.specs.Value.{WrittenAnswer}
+use Rattle.cut_cert.specs.Words.{version_number}
+use Rattle.answer_upgrade.specs.declared.told.Spelled.{Spelled}
+use Rattle.answer_upgrade.specs.declared.told.Spelled.TheVariants as told
+
+-- they spell an answer of this version, or they spell none and cease to begin one in this line
+abbrev pub TellsSpelling : ℕ → List ℕ → Spelled → Type 0
+TellsSpelling V bytes (told.Whole n) = (answer : WrittenAnswer) × SpellsAnswer V bytes answer × (n ≡ version_number answer.version)
+TellsSpelling V bytes (told.Fault n) = (events : List AnswerEvent) × StopsAt V bytes n events
