@@ -16,8 +16,8 @@ use Rattle.cut_cert.specs.AnswerLine.{Line}
 use Rattle.cut_cert.specs.LineKinds as line
 use Rattle.cut_cert.specs.LineFits.{FitsLine, FitsLines, version_with}
 use Rattle.cut_cert.specs.Lines.{line_bytes, line_text, lines_text, split_line, tree_lines, proof_lines, network_lines, head_lines, body_lines, answer_lines}
-use Rattle.cut_cert.specs.Value.{WrittenAnswer}
-use Rattle.answer_upgrade.specs.Upgraded.{upgraded, upgraded_line}
+use Rattle.cut_cert.specs.Value.{WrittenAnswer, upgraded}
+use Rattle.answer_upgrade.specs.Upgraded.{upgraded_line}
 
 -- ---- the lines of an answer
 

@@ -10,5 +10,6 @@ use Rattle.answer_upgrade.specs.declared.told.Spelled.TheVariants as told
 
 -- they spell an answer of this version, or they spell none and cease to begin one in this line
 abbrev pub TellsSpelling : ℕ → List ℕ → Spelled → Type 0
-TellsSpelling V bytes (told.Whole n) = (answer : WrittenAnswer) × SpellsAnswer V bytes answer × (n ≡ version_number answer.version)
+TellsSpelling V bytes (told.Whole n) =
+    (answer : WrittenAnswer) × SpellsAnswer V bytes answer × (n ≡ version_number answer.version)
 TellsSpelling V bytes (told.Fault n) = (events : List AnswerEvent) × StopsAt V bytes n events

@@ -1,20 +1,17 @@
--- The same answer in version 2, and its lines.
+-- What the lines of an answer's text become in version 2.
 use Rattle.std.specs.Prelude.{ℕ, List}
 use Rattle.cut_cert.specs.declared.version.Version.TheVariants as version
 use Rattle.cut_cert.specs.AnswerLine.{Line}
 use Rattle.cut_cert.specs.LineKinds as line
 use Rattle.cut_cert.specs.Spelling.{SpellsAnswer}
 use Rattle.cut_cert.specs.Value.{WrittenAnswer}
+pub use Rattle.cut_cert.specs.Value.{upgraded}
 use Rattle.answer_upgrade.specs.declared.change.Change.{Change}
 use Rattle.answer_upgrade.specs.declared.change.Change.TheVariants as change
 
 -- the bytes spell an answer
 abbrev pub IsSpelling : ℕ → List ℕ → Type 0
 IsSpelling V bytes = (answer : WrittenAnswer) × SpellsAnswer V bytes answer
-
--- the same value with the version 2
-abbrev pub upgraded : WrittenAnswer → WrittenAnswer
-upgraded a = record a { version = version.Two }
 
 -- the line that a line becomes
 abbrev pub upgraded_line : Line → Line

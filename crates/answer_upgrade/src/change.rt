@@ -22,7 +22,8 @@ pub(crate) enum Change {
 // What becomes of a line. No other line than the title begins with an `r`, no other than a split's has an `i` as its
 // fourth byte, and behind the word of a split a number stands in version 1 alone.
 pub(crate) fn change_of(line: &[u8]) -> Change
-    ensures change { (v : Version) (V : ℕ) (l : Line) → FitsLine v V l → line.now ≡ line_bytes l → result ≡ change_of l }
+    ensures change { (v : Version) (V : ℕ) (l : Line) → FitsLine v V l → line.now ≡ line_bytes l →
+        result ≡ change_of l }
     ensures long { result ≡ change.Split → 6 < length line.now }
 {
     if line.len() < 7 {

@@ -9,8 +9,8 @@ ghost use Rattle.cut_cert.specs.LineFits.{FitsLine, FitsLines};
 ghost use Rattle.cut_cert.specs.Lines.{line_bytes, line_text, lines_text};
 ghost use Rattle.cut_cert.specs.Spelling.{SpellsAnswer};
 ghost use Rattle.cut_cert.specs.Text.{answer_text};
-ghost use Rattle.cut_cert.specs.Value.{WrittenAnswer};
-ghost use Rattle.answer_upgrade.specs.Upgraded.{IsSpelling, upgraded, upgraded_line};
+ghost use Rattle.cut_cert.specs.Value.{WrittenAnswer, upgraded};
+ghost use Rattle.answer_upgrade.specs.Upgraded.{IsSpelling, upgraded_line};
 
 use crate::change::{Change, change_of};
 use cut_cert::lines_fit;

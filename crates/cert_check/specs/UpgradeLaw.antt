@@ -2,20 +2,15 @@
 use Rattle.std.specs.Prelude.{ℕ, ◌^◌, ◌≤◌, ◌↔◌, List, length}
 use Rattle.points_in.specs.declared.point.Point.{Point}
 use Rattle.hanan_grid.specs.Grid.{hanan_grid_of}
-use Rattle.cut_cert.specs.declared.version.Version.TheVariants as version
-use Rattle.cut_cert.specs.Value.{WrittenAnswer}
+use Rattle.cut_cert.specs.Value.{WrittenAnswer, upgraded}
 use Rattle.cut_cert.specs.Text.{answer_text}
 use Rattle.cut_cert.specs.Spelling.{SpellsAnswer}
 use Rattle.cert_check.specs.declared.verdict.Finished.{Finished}
 use Rattle.cert_check.specs.Verdicts.{IsVerdict}
-
--- the same answer in version 2
-abbrev pub in_version_2 : WrittenAnswer → WrittenAnswer
-in_version_2 a = record a { version = version.Two }
 
 -- Bytes that spell an answer, at most 2^28 of them, have the verdict that the text of the same answer in version 2 has,
 -- with the same line where it names one, whatever the terminals are.
 abbrev pub UpgradingKeepsVerdict : Type 0
 UpgradingKeepsVerdict = (ps : List Point) (bytes : List ℕ) (a : WrittenAnswer) (f : Finished) →
     SpellsAnswer (hanan_grid_of ps).vertices bytes a → length bytes ≤ 2 ^ 28 →
-    IsVerdict ps bytes f ↔ IsVerdict ps (answer_text (in_version_2 a)) f
+    IsVerdict ps bytes f ↔ IsVerdict ps (answer_text (upgraded a)) f

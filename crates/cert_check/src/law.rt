@@ -5,7 +5,7 @@ ghost use Rattle.cert_check.specs.UpgradeLaw.{UpgradingKeepsVerdict};
 ghost use Rattle.cert_check.specs.VerdictLaw.{OneVerdict};
 
 use cert_tree::tree_bounds_every_network;
-use cut_cert::one_reading;
+use cut_cert::{one_reading, upgraded_alike};
 
 /// No network of the terminals' grid is shorter than the bound of an accepted answer, and where it says optimal none
 /// is shorter than its length. A law: the call does nothing, and its caller knows the fact from there on.
@@ -29,4 +29,5 @@ pub fn upgrading_keeps_verdict()
     ensures { UpgradingKeepsVerdict }
 {
     one_reading();
+    upgraded_alike();
 }

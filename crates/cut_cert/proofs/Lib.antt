@@ -2,6 +2,7 @@ pub mod Digits
 pub mod Pieces
 pub mod Lines
 pub mod Readings
+pub mod Upgraded
 pub mod Lengths
 pub mod NetworkLemmas
 pub mod NodeLines

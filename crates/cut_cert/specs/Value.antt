@@ -6,6 +6,7 @@ use Rattle.cert_tree.specs.Tree.{Tree}
 use Rattle.cut_cert.specs.declared.head.AnswerHead.{AnswerHead}
 use Rattle.cut_cert.specs.declared.split.SplitName.{SplitName}
 use Rattle.cut_cert.specs.declared.version.Version.{Version}
+use Rattle.cut_cert.specs.declared.version.Version.TheVariants as version
 
 -- An answer as its text tells it.
 pub record WrittenAnswer : Type 0 where
@@ -13,3 +14,7 @@ pub record WrittenAnswer : Type 0 where
   pub head : AnswerHead
   pub edges : List EdgeName
   pub tree : Tree SplitName
+
+-- the same value with the version 2
+abbrev pub upgraded : WrittenAnswer → WrittenAnswer
+upgraded a = record a { version = version.Two }

@@ -19,7 +19,7 @@ pub use event::{AnswerEvent, Event};
 pub use head::{AnswerHead, ConcatNote};
 pub use length::answer_len;
 pub use reader::{EventReader, Spelling};
-pub use reading::{lines_fit, one_reading, reads_beginnings};
+pub use reading::{lines_fit, one_reading, reads_beginnings, upgraded_alike};
 pub use row::Row;
 pub use split::SplitName;
 pub use version::Version;

@@ -103,7 +103,10 @@ impl Buckets {
     #[inline]
     pub fn pop(&mut self) -> Option<Way> {
         let bucket = self.first();
-        let way = self.ways.get(at(&self.lasts, bucket, NONE) as usize).copied();
+        let way = self
+            .ways
+            .get(at(&self.lasts, bucket, NONE) as usize)
+            .copied();
         let next = way.unwrap_or(NO_WAY).next;
         set(&mut self.lasts, bucket, next);
         if next == NONE {

@@ -17,9 +17,10 @@ read_apart : (bytes : List ℕ) (read found : Result (List Point) StpFault) → 
     found ≡ read → IfErr found (λ fault. IsMemory fault → ⊥) → LocatesPoints bytes found
 read_apart bytes read (Ok points) gives same told =
     subst (λ r. Gives (λ points. points) r (stp_points_of bytes)) (sym same) gives
-read_apart bytes read (Err fault) gives same told =
-    (fault_due (stp_points_of bytes) fault (subst (λ r. Gives (λ points. points) r (stp_points_of bytes)) (sym same) gives) told,
-    told)
+read_apart bytes read (Err fault) gives same told = (
+  fault_due (stp_points_of bytes) fault (subst (λ r. Gives (λ points. points) r (stp_points_of bytes)) (sym same) gives) told,
+  told,
+)
 
 pub located_apart : {E : Type 0} (bytes : List ℕ) (read : Result (List Point) StpFault)
     (result : Result (Result (List Point) StpFault) E) → Gives (λ points. points) read (stp_points_of bytes) →

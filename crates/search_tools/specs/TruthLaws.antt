@@ -59,10 +59,12 @@ searches_truly options ps trees network tree note before after status permitted 
       printed = appended;
       bound = permitted.searched.bounds;
       agrees = exact;
-      shortest = λ zero.
-          (permitted.searched.network_of.joins, λ other joins.
-          let bounds = permitted.searched.bounds other joins in
-          let equal = exact.0 zero in omega (arith, bounds, equal));
+      shortest = λ zero. (
+        permitted.searched.network_of.joins,
+        λ other joins.
+            let bounds = permitted.searched.bounds other joins in
+            let equal = exact.0 zero in omega (arith, bounds, equal),
+      );
       stopped = λ three.
           let all : split_count tree ≡ options.openings =
           permitted.searched.stopped (value_below (value_on g tree) (length_of g network) status exact three) in

@@ -1,5 +1,5 @@
--- An answer and the same answer in version 2: their lines tell the same, and few bytes become few.
-use Rattle.std.proofs.Common.{ℕ, ◌≡◌, ◌+◌, ◌*◌, ◌^◌, ◌≤◌, List, [], ◌∷◌, ◌++◌, length, length-append, refl, sym, ap, ◌∙◌, subst, inl, inr, arith}
+-- An answer and the same answer in version 2: few bytes become few, and have the same verdict.
+use Rattle.std.proofs.Common.{ℕ, ◌≡◌, ◌+◌, ◌*◌, ◌^◌, ◌≤◌, List, [], ◌∷◌, ◌++◌, length, length-append, refl, sym, ap, subst, inl, inr, arith}
 use Rattle.std.specs.Prelude.{codes}
 use Rattle.points_in.specs.declared.point.Point.{Point}
 use Rattle.hanan_grid.specs.Grid.{hanan_grid_of}
@@ -11,42 +11,17 @@ use Rattle.cut_cert.specs.declared.version.Version.{Version}
 use Rattle.cut_cert.specs.declared.version.Version.TheVariants as version
 use Rattle.cut_cert.specs.AnswerLine.{Line}
 use Rattle.cut_cert.specs.LineKinds as line
-use Rattle.cut_cert.specs.Value.{WrittenAnswer}
+use Rattle.cut_cert.specs.Value.{WrittenAnswer, upgraded}
 use Rattle.cut_cert.specs.Words.{name_words}
 use Rattle.cut_cert.specs.Lines.{answer_lines, body_lines, head_lines, line_text, lines_text, network_lines, proof_lines, split_line, tree_lines}
 use Rattle.cut_cert.specs.Text.{answer_text}
 use Rattle.cut_cert.specs.Events.{events_of}
-use Rattle.cut_cert.specs.Spelling.{FitsSplit, FitsTree, OneReading, SpellsAnswer}
+use Rattle.cut_cert.specs.Spelling.{OneReading, SpellsAnswer}
 use Rattle.cert_check.specs.declared.verdict.Finished.{Finished}
 use Rattle.cert_check.specs.Lines.Behind.{Ended}
 use Rattle.cert_check.specs.Judged.{Judges, nothing_told}
 use Rattle.cert_check.specs.Verdicts.{IsJudged, IsVerdict, byte_limit}
-use Rattle.cert_check.specs.UpgradeLaw.{in_version_2}
 use Rattle.cert_check.proofs.lemmas.Complete.{judged_whole}
-use Rattle.cert_check.proofs.lemmas.ToldParts.{events_of-told}
-
--- ---- it fits version 2
-
-FitsSplit-2 : (v : Version) (on : SplitName) → FitsSplit v on → FitsSplit version.Two on
-FitsSplit-2 v (name.Edge e) fits = fits
-FitsSplit-2 v (name.Vertex p) fits = (refl, fits.1)
-
-FitsTree-2 : (v : Version) (V : ℕ) (t : Tree SplitName) → FitsTree v V t → FitsTree version.Two V t
-FitsTree-2 v V (Leaf cuts) fits = fits
-FitsTree-2 v V (Split on outside inside) fits =
-    (FitsSplit-2 v on fits.0, FitsTree-2 v V outside fits.1, FitsTree-2 v V inside fits.2)
-
-pub SpellsAnswer-2 : (V : ℕ) (bytes : List ℕ) (a : WrittenAnswer) → SpellsAnswer V bytes a →
-    SpellsAnswer V (answer_text (in_version_2 a)) (in_version_2 a)
-SpellsAnswer-2 V bytes a spells = record {
-  fits = record {
-    head = spells.fits.head;
-    count = spells.fits.count;
-    edges = spells.fits.edges;
-    tree = FitsTree-2 a.version V a.tree spells.fits.tree;
-  };
-  spelled = refl;
-}
 
 -- ---- its text is not much longer
 
@@ -115,11 +90,11 @@ unfolding bytes_in
 head_lines-2 version.One a = refl
 head_lines-2 version.Two a = refl
 
-few_bytes-2 : (a : WrittenAnswer) → bytes_in (answer_lines (in_version_2 a)) ≤ 6 * bytes_in (answer_lines a)
+few_bytes-2 : (a : WrittenAnswer) → bytes_in (answer_lines (upgraded a)) ≤ 6 * bytes_in (answer_lines a)
 few_bytes-2 a =
     omega (
       arith,
-      bytes_in-append (head_lines version.Two a.head) (body_lines (in_version_2 a)),
+      bytes_in-append (head_lines version.Two a.head) (body_lines (upgraded a)),
       bytes_in-append (network_lines a.edges) (proof_lines version.Two a.tree),
       bytes_in-append (head_lines a.version a.head) (body_lines a),
       bytes_in-append (network_lines a.edges) (proof_lines a.version a.tree),
@@ -127,15 +102,16 @@ few_bytes-2 a =
       proof_lines-2 a.version a.tree,
     )
 
-pub answer_text-2 : (a : WrittenAnswer) → length (answer_text (in_version_2 a)) ≤ 6 * length (answer_text a)
+pub answer_text-2 : (a : WrittenAnswer) → length (answer_text (upgraded a)) ≤ 6 * length (answer_text a)
 unfolding bytes_in
 answer_text-2 a = few_bytes-2 a
 
 -- ---- its verdict
 
--- the lines tell the same
-same_events : (a : WrittenAnswer) → events_of (in_version_2 a) ≡ events_of a
-same_events a = events_of-told (in_version_2 a) ∙ sym (events_of-told a)
+-- an answer that has a text has one in version 2, and its lines tell the same
+pub record IsAlike : Type 0 where
+  pub spells : (V : ℕ) (bytes : List ℕ) (a : WrittenAnswer) → SpellsAnswer V bytes a → SpellsAnswer V (answer_text (upgraded a)) (upgraded a)
+  pub told : (a : WrittenAnswer) → events_of (upgraded a) ≡ events_of a
 
 -- bytes that spell an answer are judged as another text whose lines tell the same
 judged_as : OneReading → (ps : List Point) (bytes text : List ℕ) (a b : WrittenAnswer) (f : Finished) →
@@ -158,16 +134,16 @@ verdict_as one ps bytes text a b f spells spells' same few few' (inl v) =
     inl (record { few = few'; judged = judged_as one ps bytes text a b f spells spells' same v.judged })
 verdict_as one ps bytes text a b f spells spells' same few few' (inr v) = absurd (omega (arith, v.many, few))
 
-pub upgraded_verdict : OneReading → (ps : List Point) (bytes : List ℕ) (a : WrittenAnswer) (f : Finished) →
+pub upgraded_verdict : OneReading → IsAlike → (ps : List Point) (bytes : List ℕ) (a : WrittenAnswer) (f : Finished) →
     SpellsAnswer (hanan_grid_of ps).vertices bytes a → length bytes ≤ 2 ^ 28 →
-    (IsVerdict ps bytes f → IsVerdict ps (answer_text (in_version_2 a)) f)
-    × (IsVerdict ps (answer_text (in_version_2 a)) f → IsVerdict ps bytes f)
-upgraded_verdict one ps bytes a f spells few =
-    let text = answer_text (in_version_2 a) in
-    let spells' = SpellsAnswer-2 (hanan_grid_of ps).vertices bytes a spells in
+    (IsVerdict ps bytes f → IsVerdict ps (answer_text (upgraded a)) f)
+    × (IsVerdict ps (answer_text (upgraded a)) f → IsVerdict ps bytes f)
+upgraded_verdict one alike ps bytes a f spells few =
+    let text = answer_text (upgraded a) in
+    let spells' = alike.spells (hanan_grid_of ps).vertices bytes a spells in
     let size : length text ≤ 6 * length bytes = omega (arith, answer_text-2 a, ap length spells.spelled) in
     let few_bytes : length bytes ≤ byte_limit = omega (arith, few) in
     let few_text : length text ≤ byte_limit = omega (arith, few, size) in (
-      verdict_as one ps bytes text a (in_version_2 a) f spells spells' (same_events a) few_bytes few_text,
-      verdict_as one ps text bytes (in_version_2 a) a f spells' spells (sym (same_events a)) few_text few_bytes,
+      verdict_as one ps bytes text a (upgraded a) f spells spells' (alike.told a) few_bytes few_text,
+      verdict_as one ps text bytes (upgraded a) a f spells' spells (sym (alike.told a)) few_text few_bytes,
     )
