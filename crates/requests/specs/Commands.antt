@@ -23,10 +23,11 @@ name_of tool.Dumpfst = codes "dumpfst"
 name_of tool.Fst2graph = codes "fst2graph"
 name_of tool.Plot = codes "plot"
 name_of tool.Trial = codes "trial"
+name_of tool.Slack = codes "slack"
 
 abbrev pub all_tools : List Tool
 all_tools = tool.Points ∷ tool.Stp2points ∷ tool.Rfst ∷ tool.Prunefst ∷ tool.Bb ∷ tool.Solve ∷ tool.Check ∷ tool.Dumpfst
-    ∷ tool.Fst2graph ∷ tool.Plot ∷ tool.Trial ∷ []
+    ∷ tool.Fst2graph ∷ tool.Plot ∷ tool.Trial ∷ tool.Slack ∷ []
 
 -- the tool of this name
 abbrev pub tool_named : Text → Option Tool
@@ -61,6 +62,10 @@ ascent_rule = option_rule (codes "ascent") (codes "least")
 abbrev pub split_rule : Rule
 split_rule = option_rule (codes "split") (codes "longest")
 
+-- the option `--above`, without which there is no threshold
+abbrev pub above_rule : Rule
+above_rule = record (new_rule (codes "above")) { long = Some (codes "above"); parser = Some (parser.Unsigned 0 18446744073709551615) }
+
 -- the option `--pieces`, which takes no value
 abbrev pub pieces_rule : Rule
 pieces_rule = record (new_rule (codes "pieces")) { long = Some (codes "pieces"); action = Some SetTrue }
@@ -94,6 +99,7 @@ arguments_of tool.Dumpfst = pieces_rule ∷ []
 arguments_of tool.Fst2graph = []
 arguments_of tool.Plot = points_rule ∷ []
 arguments_of tool.Trial = drawing_rules
+arguments_of tool.Slack = above_rule ∷ ascent_rule ∷ []
 
 -- the command with further arguments
 abbrev pub with_rules : App → List Rule → App

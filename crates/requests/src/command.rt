@@ -4,7 +4,7 @@ ghost use Rattle.std.specs.Prelude.{◌≡◌, IfOk, false};
 ghost use Rattle.clap.specs.Words.{app_of, rule_of};
 ghost use Rattle.requests.specs.Commands.{command_of, count_rule, seed_rule, size_rule};
 ghost use Rattle.requests.specs.Commands.{openings_rule, concat_rule, ascent_rule, split_rule, pieces_rule};
-ghost use Rattle.requests.specs.Commands.{points_rule, option_rule, operand_rule, search_rules, with_rules};
+ghost use Rattle.requests.specs.Commands.{above_rule, points_rule, option_rule, operand_rule, search_rules, with_rules};
 ghost use Rattle.requests.specs.declared.tool.Tool.TheVariants as tool;
 
 use clap::{Arg, ArgAction, Command, value_parser};
@@ -91,6 +91,15 @@ pub(crate) fn trial<'a>(alloc: Global) -> Result<Command<'a>, AllocError>
         .arg(seed(alloc))
 }
 
+/// `slack [--above LENGTH] [--ascent RULE]`
+pub(crate) fn slack<'a>(alloc: Global) -> Result<Command<'a>, AllocError>
+    ensures { IfOk result (λ command. app_of command ≡ command_of tool.Slack) }
+{
+    Command::new(alloc, "slack")
+        .arg(above(alloc))?
+        .arg(ascent(alloc))
+}
+
 // The command with the options of a search: `[--openings COUNT] [--concat COUNT] [--ascent RULE] [--split RULE]`.
 fn searching<'a>(alloc: Global, command: Command<'a>) -> Result<Command<'a>, AllocError>
     ensures { IfOk result (λ searching. app_of searching ≡ with_rules (app_of command.entry) search_rules) }
@@ -135,6 +144,15 @@ fn size<'a>(alloc: Global) -> Arg<'a>
     ensures own { result.global ≡ false }
 {
     option(alloc, "size", "6").value_parser(value_parser!(u8).range(2..=8))
+}
+
+fn above<'a>(alloc: Global) -> Arg<'a>
+    ensures rule { rule_of result ≡ above_rule }
+    ensures own { result.global ≡ false }
+{
+    Arg::new(alloc, "above")
+        .long("above")
+        .value_parser(value_parser!(u64))
 }
 
 fn pieces<'a>(alloc: Global) -> Arg<'a>

@@ -1,6 +1,6 @@
 //! Requests.
 
-use search_rules::SearchOptions;
+use search_rules::{AscentRule, SearchOptions};
 
 /// A tool of the program, with what its words tell it.
 #[derive(Clone, Copy, Debug, PartialEq, Eq)]
@@ -10,24 +10,41 @@ pub enum Request<'a> {
     /// Reads an STP file and prints the points of its terminals.
     Stp2points,
     /// Reads points and prints the file of their full trees of up to `size` members, 2 to 8.
-    Rfst { size: u8 },
+    Rfst {
+        size: u8,
+    },
     /// Reads a file of full trees and prints the file of those that pruning keeps.
     Prunefst,
     /// Reads a file of full trees and prints a network that is made of them.
     Bb(SearchOptions),
     /// Reads points and prints a network that joins them, made of full trees of up to `size` members, 2 to 8.
-    Solve { size: u8, search: SearchOptions },
+    Solve {
+        size: u8,
+        search: SearchOptions,
+    },
     /// Judges an answer for the points of the file of this name.
-    Check { points: &'a str },
+    Check {
+        points: &'a str,
+    },
     /// Reads a file of full trees and prints a line for each of them, and behind it the tree's straight pieces where
     /// `pieces` says so.
-    Dumpfst { pieces: bool },
+    Dumpfst {
+        pieces: bool,
+    },
     /// Reads a file of full trees and prints the grid of its points as an STP file.
     Fst2graph,
     /// Plots the network of an answer for the points of the file of this name.
-    Plot { points: &'a str },
+    Plot {
+        points: &'a str,
+    },
     /// Solves drawn points and checks the answer.
     Trial(Drawing),
+    /// Reads points and prints a bound for each edge of their grid; where `above` is a number, for those edges alone
+    /// whose bound is above it.
+    Slack {
+        above: Option<u64>,
+        ascent: AscentRule,
+    },
 }
 
 /// Points to draw.

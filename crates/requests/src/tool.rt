@@ -24,6 +24,7 @@ pub(crate) enum Tool {
     Fst2graph,
     Plot,
     Trial,
+    Slack,
 }
 
 impl Tool {
@@ -43,6 +44,7 @@ impl Tool {
             "fst2graph" => Some(Tool::Fst2graph),
             "plot" => Some(Tool::Plot),
             "trial" => Some(Tool::Trial),
+            "slack" => Some(Tool::Slack),
             _ => None,
         }
     }
@@ -63,6 +65,7 @@ impl Tool {
             Tool::Fst2graph => Ok(command::fst2graph(alloc)),
             Tool::Plot => command::plot(alloc),
             Tool::Trial => command::trial(alloc),
+            Tool::Slack => command::slack(alloc),
         }
     }
 
@@ -93,6 +96,10 @@ impl Tool {
                 points: value::text(matches, "points")?,
             },
             Tool::Trial => Request::Trial(value::drawing(matches)?),
+            Tool::Slack => Request::Slack {
+                above: value::above(matches),
+                ascent: value::ascent(matches)?,
+            },
         })
     }
 }

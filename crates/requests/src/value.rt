@@ -51,11 +51,18 @@ fn large_number(matches: &ArgMatches<'_>, id: &str) -> Option<u64>
     matches.get_one(id)
 }
 
-// The rule that `--ascent` names.
-fn ascent(matches: &ArgMatches<'_>) -> Option<AscentRule>
+/// The rule that `--ascent` names.
+pub(crate) fn ascent(matches: &ArgMatches<'_>) -> Option<AscentRule>
     ensures { result ≡ ascent_in (rows_of (found_of matches.now)) }
 {
     matches.get_one("ascent")
+}
+
+/// The number of `--above`, where it is given.
+pub(crate) fn above(matches: &ArgMatches<'_>) -> Option<u64>
+    ensures { result ≡ number_in 64 (codes "above") (rows_of (found_of matches.now)) }
+{
+    large_number(matches, "above")
 }
 
 // The rule that `--split` names.

@@ -13,15 +13,17 @@ use Rattle.tree_tools.specs.Graph.{EndsFst2graph}
 use Rattle.tree_tools.specs.Generation.{EndsRfst}
 use Rattle.tree_tools.specs.Pruning.{EndsPrunefst}
 use Rattle.trial_tools.specs.Trial.{EndsTrial}
+use Rattle.slack_tools.specs.Slack.{EndsSlack}
 use Rattle.search_rules.specs.declared.options.SearchOptions.{SearchOptions}
+use Rattle.search_rules.specs.declared.rules.AscentRule.{AscentRule}
 use Rattle.requests.specs.Requests.{Request}
 use Rattle.requests.specs.declared.request.Drawing.{Drawing}
-use Rattle.requests.specs.Requests.Request.{Points, Stp2points, Rfst, Prunefst, Bb, Solve, Check, Dumpfst, Fst2graph, Plot, Trial}
+use Rattle.requests.specs.Requests.Request.{Points, Stp2points, Rfst, Prunefst, Bb, Solve, Check, Dumpfst, Fst2graph, Plot, Trial, Slack}
 use Rattle.suite.specs.Run.{IsShort, EndsAsAsked, IsRun}
-use Rattle.suite.specs.Headlines.{BuildHeadline, CheckHeadline, Headline, TrialHeadline}
+use Rattle.suite.specs.Headlines.{BuildHeadline, CheckHeadline, Headline, SlackHeadline, TrialHeadline}
 use Rattle.suite.specs.Complete.{Completes}
-use Rattle.suite.proofs.Heads.{solve_headline, bb_headline, check_headline, trial_headline}
-use Rattle.suite.proofs.Completeness.{solve_completes, bb_completes, check_completes, plot_completes, dump_completes, rfst_completes, prune_completes, graph_completes, points_completes, stp_completes, trial_completes}
+use Rattle.suite.proofs.Heads.{solve_headline, bb_headline, check_headline, slack_headline, trial_headline}
+use Rattle.suite.proofs.Completeness.{solve_completes, bb_completes, check_completes, plot_completes, dump_completes, rfst_completes, prune_completes, graph_completes, points_completes, stp_completes, slack_completes, trial_completes}
 
 -- `solve` ends with an answer where nothing troubles it
 pub solve_asked_completes : (request : Option Request) (size : ℕ) (search : SearchOptions) (before after : Outside) (status : ℕ) → request ≡ Some (Solve size search) →
@@ -80,6 +82,13 @@ pub trial_asked_completes : (request : Option Request) (drawing : Drawing) (befo
 trial_asked_completes request drawing before after status is ends =
     subst (λ r. Completes r before after status) (sym is) (trial_completes drawing before after status ends)
 
+-- so does `slack`
+pub slack_asked_completes : (request : Option Request) (above : Option ℕ) (ascent : AscentRule)
+    (before after : Outside) (status : ℕ) →
+    request ≡ Some (Slack above ascent) → EndsSlack above before after status → Completes request before after status
+slack_asked_completes request above ascent before after status is ends =
+    subst (λ r. Completes r before after status) (sym is) (slack_completes above ascent before after status ends)
+
 -- a run of `solve` is the one that the words ask for
 pub solve_asked_runs : (request : Option Request) (size : ℕ) (search : SearchOptions) (before after : Outside) (status : ℕ) → request ≡ Some (Solve size search) →
     EndsSolve search size before after status → IsRun request before after status
@@ -115,6 +124,14 @@ trial_asked_headline request drawing before after status is ends = λ other asks
     trial_headline other.count other.seed before after status
     (subst (λ (d : Drawing). EndsTrial d.count d.seed before after status) same ends) ended
 
+-- what `slack` printed for the threshold that the words give is true
+pub slack_asked_headline : (request : Option Request) (above : Option ℕ) (ascent : AscentRule)
+    (before after : Outside) (status : ℕ) →
+    request ≡ Some (Slack above ascent) → EndsSlack above before after status → SlackHeadline request before after status
+slack_asked_headline request above ascent before after status is ends = λ other rule asks ended.
+    let same : above ≡ other = cc in
+    slack_headline other before after status (subst (λ a. EndsSlack a before after status) same ends) ended
+
 -- Where memory is wanting while the words are read, nothing is claimed that a run would owe.
 module _ (request : Option Request) (before after : Outside) (status : ℕ) (short : IsShort before after status) where
   pub short_headline : Headline request before after status
@@ -133,6 +150,9 @@ module _ (request : Option Request) (before after : Outside) (status : ℕ) (sho
   short_trial_headline drawing is (inl zero) = absurd (omega (arith, short.ends))
   short_trial_headline drawing is (inr three) = absurd (omega (arith, short.ends))
 
+  pub short_slack_headline : SlackHeadline request before after status
+  short_slack_headline above ascent is zero = absurd (omega (arith, short.ends))
+
   short_of : (r : Option Request) → Completes r before after status
   short_of None = inr short.ends
   short_of (Some (Points drawing)) = λ writes. inr short.ends
@@ -146,6 +166,7 @@ module _ (request : Option Request) (before after : Outside) (status : ℕ) (sho
   short_of (Some Fst2graph) = λ bytes file has spells writes. inr short.ends
   short_of (Some (Plot name)) = λ points bytes ps file lists has some writes. inr short.ends
   short_of (Some (Trial drawing)) = λ few writes. inr short.ends
+  short_of (Some (Slack above ascent)) = λ bytes ps has lists writes. inr short.ends
 
   pub short_completes : Completes request before after status
   short_completes = short_of request

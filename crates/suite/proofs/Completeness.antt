@@ -1,5 +1,5 @@
 -- A run that nothing troubles ends with an answer, or memory was wanting.
-use Rattle.std.proofs.Common.{ℕ, ◌≡◌, List, length, codes, Some, Ok, Err, ◌⊎◌, inl, inr, sym, subst, ap, ◌∙◌, Bool}
+use Rattle.std.proofs.Common.{ℕ, ◌≡◌, List, length, codes, Some, Ok, Err, ◌⊎◌, inl, inr, sym, subst, ap, ◌∙◌, Bool, Option}
 use Rattle.std.proofs.lemmas.Bool.Decides.{eqb_tells}
 use Rattle.points_in.specs.declared.point.Point.{Point}
 use Rattle.net_graph.specs.Network.{length_of}
@@ -14,7 +14,7 @@ use Rattle.frame.specs.Statuses.{answer_code}
 use Rattle.frame.specs.Outside.{Readable, Outside}
 use Rattle.frame.specs.Ends.{Print}
 use Rattle.frame.specs.EndLaws.{complete_ends}
-use Rattle.frame.specs.FaultTexts.{input_fault_text, input_fault_status, text_fault_text, text_fault_status}
+use Rattle.frame.specs.FaultTexts.{input_fault_text, input_fault_status, list_fault_text, list_fault_status, text_fault_text, text_fault_status}
 use Rattle.frame.specs.FromText.{FromText}
 use Rattle.frame.specs.Leaves.{LeavesShelf, LeavesFiles, LeavesAll}
 use Rattle.frame.specs.Complete.{HasInput, HasFile}
@@ -59,9 +59,12 @@ use Rattle.tree_inputs.specs.GenerationFaults.{generation_fault_text, generation
 use Rattle.tree_tools.specs.Generation.{GeneratesFile, EndsRfst}
 use Rattle.tree_inputs.specs.Generation.{most_members}
 use Rattle.trial_tools.specs.Trial.{EndsTrial, Tries, drawn_grid, drawn_terminals}
+use Rattle.frame.specs.declared.points.ListFault.{ListFault}
+use Rattle.slack_tools.specs.Slack.{BoundsEdges, EndsSlack}
 use Rattle.search_rules.specs.declared.options.SearchOptions.{SearchOptions}
+use Rattle.search_rules.specs.declared.rules.AscentRule.{AscentRule}
 use Rattle.requests.specs.declared.request.Drawing.{Drawing}
-use Rattle.requests.specs.Requests.Request.{Points, Stp2points, Rfst, Prunefst, Bb, Solve, Check, Dumpfst, Fst2graph, Plot, Trial}
+use Rattle.requests.specs.Requests.Request.{Points, Stp2points, Rfst, Prunefst, Bb, Solve, Check, Dumpfst, Fst2graph, Plot, Trial, Slack}
 use Rattle.suite.specs.Complete.{Completes}
 
 -- the status of an answer is 0 or 3
@@ -285,4 +288,25 @@ trial_completes drawing before after status ends = λ few writes.
       | inr (print, (network, tree, tried, of_line), answers) ↦
           inl (zero_or_three (bound_of g network tree) (length_of g network) status
           (answers ∙ ap (λ (p : Print). answer_code p.status) of_line))
+    ]
+
+-- an input that lists points has no fault
+slack_faultless : (above : Option ℕ) (before after : Readable) (bytes : List ℕ) (ps : List Point) →
+    HasInput TEXT_LIMIT before.input after.input bytes → ListsPoints bytes ps →
+    (fault : TextFault ListFault) → FromText TEXT_LIMIT (BoundsEdges above) before after (Err fault) → ⊥
+slack_faultless above before after bytes ps has lists (text_fault.Input fault) is =
+    input_is_taken TEXT_LIMIT before.input after.input bytes fault has is
+slack_faultless above before after bytes ps has lists (text_fault.Text fault) (taken, whole, is) =
+    lists_points_faultless bytes ps fault lists
+    (subst (λ b. IsListFault b fault) (whole_input_is TEXT_LIMIT before.input after.input bytes taken has whole) is)
+
+pub slack_completes : (above : Option ℕ) (ascent : AscentRule) (before after : Outside) (status : ℕ) →
+    EndsSlack above before after status → Completes (Some (Slack above ascent)) before after status
+slack_completes above ascent before after status ends = λ bytes ps has lists writes.
+    elim (complete_ends (text_fault_status list_fault_status) (text_fault_text list_fault_text) (codes "slack")
+    (FromText TEXT_LIMIT (BoundsEdges above)) LeavesShelf before after status
+    (slack_faultless above before.read after.read bytes ps has lists) writes ends) [
+      | inl seven ↦ inr seven
+      | inr (print, (taken, whole, (qs, bounds, listed, are, of_points)), answers) ↦
+          inl (answers ∙ ap (λ (p : Print). answer_code p.status) of_points)
     ]

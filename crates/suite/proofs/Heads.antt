@@ -1,5 +1,5 @@
 -- What was printed is true.
-use Rattle.std.proofs.Common.{ℕ, ◌≡◌, List, codes, Some, ◌⊎◌, inl, inr, subst, ap, ◌∙◌}
+use Rattle.std.proofs.Common.{ℕ, ◌≡◌, List, codes, Option, Some, ◌⊎◌, inl, inr, subst, ap, ◌∙◌}
 use Rattle.rst_outside.specs.Sink.{Appended}
 use Rattle.points_in.specs.Terminals.{terminals_of}
 use Rattle.frame.specs.declared.status.AnswerStatus.{AnswerStatus}
@@ -9,7 +9,7 @@ use Rattle.frame.specs.Statuses.{answer_code}
 use Rattle.frame.specs.Outside.{Outside}
 use Rattle.frame.specs.Ends.{Print}
 use Rattle.frame.specs.EndLaws.{printed_ends}
-use Rattle.frame.specs.FaultTexts.{text_fault_text, text_fault_status}
+use Rattle.frame.specs.FaultTexts.{list_fault_text, list_fault_status, text_fault_text, text_fault_status}
 use Rattle.frame.specs.FromText.{FromText}
 use Rattle.frame.specs.Leaves.{LeavesShelf, LeavesFiles, LeavesAll}
 use Rattle.tree_inputs.specs.GenerationFaults.{generation_fault_text, generation_fault_status}
@@ -22,6 +22,9 @@ use Rattle.judge_tools.specs.Truth.{ChecksTruly}
 use Rattle.trial_tools.specs.Trial.{EndsTrial, Tries}
 use Rattle.trial_tools.specs.Truth.{TriesTruly}
 use Rattle.trial_tools.specs.TruthLaws.{tries_truly}
+use Rattle.slack_tools.specs.Slack.{BoundsEdges, EndsSlack}
+use Rattle.slack_tools.specs.Truth.{BoundsTruly}
+use Rattle.slack_tools.specs.TruthLaws.{bounds_truly}
 use Rattle.search_rules.specs.declared.options.SearchOptions.{SearchOptions}
 use Rattle.requests.specs.Requests.Request.{Bb, Solve}
 use Rattle.suite.specs.Headlines.{Headline, BuildHeadline}
@@ -107,3 +110,14 @@ pub trial_headline : (n seed : ℕ) (before after : Outside) (status : ℕ) → 
     (status ≡ 0) ⊎ (status ≡ 3) → TriesTruly n seed before after status
 trial_headline n seed before after status ends (inl zero) = trial_told n seed before after status Done zero ends
 trial_headline n seed before after status ends (inr three) = trial_told n seed before after status Stopped three ends
+
+-- What `slack` printed is true.
+pub slack_headline : (above : Option ℕ) (before after : Outside) (status : ℕ) → EndsSlack above before after status →
+    status ≡ 0 → BoundsTruly above before after
+slack_headline above before after status ends zero =
+    let (print, (bytes, whole, (ps, bounds, lists, are, of_points)), printed) =
+    printed_ends (text_fault_status list_fault_status) (text_fault_text list_fault_text) (codes "slack")
+    (FromText TEXT_LIMIT (BoundsEdges above)) LeavesShelf before after status Done zero ends in
+    bounds_truly above before after bytes ps bounds whole.came lists.text are
+    (subst (λ (p : Print). Appended before.written.out.taken p.text after.written.out.taken) of_points
+    printed.wrote.appended)

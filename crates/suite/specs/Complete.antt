@@ -18,7 +18,7 @@ use Rattle.trial_tools.specs.Trial.{drawn_terminals}
 use Rattle.fst_file.specs.Value.{FstValue}
 use Rattle.fst_file.specs.Text.{SpellsFstFile}
 use Rattle.requests.specs.Requests.{Request}
-use Rattle.requests.specs.Requests.Request.{Points, Stp2points, Rfst, Prunefst, Bb, Solve, Check, Dumpfst, Fst2graph, Plot, Trial}
+use Rattle.requests.specs.Requests.Request.{Points, Stp2points, Rfst, Prunefst, Bb, Solve, Check, Dumpfst, Fst2graph, Plot, Trial, Slack}
 
 -- no write to `out` fails
 abbrev pub IsWritable : Outside → Outside → Type 0
@@ -61,4 +61,7 @@ Completes (Some (Plot name)) before after status =
 Completes (Some (Trial drawing)) before after status =
     ¬ HasMoreSets (drawn_terminals drawing.count drawing.seed) most_members 20000 → IsWritable before after →
     ((status ≡ 0) ⊎ (status ≡ 3)) ⊎ (status ≡ NO_MEMORY)
+Completes (Some (Slack above ascent)) before after status =
+    (bytes : List ℕ) (ps : List Point) → HasInput TEXT_LIMIT before.read.input after.read.input bytes → ListsPoints bytes ps →
+    IsWritable before after → (status ≡ 0) ⊎ (status ≡ NO_MEMORY)
 Completes None before after status = (status ≡ MISUSED) ⊎ (status ≡ NO_MEMORY)

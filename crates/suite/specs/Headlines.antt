@@ -14,9 +14,11 @@ use Rattle.search_tools.specs.Truth.{SearchesTruly}
 use Rattle.judge_tools.specs.Truth.{ChecksTruly}
 use Rattle.requests.specs.Requests.{Request}
 use Rattle.trial_tools.specs.Truth.{TriesTruly}
+use Rattle.slack_tools.specs.Truth.{BoundsTruly}
 use Rattle.search_rules.specs.declared.options.SearchOptions.{SearchOptions}
+use Rattle.search_rules.specs.declared.rules.AscentRule.{AscentRule}
 use Rattle.requests.specs.declared.request.Drawing.{Drawing}
-use Rattle.requests.specs.Requests.Request.{Bb, Solve, Check, Trial}
+use Rattle.requests.specs.Requests.Request.{Bb, Solve, Check, Trial, Slack}
 
 -- What `solve` printed is true: the input was read to its end, it is a text of points, and the bytes that went out are an
 -- answer that may be printed for its terminals and for the kept ones of their trees (`SearchesTruly`): the answer of a network
@@ -53,3 +55,11 @@ abbrev pub TrialHeadline : Option Request → Outside → Outside → ℕ → Ty
 TrialHeadline request before after status =
     (drawing : Drawing) → request ≡ Some (Trial drawing) → (status ≡ 0) ⊎ (status ≡ 3) →
     TriesTruly drawing.count drawing.seed before after status
+
+-- What `slack` printed is true: the input was read to its end, it is a text of points, and `out` gained an edge bound for
+-- each edge of their grid, or for exactly those above the threshold. No network that uses a printed edge is shorter than
+-- its bound, and so each is longer than the threshold.
+abbrev pub SlackHeadline : Option Request → Outside → Outside → ℕ → Type 0
+SlackHeadline request before after status =
+    (above : Option ℕ) (ascent : AscentRule) → request ≡ Some (Slack above ascent) → status ≡ 0 →
+    BoundsTruly above before after

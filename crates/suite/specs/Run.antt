@@ -14,12 +14,13 @@ use Rattle.tree_tools.specs.Graph.{EndsFst2graph}
 use Rattle.tree_tools.specs.Generation.{EndsRfst}
 use Rattle.tree_tools.specs.Pruning.{EndsPrunefst}
 use Rattle.trial_tools.specs.Trial.{EndsTrial}
+use Rattle.slack_tools.specs.Slack.{EndsSlack}
 use Rattle.requests.specs.Requests.{Request}
-use Rattle.requests.specs.Requests.Request.{Points, Stp2points, Rfst, Prunefst, Bb, Solve, Check, Dumpfst, Fst2graph, Plot, Trial}
+use Rattle.requests.specs.Requests.Request.{Points, Stp2points, Rfst, Prunefst, Bb, Solve, Check, Dumpfst, Fst2graph, Plot, Trial, Slack}
 
 -- the text on `err` where the words ask for nothing
 abbrev pub usage_line : List ℕ
-usage_line = codes "usage: rst points|stp2points|rfst|prunefst|bb|solve|check|dumpfst|fst2graph|plot|trial [WORDS]\n"
+usage_line = codes "usage: rst points|stp2points|rfst|prunefst|bb|solve|check|dumpfst|fst2graph|plot|trial|slack [WORDS]\n"
 
 -- Memory is wanting while the words are read: nothing is read or printed.
 pub record IsShort (before after : Outside) (status : ℕ) : Type 0 where
@@ -48,6 +49,7 @@ EndsAsAsked (Some (Dumpfst pieces)) before after status = EndsDumpfst pieces bef
 EndsAsAsked (Some Fst2graph) before after status = EndsFst2graph before after status
 EndsAsAsked (Some (Plot points)) before after status = EndsPlot points before after status
 EndsAsAsked (Some (Trial drawing)) before after status = EndsTrial drawing.count drawing.seed before after status
+EndsAsAsked (Some (Slack above ascent)) before after status = EndsSlack above before after status
 EndsAsAsked None before after status = IsMisused before after status
 
 -- A run of the program with the request that its words make.

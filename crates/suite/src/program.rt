@@ -4,7 +4,7 @@ ghost use Rattle.std.specs.Prelude.{IfSome, map, option_map, string_bytes};
 ghost use Rattle.frame.specs.Outside.{outside};
 ghost use Rattle.requests.specs.Requests.{request_of, meaning, IsWithinLimits};
 ghost use Rattle.suite.specs.Run.{IsRun};
-ghost use Rattle.suite.specs.Headlines.{Headline, BuildHeadline, CheckHeadline, TrialHeadline};
+ghost use Rattle.suite.specs.Headlines.{Headline, BuildHeadline, CheckHeadline, TrialHeadline, SlackHeadline};
 ghost use Rattle.suite.specs.Complete.{Completes};
 
 use crate::laws::trial_is_solve;
@@ -14,6 +14,7 @@ use point_tools::{located_has_no_fault, points, stp2points};
 use requests::{Request, request_in};
 use rst_outside::{Shelf, Sink, Source};
 use search_tools::{bb, solve};
+use slack_tools::slack;
 use std::alloc::{AllocError, Global};
 use tree_inputs::spelled_has_no_fault;
 use tree_tools::{dumpfst, fst2graph, prunefst, rfst};
@@ -21,7 +22,7 @@ use trial_tools::trial;
 
 /// What is said where the words ask for no tool.
 const USAGE_LINE: &[u8] =
-    b"usage: rst points|stp2points|rfst|prunefst|bb|solve|check|dumpfst|fst2graph|plot|trial [WORDS]\n";
+    b"usage: rst points|stp2points|rfst|prunefst|bb|solve|check|dumpfst|fst2graph|plot|trial|slack [WORDS]\n";
 
 /// Runs the tool that the words after the program's name ask for, and gives the status that the program ends with.
 ///
@@ -48,6 +49,9 @@ pub fn run<I: Source, O: Sink, R: Sink, S: Shelf>(
         (outside (I.state input.old) (O.state out.old) (R.state err.old) (S.state shelf.old))
         (outside (I.state input.new) (O.state out.new) (R.state err.new) (S.state shelf.new)) result }
     ensures tried { TrialHeadline (request_of (map string_bytes words.now))
+        (outside (I.state input.old) (O.state out.old) (R.state err.old) (S.state shelf.old))
+        (outside (I.state input.new) (O.state out.new) (R.state err.new) (S.state shelf.new)) result }
+    ensures bounded { SlackHeadline (request_of (map string_bytes words.now))
         (outside (I.state input.old) (O.state out.old) (R.state err.old) (S.state shelf.old))
         (outside (I.state input.new) (O.state out.new) (R.state err.new) (S.state shelf.new)) result }
     ensures complete { Completes (request_of (map string_bytes words.now))
@@ -88,6 +92,9 @@ fn answer<I: Source, O: Sink, R: Sink, S: Shelf>(
     ensures tried { TrialHeadline (option_map meaning request.entry)
         (outside (I.state input.old) (O.state out.old) (R.state err.old) (S.state shelf.old))
         (outside (I.state input.new) (O.state out.new) (R.state err.new) (S.state shelf.new)) result }
+    ensures bounded { SlackHeadline (option_map meaning request.entry)
+        (outside (I.state input.old) (O.state out.old) (R.state err.old) (S.state shelf.old))
+        (outside (I.state input.new) (O.state out.new) (R.state err.new) (S.state shelf.new)) result }
     ensures complete { Completes (option_map meaning request.entry)
         (outside (I.state input.old) (O.state out.old) (R.state err.old) (S.state shelf.old))
         (outside (I.state input.new) (O.state out.new) (R.state err.new) (S.state shelf.new)) result }
@@ -122,6 +129,7 @@ fn answer<I: Source, O: Sink, R: Sink, S: Shelf>(
             trial_is_solve();
             trial(alloc, drawing.count, drawing.seed, out, err)
         }
+        Some(Request::Slack { above, ascent }) => slack(alloc, above, ascent, input, out, err),
         None => {
             report(err, USAGE_LINE);
             MISUSED

@@ -2,7 +2,7 @@
 use Rattle.std.proofs.Common.{rules, option_map}
 use Rattle.frame.specs.Outside.{outside}
 use Rattle.requests.specs.Requests.{meaning}
-use Rattle.suite.proofs.Asked.{solve_asked_completes, bb_asked_completes, check_asked_completes, plot_asked_completes, dump_asked_completes, rfst_asked_completes, prune_asked_completes, graph_asked_completes, points_asked_completes, stp_asked_completes, solve_asked_runs, bb_asked_runs, solve_asked_headline, bb_asked_headline, check_asked_headline, trial_asked_completes, trial_asked_headline}
+use Rattle.suite.proofs.Asked.{solve_asked_completes, bb_asked_completes, check_asked_completes, plot_asked_completes, dump_asked_completes, rfst_asked_completes, prune_asked_completes, graph_asked_completes, points_asked_completes, stp_asked_completes, solve_asked_runs, bb_asked_runs, solve_asked_headline, bb_asked_headline, check_asked_headline, trial_asked_completes, trial_asked_headline, slack_asked_completes, slack_asked_headline}
 use Rattle.suite.proofs.program.answer.Goals as goal
 
 pub returns-in-Some-Solve-clause-run : goal.returns-in-Some-Solve-clause-run
@@ -174,3 +174,23 @@ returns-in-Some-Trial-clause-complete g c =
     c.trial.result
     (search rules)
     (c.trial.ensures (g.I.Source.state c.args.input.now) (g.S.Shelf.state c.args.shelf.now))
+
+pub returns-in-Some-Slack-clause-bounded : goal.returns-in-Some-Slack-clause-bounded
+returns-in-Some-Slack-clause-bounded g c =
+    let request = option_map meaning c.args.request in
+    slack_asked_headline request c.in-Some-Slack.above c.in-Some-Slack.ascent
+    (outside (g.I.Source.state c.args.input.now) (g.O.Sink.state c.args.out.now) (g.R.Sink.state c.args.err.now) (g.S.Shelf.state c.args.shelf.now))
+    (outside (g.I.Source.state c.slack.new.input) (g.O.Sink.state c.slack.new.out) (g.R.Sink.state c.slack.new.err) (g.S.Shelf.state c.args.shelf.now))
+    c.slack.result
+    (search rules)
+    (c.slack.ensures (g.S.Shelf.state c.args.shelf.now))
+
+pub returns-in-Some-Slack-clause-complete : goal.returns-in-Some-Slack-clause-complete
+returns-in-Some-Slack-clause-complete g c =
+    let request = option_map meaning c.args.request in
+    slack_asked_completes request c.in-Some-Slack.above c.in-Some-Slack.ascent
+    (outside (g.I.Source.state c.args.input.now) (g.O.Sink.state c.args.out.now) (g.R.Sink.state c.args.err.now) (g.S.Shelf.state c.args.shelf.now))
+    (outside (g.I.Source.state c.slack.new.input) (g.O.Sink.state c.slack.new.out) (g.R.Sink.state c.slack.new.err) (g.S.Shelf.state c.args.shelf.now))
+    c.slack.result
+    (search rules)
+    (c.slack.ensures (g.S.Shelf.state c.args.shelf.now))
