@@ -55,6 +55,7 @@ commands_are_simple tool.Dumpfst = refl
 commands_are_simple tool.Fst2graph = refl
 commands_are_simple tool.Plot = refl
 commands_are_simple tool.Trial = refl
+commands_are_simple tool.Upgrade = refl
 commands_are_simple tool.Slack = refl
 
 -- the command took the words
@@ -188,6 +189,7 @@ limits tool.Dumpfst old m p is = free (truth_in (codes "pieces") (rows_of (found
 limits tool.Fst2graph old m p is = tt
 limits tool.Plot old m p is = free (first_of (codes "points") (rows_of (found_of m))) Request.Plot (λ x. tt)
 limits tool.Trial old m p is = drawing_limits (rows_of (found_of m)) Request.Trial (λ d h. h) (count_within tool.Trial old m p is count_parser)
+limits tool.Upgrade old m p is = free (first_of (codes "points") (rows_of (found_of m))) Request.Upgrade (λ x. tt)
 limits tool.Slack old m p is =
     free (ascent_in (rows_of (found_of m))) (Request.Slack (number_in 64 (codes "above") (rows_of (found_of m)))) (λ x. tt)
 

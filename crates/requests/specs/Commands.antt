@@ -23,11 +23,12 @@ name_of tool.Dumpfst = codes "dumpfst"
 name_of tool.Fst2graph = codes "fst2graph"
 name_of tool.Plot = codes "plot"
 name_of tool.Trial = codes "trial"
+name_of tool.Upgrade = codes "upgrade"
 name_of tool.Slack = codes "slack"
 
 abbrev pub all_tools : List Tool
 all_tools = tool.Points ∷ tool.Stp2points ∷ tool.Rfst ∷ tool.Prunefst ∷ tool.Bb ∷ tool.Solve ∷ tool.Check ∷ tool.Dumpfst
-    ∷ tool.Fst2graph ∷ tool.Plot ∷ tool.Trial ∷ tool.Slack ∷ []
+    ∷ tool.Fst2graph ∷ tool.Plot ∷ tool.Trial ∷ tool.Upgrade ∷ tool.Slack ∷ []
 
 -- the tool of this name
 abbrev pub tool_named : Text → Option Tool
@@ -99,6 +100,7 @@ arguments_of tool.Dumpfst = pieces_rule ∷ []
 arguments_of tool.Fst2graph = []
 arguments_of tool.Plot = points_rule ∷ []
 arguments_of tool.Trial = drawing_rules
+arguments_of tool.Upgrade = points_rule ∷ []
 arguments_of tool.Slack = above_rule ∷ ascent_rule ∷ []
 
 -- the command with further arguments

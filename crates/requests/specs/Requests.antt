@@ -29,6 +29,7 @@ pub data Request : Type 0 where
   Fst2graph : Request
   Plot : (points : Text) → Request
   Trial : Drawing → Request
+  Upgrade : (points : Text) → Request
   Slack : (above : Option ℕ) → AscentRule → Request
 
 -- the request of the code, which holds a file's name by reference
@@ -44,6 +45,7 @@ meaning (asked.Dumpfst pieces) = Request.Dumpfst pieces
 meaning asked.Fst2graph = Request.Fst2graph
 meaning (asked.Plot points) = Request.Plot points.now
 meaning (asked.Trial drawing) = Request.Trial drawing
+meaning (asked.Upgrade points) = Request.Upgrade points.now
 meaning (asked.Slack above ascent) = Request.Slack above ascent
 
 -- ---- a tool's request, by the values of its arguments
@@ -80,6 +82,7 @@ request_by tool.Dumpfst rows = option_map Request.Dumpfst (truth_in (codes "piec
 request_by tool.Fst2graph rows = Some Request.Fst2graph
 request_by tool.Plot rows = option_map Request.Plot (first_of (codes "points") rows)
 request_by tool.Trial rows = option_map Request.Trial (drawing_in rows)
+request_by tool.Upgrade rows = option_map Request.Upgrade (first_of (codes "points") rows)
 request_by tool.Slack rows = option_map (Request.Slack (number_in 64 (codes "above") rows)) (ascent_in rows)
 
 -- ---- the words

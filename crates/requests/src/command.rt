@@ -91,6 +91,13 @@ pub(crate) fn trial<'a>(alloc: Global) -> Result<Command<'a>, AllocError>
         .arg(seed(alloc))
 }
 
+/// `upgrade POINTS`
+pub(crate) fn upgrade<'a>(alloc: Global) -> Result<Command<'a>, AllocError>
+    ensures { IfOk result (λ command. app_of command ≡ command_of tool.Upgrade) }
+{
+    Command::new(alloc, "upgrade").arg(points_file(alloc))
+}
+
 /// `slack [--above LENGTH] [--ascent RULE]`
 pub(crate) fn slack<'a>(alloc: Global) -> Result<Command<'a>, AllocError>
     ensures { IfOk result (λ command. app_of command ≡ command_of tool.Slack) }

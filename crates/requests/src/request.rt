@@ -39,6 +39,10 @@ pub enum Request<'a> {
     },
     /// Solves drawn points and checks the answer.
     Trial(Drawing),
+    /// Brings an answer for the points of the file of this name to the newest version.
+    Upgrade {
+        points: &'a str,
+    },
     /// Reads points and prints a bound for each edge of their grid; where `above` is a number, for those edges alone
     /// whose bound is above it.
     Slack {

@@ -24,6 +24,7 @@ pub(crate) enum Tool {
     Fst2graph,
     Plot,
     Trial,
+    Upgrade,
     Slack,
 }
 
@@ -44,6 +45,7 @@ impl Tool {
             "fst2graph" => Some(Tool::Fst2graph),
             "plot" => Some(Tool::Plot),
             "trial" => Some(Tool::Trial),
+            "upgrade" => Some(Tool::Upgrade),
             "slack" => Some(Tool::Slack),
             _ => None,
         }
@@ -65,6 +67,7 @@ impl Tool {
             Tool::Fst2graph => Ok(command::fst2graph(alloc)),
             Tool::Plot => command::plot(alloc),
             Tool::Trial => command::trial(alloc),
+            Tool::Upgrade => command::upgrade(alloc),
             Tool::Slack => command::slack(alloc),
         }
     }
@@ -96,6 +99,9 @@ impl Tool {
                 points: value::text(matches, "points")?,
             },
             Tool::Trial => Request::Trial(value::drawing(matches)?),
+            Tool::Upgrade => Request::Upgrade {
+                points: value::text(matches, "points")?,
+            },
             Tool::Slack => Request::Slack {
                 above: value::above(matches),
                 ascent: value::ascent(matches)?,

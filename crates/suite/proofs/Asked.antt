@@ -3,6 +3,7 @@ use Rattle.std.proofs.Common.{ℕ, ◌≡◌, Bool, List, Option, Some, sym, sub
 use Rattle.frame.specs.Outside.{Outside}
 use Rattle.judge_tools.specs.Check.{EndsCheck}
 use Rattle.judge_tools.specs.Plot.{EndsPlot}
+use Rattle.judge_tools.specs.Upgrade.{EndsUpgrade}
 use Rattle.search_tools.specs.Build.{EndsBb}
 use Rattle.search_tools.specs.Solve.{EndsSolve}
 use Rattle.tree_inputs.specs.Files.{SpelledHasNoFault, OneReading}
@@ -18,12 +19,12 @@ use Rattle.search_rules.specs.declared.options.SearchOptions.{SearchOptions}
 use Rattle.search_rules.specs.declared.rules.AscentRule.{AscentRule}
 use Rattle.requests.specs.Requests.{Request}
 use Rattle.requests.specs.declared.request.Drawing.{Drawing}
-use Rattle.requests.specs.Requests.Request.{Points, Stp2points, Rfst, Prunefst, Bb, Solve, Check, Dumpfst, Fst2graph, Plot, Trial, Slack}
+use Rattle.requests.specs.Requests.Request.{Points, Stp2points, Rfst, Prunefst, Bb, Solve, Check, Dumpfst, Fst2graph, Plot, Trial, Upgrade, Slack}
 use Rattle.suite.specs.Run.{IsShort, EndsAsAsked, IsRun}
 use Rattle.suite.specs.Headlines.{BuildHeadline, CheckHeadline, Headline, SlackHeadline, TrialHeadline}
 use Rattle.suite.specs.Complete.{Completes}
 use Rattle.suite.proofs.Heads.{solve_headline, bb_headline, check_headline, slack_headline, trial_headline}
-use Rattle.suite.proofs.Completeness.{solve_completes, bb_completes, check_completes, plot_completes, dump_completes, rfst_completes, prune_completes, graph_completes, points_completes, stp_completes, slack_completes, trial_completes}
+use Rattle.suite.proofs.Completeness.{solve_completes, bb_completes, check_completes, plot_completes, upgrade_completes, dump_completes, rfst_completes, prune_completes, graph_completes, points_completes, stp_completes, slack_completes, trial_completes}
 
 -- `solve` ends with an answer where nothing troubles it
 pub solve_asked_completes : (request : Option Request) (size : ℕ) (search : SearchOptions) (before after : Outside) (status : ℕ) → request ≡ Some (Solve size search) →
@@ -45,6 +46,12 @@ pub plot_asked_completes : (request : Option Request) (name : List ℕ) (before 
     request ≡ Some (Plot name) → EndsPlot name before after status → Completes request before after status
 plot_asked_completes request name before after status is ends =
     subst (λ r. Completes r before after status) (sym is) (plot_completes name before after status ends)
+
+-- so does `upgrade`
+pub upgrade_asked_completes : (request : Option Request) (name : List ℕ) (before after : Outside) (status : ℕ) →
+    request ≡ Some (Upgrade name) → EndsUpgrade name before after status → Completes request before after status
+upgrade_asked_completes request name before after status is ends =
+    subst (λ r. Completes r before after status) (sym is) (upgrade_completes name before after status ends)
 
 -- so does `dumpfst`
 pub dump_asked_completes : SpelledHasNoFault → (request : Option Request) (pieces : Bool) (before after : Outside) (status : ℕ) → request ≡ Some (Dumpfst pieces) →
@@ -166,6 +173,7 @@ module _ (request : Option Request) (before after : Outside) (status : ℕ) (sho
   short_of (Some Fst2graph) = λ bytes file has spells writes. inr short.ends
   short_of (Some (Plot name)) = λ points bytes ps file lists has some writes. inr short.ends
   short_of (Some (Trial drawing)) = λ few writes. inr short.ends
+  short_of (Some (Upgrade name)) = λ points bytes ps file lists has spells writes. inr short.ends
   short_of (Some (Slack above ascent)) = λ bytes ps has lists writes. inr short.ends
 
   pub short_completes : Completes request before after status

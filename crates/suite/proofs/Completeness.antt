@@ -18,7 +18,7 @@ use Rattle.frame.specs.FaultTexts.{input_fault_text, input_fault_status, list_fa
 use Rattle.frame.specs.FromText.{FromText}
 use Rattle.frame.specs.Leaves.{LeavesShelf, LeavesFiles, LeavesAll}
 use Rattle.frame.specs.Complete.{HasInput, HasFile}
-use Rattle.frame.specs.Points.{ListsPoints, IsListFault}
+use Rattle.frame.specs.Points.{ListsPoints, IsListFault, grid_of_points}
 use Rattle.frame.specs.TakingLaws.{input_is_taken, whole_input_is, whole_file_is, lists_points_faultless, file_faultless}
 use Rattle.search_tools.specs.declared.build_fault.BuildFault.{BuildFault}
 use Rattle.search_tools.specs.declared.build_fault.BuildFault.TheVariants as build_fault
@@ -36,6 +36,11 @@ use Rattle.judge_tools.specs.declared.plotting.PlotFault.{PlotFault}
 use Rattle.judge_tools.specs.declared.plotting.PlotFault.TheVariants as plot_fault
 use Rattle.judge_tools.specs.Check.{Checks, EndsCheck, check_fault_text, check_fault_status}
 use Rattle.judge_tools.specs.Plot.{Plots, EndsPlot, plot_fault_text, plot_fault_status}
+use Rattle.judge_tools.specs.declared.upgrading.TheConstants.{UPGRADE_LIMIT}
+use Rattle.judge_tools.specs.declared.upgrading.UpgradeFault.{UpgradeFault}
+use Rattle.judge_tools.specs.declared.upgrading.UpgradeFault.TheVariants as upgrade_fault
+use Rattle.judge_tools.specs.Upgrade.{Upgrades, EndsUpgrade, upgrade_fault_text, upgrade_fault_status}
+use Rattle.answer_upgrade.specs.Upgraded.{IsSpelling}
 use Rattle.cert_check.specs.Accepted.{IsAccepted, IsAccepting}
 use Rattle.points_in.specs.Text.{IsPointText}
 use Rattle.fst_file.specs.Value.{FstValue}
@@ -64,7 +69,7 @@ use Rattle.slack_tools.specs.Slack.{BoundsEdges, EndsSlack}
 use Rattle.search_rules.specs.declared.options.SearchOptions.{SearchOptions}
 use Rattle.search_rules.specs.declared.rules.AscentRule.{AscentRule}
 use Rattle.requests.specs.declared.request.Drawing.{Drawing}
-use Rattle.requests.specs.Requests.Request.{Points, Stp2points, Rfst, Prunefst, Bb, Solve, Check, Dumpfst, Fst2graph, Plot, Trial, Slack}
+use Rattle.requests.specs.Requests.Request.{Points, Stp2points, Rfst, Prunefst, Bb, Solve, Check, Dumpfst, Fst2graph, Plot, Trial, Upgrade, Slack}
 use Rattle.suite.specs.Complete.{Completes}
 
 -- the status of an answer is 0 or 3
@@ -125,6 +130,39 @@ plot_completes name before after status ends = λ points bytes ps file lists has
       | inl seven ↦ inr seven
       | inr (print, (qs, taken, network, plotted, of_network), answers) ↦
           inl (answers ∙ ap (λ (p : Print). answer_code p.status) of_network)
+    ]
+
+-- such a file and an input that spells an answer for the vertices of its points' grid have none
+upgrade_faultless : (name : List ℕ) (before after : Readable) (points bytes : List ℕ) (ps : List Point) →
+    HasFile TEXT_LIMIT before.shelf after.shelf name points → ListsPoints points ps →
+    HasInput UPGRADE_LIMIT before.input after.input bytes → IsSpelling (grid_of_points ps).vertices bytes →
+    (fault : UpgradeFault) → Upgrades name before after (Err fault) → ⊥
+upgrade_faultless name before after points bytes ps file lists has some (upgrade_fault.Points fault) (is, same) =
+    file_faultless TEXT_LIMIT before.shelf after.shelf name points ps fault file lists is
+upgrade_faultless name before after points bytes ps file lists has some (upgrade_fault.Input fault) (grid, is) =
+    input_is_taken UPGRADE_LIMIT before.input after.input bytes fault has is
+upgrade_faultless name before after points bytes ps file lists has some (upgrade_fault.Misspelled line)
+    (qs, taken, is_taken, (events, stops)) =
+    let (listed, whole, of_file) = is_taken.points in
+    let same_file : listed ≡ points =
+    whole_file_is TEXT_LIMIT before.shelf after.shelf name points listed file whole in
+    let same_points : ps ≡ qs =
+    one_list points ps qs lists.text (subst (λ b. IsPointText b qs) same_file of_file.text) in
+    let same_bytes : bytes ≡ taken =
+    sym (whole_input_is UPGRADE_LIMIT before.input after.input bytes taken has is_taken.input) in
+    let of_points : IsSpelling (grid_of_points qs).vertices bytes =
+    subst (λ rs. IsSpelling (grid_of_points rs).vertices bytes) same_points some in
+    let (answer, spells) = subst (λ b. IsSpelling (grid_of_points qs).vertices b) same_bytes of_points in
+    stops.unspelled answer spells
+
+pub upgrade_completes : (name : List ℕ) (before after : Outside) (status : ℕ) → EndsUpgrade name before after status →
+    Completes (Some (Upgrade name)) before after status
+upgrade_completes name before after status ends = λ points bytes ps file lists has some writes.
+    elim (complete_ends upgrade_fault_status upgrade_fault_text (codes "upgrade") (Upgrades name) LeavesFiles before after status
+    (upgrade_faultless name before.read after.read points bytes ps file lists has some) writes ends) [
+      | inl seven ↦ inr seven
+      | inr (print, (qs, taken, answer, is_taken, spells, of_answer), answers) ↦
+          inl (answers ∙ ap (λ (p : Print). answer_code p.status) of_answer)
     ]
 
 -- an input that spells a file of full trees has no fault

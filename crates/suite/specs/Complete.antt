@@ -6,9 +6,11 @@ use Rattle.frame.specs.declared.status.TheConstants.{MISUSED, NO_MEMORY}
 use Rattle.frame.specs.declared.take.TheConstants.{TEXT_LIMIT}
 use Rattle.frame.specs.Outside.{Outside}
 use Rattle.frame.specs.Complete.{HasInput, HasFile}
-use Rattle.frame.specs.Points.{ListsPoints}
+use Rattle.frame.specs.Points.{ListsPoints, grid_of_points}
 use Rattle.cert_check.specs.Accepted.{IsAccepted}
 use Rattle.judge_tools.specs.declared.judge.TheConstants.{ANSWER_LIMIT}
+use Rattle.judge_tools.specs.declared.upgrading.TheConstants.{UPGRADE_LIMIT}
+use Rattle.answer_upgrade.specs.Upgraded.{IsSpelling}
 use Rattle.points_in.specs.Terminals.{terminals_of}
 use Rattle.concatenation.specs.Concatenation.{IsConcatenation, all_of}
 use Rattle.fst_gen.specs.Trees.{HasMoreSets}
@@ -18,7 +20,7 @@ use Rattle.trial_tools.specs.Trial.{drawn_terminals}
 use Rattle.fst_file.specs.Value.{FstValue}
 use Rattle.fst_file.specs.Text.{SpellsFstFile}
 use Rattle.requests.specs.Requests.{Request}
-use Rattle.requests.specs.Requests.Request.{Points, Stp2points, Rfst, Prunefst, Bb, Solve, Check, Dumpfst, Fst2graph, Plot, Trial, Slack}
+use Rattle.requests.specs.Requests.Request.{Points, Stp2points, Rfst, Prunefst, Bb, Solve, Check, Dumpfst, Fst2graph, Plot, Trial, Upgrade, Slack}
 
 -- no write to `out` fails
 abbrev pub IsWritable : Outside → Outside → Type 0
@@ -61,6 +63,11 @@ Completes (Some (Plot name)) before after status =
 Completes (Some (Trial drawing)) before after status =
     ¬ HasMoreSets (drawn_terminals drawing.count drawing.seed) most_members 20000 → IsWritable before after →
     ((status ≡ 0) ⊎ (status ≡ 3)) ⊎ (status ≡ NO_MEMORY)
+Completes (Some (Upgrade name)) before after status =
+    (points bytes : List ℕ) (ps : List Point) → HasFile TEXT_LIMIT before.read.shelf after.read.shelf name points →
+    ListsPoints points ps → HasInput UPGRADE_LIMIT before.read.input after.read.input bytes →
+    IsSpelling (grid_of_points ps).vertices bytes →
+    IsWritable before after → (status ≡ 0) ⊎ (status ≡ NO_MEMORY)
 Completes (Some (Slack above ascent)) before after status =
     (bytes : List ℕ) (ps : List Point) → HasInput TEXT_LIMIT before.read.input after.read.input bytes → ListsPoints bytes ps →
     IsWritable before after → (status ≡ 0) ⊎ (status ≡ NO_MEMORY)

@@ -7,6 +7,7 @@ use Rattle.search_tools.specs.Build.{EndsBb}
 use Rattle.search_tools.specs.Solve.{EndsSolve}
 use Rattle.judge_tools.specs.Check.{EndsCheck}
 use Rattle.judge_tools.specs.Plot.{EndsPlot}
+use Rattle.judge_tools.specs.Upgrade.{EndsUpgrade}
 use Rattle.point_tools.specs.Points.{EndsPoints}
 use Rattle.point_tools.specs.StpPoints.{EndsStp2points}
 use Rattle.tree_tools.specs.Dump.{EndsDumpfst}
@@ -16,11 +17,11 @@ use Rattle.tree_tools.specs.Pruning.{EndsPrunefst}
 use Rattle.trial_tools.specs.Trial.{EndsTrial}
 use Rattle.slack_tools.specs.Slack.{EndsSlack}
 use Rattle.requests.specs.Requests.{Request}
-use Rattle.requests.specs.Requests.Request.{Points, Stp2points, Rfst, Prunefst, Bb, Solve, Check, Dumpfst, Fst2graph, Plot, Trial, Slack}
+use Rattle.requests.specs.Requests.Request.{Points, Stp2points, Rfst, Prunefst, Bb, Solve, Check, Dumpfst, Fst2graph, Plot, Trial, Upgrade, Slack}
 
 -- the text on `err` where the words ask for nothing
 abbrev pub usage_line : List ℕ
-usage_line = codes "usage: rst points|stp2points|rfst|prunefst|bb|solve|check|dumpfst|fst2graph|plot|trial|slack [WORDS]\n"
+usage_line = codes "usage: rst points|stp2points|rfst|prunefst|bb|solve|check|dumpfst|fst2graph|plot|trial|upgrade|slack [WORDS]\n"
 
 -- Memory is wanting while the words are read: nothing is read or printed.
 pub record IsShort (before after : Outside) (status : ℕ) : Type 0 where
@@ -49,6 +50,7 @@ EndsAsAsked (Some (Dumpfst pieces)) before after status = EndsDumpfst pieces bef
 EndsAsAsked (Some Fst2graph) before after status = EndsFst2graph before after status
 EndsAsAsked (Some (Plot points)) before after status = EndsPlot points before after status
 EndsAsAsked (Some (Trial drawing)) before after status = EndsTrial drawing.count drawing.seed before after status
+EndsAsAsked (Some (Upgrade points)) before after status = EndsUpgrade points before after status
 EndsAsAsked (Some (Slack above ascent)) before after status = EndsSlack above before after status
 EndsAsAsked None before after status = IsMisused before after status
 

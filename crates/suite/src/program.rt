@@ -9,7 +9,7 @@ ghost use Rattle.suite.specs.Complete.{Completes};
 
 use crate::laws::trial_is_solve;
 use frame::{MISUSED, NO_MEMORY, report};
-use judge_tools::{check, plot};
+use judge_tools::{check, plot, upgrade};
 use point_tools::{located_has_no_fault, points, stp2points};
 use requests::{Request, request_in};
 use rst_outside::{Shelf, Sink, Source};
@@ -22,7 +22,7 @@ use trial_tools::trial;
 
 /// What is said where the words ask for no tool.
 const USAGE_LINE: &[u8] =
-    b"usage: rst points|stp2points|rfst|prunefst|bb|solve|check|dumpfst|fst2graph|plot|trial|slack [WORDS]\n";
+    b"usage: rst points|stp2points|rfst|prunefst|bb|solve|check|dumpfst|fst2graph|plot|trial|upgrade|slack [WORDS]\n";
 
 /// Runs the tool that the words after the program's name ask for, and gives the status that the program ends with.
 ///
@@ -129,6 +129,7 @@ fn answer<I: Source, O: Sink, R: Sink, S: Shelf>(
             trial_is_solve();
             trial(alloc, drawing.count, drawing.seed, out, err)
         }
+        Some(Request::Upgrade { points }) => upgrade(alloc, points, input, out, err, shelf),
         Some(Request::Slack { above, ascent }) => slack(alloc, above, ascent, input, out, err),
         None => {
             report(err, USAGE_LINE);

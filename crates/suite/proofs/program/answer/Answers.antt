@@ -2,7 +2,7 @@
 use Rattle.std.proofs.Common.{rules, option_map}
 use Rattle.frame.specs.Outside.{outside}
 use Rattle.requests.specs.Requests.{meaning}
-use Rattle.suite.proofs.Asked.{solve_asked_completes, bb_asked_completes, check_asked_completes, plot_asked_completes, dump_asked_completes, rfst_asked_completes, prune_asked_completes, graph_asked_completes, points_asked_completes, stp_asked_completes, solve_asked_runs, bb_asked_runs, solve_asked_headline, bb_asked_headline, check_asked_headline, trial_asked_completes, trial_asked_headline, slack_asked_completes, slack_asked_headline}
+use Rattle.suite.proofs.Asked.{solve_asked_completes, bb_asked_completes, check_asked_completes, plot_asked_completes, upgrade_asked_completes, dump_asked_completes, rfst_asked_completes, prune_asked_completes, graph_asked_completes, points_asked_completes, stp_asked_completes, solve_asked_runs, bb_asked_runs, solve_asked_headline, bb_asked_headline, check_asked_headline, trial_asked_completes, trial_asked_headline, slack_asked_completes, slack_asked_headline}
 use Rattle.suite.proofs.program.answer.Goals as goal
 
 pub returns-in-Some-Solve-clause-run : goal.returns-in-Some-Solve-clause-run
@@ -64,6 +64,16 @@ returns-in-Some-Plot-clause-complete g c =
     c.plot.result
     (search rules)
     c.plot.ensures
+
+pub returns-in-Some-Upgrade-clause-complete : goal.returns-in-Some-Upgrade-clause-complete
+returns-in-Some-Upgrade-clause-complete g c =
+    let request = option_map meaning c.args.request in
+    upgrade_asked_completes request c.in-Some-Upgrade.points.now
+    (outside (g.I.Source.state c.args.input.now) (g.O.Sink.state c.args.out.now) (g.R.Sink.state c.args.err.now) (g.S.Shelf.state c.args.shelf.now))
+    (outside (g.I.Source.state c.upgrade.new.input) (g.O.Sink.state c.upgrade.new.out) (g.R.Sink.state c.upgrade.new.err) (g.S.Shelf.state c.upgrade.new.shelf))
+    c.upgrade.result
+    (search rules)
+    c.upgrade.ensures
 
 pub returns-in-Some-Dumpfst-clause-complete : goal.returns-in-Some-Dumpfst-clause-complete
 returns-in-Some-Dumpfst-clause-complete g c =
