@@ -4,7 +4,7 @@ use Rattle.points_in.specs.declared.point.Point.{Point}
 use Rattle.cut_cert.specs.Value.{WrittenAnswer}
 use Rattle.cut_cert.specs.Text.{answer_text}
 use Rattle.cut_cert.specs.Spelling.{SpellsAnswer}
-use Rattle.answer_upgrade.specs.declared.spelling.Spelled.TheVariants.{Fault}
+use Rattle.answer_upgrade.specs.declared.told.Spelled.TheVariants.{Fault}
 use Rattle.answer_upgrade.specs.Spelling.{TellsSpelling}
 use Rattle.answer_upgrade.specs.Upgraded.{IsSpelling, upgraded}
 use Rattle.frame.specs.declared.status.AnswerStatus.TheVariants.{Done}

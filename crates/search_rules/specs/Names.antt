@@ -16,4 +16,5 @@ ascent_named text = if bytes_eq text (codes "least") then Some ascent.Least
 
 abbrev pub split_named : List ℕ → Option SplitRule
 split_named text = if bytes_eq text (codes "longest") then Some split.Longest
-    else (if bytes_eq text (codes "first") then Some split.First else None)
+    else (if bytes_eq text (codes "first") then Some split.First
+    else (if bytes_eq text (codes "vertex") then Some split.Vertex else None))

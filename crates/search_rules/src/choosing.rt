@@ -19,7 +19,7 @@ pub fn ascent_place(rule: AscentRule, list: &[Candidate]) -> usize
         .map_or(0, |(place, _)| place)
 }
 
-/// The place of the candidate whose edge a leaf is split on.
+/// The place of the candidate that a leaf is split on: the edge or the vertex of its number.
 pub fn split_place(rule: SplitRule, list: &[Candidate]) -> usize
     requires { 0 < length list.now }
     ensures { result < length list.now }
@@ -27,7 +27,7 @@ pub fn split_place(rule: SplitRule, list: &[Candidate]) -> usize
     list.iter()
         .enumerate()
         .min_by_key(|(_, candidate)| match rule {
-            SplitRule::Longest => (u64::MAX - candidate.size, candidate.number),
+            SplitRule::Longest | SplitRule::Vertex => (u64::MAX - candidate.size, candidate.number),
             SplitRule::First => (0, candidate.number),
         })
         .map_or(0, |(place, _)| place)

@@ -11,7 +11,7 @@ pub struct SearchOptions {
     pub concat: u32,
     /// Which candidate an ascent takes.
     pub ascent: AscentRule,
-    /// Which edge a leaf is split on.
+    /// What a leaf is split on.
     pub split: SplitRule,
 }
 

@@ -13,13 +13,16 @@ pub enum AscentRule {
     First,
 }
 
-/// Which edge a leaf is split on.
+/// What a leaf is split on.
 #[derive(Clone, Copy, Debug, PartialEq, Eq)]
 pub enum SplitRule {
-    /// `longest`: the longest one, and of these the one of the lowest number.
+    /// `longest`: the longest edge, and of these the one of the lowest number.
     Longest,
-    /// `first`: the one of the lowest number.
+    /// `first`: the edge of the lowest number.
     First,
+    /// `vertex`: the vertex at which most edges of the leaf's network meet, and of these the one of the lowest number;
+    /// where there is none, the longest edge.
+    Vertex,
 }
 
 /// A word that names no rule.
@@ -49,6 +52,7 @@ impl FromStr for SplitRule {
         match text {
             "longest" => Ok(SplitRule::Longest),
             "first" => Ok(SplitRule::First),
+            "vertex" => Ok(SplitRule::Vertex),
             _ => Err(UnknownRule),
         }
     }

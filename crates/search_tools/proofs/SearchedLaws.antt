@@ -14,12 +14,9 @@ use Rattle.cert_tree.specs.declared.split.SplitOn.{SplitOn}
 use Rattle.cert_tree.specs.Tree.{Tree}
 use Rattle.cert_tree.specs.Preorder.{split_count}
 use Rattle.branch.specs.declared.solved.Solved.{Solved}
-use Rattle.branch.specs.declared.split_kind.SplitKind.{SplitKind}
-use Rattle.branch.specs.declared.split_kind.SplitKind.TheVariants as kind
 use Rattle.branch.specs.Leaves.{DecidedLeaf, leaves_of}
 use Rattle.branch.specs.States.{IsOpenLeaf}
 use Rattle.branch.specs.RunLaws.{EndsRunOfOpenings-longer}
-use Rattle.branch.specs.Searching.{SplitsEdges}
 use Rattle.branch.specs.Solving.{IsSolved}
 use Rattle.cut_cert.specs.declared.head.AnswerHead.{AnswerHead}
 use Rattle.cut_cert.specs.declared.head.ConcatNote.{ConcatNote}
@@ -59,14 +56,13 @@ module _ (g : Graph) (openings first_length : ℕ) (s : Solved) (holds : IsSolve
       (cases_Bool s.optimal)
 
   -- What a search found is told as it is.
-  pub told : SplitsEdges s.tree → split_count s.tree ≤ openings → (s.optimal ≡ false → split_count s.tree ≡ openings) →
+  pub told : split_count s.tree ≤ openings → (s.optimal ≡ false → split_count s.tree ≡ openings) →
       IsTold g openings first_length s
-  told edges few stopped = record {
+  told few stopped = record {
     searched = record {
       network_of = holds.network_of;
       valid = holds.valid;
       bounds = λ other joins. let low = holds.lower other joins in let same = bound_is in omega arith;
-      edges = edges;
       few = few;
       stopped = λ below. stopped (not_optimal below);
       cuts = holds.cuts;
@@ -82,13 +78,13 @@ module _ (g : Graph) (openings first_length : ℕ) (s : Solved) (holds : IsSolve
   }
 
 -- The same where memory may be wanting, of a graph and a first length that are known as others.
-pub told_or_not : {E : Type 0} (g h : Graph) (asked : SplitKind) (openings first_length n : ℕ) (found : Result Solved E) → h ≡ g → asked ≡ kind.Edges →
-    n ≡ first_length → IfOk found (IsSolved h n) → IfOk found (λ s. asked ≡ kind.Edges → SplitsEdges s.tree) → IfOk found (λ s. split_count s.tree ≤ openings) →
+pub told_or_not : {E : Type 0} (g h : Graph) (openings first_length n : ℕ) (found : Result Solved E) → h ≡ g →
+    n ≡ first_length → IfOk found (IsSolved h n) → IfOk found (λ s. split_count s.tree ≤ openings) →
     IfOk found (λ s. s.optimal ≡ false → split_count s.tree ≡ openings) → IfOk found (IsTold g openings first_length)
-told_or_not g h asked openings first_length n (Ok s) graph is first solved edges few stopped =
+told_or_not g h openings first_length n (Ok s) graph first solved few stopped =
     told g openings first_length s
-    (subst (λ (m : ℕ). IsSolved g m s) first (subst (λ (k : Graph). IsSolved k n s) graph solved)) (edges is) few stopped
-told_or_not g h asked openings first_length n (Err memory) graph is first solved edges few stopped = tt
+    (subst (λ (m : ℕ). IsSolved g m s) first (subst (λ (k : Graph). IsSolved k n s) graph solved)) few stopped
+told_or_not g h openings first_length n (Err memory) graph first solved few stopped = tt
 
 -- The answer that tells it can be written.
 pub told_fits : (g : Graph) (openings first_length : ℕ) (note : ConcatNote) (s : Solved) → openings ≤ 255 → IsTold g openings first_length s →
@@ -96,7 +92,7 @@ pub told_fits : (g : Graph) (openings first_length : ℕ) (note : ConcatNote) (s
 told_fits g openings first_length note s small is = record {
   network = is.searched.network_of.size;
   few = let few = is.searched.few in omega arith;
-  nodes = nodes_on g (nothing_decided g) s.tree is.searched.edges is.searched.valid;
+  nodes = nodes_on g (nothing_decided g) s.tree is.searched.valid;
   packings = packings_on g (nothing_decided g) s.tree is.searched.valid is.searched.cuts;
 }
 
@@ -117,7 +113,6 @@ searched_longer g openings first later network tree longer searched = record {
   network_of = searched.network_of;
   valid = searched.valid;
   bounds = searched.bounds;
-  edges = searched.edges;
   few = searched.few;
   stopped = searched.stopped;
   cuts = searched.cuts;

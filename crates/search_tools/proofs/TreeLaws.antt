@@ -1,4 +1,4 @@
--- Trees that split edges can be written.
+-- Valid trees can be written.
 use Rattle.std.proofs.Common.{◌+◌, ◌*◌, ◌≤◌, [], length, Some, None, All}
 use Rattle.std.proofs.lemmas.Option.{slice_get_within}
 use Rattle.std.proofs.lemmas.List.Elements.{All-append, All-cons, All-nil}
@@ -14,18 +14,21 @@ use Rattle.cert_tree.specs.Preorder.{nodes_of, packings_of}
 use Rattle.cert_tree.specs.Decisions.{outside_of, inside_of}
 use Rattle.cert_tree.specs.TreeValue.{IsValidTree}
 use Rattle.cut_cert.specs.Answers.{IsCutOn, IsNodeOn, IsPackingOn}
-use Rattle.branch.specs.Searching.{SplitsEdges}
 
--- the splits of a valid tree that splits edges are on edges of the graph
-pub nodes_on : (g : Graph) (d : Decided) (tree : Tree SplitOn) → SplitsEdges tree → IsValidTree g d tree → All (IsNodeOn g) (nodes_of tree)
-nodes_on g d (Leaf cuts) edges valid = All-cons (IsNodeOn g) None [] tt (All-nil (IsNodeOn g))
-nodes_on g d (Split (split.Vertex v) outside inside) edges valid = absurd edges
-nodes_on g d (Split (split.Edge n) outside inside) (first, second) (undecided, of_outside, of_inside) =
+-- the splits of a valid tree are on edges and vertices of the graph
+pub nodes_on : (g : Graph) (d : Decided) (tree : Tree SplitOn) → IsValidTree g d tree → All (IsNodeOn g) (nodes_of tree)
+nodes_on g d (Leaf cuts) valid = All-cons (IsNodeOn g) None [] tt (All-nil (IsNodeOn g))
+nodes_on g d (Split (split.Vertex v) outside inside) (undecided, of_outside, of_inside) =
+    All-cons (IsNodeOn g) (Some (split.Vertex v)) _ undecided.vertex
+    (All-append (IsNodeOn g) (nodes_of outside) (nodes_of inside)
+    (nodes_on g (outside_of d (split.Vertex v)) outside of_outside)
+    (nodes_on g (inside_of d (split.Vertex v)) inside of_inside))
+nodes_on g d (Split (split.Edge n) outside inside) (undecided, of_outside, of_inside) =
     let (e, _, at, _, _) = states_of-parts g d n Undecided undecided in
     All-cons (IsNodeOn g) (Some (split.Edge n)) _ (slice_get_within g.edges n e at)
     (All-append (IsNodeOn g) (nodes_of outside) (nodes_of inside)
-    (nodes_on g (outside_of d (split.Edge n)) outside first of_outside)
-    (nodes_on g (inside_of d (split.Edge n)) inside second of_inside))
+    (nodes_on g (outside_of d (split.Edge n)) outside of_outside)
+    (nodes_on g (inside_of d (split.Edge n)) inside of_inside))
 
 -- its cuts weigh at least 1, and are sets of the graph's vertices
 cuts_on : (g : Graph) (d : Decided) (tree : Tree SplitOn) → IsValidTree g d tree → All (All (IsCutOn g)) (packings_of tree)

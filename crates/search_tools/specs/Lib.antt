@@ -6,3 +6,4 @@ pub mod Steps
 pub mod Truth
 pub mod TruthLaws
 pub mod SolutionLaws
+pub mod Kinds

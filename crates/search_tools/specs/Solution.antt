@@ -10,6 +10,7 @@ use Rattle.net_graph.specs.Members.{members_of}
 use Rattle.hanan_grid.specs.Grid.{hanan_grid_of}
 use Rattle.cut_cert.specs.declared.head.AnswerHead.{AnswerHead}
 use Rattle.cut_cert.specs.declared.head.ConcatNote.{ConcatNote}
+use Rattle.cut_cert.specs.declared.version.Version.TheVariants as version
 use Rattle.cut_cert.specs.Value.{WrittenAnswer}
 use Rattle.cut_cert.specs.Answers.{named, names_of}
 use Rattle.cert_tree.specs.declared.split.SplitOn.{SplitOn}
@@ -18,7 +19,6 @@ use Rattle.cert_tree.specs.Preorder.{packings_of, split_count}
 use Rattle.cert_tree.specs.TreeValue.{IsValidTree, tree_value}
 use Rattle.branch.specs.Leaves.{leaves_of}
 use Rattle.branch.specs.States.{IsNetworkOf, IsOpenLeaf}
-use Rattle.branch.specs.Searching.{SplitsEdges}
 use Rattle.branch.specs.Runs.{EndsRunOfOpenings}
 
 -- the value of a tree where nothing is decided
@@ -31,15 +31,14 @@ bound_of g network tree = min (value_on g tree) (length_of g network)
 
 -- A network and a tree of cuts as a search of at most so many openings may end with them. The tree is valid where
 -- nothing is decided, and no network is shorter than the bound that it gives. It has as many splits as openings are
--- allowed where its value is below the network's length, and never more; they are on edges. Each leaf has few cuts,
--- and one whose value is below the length is maximal. Network and tree end a run of openings whose first network is
--- no longer than a first length.
+-- allowed where its value is below the network's length, and never more. Each leaf has few cuts, and one whose value
+-- is below the length is maximal. Network and tree end a run of openings whose first network is no longer than a
+-- first length.
 pub record IsSearched (g : Graph) (openings first_length : ℕ) (network : List Bool)
     (tree : Tree SplitOn) : Type 0 where
   pub network_of : IsNetworkOf g network
   pub valid : IsValidTree g (nothing_decided g) tree
   pub bounds : IsLowerBound g (bound_of g network tree)
-  pub edges : SplitsEdges tree
   pub few : split_count tree ≤ openings
   pub stopped : value_on g tree < length_of g network → split_count tree ≡ openings
   pub cuts : All (λ packing. length packing ≤ 4 * length g.edges + 1) (packings_of tree)
@@ -57,9 +56,10 @@ head_with openings length value note = record {
   concat = note;
 }
 
--- the answer that tells the network, the tree and the concatenation
+-- the answer that tells the network, the tree and the concatenation, in version 2
 abbrev pub solution : ℕ → List Point → List Bool → Tree SplitOn → ConcatNote → WrittenAnswer
 solution openings ps network tree note = record {
+  version = version.Two;
   head = head_with openings (length_of (hanan_grid_of ps) network) (value_on (hanan_grid_of ps) tree) note;
   edges = names_of ps (members_of network);
   tree = named ps tree;

@@ -10,6 +10,7 @@ use Rattle.cert_tree.specs.Preorder.{nodes_of, split_count}
 use Rattle.cut_cert.specs.declared.head.AnswerHead.{AnswerHead}
 use Rattle.cut_cert.specs.Answers.{IsAnswerOn, IsNodeOn, named, names_of, value_of}
 use Rattle.cut_cert.specs.declared.head.ConcatNote.{ConcatNote}
+use Rattle.cut_cert.specs.declared.version.Version.TheVariants as version
 use Rattle.cut_cert.specs.Value.{WrittenAnswer}
 use Rattle.cut_cert.specs.Text.{answer_text}
 use Rattle.cut_cert.specs.Spelling.{SpellsAnswer}
@@ -54,7 +55,12 @@ pub told_value : (options : SearchOptions) (ps : List Point) (trees : List FullT
     value_of s.grid s.answer ≡ solution options.openings ps s.answer.network s.answer.tree s.answer.head.concat
 told_value options ps trees s is =
     let told : AnswerHead → WrittenAnswer =
-    λ head. record { head = head; edges = names_of ps (members_of s.answer.network); tree = named ps s.answer.tree } in
+    λ head. record {
+      version = version.Two;
+      head = head;
+      edges = names_of ps (members_of s.answer.network);
+      tree = named ps s.answer.tree;
+    } in
     ap (λ (h : List Point). value_of h s.answer) is.grid ∙ ap told is.head
 
 -- The answer for points and trees is one that may be printed, where its text spells it.

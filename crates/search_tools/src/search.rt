@@ -7,6 +7,7 @@ ghost use Rattle.cert_tree.specs.Preorder.{split_count};
 ghost use Rattle.dual_ascent.specs.Choosing.{IsCallableOnSome, AnswersAPlace};
 ghost use Rattle.packing_judge.specs.Bound.{IsBoundOf};
 ghost use Rattle.branch.specs.States.{IsNetworkOf};
+ghost use Rattle.search_tools.specs.Kinds.{kind_of};
 ghost use Rattle.search_tools.specs.Steps.{IsTold};
 
 use crate::network::DESCENTS;
@@ -16,7 +17,7 @@ use hanan_grid::Grid;
 use net_graph::{EdgeSet, length};
 use network_judge::shortened;
 use packing_judge::{Bound, Outcome, exchange};
-use search_rules::{SearchOptions, ascent_place, split_place};
+use search_rules::{SearchOptions, SplitRule, ascent_place, split_place};
 use std::alloc::{AllocError, Global};
 use tight_packing::Budget;
 
@@ -63,10 +64,21 @@ pub fn searched(
             requires { 0 < length list.now }
             ensures { result < length list.now }
         { split_place(split, list) },
+        kind_of(split),
     )
 }
 
-// The same by any rules.
+// What a rule splits leaves on.
+fn kind_of(rule: SplitRule) -> SplitKind
+    ensures { result ≡ kind_of rule }
+{
+    match rule {
+        SplitRule::Longest | SplitRule::First => SplitKind::Edges,
+        SplitRule::Vertex => SplitKind::Vertices,
+    }
+}
+
+// The same by any rules, with leaves split on what the kind says.
 fn searched_by<F: Rule, G: Rule>(
     alloc: Global,
     grid: &Grid,
@@ -74,6 +86,7 @@ fn searched_by<F: Rule, G: Rule>(
     openings: u8,
     ascent: F,
     split: G,
+    kind: SplitKind,
 ) -> Result<Solved, AllocError>
     requires network { IsNetworkOf (hanan_grid_of grid.now) first }
     requires ascent_callable { IsCallableOnSome (F.may_choose ascent) }
@@ -89,25 +102,25 @@ fn searched_by<F: Rule, G: Rule>(
         first,
         Chooser::new(ascent),
         Chooser::new(split),
+        kind,
     )?;
     search.solve(openings)
 }
 
-// The search with its first leaf. It splits on edges, as the text of an answer does. An `Err` is want of memory.
+// The search with its first leaf. An `Err` is want of memory.
 fn begun<'a, F: Rule, G: Rule>(
     alloc: Global,
     grid: &'a Grid,
     first: EdgeSet,
     ascent: Chooser<F>,
     split: Chooser<G>,
+    kind: SplitKind,
 ) -> Result<Search<'a, F, G>, AllocError>
     requires { IsNetworkOf (hanan_grid_of grid.now) first }
     ensures graph { IfOk result (λ s. s.graph ≡ hanan_grid_of grid.now) }
-    ensures kind { IfOk result (λ s. s.kind ≡ SplitKind.Edges) }
     ensures first { IfOk result (λ s. s.first_length ≡ length_of (hanan_grid_of grid.now) first) }
     ensures leaf { IfOk result (λ s. split_count s.tree ≡ 0) }
 {
-    let kind = SplitKind::Edges;
     let mut search = Search::start(alloc, grid.graph(), first, ascent, split, kind)?;
     for exchange in 0..MOST_EXCHANGES {
         let budget = if exchange == 0 {
@@ -135,7 +148,6 @@ fn raise_by_exchange<F: Rule, G: Rule>(
     ensures further { IfOk result (λ further.
         length_of search.old.graph search.new.network < length_of search.old.graph search.old.network → IsTrue further) }
     ensures graph { OnOk result (search.new.graph ≡ search.old.graph) }
-    ensures kind { OnOk result (search.new.kind ≡ search.old.kind) }
     ensures first { OnOk result (search.new.first_length ≡ search.old.first_length) }
     ensures leaf { OnOk result (split_count search.new.tree ≡ 0) }
 {
@@ -169,7 +181,6 @@ fn offer_shorter<F: Rule, G: Rule>(
 ) -> Result<(), AllocError>
     requires graph { search.old.graph ≡ hanan_grid_of grid.now }
     ensures graph { OnOk result (search.new.graph ≡ search.old.graph) }
-    ensures kind { OnOk result (search.new.kind ≡ search.old.kind) }
     ensures first { OnOk result (search.new.first_length ≡ search.old.first_length) }
     ensures tree { OnOk result (search.new.tree ≡ search.old.tree) }
 {

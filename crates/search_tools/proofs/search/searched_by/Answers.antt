@@ -6,6 +6,6 @@ use Rattle.search_tools.proofs.search.searched_by.Goals as goal
 
 pub returns : goal.returns
 returns _ c =
-    told_or_not (hanan_grid_of c.args.grid.now) _ _ c.args.openings (length_of (hanan_grid_of c.args.grid.now) c.args.first) _ c.solve.result
-    c.in_ok-search.ensures.graph c.in_ok-search.ensures.kind c.in_ok-search.ensures.first
-    c.solve.ensures.solved c.solve.ensures.edges c.solve.ensures.few c.solve.ensures.stopped
+    told_or_not (hanan_grid_of c.args.grid.now) _ c.args.openings (length_of (hanan_grid_of c.args.grid.now) c.args.first) _ c.solve.result
+    c.in_ok-search.ensures.graph c.in_ok-search.ensures.first
+    c.solve.ensures.solved c.solve.ensures.few c.solve.ensures.stopped
