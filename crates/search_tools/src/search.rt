@@ -137,12 +137,7 @@ fn raise_by_exchange<F: Rule, G: Rule>(
     ensures leaf { OnOk result (split_count search.new.tree ≡ 0) }
 {
     let before = length(grid.graph(), search.network());
-    let ExchangeEnd { bound, is_spent } = exchanged(
-        alloc,
-        grid,
-        search.network(),
-        budget,
-    )?;
+    let ExchangeEnd { bound, is_spent } = exchanged(alloc, grid, search.network(), budget)?;
     let Some(bound) = bound else {
         return Ok(false);
     };
