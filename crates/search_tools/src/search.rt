@@ -193,6 +193,7 @@ fn exchanged(
     let bound = match outcome {
         Outcome::Tight(bound) => Some(bound),
         Outcome::Impossible(bound) | Outcome::Exhausted(bound) => bound,
+        Outcome::TooLong => None,
     };
     Ok(ExchangeEnd { bound, is_spent })
 }
