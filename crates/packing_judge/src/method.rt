@@ -13,6 +13,9 @@ use planar_cuts::PlanarCuts;
 use std::alloc::{AllocError, Global};
 use tight_packing::{Budget, Proposal, propose};
 
+// Longer networks are refused.
+const MAX_LENGTH: u64 = 1 << 42;
+
 /// How an exchange ended.
 #[derive(Debug, Drop)]
 pub enum Outcome {
@@ -23,6 +26,8 @@ pub enum Outcome {
     Impossible(Option<Bound>),
     /// The budget is spent, or the network isn't a clean one. The bound is what is at hand.
     Exhausted(Option<Bound>),
+    /// The network is longer than 2^42.
+    TooLong,
 }
 
 /// Looks for a packing whose value is the length of a network on a grid. The exchange cleans the network first: an edge of
@@ -39,6 +44,9 @@ pub fn exchange(
 {
     let graph = grid.graph();
     let length = length(graph, network);
+    if length > MAX_LENGTH {
+        return Ok(Outcome::TooLong);
+    }
     let Some(tree) = Tree::of(alloc, graph, network)? else {
         return Ok(Outcome::Exhausted(None));
     };

@@ -152,12 +152,7 @@ fn raise_by_exchange<F: Rule, G: Rule>(
     ensures leaf { OnOk result (split_count search.new.tree ≡ 0) }
 {
     let before = length(grid.graph(), search.network());
-    let ExchangeEnd { bound, is_spent } = exchanged(
-        alloc,
-        grid,
-        search.network(),
-        budget,
-    )?;
+    let ExchangeEnd { bound, is_spent } = exchanged(alloc, grid, search.network(), budget)?;
     let Some(bound) = bound else {
         return Ok(false);
     };
@@ -213,6 +208,7 @@ fn exchanged(
     let bound = match outcome {
         Outcome::Tight(bound) => Some(bound),
         Outcome::Impossible(bound) | Outcome::Exhausted(bound) => bound,
+        Outcome::TooLong => None,
     };
     Ok(ExchangeEnd { bound, is_spent })
 }
