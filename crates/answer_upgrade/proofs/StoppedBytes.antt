@@ -1,12 +1,39 @@
 -- What a reader stands for and where bytes stop, said of the same bytes.
-use Rattle.std.proofs.Common.{ℕ, ◌≡◌, List, subst}
+use Rattle.std.proofs.Common.{ℕ, ◌≡◌, ◌-◌, ◌<◌, ◌≤◌, List, [], ◌∷◌, ◌++◌, length, take, drop, get_or, refl, sym, ap, subst, ◌∙◌, arith, append_assoc}
+use Rattle.std.proofs.Math.Seq.{drop-cons}
+use Rattle.std.proofs.lemmas.List.{append-nil, take_more, take-append-drop, take_rest}
 use Rattle.cut_cert.specs.declared.event.AnswerEvent.{AnswerEvent}
 use Rattle.cut_cert.specs.declared.reader.EventReader.{EventReader}
 use Rattle.cut_cert.specs.Reading.{StopsAt}
 use Rattle.cut_cert.specs.Reader.{Reads}
+use Rattle.answer_upgrade.specs.Spelling.{IsReading, Stops}
 
-pub stands_for : (V : ℕ) (xs ys : List ℕ) (events : List AnswerEvent) (reader : EventReader) → xs ≡ ys → Reads V xs events reader → (es : List AnswerEvent) × Reads V ys es reader
+pub stands_for : (V : ℕ) (xs ys : List ℕ) (events : List AnswerEvent) (reader : EventReader) → xs ≡ ys → Reads V xs events reader → IsReading V ys reader
 stands_for V xs ys events reader same reads = (events, subst (λ x. Reads V x events reader) same reads)
 
-pub stops_in : (V : ℕ) (xs ys : List ℕ) (m n : ℕ) (events : List AnswerEvent) → xs ≡ ys → m ≡ n → StopsAt V xs m events → (es : List AnswerEvent) × StopsAt V ys n es
+pub stops_in : (V : ℕ) (xs ys : List ℕ) (m n : ℕ) (events : List AnswerEvent) → xs ≡ ys → m ≡ n → StopsAt V xs m events → Stops V ys n
 stops_in V xs ys m n events same line stops = (events, subst (λ x. StopsAt V x n events) same (subst (λ k. StopsAt V xs k events) line stops))
+
+-- after n more bytes the parts are still the whole
+pub moved_on : (front rest : List ℕ) (n : ℕ) → front ++ rest ≡ (front ++ take n rest) ++ take (length rest - n) (drop n rest)
+moved_on front rest n =
+    rw take_rest (ap (λ x. front ++ x) (sym (take-append-drop n rest)) ∙ sym (append_assoc front (take n rest) (drop n rest)))
+
+-- no digit and one byte are one byte
+pub one_byte : (bytes piece : List ℕ) (n : ℕ) → n ≤ 0 → 0 < length piece → (bytes ++ take n piece) ++ get_or piece 0 0 ∷ [] ≡ bytes ++ take 1 piece
+one_byte bytes piece n none some =
+    let is : n ≡ 0 = omega arith in
+    ap (λ k. (bytes ++ take k piece) ++ get_or piece 0 0 ∷ []) is ∙ ap (λ x. x ++ get_or piece 0 0 ∷ []) (append-nil bytes)
+    ∙ ap (λ x. bytes ++ x) (sym (take_more piece 0 0 some))
+
+-- no digit, the first byte and the others are all
+pub all_bytes : (bytes piece : List ℕ) (n : ℕ) → n ≤ 0 → 0 < length piece → (bytes ++ take n piece) ++ get_or piece 0 0 ∷ drop 1 piece ≡ bytes ++ piece
+all_bytes bytes piece n none some =
+    let is : n ≡ 0 = omega arith in
+    ap (λ k. (bytes ++ take k piece) ++ get_or piece 0 0 ∷ drop 1 piece) is ∙ ap (λ x. x ++ get_or piece 0 0 ∷ drop 1 piece) (append-nil bytes)
+    ∙ ap (λ x. bytes ++ x) (sym (drop-cons piece 0 0 some))
+
+-- a list without length is empty
+pub empty_of : (xs : List ℕ) → length xs ≡ 0 → xs ≡ []
+empty_of [] none = refl
+empty_of (x ∷ xs) none = absurd (omega arith)

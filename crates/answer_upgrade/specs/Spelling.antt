@@ -1,6 +1,8 @@
 -- What is told of bytes that may be an answer's text.
 use Rattle.std.specs.Prelude.{ℕ, ◌≡◌, List}
 use Rattle.cut_cert.specs.declared.event.AnswerEvent.{AnswerEvent}
+use Rattle.cut_cert.specs.declared.reader.EventReader.{EventReader}
+use Rattle.cut_cert.specs.Reader.{Reads}
 use Rattle.cut_cert.specs.Reading.{StopsAt}
 use Rattle.cut_cert.specs.Spelling.{SpellsAnswer}
 use Rattle.cut_cert.specs.Value.{WrittenAnswer}
@@ -8,8 +10,16 @@ use Rattle.cut_cert.specs.Words.{version_number}
 use Rattle.answer_upgrade.specs.declared.told.Spelled.{Spelled}
 use Rattle.answer_upgrade.specs.declared.told.Spelled.TheVariants as told
 
--- they spell an answer of this version, or they spell none and cease to begin one in this line
+-- the reader stands for the bytes, whatever their events are
+abbrev pub IsReading : ℕ → List ℕ → EventReader → Type 0
+IsReading V bytes reader = (events : List AnswerEvent) × Reads V bytes events reader
+
+-- the bytes spell no answer, and cease to begin one in this line
+abbrev pub Stops : ℕ → List ℕ → ℕ → Type 0
+Stops V bytes n = (events : List AnswerEvent) × StopsAt V bytes n events
+
+-- they spell an answer of this version, or none
 abbrev pub TellsSpelling : ℕ → List ℕ → Spelled → Type 0
 TellsSpelling V bytes (told.Whole n) =
     (answer : WrittenAnswer) × SpellsAnswer V bytes answer × (n ≡ version_number answer.version)
-TellsSpelling V bytes (told.Fault n) = (events : List AnswerEvent) × StopsAt V bytes n events
+TellsSpelling V bytes (told.Fault n) = Stops V bytes n

@@ -1,10 +1,11 @@
 //! Whether bytes are an answer's text.
 
-ghost use Rattle.std.specs.Prelude.{◌<◌, ◌^◌, length, IfOk};
-ghost use Rattle.answer_upgrade.specs.Spelling.{TellsSpelling};
+ghost use Rattle.std.specs.Prelude.{ℕ, ◌≡◌, ◌+◌, ◌<◌, ◌≤◌, ◌^◌, List, ◌++◌, length, take, IfOk, IfErr};
+ghost use Rattle.cut_cert.specs.Reader.{bytes_fed};
+ghost use Rattle.answer_upgrade.specs.Spelling.{IsReading, Stops, TellsSpelling};
 
 use crate::told::Spelled;
-use cut_cert::EventReader;
+use cut_cert::{EventReader, Spelling};
 use net_graph::VertexSet;
 use std::alloc::{AllocError, Global};
 
@@ -15,9 +16,11 @@ pub fn spelled(alloc: Global, vertices: u32, bytes: &[u8]) -> Result<Spelled, Al
     ensures { IfOk result (TellsSpelling vertices bytes.now) }
 {
     let mut reader = EventReader::begin(vertices, VertexSet::empty(alloc, vertices)?);
-    for byte in bytes {
-        if let Err(fault) = reader.feed(*byte) {
-            return Ok(Spelled::Fault { line: fault.line });
+    let mut rest = bytes;
+    while !rest.is_empty() {
+        match feed_some(&mut reader, rest) {
+            Ok(taken) => rest = &rest[taken..],
+            Err(fault) => return Ok(Spelled::Fault { line: fault.line }),
         }
     }
     let line = reader.line();
@@ -28,4 +31,24 @@ pub fn spelled(alloc: Global, vertices: u32, bytes: &[u8]) -> Result<Spelled, Al
     } else {
         Ok(Spelled::Fault { line })
     }
+}
+
+// Feeds the first of these bytes, or as many of them as are digits of the set that is due, and gives how many.
+fn feed_some(reader: &mut EventReader, piece: &[u8]) -> Result<usize, Spelling>
+    requires some { 0 < length piece.now }
+    requires room { bytes_fed reader.old + length piece.now < 2 ^ 32 }
+    ensures some { IfOk result (λ taken. 0 < taken) }
+    ensures few { IfOk result (λ taken. taken ≤ length piece.now) }
+    ensures fed { IfOk result (λ taken. bytes_fed reader.new ≡ bytes_fed reader.old + taken) }
+    ensures reads { IfOk result (λ taken. (V : ℕ) (bytes : List ℕ) → IsReading V bytes reader.old →
+        IsReading V (bytes ++ take taken piece.now) reader.new) }
+    ensures stops { IfErr result (λ fault. (V : ℕ) (bytes : List ℕ) → IsReading V bytes reader.old →
+        Stops V (bytes ++ piece.now) fault.line) }
+{
+    let digits = reader.feed_digits(piece);
+    if digits > 0 {
+        return Ok(digits);
+    }
+    let _event = reader.feed(piece[0])?;
+    Ok(1)
 }

@@ -1,11 +1,14 @@
-use Rattle.std.proofs.Common.{◌≡◌, List, take}
-use Rattle.cut_cert.specs.declared.event.AnswerEvent.{AnswerEvent}
-use Rattle.cut_cert.specs.Reader.{Reads, bytes_fed}
+use Rattle.std.proofs.Common.{◌≡◌, ◌+◌, ℕ, List, ◌++◌, length}
+use Rattle.cut_cert.specs.Reader.{bytes_fed}
+use Rattle.answer_upgrade.specs.Spelling.{IsReading}
 use Rattle.answer_upgrade.proofs.spelling.spelled.Given as goal
 
--- the reader stands for the bytes that were passed
-abbrev pub invariant-loop-byte : goal.invariant-loop-byte
-invariant-loop-byte l = record {
-  fed : bytes_fed l.reader ≡ l.byte-index;
-  reads : (events : List AnswerEvent) × Reads l.vertices (take l.byte-index l.bytes) events l.reader;
+-- the reader stands for the bytes that are not left
+abbrev pub invariant-loop-rest : goal.invariant-loop-rest
+invariant-loop-rest l = record {
+  fed : bytes_fed l.reader + length l.rest ≡ length l.bytes;
+  reads : (front : List ℕ) × (l.bytes ≡ front ++ l.rest) × IsReading l.vertices front l.reader;
 }
+
+abbrev pub decreases-loop-rest : goal.decreases-loop-rest
+decreases-loop-rest l = length l.rest

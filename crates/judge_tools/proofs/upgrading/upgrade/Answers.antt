@@ -1,0 +1,38 @@
+-- What was taken, and how the run then ended, are a run.
+use Rattle.std.proofs.Common.{List, ℕ, sym, subst}
+use Rattle.frame.specs.Outside.{outside}
+use Rattle.cut_cert.specs.Spelling.{SpellsAnswer}
+use Rattle.cut_cert.specs.Text.{answer_text}
+use Rattle.answer_upgrade.specs.Upgraded.{upgraded}
+use Rattle.judge_tools.proofs.Upgrades.{printed_run, refused_run, starved_run}
+use Rattle.judge_tools.proofs.upgrading.upgrade.Goals as goal
+
+pub returns-in-Ok-Ok : goal.returns-in-Ok-Ok
+returns-in-Ok-Ok g c =
+    let takes = rw c.in-Ok-Ok.field-0-is at c.in-Ok-Ok.ensures.takes in
+    printed_run c.args.points_name.now
+    (outside (g.I.Source.state c.args.input.now) (g.O.Sink.state c.args.out.now) (g.R.Sink.state c.args.err.now) (g.S.Shelf.state c.args.shelf.now))
+    (outside (g.I.Source.state c.take_answer.new.input) (g.O.Sink.state c.write_upgraded-written.new.sink) (g.R.Sink.state c.end_written.new.err) (g.S.Shelf.state c.take_answer.new.shelf))
+    c.in-Ok-Ok.taken c.end_written.result takes c.in-Ok-Ok.ensures.leaves
+    (λ answer spells.
+    c.end_written.ensures (g.O.Sink.state c.args.out.now) (g.O.Sink.state c.write_upgraded-written.new.sink)
+    (answer_text (upgraded answer))
+    (c.write_upgraded-written.ensures answer
+    (subst (λ (b : List ℕ). SpellsAnswer c.in-Ok-Ok.taken.vertices b answer) (sym c.as_slice.ensures.value) spells)))
+
+pub returns-in-Ok-Err : goal.returns-in-Ok-Err
+returns-in-Ok-Err g c =
+    let takes = rw c.in-Ok-Err.field-0-is at c.in-Ok-Err.ensures.takes in
+    refused_run c.args.points_name.now
+    (outside (g.I.Source.state c.args.input.now) (g.O.Sink.state c.args.out.now) (g.R.Sink.state c.args.err.now) (g.S.Shelf.state c.args.shelf.now))
+    (outside (g.I.Source.state c.take_answer.new.input) (g.O.Sink.state c.args.out.now) (g.R.Sink.state c.end_refused.new.err) (g.S.Shelf.state c.take_answer.new.shelf))
+    c.in-Ok-Err.fault c.end_refused.result takes c.in-Ok-Err.ensures.leaves
+    (c.end_refused.ensures (g.O.Sink.state c.args.out.now))
+
+pub returns-in-Err : goal.returns-in-Err
+returns-in-Err g c =
+    starved_run c.args.points_name.now
+    (outside (g.I.Source.state c.args.input.now) (g.O.Sink.state c.args.out.now) (g.R.Sink.state c.args.err.now) (g.S.Shelf.state c.args.shelf.now))
+    (outside (g.I.Source.state c.take_answer.new.input) (g.O.Sink.state c.args.out.now) (g.R.Sink.state c.end_starved.new.err) (g.S.Shelf.state c.take_answer.new.shelf))
+    c.end_starved.result c.in-Err.ensures.leaves
+    (c.end_starved.ensures (g.O.Sink.state c.args.out.now))
