@@ -66,9 +66,6 @@ pub record Passed (V : ℕ) (ls : List Line) (rest : List ℕ) : Type 0 where
   pub fits : FitsLines version V left
   pub text : rest ≡ lines_text left
 
-pub passed_none : (v : Version) (V : ℕ) (ls : List Line) (bytes : List ℕ) → FitsLines v V ls → bytes ≡ lines_text ls → Passed V ls bytes
-passed_none v V ls bytes fits text = record { done = []; left = ls; version = v; parts = refl; fits = fits; text = text }
-
 -- the next line of those that are left
 pub record Next (V : ℕ) (line_read after : List ℕ) (left : List Line) : Type 0 where
   pub here : Line

@@ -1,13 +1,12 @@
 -- From what was taken of an answer to how a run of `upgrade` ends.
-use Rattle.std.proofs.Common.{ℕ, ◌≡◌, List, Some, None, Ok, Err, codes, refl, sym, ◌∙◌, subst, ap}
+use Rattle.std.proofs.Common.{ℕ, ◌≡◌, List, Some, None, Ok, Err, codes, refl, ◌∙◌, subst, ap}
 use Rattle.points_in.specs.declared.point.Point.{Point}
 use Rattle.points_in.specs.Terminals.{terminals_of}
 use Rattle.hanan_grid.specs.Grid.{hanan_grid_of}
 use Rattle.cut_cert.specs.Value.{WrittenAnswer}
 use Rattle.cut_cert.specs.Spelling.{SpellsAnswer}
-use Rattle.answer_upgrade.specs.declared.told.Spelled.TheVariants.{Fault, Whole}
+use Rattle.answer_upgrade.specs.declared.told.Spelled.TheVariants.{Fault}
 use Rattle.answer_upgrade.specs.Spelling.{TellsSpelling}
-use Rattle.answer_upgrade.specs.Upgraded.{IsSpelling}
 use Rattle.frame.specs.declared.status.TheConstants.{NO_MEMORY}
 use Rattle.frame.specs.declared.take.TheConstants.{TEXT_LIMIT}
 use Rattle.frame.specs.Statuses.{fault_code}
@@ -21,19 +20,6 @@ use Rattle.judge_tools.specs.declared.upgrading.TakenAnswer.{TakenAnswer}
 use Rattle.judge_tools.specs.declared.upgrading.UpgradeFault.{UpgradeFault}
 use Rattle.judge_tools.specs.declared.upgrading.UpgradeFault.TheVariants.{Misspelled}
 use Rattle.judge_tools.specs.Upgrade.{EndsUpgrade, IsUpgradeFault, TakesAnswer, upgrade_fault_text, upgrade_fault_status, upgrade_print}
-
--- bytes that spell an answer, for the vertices of the grid of the file's points
-pub taken_whole : (name : List ℕ) (before after : Readable) (grid : List Point) (taken : TakenAnswer) (version : ℕ) →
-    ReadsPointsFile TEXT_LIMIT before.shelf after.shelf name (Ok grid) →
-    IsWholeInput UPGRADE_LIMIT before.input after.input taken.bytes.items →
-    taken.vertices ≡ (hanan_grid_of grid).vertices →
-    TellsSpelling taken.vertices taken.bytes.items (Whole version) → TakesAnswer name before after (Ok taken)
-taken_whole name before after grid taken version (ps, lists, of_points) whole count (answer, spells, told) = (
-  ps,
-  record { points = lists; input = whole },
-  count ∙ ap (λ (h : List Point). (hanan_grid_of h).vertices) of_points,
-  (answer, spells),
-)
 
 -- bytes that cease to spell one
 pub taken_misspelled : (name : List ℕ) (before after : Readable) (grid : List Point) (vertices line : ℕ) (bytes : List ℕ) →

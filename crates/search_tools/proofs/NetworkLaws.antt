@@ -7,7 +7,6 @@ use Rattle.net_graph.specs.Members.{members_of as numbers_of}
 use Rattle.net_graph.specs.Network.{IsNetwork, length_of}
 use Rattle.hanan_grid.specs.Grid.{hanan_grid_of}
 use Rattle.full_tree.specs.declared.code.Tree.{Tree}
-use Rattle.full_tree.specs.Pieces.{code_length}
 use Rattle.full_tree.specs.Form.{IsInForm}
 use Rattle.concatenation.specs.Concatenation.{IsConcatenation, total_of}
 use Rattle.fst_file.specs.Value.{AreTreesOf, IsTreeOf}
@@ -27,9 +26,6 @@ have_members law ps trees are =
 -- Its trees are in form, with their lengths.
 pub in_form : (ps : List Point) (trees : List Tree) → AreTreesOf ps trees → All (λ tree. IsInForm ps tree.code) trees
 in_form ps trees are = λ k d inside. (All-from_recursion (IsTreeOf ps) trees are.trees k d inside).form
-
-pub have_lengths : (ps : List Point) (trees : List Tree) → AreTreesOf ps trees → All (λ tree. tree.length ≡ code_length ps tree.code) trees
-have_lengths ps trees are = λ k d inside. (All-from_recursion (IsTreeOf ps) trees are.trees k d inside).length_is
 
 -- The chosen places are below the number of trees.
 pub chosen_below : (n : ℕ) (trees : List Tree) (places : List ℕ) (total : ℕ) → IsChosen n trees places total → All (λ k. k < length trees) places
