@@ -70,7 +70,15 @@ pub fn carried_edge_bound<F: Rule>(
 {
     let now = taking_in(alloc, g, e)?;
     let kept = carry(alloc, g, &start.decision, &now, &start.packing)?;
-    let left = carry_costs(alloc, g, &start.decision, &now, &start.packing, &start.costs, &kept)?;
+    let left = carry_costs(
+        alloc,
+        g,
+        &start.decision,
+        &now,
+        &start.packing,
+        &start.costs,
+        &kept,
+    )?;
     let ascent = ascend_with(alloc, g, &now, kept, left, chooser)?;
     Ok(ascent.packing)
 }

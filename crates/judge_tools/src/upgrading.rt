@@ -8,8 +8,8 @@ ghost use Rattle.judge_tools.specs.Upgrade.{EndsUpgrade, TakesAnswer, upgrade_fa
 use answer_upgrade::{Spelled, spelled, write_upgraded};
 use cert_check::Cause;
 use frame::{
-    AnswerStatus, Fault, FaultStatus, InputFault, PointsFault, TEXT_LIMIT, end_refused, end_starved,
-    end_written, read_points_file, take_input,
+    AnswerStatus, Fault, FaultStatus, InputFault, PointsFault, TEXT_LIMIT, end_refused,
+    end_starved, end_written, read_points_file, take_input,
 };
 use rst_outside::{Shelf, Sink, Source};
 use std::alloc::{AllocError, Global};
