@@ -1,5 +1,5 @@
 -- From what was taken of an answer to how a run of `upgrade` ends.
-use Rattle.std.proofs.Common.{ℕ, ◌≡◌, List, Some, None, Ok, Err, codes, refl, ◌∙◌, subst, ap}
+use Rattle.std.proofs.Common.{ℕ, ◌≡◌, ◌≤◌, ◌^◌, List, length, Some, None, Ok, Err, codes, refl, ◌∙◌, subst, ap}
 use Rattle.points_in.specs.declared.point.Point.{Point}
 use Rattle.points_in.specs.Terminals.{terminals_of}
 use Rattle.hanan_grid.specs.Grid.{hanan_grid_of}
@@ -7,6 +7,7 @@ use Rattle.cut_cert.specs.Value.{WrittenAnswer}
 use Rattle.cut_cert.specs.Spelling.{SpellsAnswer}
 use Rattle.answer_upgrade.specs.declared.told.Spelled.TheVariants.{Fault}
 use Rattle.answer_upgrade.specs.Spelling.{TellsSpelling}
+use Rattle.cert_check.specs.UpgradeLaw.{UpgradingKeepsVerdict}
 use Rattle.frame.specs.declared.status.TheConstants.{NO_MEMORY}
 use Rattle.frame.specs.declared.take.TheConstants.{TEXT_LIMIT}
 use Rattle.frame.specs.Statuses.{fault_code}
@@ -34,18 +35,27 @@ taken_misspelled name before after grid vertices line bytes (ps, lists, of_point
 )
 
 -- what was taken is printed in version 2
-pub printed_run : (name : List ℕ) (before after : Outside) (taken : TakenAnswer) (status : ℕ) →
+pub printed_run : UpgradingKeepsVerdict → (name : List ℕ) (before after : Outside) (taken : TakenAnswer) (status : ℕ) →
     TakesAnswer name before.read after.read (Ok taken) → LeavesFiles before.read after.read →
     ((answer : WrittenAnswer) → SpellsAnswer taken.vertices taken.bytes.items answer →
     PrintsOrNot (codes "upgrade") (upgrade_print answer) before.written after.written status) →
     EndsUpgrade name before after status
-printed_run name before after taken status (ps, is_taken, same, (answer, spells)) leaves prints = record {
-  found = Some (Ok (upgrade_print answer));
-  finds =
-      (ps, taken.bytes.items, answer, is_taken, subst (λ n. SpellsAnswer n taken.bytes.items answer) same spells, refl);
-  leaves = leaves;
-  concludes = prints answer spells;
-}
+printed_run law name before after taken status (ps, is_taken, same, (answer, spells)) leaves prints =
+    let spelled = subst (λ n. SpellsAnswer n taken.bytes.items answer) same spells in
+    let few : length taken.bytes.items ≤ 2 ^ 28 = is_taken.input.within in record {
+      found = Some (Ok (upgrade_print answer));
+      finds = (
+        ps,
+        taken.bytes.items,
+        answer,
+        is_taken,
+        spelled,
+        λ f. law (terminals_of ps) taken.bytes.items answer f spelled few,
+        refl,
+      );
+      leaves = leaves;
+      concludes = prints answer spells;
+    }
 
 -- a fault is told
 pub refused_run : (name : List ℕ) (before after : Outside) (fault : UpgradeFault) (status : ℕ) →

@@ -1,6 +1,7 @@
 -- What `upgrade` finds, by what it read.
-use Rattle.std.specs.Prelude.{ℕ, ◌≡◌, List, codes, Result, Ok, Err}
+use Rattle.std.specs.Prelude.{ℕ, ◌≡◌, ◌↔◌, List, codes, Result, Ok, Err}
 use Rattle.points_in.specs.declared.point.Point.{Point}
+use Rattle.points_in.specs.Terminals.{terminals_of}
 use Rattle.cut_cert.specs.Value.{WrittenAnswer}
 use Rattle.cut_cert.specs.Text.{answer_text}
 use Rattle.cut_cert.specs.Spelling.{SpellsAnswer}
@@ -18,6 +19,8 @@ use Rattle.frame.specs.FaultTexts.{input_fault_text, input_fault_status, points_
 use Rattle.frame.specs.Taking.{IsWholeInput, IsInputFault}
 use Rattle.frame.specs.Points.{FileLists, IsPointsFault, grid_of_points}
 use Rattle.cert_check.specs.declared.verdict.Cause.TheVariants.{NotAnswer}
+use Rattle.cert_check.specs.declared.verdict.Finished.{Finished}
+use Rattle.cert_check.specs.Verdicts.{IsVerdict}
 use Rattle.verdict_line.specs.Verdicts.{refusal}
 use Rattle.judge_tools.specs.declared.upgrading.TheConstants.{UPGRADE_LIMIT}
 use Rattle.judge_tools.specs.declared.upgrading.UpgradeFault.{UpgradeFault}
@@ -46,11 +49,17 @@ IsUpgradeFault name before after (Misspelled line) =
     (ps : List Point) × (bytes : List ℕ) × IsTaken name before after ps bytes
     × TellsSpelling (grid_of_points ps).vertices bytes (Fault line)
 
--- What `upgrade` finds under the name of a file: the answer that the input spells, in version 2; or why there is none.
+-- these bytes have the verdicts that those have, as answers for the terminals
+abbrev pub HaveOneVerdict : List Point → List ℕ → List ℕ → Type 0
+HaveOneVerdict ps these those = (f : Finished) → IsVerdict ps these f ↔ IsVerdict ps those f
+
+-- What `upgrade` finds under the name of a file: the answer that the input spells, in version 2, of which `check` says what
+-- it says of the input; or why there is none.
 abbrev pub Upgrades : List ℕ → Readable → Readable → Result Print UpgradeFault → Type 0
 Upgrades name before after (Ok print) =
     (ps : List Point) × (bytes : List ℕ) × (answer : WrittenAnswer) × IsTaken name before after ps bytes
-    × SpellsAnswer (grid_of_points ps).vertices bytes answer × (print ≡ upgrade_print answer)
+    × SpellsAnswer (grid_of_points ps).vertices bytes answer
+    × HaveOneVerdict (terminals_of ps) bytes (answer_text (upgraded answer)) × (print ≡ upgrade_print answer)
 Upgrades name before after (Err fault) = IsUpgradeFault name before after fault
 
 -- What is taken under the name of a file: the bytes of the input, which spell an answer; or why they are not.

@@ -6,7 +6,7 @@ ghost use Rattle.frame.specs.Leaves.{LeavesFiles};
 ghost use Rattle.judge_tools.specs.Upgrade.{EndsUpgrade, TakesAnswer, upgrade_fault_text, upgrade_fault_status};
 
 use answer_upgrade::{Spelled, spelled, write_upgraded};
-use cert_check::Cause;
+use cert_check::{Cause, upgrading_keeps_verdict};
 use frame::{
     AnswerStatus, Fault, FaultStatus, InputFault, PointsFault, TEXT_LIMIT, end_refused,
     end_starved, end_written, read_points_file, take_input,
@@ -76,6 +76,7 @@ pub fn upgrade<I: Source, O: Sink, R: Sink, S: Shelf>(
 {
     match take_answer(alloc, points_name, input, shelf) {
         Ok(Ok(taken)) => {
+            upgrading_keeps_verdict();
             let written = write_upgraded(out, taken.vertices, taken.bytes.as_slice());
             end_written(err, b"upgrade", AnswerStatus::Done, written)
         }

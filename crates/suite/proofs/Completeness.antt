@@ -161,7 +161,7 @@ upgrade_completes name before after status ends = λ points bytes ps file lists 
     elim (complete_ends upgrade_fault_status upgrade_fault_text (codes "upgrade") (Upgrades name) LeavesFiles before after status
     (upgrade_faultless name before.read after.read points bytes ps file lists has some) writes ends) [
       | inl seven ↦ inr seven
-      | inr (print, (qs, taken, answer, is_taken, spells, of_answer), answers) ↦
+      | inr (print, (qs, taken, answer, is_taken, spells, keeps, of_answer), answers) ↦
           inl (answers ∙ ap (λ (p : Print). answer_code p.status) of_answer)
     ]
 

@@ -10,7 +10,7 @@ use Rattle.judge_tools.proofs.upgrading.upgrade.Goals as goal
 pub returns-in-Ok-Ok : goal.returns-in-Ok-Ok
 returns-in-Ok-Ok g c =
     let takes = rw c.in-Ok-Ok.field-0-is at c.in-Ok-Ok.ensures.takes in
-    printed_run c.args.points_name.now
+    printed_run c.upgrading_keeps_verdict.ensures c.args.points_name.now
     (outside (g.I.Source.state c.args.input.now) (g.O.Sink.state c.args.out.now) (g.R.Sink.state c.args.err.now) (g.S.Shelf.state c.args.shelf.now))
     (outside (g.I.Source.state c.take_answer.new.input) (g.O.Sink.state c.write_upgraded-written.new.sink) (g.R.Sink.state c.end_written.new.err) (g.S.Shelf.state c.take_answer.new.shelf))
     c.in-Ok-Ok.taken c.end_written.result takes c.in-Ok-Ok.ensures.leaves
