@@ -136,8 +136,8 @@ IsOfOwn g note (split.Vertex v) = IsEndOfOwn g note v
 abbrev pub HasNoEndOfOwn : Graph → LeafNote → Type 0
 HasNoEndOfOwn g note = IfSome note.network (HasNoVertexCandidate g note.decision)
 
--- A split is as the kind asks: of the kind Edges on an edge, and of the kind Vertices on an edge only where no end of an
--- edge of the leaf's own network is undecided.
+-- A split is as the kind asks: of the kind Edges on an edge, and of the kind Vertices on an edge only where no end of
+-- an edge of the leaf's own network is undecided.
 abbrev pub IsAsAsked : Graph → LeafNote → SplitKind → SplitOn → Type 0
 IsAsAsked g note kind.Edges (split.Edge e) = Unit {0}
 IsAsAsked g note kind.Edges (split.Vertex v) = ⊥

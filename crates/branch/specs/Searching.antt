@@ -47,11 +47,12 @@ search_state g kept = record {
   shown = shown_first kept.notes.items;
 }
 
--- What is shown is what the first leaf in preorder shows: a network whose edges each have a saturated arc there, where its
--- packing is maximal; there is none only where its value is at least the sum of all lengths.
+-- What is shown is what the first leaf in preorder shows: a network whose edges each have a saturated arc there, where
+-- its packing is maximal; there is none only where its value is at least the sum of all lengths.
 abbrev pub IsShownFirst : SearchState → Type 0
 IsShownFirst s =
-    (leaf : DecidedLeaf) × (slice_get (leaves_of (nothing_decided s.graph) s.tree) 0 ≡ Some leaf) × ShowsOwn s.graph leaf s.shown
+    (leaf : DecidedLeaf) × (slice_get (leaves_of (nothing_decided s.graph) s.tree) 0 ≡ Some leaf)
+    × ShowsOwn s.graph leaf s.shown
 
 -- each split of the tree is on an edge
 abbrev pub SplitsEdges : Tree SplitOn → Type 0
@@ -65,9 +66,10 @@ IsOfKind kind.Edges (split.Edge e) = Unit {0}
 IsOfKind kind.Edges (split.Vertex v) = ⊥
 IsOfKind kind.Vertices on = Unit {0}
 
--- What is kept is a search: the best network is one, the tree is valid where nothing is decided, its splits are on edges
--- where edges are what is asked for, what is kept beside its leaves is true of them, no leaf's own network is shorter than the best
--- one, and both end a run of openings whose first network is no longer than the one that the search began with.
+-- What is kept is a search: the best network is one, the tree is valid where nothing is decided, its splits are on
+-- edges where edges are what is asked for, what is kept beside its leaves is true of them, no leaf's own network is
+-- shorter than the best one, and both end a run of openings whose first network is no longer than the one that the
+-- search began with.
 pub record IsSearch (g : Graph) (kept : Frontier) : Type 0 where
   pub best : IsBest g kept.best
   pub valid : IsValidTree g (nothing_decided g) kept.tree
@@ -84,8 +86,10 @@ pub record IsOpeningOf (g : Graph) (kept : Frontier) (opening : Opening) : Type 
   pub below : IsOpenLeaf g (length_of g kept.best.network) leaf
   pub splits : IsSplitOf g leaf opening.on
   pub kind : IsOfKind kept.kind opening.on
-  pub outside : IsNoteOf g (leaf_under (outside_of leaf.decision opening.on) opening.outside.packing) opening.outside.note
-  pub inside : IsNoteOf g (leaf_under (inside_of leaf.decision opening.on) opening.inside.packing) opening.inside.note
+  pub outside :
+      IsNoteOf g (leaf_under (outside_of leaf.decision opening.on) opening.outside.packing) opening.outside.note
+  pub inside :
+      IsNoteOf g (leaf_under (inside_of leaf.decision opening.on) opening.inside.packing) opening.inside.note
   pub outside_begins : BeginsAt g leaf (outside_of leaf.decision opening.on) opening.outside.packing
   pub inside_begins : BeginsAt g leaf (inside_of leaf.decision opening.on) opening.inside.packing
   pub best : IsBest g opening.best
@@ -111,8 +115,8 @@ pub record IsAsBefore (old new : Frontier) : Type 0 where
   pub first_length : new.first_length ≡ old.first_length
   pub kind : new.kind ≡ old.kind
 
--- Another leaf may stand in place of the only one: the value is no less than it was and than that of the given cuts. The
--- best network is the shorter one of what it was and of the one that the leaf now shows, and what it was on a tie.
+-- Another leaf may stand in place of the only one: the value is no less than it was and than that of the given cuts.
+-- The best network is the shorter one of what it was and of the one that the leaf now shows, and what it was on a tie.
 pub record IsRaised (cuts : List Cut) (old new : SearchState) : Type 0 where
   pub graph : new.graph ≡ old.graph
   pub kind : new.kind ≡ old.kind

@@ -87,8 +87,8 @@ impl<'a, F: Rule, G: Rule> Search<'a, F, G> {
     }
 
     /// Takes the leaf of an ascent that begins with given cuts in place of the tree's only leaf, where its value is
-    /// greater, and the network that it shows in place of the best one, where it is shorter. An `Err` is want of memory, and
-    /// leaves the search as it was.
+    /// greater, and the network that it shows in place of the best one, where it is shorter. An `Err` is want of
+    /// memory, and leaves the search as it was.
     pub fn raise(&mut self, cuts: Packing) -> Result<(), AllocError>
         requires leaf { split_count self.old.tree ≡ 0 }
         requires feasible { IsFeasible self.old.graph (nothing_decided self.old.graph) cuts }
@@ -176,8 +176,8 @@ impl<'a, F: Rule, G: Rule> Search<'a, F, G> {
         &self.kept.best.network
     }
 
-    /// The network of edges with a saturated arc that the first leaf in preorder shows, where its packing is maximal. There
-    /// is none only where that leaf is worth the sum of all lengths. It takes no memory.
+    /// The network of edges with a saturated arc that the first leaf in preorder shows, where its packing is maximal.
+    /// There is none only where that leaf is worth the sum of all lengths. It takes no memory.
     pub fn shown(&self) -> Option<&EdgeSet>
         ensures shown { option_copied result ≡ self.now.shown }
         ensures first { IsShownFirst self.now }

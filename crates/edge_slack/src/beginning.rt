@@ -45,8 +45,8 @@ impl Beginning {
 }
 
 /// A packing whose value bounds the networks that use the edge `e`, as [`edge_bound`] gives one: of the ascent that
-/// begins with the cuts which a packing of nothing decided carries to the decision that takes `e` in. So only what these
-/// lack is raised anew. An `Err` is want of memory.
+/// begins with the cuts which a packing of nothing decided carries to the decision that takes `e` in. So only what
+/// these lack is raised anew. An `Err` is want of memory.
 ///
 /// [`edge_bound`]: crate::edge_bound
 pub fn carried_edge_bound<F: Rule>(

@@ -16,9 +16,9 @@ use net_graph::{Decision, NetGraph, Packing};
 use row_tables::{Call, Fault, numbers};
 use std::alloc::{AllocError, Global};
 
-/// For each word under `rule`: the cuts of the ascent from no cut by this rule, under the decision of `decided`, and whether
-/// it is closed. With one more step of the decision under `more`: the cuts that are carried to that decision too, and those
-/// of the ascent that goes on with them.
+/// For each word under `rule`: the cuts of the ascent from no cut by this rule, under the decision of `decided`, and
+/// whether it is closed. With one more step of the decision under `more`: the cuts that are carried to that decision
+/// too, and those of the ascent that goes on with them.
 pub fn ascents(alloc: Global, call: &Call, answer: &mut String) -> Result<(), Fault> {
     for word in call.text("rule")?.split_whitespace() {
         let rule = rule(word)?;
@@ -205,8 +205,8 @@ fn ascent_from<F: Rule>(
     Ok(ascend_with(alloc, g, &decision, packing, costs, chooser)?)
 }
 
-/// The place of the candidate that the rule under `rule` chooses, once it is kept. Each line under `candidates` has the number
-/// and the size of one.
+/// The place of the candidate that the rule under `rule` chooses, once it is kept. Each line under `candidates` has the
+/// number and the size of one.
 pub fn choice(alloc: Global, call: &Call, answer: &mut String) -> Result<(), Fault> {
     let rule = rule(call.word("rule")?)?;
     let list = candidates(alloc, call.text("candidates")?)?;

@@ -12,8 +12,8 @@ use net_graph::{
 use row_tables::{Call, Fault};
 use std::alloc::{AllocError, Global};
 
-/// What a copy of the decision under `decided` says of a graph: the states of the edges, and which vertices are required
-/// and which undecided.
+/// What a copy of the decision under `decided` says of a graph: the states of the edges, and which vertices are
+/// required and which undecided.
 pub fn decision_told(alloc: Global, call: &Call, answer: &mut String) -> Result<(), Fault> {
     let g = graph(alloc, call)?;
     tell_decision(alloc, &g, &decision(alloc, call, &g)?.copy()?, answer)
@@ -65,8 +65,8 @@ fn undecided_vertices(alloc: Global, g: &NetGraph, d: &Decision) -> Result<Verte
     Ok(set)
 }
 
-/// What is told of a copy of the packing under `cuts`, under the decision of `decided`: whether it is feasible, its value,
-/// and whether saturated arcs lead to all required vertices.
+/// What is told of a copy of the packing under `cuts`, under the decision of `decided`: whether it is feasible, its
+/// value, and whether saturated arcs lead to all required vertices.
 pub fn packing_told(alloc: Global, call: &Call, answer: &mut String) -> Result<(), Fault> {
     let g = graph(alloc, call)?;
     packing_told_on(alloc, call, &g, answer)

@@ -20,9 +20,9 @@ struct GraphParts {
     terminals: Vec<u32>,
 }
 
-/// The graph under the key `graph`: its first line has the count of vertices behind the word `vertices`, each further one
-/// an edge's ends and length, and the last one, behind the word `terminals`, the terminals. The inner fault is that of the
-/// graph.
+/// The graph under the key `graph`: its first line has the count of vertices behind the word `vertices`, each further
+/// one an edge's ends and length, and the last one, behind the word `terminals`, the terminals. The inner fault is that
+/// of the graph.
 pub fn try_graph(alloc: Global, call: &Call) -> Result<Result<NetGraph, GraphFault>, Fault> {
     let text = call.text("graph")?;
     let mut parts = GraphParts {
@@ -98,8 +98,8 @@ fn edges_of(alloc: Global, g: &NetGraph, numbers: &[u32]) -> Result<EdgeSet, Fau
     Ok(set)
 }
 
-/// The decision under the key `decided`, a line for each of its steps: `inside` or `outside` and an edge, `met` or `missed`
-/// and a vertex, where that is still open. Where the key is missing, nothing is decided.
+/// The decision under the key `decided`, a line for each of its steps: `inside` or `outside` and an edge, `met` or
+/// `missed` and a vertex, where that is still open. Where the key is missing, nothing is decided.
 pub fn decision(alloc: Global, call: &Call, g: &NetGraph) -> Result<Decision, Fault>
     ensures { IfOk result (λ d. IsDecisionFor g.now d) }
 {

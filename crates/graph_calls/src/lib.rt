@@ -1,5 +1,5 @@
-//! Rows of calls on graphs: sets, networks, decisions, packings, ascents, certificate trees and searches. What a row gives
-//! and what comes of it: docs/ROWS.md.
+//! Rows of calls on graphs: sets, networks, decisions, packings, ascents, certificate trees and searches. What a row
+//! gives and what comes of it: docs/ROWS.md.
 #![tactic(auto)]
 
 mod ascents;

@@ -17,8 +17,8 @@ struct NetworkFacts {
     length: u64,
 }
 
-/// The fault of the graph under `graph`; or what is told of its edges under `edges`: whether they are a network, the first
-/// terminal apart, the same by a search in lent room, their length and their root part.
+/// The fault of the graph under `graph`; or what is told of its edges under `edges`: whether they are a network, the
+/// first terminal apart, the same by a search in lent room, their length and their root part.
 pub fn network(alloc: Global, call: &Call, answer: &mut String) -> Result<(), Fault> {
     match try_graph(alloc, call)? {
         Ok(g) => tell_network(alloc, call, &g, answer),

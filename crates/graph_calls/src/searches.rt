@@ -24,8 +24,8 @@ impl Passage for OneWay {
     }
 }
 
-/// What is reached from the vertex under `from`, and from where it is reached, where each edge of the graph may be walked
-/// from its first end to its second alone.
+/// What is reached from the vertex under `from`, and from where it is reached, where each edge of the graph may be
+/// walked from its first end to its second alone.
 pub fn ways(alloc: Global, call: &Call, answer: &mut String) -> Result<(), Fault> {
     let v = only(alloc, call.text("from")?)?;
     tell_ways(alloc, &graph(alloc, call)?, v, answer)

@@ -8,8 +8,8 @@ use net_graph::{EdgeSet, VertexSet};
 use row_tables::{Call, Fault};
 use std::alloc::Global;
 
-/// A set among so many edges as `size` says, once those under `add` are added and then those under `remove` are taken out:
-/// its copy, and what it holds once it is cleared.
+/// A set among so many edges as `size` says, once those under `add` are added and then those under `remove` are taken
+/// out: its copy, and what it holds once it is cleared.
 pub fn edge_set(alloc: Global, call: &Call, answer: &mut String) -> Result<(), Fault> {
     let size = only(alloc, call.text("size")?)?;
     let added = small_numbers(alloc, call.text("add")?)?;
@@ -52,8 +52,8 @@ fn tell_both(answer: &mut String, copy: &EdgeSet, cleared: &EdgeSet) -> Result<(
     tell_edges(answer, "cleared", cleared)
 }
 
-/// A set among so many vertices as `size` says, once those are added, four by four, that each line under `fours` says: its
-/// place, and the value of its bits. Its words are told, and its members.
+/// A set among so many vertices as `size` says, once those are added, four by four, that each line under `fours` says:
+/// its place, and the value of its bits. Its words are told, and its members.
 pub fn fours(alloc: Global, call: &Call, answer: &mut String) -> Result<(), Fault> {
     let size = only(alloc, call.text("size")?)?;
     let lines = call.text("fours")?;

@@ -12,8 +12,9 @@ use net_graph::{EdgeState, NetGraph, Packing};
 use row_tables::{Call, Fault};
 use std::alloc::{AllocError, Global};
 
-/// A certificate tree of one split, on the edge under `split`, whose children have the packings under `outside` and `inside`:
-/// how many splits and leaves it has, its nodes, its value, and of each leaf its cuts and the state of the edge.
+/// A certificate tree of one split, on the edge under `split`, whose children have the packings under `outside` and
+/// `inside`: how many splits and leaves it has, its nodes, its value, and of each leaf its cuts and the state of the
+/// edge.
 pub fn tree(alloc: Global, call: &Call, answer: &mut String) -> Result<(), Fault> {
     let g = graph(alloc, call)?;
     tree_on(alloc, call, &g, answer)

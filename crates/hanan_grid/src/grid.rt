@@ -210,7 +210,7 @@ impl Grid {
         }
     }
 
-    /// The vertex of a point, where it is a crossing. No tool asks for it.
+    /// The vertex of a point, where it is a crossing.
     pub fn vertex_at(&self, point: Point) -> Option<u32>
         ensures below { IfSome result (λ v. v < (hanan_grid_of self.now).vertices) }
         ensures vertex { IfSome result

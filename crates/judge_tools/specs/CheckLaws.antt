@@ -26,7 +26,8 @@ pub shortest_where_optimal : (terminals : List Point) (bytes : List ℕ) (answer
     IsLowerBound (hanan_grid_of terminals) answer.head.bound → answer.head.optimal ≡ true →
     IsShortest (hanan_grid_of terminals) network
 shortest_where_optimal terminals bytes answer network tree accepts below marked =
-    let same : answer.head.bound ≡ answer.head.length = eqb-true answer.head.bound answer.head.length (sym accepts.status ∙ marked) in
+    let same : answer.head.bound ≡ answer.head.length =
+    eqb-true answer.head.bound answer.head.length (sym accepts.status ∙ marked) in
     (accepts.joins, subst (λ b. IsLowerBound (hanan_grid_of terminals) b) (same ∙ accepts.plain_length) below)
 
 -- Where the line of the verdict was written, what it tells is true.
@@ -38,7 +39,8 @@ pub checks_truly : (name : List ℕ) (before after : Outside) (ps : List Point) 
     ChecksTruly name before after status
 checks_truly name before after ps bytes f (said.Accepted length bound optimal) status is checked told ends =
     let (answer, tree, accepts, length_is, bound_is, optimal_is) = checked.judges.accepted length bound optimal is in
-    let line : accepted_line length bound optimal ≡ accepted_line answer.head.length answer.head.bound answer.head.optimal =
+    let line : accepted_line length bound optimal
+    ≡ accepted_line answer.head.length answer.head.bound answer.head.optimal =
     ap (λ l. accepted_line l bound optimal) length_is ∙ ap (λ b. accepted_line answer.head.length b optimal) bound_is
     ∙ ap (λ o. accepted_line answer.head.length answer.head.bound o) optimal_is in
     let below : IsLowerBound (grid_of_points ps) answer.head.bound =

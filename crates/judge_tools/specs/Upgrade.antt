@@ -28,8 +28,8 @@ use Rattle.judge_tools.specs.declared.upgrading.TakenAnswer.{TakenAnswer}
 use Rattle.judge_tools.specs.declared.upgrading.UpgradeFault.TheVariants.{Points, Input, Misspelled}
 use Rattle.judge_tools.specs.Judging.{FileHasGrid}
 
--- The file lists these points, whose grid isn't too long, and the input was read to its end, of so many bytes at most as
--- an upgrade takes.
+-- The file lists these points, whose grid isn't too long, and the input was read to its end, of so many bytes at most
+-- as an upgrade takes.
 pub record IsTaken (name : List ℕ) (before after : Readable) (ps : List Point) (bytes : List ℕ) : Type 0 where
   pub points : FileLists TEXT_LIMIT before.shelf name ps
   pub input : IsWholeInput UPGRADE_LIMIT before.input after.input bytes
@@ -53,8 +53,8 @@ IsUpgradeFault name before after (Misspelled line) =
 abbrev pub HaveOneVerdict : List Point → List ℕ → List ℕ → Type 0
 HaveOneVerdict ps these those = (f : Finished) → IsVerdict ps these f ↔ IsVerdict ps those f
 
--- What `upgrade` finds under the name of a file: the answer that the input spells, in version 2, of which `check` says what
--- it says of the input; or why there is none.
+-- What `upgrade` finds under the name of a file: the answer that the input spells, in version 2, of which `check` says
+-- what it says of the input; or why there is none.
 abbrev pub Upgrades : List ℕ → Readable → Readable → Result Print UpgradeFault → Type 0
 Upgrades name before after (Ok print) =
     (ps : List Point) × (bytes : List ℕ) × (answer : WrittenAnswer) × IsTaken name before after ps bytes

@@ -59,9 +59,9 @@ pub(crate) struct TakenAnswer {
     pub bytes: Vec<u8>,
 }
 
-/// Runs `upgrade`: reads the points of a file, then takes an answer of either version from the input, and prints the same
-/// answer in version 2. The points give no more than how many vertices a cut's set has: what the answer says is not
-/// judged. Gives the status that the program ends with.
+/// Runs `upgrade`: reads the points of a file, then takes an answer of either version from the input, and prints the
+/// same answer in version 2. The points give no more than how many vertices a cut's set has: what the answer says is
+/// not judged. Gives the status that the program ends with.
 pub fn upgrade<I: Source, O: Sink, R: Sink, S: Shelf>(
     alloc: Global,
     points_name: &str,
@@ -85,8 +85,8 @@ pub fn upgrade<I: Source, O: Sink, R: Sink, S: Shelf>(
     }
 }
 
-// The bytes of the input, where they are an answer's text for the grid of a file's points. A fault has the cause that it
-// names. An `Err` is want of memory.
+// The bytes of the input, where they are an answer's text for the grid of a file's points. A fault has the cause that
+// it names. An `Err` is want of memory.
 fn take_answer<I: Source, S: Shelf>(
     alloc: Global,
     points_name: &str,

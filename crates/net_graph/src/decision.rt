@@ -186,8 +186,7 @@ pub fn required(g: &NetGraph, d: &Decision, v: u32) -> bool
     g.terminals().contains(&v) || ends_inside(g, d, v) || d.is_met(v)
 }
 
-/// Whether the vertex `v` is neither the root nor required nor missed. No tool asks for it: its searches split on edges
-/// alone.
+/// Whether the vertex `v` is neither the root nor required nor missed.
 pub fn vertex_undecided(g: &NetGraph, d: &Decision, v: u32) -> bool
     requires { v < g.now.vertices }
     ensures { IsTrue result ↔ IsVertexUndecided g.now d.now v }

@@ -7,8 +7,8 @@ use net_graph::{EdgeSet, NetGraph, joins, length};
 use network_search::{propose_cleaned, propose_shorter};
 use std::alloc::{AllocError, Global};
 
-/// A network without what it doesn't need: a least spanning tree of its edges, without the leaves that are no terminals and
-/// what hangs on them alone. An `Err` is want of memory.
+/// A network without what it doesn't need: a least spanning tree of its edges, without the leaves that are no terminals
+/// and what hangs on them alone. An `Err` is want of memory.
 pub fn cleaned(alloc: Global, g: &NetGraph, network: &EdgeSet) -> Result<EdgeSet, AllocError>
     requires size { length network.now ≡ length g.now.edges }
     requires network { IsNetwork g.now network.now }
@@ -20,9 +20,9 @@ pub fn cleaned(alloc: Global, g: &NetGraph, network: &EdgeSet) -> Result<EdgeSet
     shorter(alloc, g, network, proposed)
 }
 
-/// A network that is no longer than a given one: this one cleaned, and then made shorter by local search as long as that
-/// gains, in at most so many descents. With none it is only cleaned; about a hundred gain nearly all that there is to gain
-/// on 50 terminals. The same arguments give the same network. An `Err` is want of memory.
+/// A network that is no longer than a given one: this one cleaned, and then made shorter by local search as long as
+/// that gains, in at most so many descents. With none it is only cleaned; about a hundred gain nearly all that there is
+/// to gain on 50 terminals. The same arguments give the same network. An `Err` is want of memory.
 pub fn shortened(
     alloc: Global,
     g: &NetGraph,

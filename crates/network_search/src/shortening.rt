@@ -9,8 +9,8 @@ use crate::subgraph::Subgraph;
 use net_graph::{EdgeSet, NetGraph};
 use std::alloc::{AllocError, Global};
 
-/// A network without what it doesn't need: a least spanning tree of its edges, without the leaves that are no terminals and
-/// what hangs on them alone. That this is a network is not promised. An `Err` is want of memory.
+/// A network without what it doesn't need: a least spanning tree of its edges, without the leaves that are no terminals
+/// and what hangs on them alone. That this is a network is not promised. An `Err` is want of memory.
 pub fn propose_cleaned(
     alloc: Global,
     g: &NetGraph,
@@ -26,8 +26,8 @@ pub fn propose_cleaned(
     tree.edge_set(alloc, g)
 }
 
-/// A clean network made shorter by local search as long as that gains, in at most so many descents. That this is a network
-/// is not promised. The same arguments give the same edges. An `Err` is want of memory.
+/// A clean network made shorter by local search as long as that gains, in at most so many descents. That this is a
+/// network is not promised. The same arguments give the same edges. An `Err` is want of memory.
 pub fn propose_shorter(
     alloc: Global,
     g: &NetGraph,

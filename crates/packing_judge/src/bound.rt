@@ -13,7 +13,8 @@ pub struct Bound {
     pub value: u128,
 }
 
-/// Judges a packing; `None` where it isn't feasible, or has more cuts than the graph has arcs. An `Err` is want of memory.
+/// Judges a packing; `None` where it isn't feasible, or has more cuts than the graph has arcs. An `Err` is want of
+/// memory.
 pub(crate) fn judged(
     alloc: Global,
     graph: &NetGraph,

@@ -21,8 +21,8 @@ const MAX_LENGTH: u64 = 1 << 42;
 pub enum Outcome {
     /// The value of the packing is the length of the network.
     Tight(Bound),
-    /// There is no packing whose value is the length of the cleaned network. That is computed and not proved. The bound is
-    /// what is at hand.
+    /// There is no packing whose value is the length of the cleaned network. That is computed and not proved. The bound
+    /// is what is at hand.
     Impossible(Option<Bound>),
     /// The budget is spent, or the network isn't a clean one. The bound is what is at hand.
     Exhausted(Option<Bound>),
@@ -30,8 +30,8 @@ pub enum Outcome {
     TooLong,
 }
 
-/// Looks for a packing whose value is the length of a network on a grid. The exchange cleans the network first: an edge of
-/// each cycle goes, and what joins no terminal. Equal arguments give equal results. An `Err` is want of memory.
+/// Looks for a packing whose value is the length of a network on a grid. The exchange cleans the network first: an edge
+/// of each cycle goes, and what joins no terminal. Equal arguments give equal results. An `Err` is want of memory.
 pub fn exchange(
     alloc: Global,
     grid: &Grid,

@@ -65,7 +65,10 @@ split_rule = option_rule (codes "split") (codes "longest")
 
 -- the option `--above`, without which there is no threshold
 abbrev pub above_rule : Rule
-above_rule = record (new_rule (codes "above")) { long = Some (codes "above"); parser = Some (parser.Unsigned 0 18446744073709551615) }
+above_rule = record (new_rule (codes "above")) {
+  long = Some (codes "above");
+  parser = Some (parser.Unsigned 0 18446744073709551615);
+}
 
 -- the option `--pieces`, which takes no value
 abbrev pub pieces_rule : Rule

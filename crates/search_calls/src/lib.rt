@@ -1,5 +1,5 @@
-//! Rows of calls that search: branch and bound, networks of saturated arcs, local search. What a row gives and what comes of
-//! it: docs/ROWS.md.
+//! Rows of calls that search: branch and bound, networks of saturated arcs, local search. What a row gives and what
+//! comes of it: docs/ROWS.md.
 #![tactic(auto)]
 
 mod asked;

@@ -71,8 +71,8 @@ fn solve<F: Rule, G: Rule>(
     tell_solved(answer, &solved)
 }
 
-// The same step by step: what the first leaf shows, once no cuts raised it, and what comes of each of the steps whose number
-// stands under `steps`.
+// The same step by step: what the first leaf shows, once no cuts raised it, and what comes of each of the steps whose
+// number stands under `steps`.
 fn steps<F: Rule, G: Rule>(
     alloc: Global,
     call: &Call,

@@ -1,4 +1,5 @@
-//! What a caller may choose of a search: the rules of ascents and splits with their names, and how far the search may go.
+//! What a caller may choose of a search: the rules of ascents and splits with their names, and how far the search may
+//! go.
 #![tactic(auto)]
 
 mod choosing;

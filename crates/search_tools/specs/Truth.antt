@@ -18,7 +18,7 @@ use Rattle.search_tools.specs.Permitted.{IsPermitted, search_text}
 -- `out` gained an answer that may be printed for the points and the trees under these options. No network of the
 -- points' grid is shorter than its bound; the status is 0 exactly where the bound is the length, and then the network
 -- is a shortest one. The status is 3 only where the tree has as many splits as openings are allowed, each of them made
--- by an opening: of a leaf whose value was below the network's length, on an edge that was undecided there.
+-- by an opening: of a leaf whose value was below the network's length, on an edge or a vertex that was undecided there.
 pub record SearchesTruly (options : SearchOptions) (ps : List Point) (trees : List FullTree) (before after : Outside)
     (status : ℕ) : Type 0 where
   pub network : List Bool

@@ -21,7 +21,8 @@ use search_rules::{SearchOptions, SplitRule, ascent_place, split_place};
 use std::alloc::{AllocError, Global};
 use tight_packing::Budget;
 
-/// At most so many exchanges are made, each but the first against a shorter network, or with a new budget and other draws.
+/// At most so many exchanges are made, each but the first against a shorter network, or with a new budget and other
+/// draws.
 const MOST_EXCHANGES: u8 = 3;
 
 /// What each but the first may do, with other draws.
@@ -32,9 +33,10 @@ const FURTHER_BUDGET: Budget = Budget {
     seed: 20240608,
 };
 
-/// What a search finds that begins with a network of a grid. Its first leaf is that of an ascent from no cut. Where this
-/// stays below the network's length, it is the better one of it and of an ascent that begins with what an exchange finds;
-/// where that leads to a shorter network or has spent its budget, another exchange follows. An `Err` is want of memory.
+/// What a search finds that begins with a network of a grid. Its first leaf is that of an ascent from no cut. Where
+/// this stays below the network's length, it is the better one of it and of an ascent that begins with what an exchange
+/// finds; where that leads to a shorter network or has spent its budget, another exchange follows. An `Err` is want of
+/// memory.
 pub fn searched(
     alloc: Global,
     grid: &Grid,
@@ -135,8 +137,8 @@ fn begun<'a, F: Rule, G: Rule>(
     Ok(search)
 }
 
-// Raises a search by what an exchange against its network comes to. Whether another one may come further: where the budget
-// was spent, or the network is then a shorter one. An `Err` is want of memory.
+// Raises a search by what an exchange against its network comes to. Whether another one may come further: where the
+// budget was spent, or the network is then a shorter one. An `Err` is want of memory.
 fn raise_by_exchange<F: Rule, G: Rule>(
     alloc: Global,
     grid: &Grid,
@@ -146,7 +148,8 @@ fn raise_by_exchange<F: Rule, G: Rule>(
     requires graph { search.old.graph ≡ hanan_grid_of grid.now }
     requires leaf { split_count search.old.tree ≡ 0 }
     ensures further { IfOk result (λ further.
-        length_of search.old.graph search.new.network < length_of search.old.graph search.old.network → IsTrue further) }
+        length_of search.old.graph search.new.network < length_of search.old.graph search.old.network
+        → IsTrue further) }
     ensures graph { OnOk result (search.new.graph ≡ search.old.graph) }
     ensures first { OnOk result (search.new.first_length ≡ search.old.first_length) }
     ensures leaf { OnOk result (split_count search.new.tree ≡ 0) }
@@ -166,9 +169,9 @@ fn raise_by_exchange<F: Rule, G: Rule>(
     Ok(length(grid.graph(), search.network()) < before)
 }
 
-// Offers a search what a local search makes of the network that its first leaf shows. The nearer the packing comes to the
-// least length, the more of a shortest network are its saturated arcs: there the local search finds what it misses where
-// it begins with full trees. An `Err` is want of memory.
+// Offers a search what a local search makes of the network that its first leaf shows. The nearer the packing comes to
+// the least length, the more of a shortest network are its saturated arcs: there the local search finds what it misses
+// where it begins with full trees. An `Err` is want of memory.
 fn offer_shorter<F: Rule, G: Rule>(
     alloc: Global,
     grid: &Grid,

@@ -26,34 +26,44 @@ use Rattle.requests.specs.Requests.Request.{Points, Stp2points, Rfst, Prunefst, 
 abbrev pub IsWritable : Outside → Outside → Type 0
 IsWritable before after = Rose before.written.out.faults after.written.out.faults → ⊥
 
--- Where what a tool reads is told, within its limits and without fault, and no read or write fails, the status is one that the
--- tool answers with, or memory was wanting.
+-- Where what a tool reads is told, within its limits and without fault, and no read or write fails, the status is one
+-- that the tool answers with, or memory was wanting.
 abbrev pub Completes : Option Request → Outside → Outside → ℕ → Type 0
 Completes (Some (Points drawing)) before after status = IsWritable before after → (status ≡ 0) ⊎ (status ≡ NO_MEMORY)
 Completes (Some Stp2points) before after status =
-    (bytes : List ℕ) (ps : List Point) → HasInput TEXT_LIMIT before.read.input after.read.input bytes → LocatesPoints bytes (Ok ps) →
+    (bytes : List ℕ) (ps : List Point) → HasInput TEXT_LIMIT before.read.input after.read.input bytes →
+    LocatesPoints bytes (Ok ps) →
     IsWritable before after → (status ≡ 0) ⊎ (status ≡ NO_MEMORY)
 Completes (Some (Rfst size)) before after status =
-    (bytes : List ℕ) (ps : List Point) → HasInput TEXT_LIMIT before.read.input after.read.input bytes → ListsPoints bytes ps →
+    (bytes : List ℕ) (ps : List Point) → HasInput TEXT_LIMIT before.read.input after.read.input bytes →
+    ListsPoints bytes ps →
     ¬ HasMoreSets (terminals_of ps) size 20000 → IsWritable before after → (status ≡ 0) ⊎ (status ≡ NO_MEMORY)
 Completes (Some Prunefst) before after status =
-    (bytes : List ℕ) (file : FstValue) → HasInput TEXT_LIMIT before.read.input after.read.input bytes → SpellsFstFile bytes file →
+    (bytes : List ℕ) (file : FstValue) → HasInput TEXT_LIMIT before.read.input after.read.input bytes →
+    SpellsFstFile bytes file →
     IsWritable before after → (status ≡ 0) ⊎ (status ≡ NO_MEMORY)
 Completes (Some (Solve size search)) before after status =
-    (bytes : List ℕ) (ps : List Point) → HasInput TEXT_LIMIT before.read.input after.read.input bytes → ListsPoints bytes ps →
-    ¬ HasMoreSets (terminals_of ps) size 20000 → IsWritable before after → ((status ≡ 0) ⊎ (status ≡ 3)) ⊎ (status ≡ NO_MEMORY)
+    (bytes : List ℕ) (ps : List Point) → HasInput TEXT_LIMIT before.read.input after.read.input bytes →
+    ListsPoints bytes ps →
+    ¬ HasMoreSets (terminals_of ps) size 20000 → IsWritable before after →
+    ((status ≡ 0) ⊎ (status ≡ 3)) ⊎ (status ≡ NO_MEMORY)
 Completes (Some (Bb search)) before after status =
-    (bytes : List ℕ) (file : FstValue) → HasInput TEXT_LIMIT before.read.input after.read.input bytes → SpellsFstFile bytes file →
-    IsConcatenation (length file.points) file.trees (all_of file.trees) → IsWritable before after → ((status ≡ 0) ⊎ (status ≡ 3)) ⊎ (status ≡ NO_MEMORY)
+    (bytes : List ℕ) (file : FstValue) → HasInput TEXT_LIMIT before.read.input after.read.input bytes →
+    SpellsFstFile bytes file →
+    IsConcatenation (length file.points) file.trees (all_of file.trees) → IsWritable before after →
+    ((status ≡ 0) ⊎ (status ≡ 3)) ⊎ (status ≡ NO_MEMORY)
 Completes (Some (Check name)) before after status =
-    (points bytes : List ℕ) (ps : List Point) → HasFile TEXT_LIMIT before.read.shelf after.read.shelf name points → ListsPoints points ps →
+    (points bytes : List ℕ) (ps : List Point) → HasFile TEXT_LIMIT before.read.shelf after.read.shelf name points →
+    ListsPoints points ps →
     HasInput ANSWER_LIMIT before.read.input after.read.input bytes →
     IsWritable before after → ((status ≡ 0) ⊎ (status ≡ 1)) ⊎ (status ≡ NO_MEMORY)
 Completes (Some (Dumpfst pieces)) before after status =
-    (bytes : List ℕ) (file : FstValue) → HasInput TEXT_LIMIT before.read.input after.read.input bytes → SpellsFstFile bytes file →
+    (bytes : List ℕ) (file : FstValue) → HasInput TEXT_LIMIT before.read.input after.read.input bytes →
+    SpellsFstFile bytes file →
     IsWritable before after → (status ≡ 0) ⊎ (status ≡ NO_MEMORY)
 Completes (Some Fst2graph) before after status =
-    (bytes : List ℕ) (file : FstValue) → HasInput TEXT_LIMIT before.read.input after.read.input bytes → SpellsFstFile bytes file →
+    (bytes : List ℕ) (file : FstValue) → HasInput TEXT_LIMIT before.read.input after.read.input bytes →
+    SpellsFstFile bytes file →
     IsWritable before after → (status ≡ 0) ⊎ (status ≡ NO_MEMORY)
 Completes (Some (Plot name)) before after status =
     (points bytes : List ℕ) (ps : List Point) → HasFile TEXT_LIMIT before.read.shelf after.read.shelf name points →
@@ -69,6 +79,7 @@ Completes (Some (Upgrade name)) before after status =
     IsSpelling (grid_of_points ps).vertices bytes →
     IsWritable before after → (status ≡ 0) ⊎ (status ≡ NO_MEMORY)
 Completes (Some (Slack above ascent)) before after status =
-    (bytes : List ℕ) (ps : List Point) → HasInput TEXT_LIMIT before.read.input after.read.input bytes → ListsPoints bytes ps →
+    (bytes : List ℕ) (ps : List Point) → HasInput TEXT_LIMIT before.read.input after.read.input bytes →
+    ListsPoints bytes ps →
     IsWritable before after → (status ≡ 0) ⊎ (status ≡ NO_MEMORY)
 Completes None before after status = (status ≡ MISUSED) ⊎ (status ≡ NO_MEMORY)

@@ -20,12 +20,13 @@ use Rattle.search_rules.specs.declared.rules.AscentRule.{AscentRule}
 use Rattle.requests.specs.declared.request.Drawing.{Drawing}
 use Rattle.requests.specs.Requests.Request.{Bb, Solve, Check, Trial, Slack}
 
--- What `solve` printed is true: the input was read to its end, it is a text of points, and the bytes that went out are an
--- answer that may be printed for its terminals and for the kept ones of their trees (`SearchesTruly`): the answer of a network
--- of their grid with its plain length and of a tree of cuts that bounds every network, accepted by whoever judges it, which
--- stops short only once as many openings were made as the words allow.
+-- What `solve` printed is true: the input was read to its end, it is a text of points, and the bytes that went out are
+-- an answer that may be printed for its terminals and for the kept ones of their trees (`SearchesTruly`): the answer of
+-- a network of their grid with its plain length and of a tree of cuts that bounds every network, accepted by whoever
+-- judges it, which stops short only once as many openings were made as the words allow.
 abbrev pub Headline : Option Request → Outside → Outside → ℕ → Type 0
-Headline request before after status = (size : ℕ) (search : SearchOptions) → request ≡ Some (Solve size search) → (status ≡ 0) ⊎ (status ≡ 3) →
+Headline request before after status = (size : ℕ) (search : SearchOptions) → request ≡ Some (Solve size search) →
+    (status ≡ 0) ⊎ (status ≡ 3) →
     (bytes : List ℕ) × (ps : List Point) × (generated : List Tree) × (trees : List Tree)
     × CameToTheEnd before.read.input.rest bytes after.read.input.rest
     × IsPointText bytes ps
@@ -33,18 +34,19 @@ Headline request before after status = (size : ℕ) (search : SearchOptions) →
     × AreKeptTrees generated trees
     × SearchesTruly search (terminals_of ps) trees before after status
 
--- What `bb` printed is true: the input was read to its end, it spells a file of full trees, and the bytes that went out are an
--- answer that may be printed for the points and the trees of the file.
+-- What `bb` printed is true: the input was read to its end, it spells a file of full trees, and the bytes that went out
+-- are an answer that may be printed for the points and the trees of the file.
 abbrev pub BuildHeadline : Option Request → Outside → Outside → ℕ → Type 0
-BuildHeadline request before after status = (search : SearchOptions) → request ≡ Some (Bb search) → (status ≡ 0) ⊎ (status ≡ 3) →
+BuildHeadline request before after status = (search : SearchOptions) → request ≡ Some (Bb search) →
+    (status ≡ 0) ⊎ (status ≡ 3) →
     (bytes : List ℕ) × (file : FstValue)
     × CameToTheEnd before.read.input.rest bytes after.read.input.rest
     × SpellsFstFile bytes file
     × SearchesTruly search file.points file.trees before after status
 
--- What `check` told is true: the file lists points, the input was read to its end, and the status is 0 exactly where its bytes
--- are accepted as an answer for the points. Then `out` gained the line with the answer's length and bound, no network of the
--- grid is shorter than that bound, and where the answer says optimal its network is a shortest one.
+-- What `check` told is true: the file lists points, the input was read to its end, and the status is 0 exactly where
+-- its bytes are accepted as an answer for the points. Then `out` gained the line with the answer's length and bound, no
+-- network of the grid is shorter than that bound, and where the answer says optimal its network is a shortest one.
 abbrev pub CheckHeadline : Option Request → Outside → Outside → ℕ → Type 0
 CheckHeadline request before after status =
     (name : List ℕ) → request ≡ Some (Check name) → (status ≡ 0) ⊎ (status ≡ 1) → ChecksTruly name before after status
@@ -56,9 +58,9 @@ TrialHeadline request before after status =
     (drawing : Drawing) → request ≡ Some (Trial drawing) → (status ≡ 0) ⊎ (status ≡ 3) →
     TriesTruly drawing.count drawing.seed before after status
 
--- What `slack` printed is true: the input was read to its end, it is a text of points, and `out` gained an edge bound for
--- each edge of their grid, or for exactly those above the threshold. No network that uses a printed edge is shorter than
--- its bound, and so each is longer than the threshold.
+-- What `slack` printed is true: the input was read to its end, it is a text of points, and `out` gained an edge bound
+-- for each edge of their grid, or for exactly those above the threshold. No network that uses a printed edge is shorter
+-- than its bound, and so each is longer than the threshold.
 abbrev pub SlackHeadline : Option Request → Outside → Outside → ℕ → Type 0
 SlackHeadline request before after status =
     (above : Option ℕ) (ascent : AscentRule) → request ≡ Some (Slack above ascent) → status ≡ 0 →

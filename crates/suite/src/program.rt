@@ -26,8 +26,8 @@ const USAGE_LINE: &[u8] =
 
 /// Runs the tool that the words after the program's name ask for, and gives the status that the program ends with.
 ///
-/// The order of work is: words, the file that they name, input (read to its end), computing, writing. Statuses and texts
-/// stand in docs/FORMATS.md.
+/// The order of work is: words, the file that they name, input (read to its end), computing, writing. Statuses and
+/// texts stand in docs/FORMATS.md.
 pub fn run<I: Source, O: Sink, R: Sink, S: Shelf>(
     alloc: Global,
     words: &[String],

@@ -78,12 +78,6 @@ taken_least n trees choices total rise below = (
   λ set joins respects. omega (arith, rise trees (taken_of choices) set (taken_within choices set respects)),
 )
 
--- choices where a search can go on are done with where their bound reaches the total
-pub bound_done : (n : ℕ) (trees : List Tree) (choices : List Choice) (least total : ℕ) → CanGoOn n trees choices
-    → IsLeastUnder n trees choices least → total ≤ least → IsNoBetter n trees total choices × IsLeastUnder n trees choices total
-bound_done n trees choices least total can bounded reached =
-    (λ joins. absurd (can.taken joins), λ set joins respects. omega (arith, bounded set joins respects))
-
 -- where a search can go on, some place is open
 none_open : (choices : List Choice) → ((k : ℕ) → ¬ IsOpenPlace choices k) → remaining_of choices ≡ taken_of choices
 none_open [] none = refl

@@ -181,17 +181,6 @@ pub SharesTree-back : (trees : List Tree) (set : List Bool) (i j : ℕ) → Lead
 SharesTree-back trees set i j led = Leads-back (SharesTree trees set) (SharesTree trees set)
     (λ u w (k, tree, inside, at, first, second). (k, tree, inside, at, second, first)) i j led
 
--- at first each terminal is a part
-pub ArePartsUpTo-start : (n : ℕ) (trees : List Tree) (set : List Bool) (labels : List ℕ) → length labels ≡ n
-    → ((i : ℕ) → i < length labels → slice_index labels i ≡ i) → ArePartsUpTo n trees set 0 labels
-ArePartsUpTo-start n trees set labels size own = record {
-  size = size;
-  chains = λ i j in_i in_j same.
-      let is : i ≡ j = sym (own i (omega (arith, size))) ∙ same ∙ own j (omega (arith, size)) in
-      subst (Leads (SharesTree trees set) i) is (Leads-start (SharesTree trees set) i);
-  closed = λ k tree i j below inside at first second. absurd (omega arith);
-}
-
 -- a tree that is no part of the set changes nothing
 pub ArePartsUpTo-skip : (n : ℕ) (trees : List Tree) (set : List Bool) (place : ℕ) (labels : List ℕ) → ArePartsUpTo n trees set place labels
     → (slice_get set place ≡ Some true → ⊥) → ArePartsUpTo n trees set (place + 1) labels
