@@ -6,5 +6,6 @@ mod difference;
 mod outcome;
 mod row;
 mod table;
+mod variants;
 
 pub use table::Reader;

@@ -19,18 +19,30 @@ const ERR_ROOM: usize = 1 << 12;
 
 /// Runs a row over a source, sinks and a shelf in memory, which fail as its plan says.
 pub fn outcome_of(alloc: Global, row: &Row) -> Result<Outcome, AllocError> {
+    outcome_on(
+        alloc,
+        row,
+        row.input.whole(alloc)?,
+        shelf_files(alloc, &row.files)?,
+    )
+}
+
+/// Runs a row with this input and these files in place of its own.
+pub fn outcome_on(
+    alloc: Global,
+    row: &Row,
+    input: Vec<u8>,
+    files: Vec<ShelfFile>,
+) -> Result<Outcome, AllocError> {
     let plan = &row.plan;
     let step = plan.step.max(1);
     let reads = Vec::from_slice(alloc, &plan.failing_reads)?;
     let writes = Vec::from_slice(alloc, &plan.failing_writes)?;
     let reports = Vec::from_slice(alloc, &plan.failing_reports)?;
-    let mut input = MemSource::new(row.input.whole(alloc)?, step, reads);
+    let mut input = MemSource::new(input, step, reads);
     let mut out = MemSink::with_room(alloc, plan.room, step, writes)?;
     let mut err = MemSink::with_room(alloc, ERR_ROOM, step, reports)?;
-    let mut shelf = MemShelf::new(
-        shelf_files(alloc, &row.files)?,
-        Vec::from_slice(alloc, &plan.failing_files)?,
-    );
+    let mut shelf = MemShelf::new(files, Vec::from_slice(alloc, &plan.failing_files)?);
     let status = run(
         alloc,
         row.words.as_slice(),
@@ -47,7 +59,7 @@ pub fn outcome_of(alloc: Global, row: &Row) -> Result<Outcome, AllocError> {
 }
 
 /// The files of a row for the shelf.
-fn shelf_files(alloc: Global, files: &[NamedText]) -> Result<Vec<ShelfFile>, AllocError> {
+pub fn shelf_files(alloc: Global, files: &[NamedText]) -> Result<Vec<ShelfFile>, AllocError> {
     let mut made = Vec::new(alloc);
     for file in files {
         made.push(ShelfFile {

@@ -58,6 +58,33 @@ impl Wanted {
     }
 }
 
+/// Which text of a row is varied.
+#[derive(Clone, Copy, Debug, PartialEq, Eq)]
+pub enum Varied {
+    /// The input.
+    Input,
+    /// The last of its files.
+    File,
+}
+
+/// Which texts come of one: the row is run with each of them in its place.
+#[derive(Clone, Copy, Debug, PartialEq, Eq)]
+pub enum Variation {
+    /// Each proper front of the text, the empty one first.
+    Cuts,
+    /// The text with each of the 256 bytes in place of each of its own.
+    Bytes,
+}
+
+/// Runs of a row with other texts in place of one, of which only the status is stated.
+#[derive(Drop)]
+pub struct Variants {
+    pub varied: Varied,
+    pub variation: Variation,
+    /// The statuses that the program may end with.
+    pub statuses: Vec<u64>,
+}
+
 /// One run of the program, and what has to come of it.
 #[derive(Drop)]
 pub struct Row {
@@ -72,6 +99,8 @@ pub struct Row {
     pub err: Wanted,
     /// The status that the program ends with.
     pub status: u8,
+    /// What stands in place of the wanted texts and the status where the row is run with many texts.
+    pub variants: Option<Variants>,
 }
 
 impl Row {
@@ -86,6 +115,7 @@ impl Row {
             out: Wanted::nothing(alloc),
             err: Wanted::nothing(alloc),
             status: 0,
+            variants: None,
         }
     }
 }

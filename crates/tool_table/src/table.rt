@@ -2,7 +2,8 @@
 
 use crate::difference::tell;
 use crate::outcome::outcome_of;
-use crate::row::{Relation, Row, Wanted};
+use crate::row::{Relation, Row, Variants, Variation, Varied, Wanted};
+use crate::variants::tell_variants;
 use row_tables::{
     Fault, NamedText, RowRunner, Section, Text, Texts, change, count, named, no_lines, numbers,
     status,
@@ -74,6 +75,38 @@ impl Reader {
         row.status = status(section.argument)?;
         self.place = Place::Nowhere;
         Ok(row)
+    }
+
+    /// Has the row that is open run with many texts in place of its last one, and ends it with the statuses that may
+    /// come.
+    fn end_variants(&mut self, section: Section<'_>, variation: Variation) -> Result<Row, Fault> {
+        no_lines(&section)?;
+        let varied = match self.place {
+            Place::Input => Varied::Input,
+            Place::File => Varied::File,
+            _ => return Err(Fault::NoText),
+        };
+        let statuses = numbers(self.alloc, section.argument)?;
+        let mut row = self.row.take().ok_or(Fault::OutsideRow)?;
+        row.variants = Some(Variants {
+            varied,
+            variation,
+            statuses,
+        });
+        self.place = Place::Nowhere;
+        Ok(row)
+    }
+
+    /// Puts a named text behind the one that may be changed.
+    fn add_behind(&mut self, section: Section<'_>) -> Result<(), Fault> {
+        let alloc = self.alloc;
+        let text = self.texts.text(section.argument, section.text)?;
+        let more = text.whole(alloc)?;
+        let last = self.last_text().ok_or(Fault::NoText)?;
+        let mut made = last.whole(alloc)?;
+        made.extend_from_slice(&more)?;
+        *last = Text::once(made);
+        Ok(())
     }
 
     /// Adds what a section says to the row that is open.
@@ -157,6 +190,9 @@ impl RowRunner for Reader {
     fn take(&mut self, section: Section<'_>) -> Result<Option<Row>, Fault> {
         match section.key {
             "status" => return Ok(Some(self.end_row(section)?)),
+            "each_cut" => return Ok(Some(self.end_variants(section, Variation::Cuts)?)),
+            "each_byte" => return Ok(Some(self.end_variants(section, Variation::Bytes)?)),
+            "behind" => self.add_behind(section)?,
             "text" => self.add_text(section)?,
             "row" => self.begin_row(section)?,
             "line" | "line_feed" | "no_line_feed" | "times" => {
@@ -178,6 +214,10 @@ impl RowRunner for Reader {
 
     /// Runs a row, and adds its lines to the report. What it prints is a text with the row's name, for the rows behind.
     fn run(&mut self, alloc: Global, row: &Row, report: &mut String) -> Result<bool, Fault> {
+        if let Some(variants) = &row.variants {
+            self.texts.keep(row.name.as_str(), Text::empty(alloc))?;
+            return Ok(tell_variants(alloc, row, variants, report)?);
+        }
         let outcome = outcome_of(alloc, row)?;
         let is_ok = tell(alloc, row, &outcome, report)?;
         self.texts.keep(row.name.as_str(), Text::once(outcome.out))?;
