@@ -1,6 +1,7 @@
 //! Searches by splits, whole and step by step, and networks of saturated arcs.
 
 ghost use Rattle.std.specs.Prelude.{◌<◌, length};
+ghost use Rattle.cert_tree.specs.Preorder.{split_count};
 ghost use Rattle.dual_ascent.specs.Choosing.{IsCallableOnSome, AnswersAPlace};
 
 use crate::asked::{ascent_rule, network, small, split_kind, split_rule};
@@ -93,7 +94,8 @@ fn steps<F: Rule, G: Rule>(
     Ok(writeln!(answer, "bound {}", search.finish().bound)?)
 }
 
-// Takes so many steps, and tells what comes of each.
+// Takes so many steps, and tells what comes of each. A step that is refused is taken once more, as the refusal leaves the
+// search as it was: `bench/allocations` refuses each of its allocations and looks whether the same tree comes.
 fn take_steps<F: Rule, G: Rule>(
     search: &mut Search<F, G>,
     count: u8,
@@ -103,13 +105,23 @@ fn take_steps<F: Rule, G: Rule>(
         if search.splits() >= 255 {
             return Err(Fault::NotAllowed);
         }
-        let word = match search.split_one()? {
+        let word = match step_again(search)? {
             Step::Split => "split",
             Step::Settled => "settled",
         };
         writeln!(answer, "{word}")?;
     }
     Ok(())
+}
+
+// Takes a step, and once more where it was refused.
+fn step_again<F: Rule, G: Rule>(search: &mut Search<F, G>) -> Result<Step, Fault>
+    requires { split_count search.old.tree < 255 }
+{
+    if let Ok(step) = search.split_one() {
+        return Ok(step);
+    }
+    Ok(search.split_one()?)
 }
 
 // Tells the network, and how far the search is.
