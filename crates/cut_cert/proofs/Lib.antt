@@ -8,6 +8,7 @@ pub mod NetworkLemmas
 pub mod NodeLines
 pub mod PackingLemmas
 pub mod FitLemmas
+pub mod FormLemmas
 pub mod Machine
 pub mod Due
 pub mod LineTexts

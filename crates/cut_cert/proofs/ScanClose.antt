@@ -6,7 +6,12 @@ use Rattle.std.specs.Result.{OkIff, result_ok}
 use Rattle.std.proofs.lemmas.List.{length-drop, length-replicate}
 use Rattle.net_graph.specs.Flags.{has}
 use Rattle.cut_cert.specs.SetLaws.{none_has}
-use Rattle.points_in.specs.declared.point.Point.{Point}
+use Rattle.cut_cert.specs.declared.form.Form.{Form}
+use Rattle.cut_cert.specs.declared.form.Form.TheVariants as form
+use Rattle.cut_cert.specs.declared.label.EdgeLabel.{EdgeLabel}
+use Rattle.cut_cert.specs.declared.label.EdgeLabel.TheVariants as edge
+use Rattle.cut_cert.specs.declared.label.VertexLabel.{VertexLabel}
+use Rattle.cut_cert.specs.declared.label.VertexLabel.TheVariants as vertex
 use Rattle.hanan_grid.specs.declared.name.EdgeName.{EdgeName}
 use Rattle.cut_cert.specs.declared.head.AnswerHead.{AnswerHead}
 use Rattle.cut_cert.specs.declared.event.Event.{Event}
@@ -33,10 +38,10 @@ use Rattle.cut_cert.specs.Lines.{split_line, step}
 use Rattle.cut_cert.specs.LineFits.{version_with}
 use Rattle.cut_cert.specs.Events.{head_with, line_told, event_at}
 use Rattle.cut_cert.specs.Given.{given}
-use Rattle.cut_cert.specs.Scanning.{word_bytes, WordLeft, WordsLeft, IsInField, IsLast, signed, name_line, BehindNumber, BehindCoordinate, NumberLeft, Left, IsDead, IsSound, IsNoLineLeft, Closes, IsNext, LeadsTo}
+use Rattle.cut_cert.specs.Scanning.{word_bytes, WordLeft, WordsLeft, IsInField, IsLast, signed, name_line, BehindNumber, BehindCoordinate, NumberLeft, Left, IsDead, IsSound, IsNoLineLeft, Closes, MakesLine, IsNext, LeadsTo}
 use Rattle.cut_cert.proofs.ScanNumbers.{no_first, over_end, left_over, dead-blank, leads-x1, leads-y1, leads-x2, leads-x, leads-weight}
 use Rattle.cut_cert.proofs.ScanLines.{set_whole, set_left}
-use Rattle.cut_cert.proofs.Steps.{step-length, step-bound, step-openings, step-concat, step-count, step-leaf, step-edge, step-split, step-split_line, step-cut}
+use Rattle.cut_cert.proofs.Steps.{step-length, step-bound, step-openings, step-last_openings, step-concat, step-count, step-leaf, step-edge, step-split, step-split_line, step-cut}
 
 -- a number that was made smaller is the same
 pub same_small : {E : Type 0} (fit : Result ℕ E) (bound m x : ℕ) (r : Option ℕ) → OkIff fit (m < bound) m → r ≡ result_ok fit → r ≡ Some x → x ≡ m
@@ -71,6 +76,15 @@ closes-openings k h f v x is same inside name =
     let there : IsInField field.Openings v = subst (λ g. IsInField g v) is inside in
     subst C (sym is) (closes_number k (record k { stage = stage.Concat }) field.Openings v h (record h { openings = x }) None (line.Openings v) there (refl, refl) (λ s' e. step-openings k.stage s' v e) refl (λ i. record h { openings = same i }) (λ n. refl) refl name)
 
+pub closes-last_openings : (k : Kept) (h : AnswerHead) (f : Field) (v x : ℕ) → f ≡ field.LastOpenings → x ≡ v → IsInField f v → FitsName k.name
+    → Closes k (scan.Number f v) h (record k { stage = stage.Count }) (record h { openings = x }) (Some (event.Head (record h { openings = x })))
+closes-last_openings k h f v x is same inside name =
+    let h' : AnswerHead = record h { openings = x } in
+    let C : Field → Type 0 = λ g. Closes k (scan.Number g v) h (record k { stage = stage.Count }) h' (Some (event.Head h')) in
+    let there : IsInField field.LastOpenings v = subst (λ g. IsInField g v) is inside in
+    subst C (sym is) (closes_number k (record k { stage = stage.Count }) field.LastOpenings v h h' (Some (event.Head h')) (line.LastOpenings v) there (refl, refl)
+    (λ s' e. step-last_openings k.stage s' v e) refl (λ i. record h { openings = same i }) (λ n. refl) refl name)
+
 pub closes-total : (k : Kept) (h : AnswerHead) (f : Field) (v : ℕ) (least : Bool) → f ≡ field.Total least → IsInField f v → FitsName k.name
     → Closes k (scan.Number f v) h (record k { stage = stage.Count }) (record h { concat = record { least = least; total = v } }) (Some (event.Head (record h { concat = record { least = least; total = v } })))
 closes-total k h f v least is inside name =
@@ -80,12 +94,12 @@ closes-total k h f v least is inside name =
     subst C (sym is) (closes_number k (record k { stage = stage.Count }) (field.Total least) v h h' (Some (event.Head h')) (line.Concat (record { least = least; total = v })) there (refl, refl)
     (λ s' e. step-concat k.stage s' (record { least = least; total = v }) e) refl refl (λ n. refl) refl name)
 
-pub closes-count : (k : Kept) (h : AnswerHead) (f : Field) (v x : ℕ) → f ≡ field.Count → x ≡ v → IsInField f v → FitsName k.name
+pub closes-count : (k : Kept) (h : AnswerHead) (f : Field) (most v x : ℕ) → f ≡ field.Count most → x ≡ v → IsInField f v → FitsName k.name
     → Closes k (scan.Number f v) h (record k { stage = stage.Edges x }) h (Some (event.EdgeCount x))
-closes-count k h f v x is same inside name =
+closes-count k h f most v x is same inside name =
     let C : Field → ℕ → Type 0 = λ g y. Closes k (scan.Number g v) h (record k { stage = stage.Edges y }) h (Some (event.EdgeCount y)) in
-    let there : IsInField field.Count v = subst (λ g. IsInField g v) is inside in
-    subst (λ g. C g x) (sym is) (subst (λ y. C field.Count y) (sym same) (closes_number k (record k { stage = stage.Edges v }) field.Count v h h (Some (event.EdgeCount v)) (line.Count v) there (refl, refl)
+    let there : IsInField (field.Count most) v = subst (λ g. IsInField g v) is inside in
+    subst (λ g. C g x) (sym is) (subst (λ y. C (field.Count most) y) (sym same) (closes_number k (record k { stage = stage.Edges v }) (field.Count most) v h h (Some (event.EdgeCount v)) (line.Count v) there (refl, refl)
     (λ s' e. step-count k.stage s' v e) refl refl (λ n. refl) refl name))
 
 pub closes-leaf : (k : Kept) (h : AnswerHead) (cuts c nodes left : ℕ) → k.stage ≡ stage.Body c nodes → left ≡ nodes - 1 → cuts < 2 ^ 32 → FitsName k.name
@@ -102,27 +116,30 @@ closes-leaf k h cuts c nodes left is less few name =
 
 -- ---- names
 
--- a name's last coordinate
-name_behind : (k : Kept) (e : EdgeName) (minus : Bool) (v : ℕ) → FitsName e → e.x1 ≡ k.name.x1 → e.y1 ≡ k.name.y1 → e.x2 ≡ k.name.x2 → e.y2 ≡ signed minus v → BehindCoordinate k corner.Y2 (signed minus v) [] (name_line k.version k.stage e)
-name_behind k e minus v fits x1 y1 x2 y2 = record { name = e; fits = fits; same = (x1, y1, x2, y2); text = refl; line = refl }
+-- what is kept with a line of an edge or a vertex makes the line
+pub closes_by : (k k' : Kept) (f : Field) (v : ℕ) (h : AnswerHead) (told : Option Event) (l : Line) (w : EdgeName) → IsInField f v → BehindNumber k f v [] l → FitsName w
+    → MakesLine (record k { name = w }) l k' told → Closes k (scan.Number f v) h k' h told
+closes_by k k' f v h told l w inside behind fits makes =
+    closes_number k k' f v h h told l inside behind makes.stage makes.version (makes.head h) (makes.event h) makes.members (subst FitsName (sym makes.name) fits)
 
-last_fits : (k : Kept) (z : ℤ) → FitsName k.name → FitsSigned w64 z → FitsName (record k.name { y2 = z })
-last_fits k z name fits = record { x1 = name.x1; y1 = name.y1; x2 = name.x2; y2 = fits }
-
-pub closes-edge : (k : Kept) (h : AnswerHead) (minus : Bool) (v edges left : ℕ) (z z' : ℤ) → k.stage ≡ stage.Edges edges → left ≡ edges - 1 → z' ≡ z → z ≡ signed minus v → FitsSigned w64 z → IsInField (field.Coordinate corner.Y2 minus) v → FitsName k.name
-    → Closes k (scan.Number (field.Coordinate corner.Y2 minus) v) h (record k { stage = stage.Edges left; name = record k.name { y2 = z' } }) h (Some (event.Edge (record k.name { y2 = z' })))
-closes-edge k h minus v edges left z z' is less cast value fits inside name =
-    let e : EdgeName = record k.name { y2 = z' } in
-    let e_fits : FitsName e = last_fits k z' name (subst (FitsSigned w64) (sym cast) fits) in
-    closes_number k (record k { stage = stage.Edges left; name = e }) (field.Coordinate corner.Y2 minus) v h h (Some (event.Edge e)) (line.Edge e) inside
-    (subst (BehindCoordinate k corner.Y2 (signed minus v) []) (ap (λ s. name_line k.version s e) is) (name_behind k e minus v e_fits refl refl refl (cast ∙ value)))
-    (λ s' d.
-    let due = step-edge k.stage s' e d in
-    let both : stage.Edges edges ≡ stage.Edges (suc due.0) = sym is ∙ due.1 in
-    let count : edges ≡ suc due.0 = cc in
-    let here : left ≡ due.0 = omega arith in
-    ap stage.Edges here ∙ due.2)
-    refl refl (λ n. refl) refl e_fits
+-- the line of an edge of the network
+pub makes-edge : (k : Kept) (e : EdgeLabel) (edges left : ℕ) → k.stage ≡ stage.Edges edges → left ≡ edges - 1
+    → MakesLine k (name_line k.version k.stage e) (record k { stage = stage.Edges left }) (Some (event.Edge e))
+makes-edge k e edges left is less =
+    let k' : Kept = record k { stage = stage.Edges left } in
+    subst (λ l. MakesLine k l k' (Some (event.Edge e))) (ap (λ s. name_line k.version s e) (sym is)) (record {
+      stage = λ s' d.
+          let due = step-edge k.stage s' e d in
+          let both : stage.Edges edges ≡ stage.Edges (suc due.0) = sym is ∙ due.1 in
+          let count : edges ≡ suc due.0 = cc in
+          let here : left ≡ due.0 = omega arith in
+          ap stage.Edges here ∙ due.2;
+      version = refl;
+      head = λ h. refl;
+      event = λ h n. refl;
+      members = refl;
+      name = refl;
+    })
 
 -- the line of a split: two parts are due behind it
 split_due : (k : Kept) (v : Version) (on : SplitName) (cuts nodes : ℕ) (s' : Stage) → k.stage ≡ stage.Body cuts nodes → step k.stage (split_line v on) ≡ Some s' → stage.Body cuts (nodes + 1) ≡ s'
@@ -138,37 +155,99 @@ split_due k v on cuts nodes s' is e =
 split_event : (v : Version) (on : SplitName) (h : AnswerHead) (n : ℕ) (members : List Bool) → event_at n (line_told h (split_line v on)) ≡ given n (Some (event.Split on)) members
 split_event version.One (name.Edge e) h n members = refl
 split_event version.Two (name.Edge e) h n members = refl
+split_event version.Graph (name.Edge e) h n members = refl
 split_event v (name.Vertex p) h n members = refl
 
 split_head : (v : Version) (on : SplitName) (h : AnswerHead) → h ≡ head_with h (split_line v on)
 split_head version.One (name.Edge e) h = refl
 split_head version.Two (name.Edge e) h = refl
+split_head version.Graph (name.Edge e) h = refl
 split_head v (name.Vertex p) h = refl
 
 split_version : (w v : Version) (on : SplitName) → w ≡ version_with w (split_line v on)
 split_version w version.One (name.Edge e) = refl
 split_version w version.Two (name.Edge e) = refl
+split_version w version.Graph (name.Edge e) = refl
 split_version w v (name.Vertex p) = refl
 
-pub closes-split : (k : Kept) (h : AnswerHead) (minus : Bool) (v cuts nodes : ℕ) (z z' : ℤ) → k.stage ≡ stage.Body cuts nodes → z' ≡ z → z ≡ signed minus v → FitsSigned w64 z → IsInField (field.Coordinate corner.Y2 minus) v → FitsName k.name
-    → Closes k (scan.Number (field.Coordinate corner.Y2 minus) v) h (record k { stage = stage.Body cuts (nodes + 1); name = record k.name { y2 = z' } }) h (Some (event.Split (name.Edge (record k.name { y2 = z' }))))
-closes-split k h minus v cuts nodes z z' is cast value fits inside name_fits =
-    let e : EdgeName = record k.name { y2 = z' } in
-    let on : SplitName = name.Edge e in
-    let e_fits : FitsName e = last_fits k z' name_fits (subst (FitsSigned w64) (sym cast) fits) in
-    closes_number k (record k { stage = stage.Body cuts (nodes + 1); name = e }) (field.Coordinate corner.Y2 minus) v h h (Some (event.Split on)) (split_line k.version on) inside
-    (subst (BehindCoordinate k corner.Y2 (signed minus v) []) (ap (λ s. name_line k.version s e) is) (name_behind k e minus v e_fits refl refl refl (cast ∙ value)))
-    (λ s' d. split_due k k.version on cuts nodes s' is d) (split_version k.version k.version on) (split_head k.version on h) (λ n. split_event k.version on h n k.members) refl e_fits
+-- the line of a split on an edge or on a vertex
+makes_split : (k : Kept) (on : SplitName) (cuts nodes : ℕ) → k.stage ≡ stage.Body cuts nodes
+    → MakesLine k (split_line k.version on) (record k { stage = stage.Body cuts (nodes + 1) }) (Some (event.Split on))
+makes_split k on cuts nodes is = record {
+  stage = λ s' d. split_due k k.version on cuts nodes s' is d;
+  version = split_version k.version k.version on;
+  head = λ h. split_head k.version on h;
+  event = λ h n. split_event k.version on h n k.members;
+  members = refl;
+  name = refl;
+}
 
-pub closes-vertex : (k : Kept) (h : AnswerHead) (minus : Bool) (v cuts nodes : ℕ) (x z z' : ℤ) → x ≡ k.name.x1 → k.stage ≡ stage.Body cuts nodes → z' ≡ z → z ≡ signed minus v → FitsSigned w64 z → IsInField (field.Coordinate corner.Y minus) v → FitsName k.name
-    → Closes k (scan.Number (field.Coordinate corner.Y minus) v) h (record k { stage = stage.Body cuts (nodes + 1); name = record k.name { y1 = z' } }) h (Some (event.Split (name.Vertex (record { x = x; y = z' }))))
-closes-vertex k h minus v cuts nodes x z z' x_is is cast value fits inside name_fits =
+pub makes-split : (k : Kept) (e : EdgeLabel) (cuts nodes : ℕ) → k.stage ≡ stage.Body cuts nodes
+    → MakesLine k (name_line k.version k.stage e) (record k { stage = stage.Body cuts (nodes + 1) }) (Some (event.Split (name.Edge e)))
+makes-split k e cuts nodes is =
+    subst (λ l. MakesLine k l (record k { stage = stage.Body cuts (nodes + 1) }) (Some (event.Split (name.Edge e)))) (ap (λ s. name_line k.version s e) (sym is))
+    (makes_split k (name.Edge e) cuts nodes is)
+
+pub makes-vertex : (k : Kept) (p : VertexLabel) (cuts nodes : ℕ) → k.stage ≡ stage.Body cuts nodes
+    → MakesLine k (line.SplitVertex p) (record k { stage = stage.Body cuts (nodes + 1) }) (Some (event.Split (name.Vertex p)))
+makes-vertex k p cuts nodes is = record {
+  stage = λ s' d. split_due k version.Two (name.Vertex p) cuts nodes s' is d;
+  version = refl;
+  head = λ h. refl;
+  event = λ h n. refl;
+  members = refl;
+  name = refl;
+}
+
+-- no edge is named where no line of one is due
+pub no_line-edge : (k : Kept) (f : Field) (last v : ℕ) → f ≡ field.EdgeNumber last → ((e : EdgeLabel) (s' : Stage) → step k.stage (name_line k.version k.stage e) ≡ Some s' → ⊥) → IsInField f v
+    → IsNoLineLeft k (scan.Number f v)
+no_line-edge k f last v is none inside l s' left due =
+    let there : IsInField (field.EdgeNumber last) v = subst (λ g. IsInField g v) is inside in
+    let behind = over_end k (field.EdgeNumber last) v l there (subst (λ g. Left k (scan.Number g v) [] l) is left) in
+    none (edge.Number v) s' (ap (step k.stage) (sym behind.1) ∙ due)
+
+-- nor a vertex
+pub no_line-number : (k : Kept) (f : Field) (last v : ℕ) → f ≡ field.VertexNumber last → ((p : VertexLabel) (s' : Stage) → step k.stage (line.SplitVertex p) ≡ Some s' → ⊥) → IsInField f v
+    → IsNoLineLeft k (scan.Number f v)
+no_line-number k f last v is none inside l s' left due =
+    let there : IsInField (field.VertexNumber last) v = subst (λ g. IsInField g v) is inside in
+    let behind = over_end k (field.VertexNumber last) v l there (subst (λ g. Left k (scan.Number g v) [] l) is left) in
+    none (vertex.Number v) s' (ap (step k.stage) (sym behind.1) ∙ due)
+
+pub closes-edge_number : (k k' : Kept) (h : AnswerHead) (f : Field) (last v x : ℕ) (told : Option Event) → f ≡ field.EdgeNumber last → x ≡ v → MakesLine k (name_line k.version k.stage (edge.Number x)) k' told
+    → IsInField f v → FitsName k.name → Closes k (scan.Number f v) h k' h told
+closes-edge_number k k' h f last v x told is same makes inside name =
+    let there : IsInField (field.EdgeNumber last) v = subst (λ g. IsInField g v) is inside in
+    subst (λ g. Closes k (scan.Number g v) h k' h told) (sym is)
+    (closes_by k k' (field.EdgeNumber last) v h told (name_line k.version k.stage (edge.Number x)) k.name there (refl, ap (λ n. name_line k.version k.stage (edge.Number n)) same) name makes)
+
+pub closes-vertex_number : (k k' : Kept) (h : AnswerHead) (f : Field) (last v x : ℕ) (told : Option Event) → f ≡ field.VertexNumber last → x ≡ v → MakesLine k (line.SplitVertex (vertex.Number x)) k' told
+    → IsInField f v → FitsName k.name → Closes k (scan.Number f v) h k' h told
+closes-vertex_number k k' h f last v x told is same makes inside name =
+    let there : IsInField (field.VertexNumber last) v = subst (λ g. IsInField g v) is inside in
+    subst (λ g. Closes k (scan.Number g v) h k' h told) (sym is)
+    (closes_by k k' (field.VertexNumber last) v h told (line.SplitVertex (vertex.Number x)) k.name there (refl, ap (λ n. line.SplitVertex (vertex.Number n)) same) name makes)
+
+-- the ends of an edge, of which the last coordinate was read
+pub closes-ends : (k k' : Kept) (h : AnswerHead) (minus : Bool) (v : ℕ) (z z' : ℤ) (told : Option Event) → z' ≡ z → z ≡ signed minus v → FitsSigned w64 z
+    → MakesLine (record k { name = record k.name { y2 = z' } }) (name_line k.version k.stage (edge.Ends (record k.name { y2 = z' }))) k' told
+    → IsInField (field.Coordinate corner.Y2 minus) v → FitsName k.name → Closes k (scan.Number (field.Coordinate corner.Y2 minus) v) h k' h told
+closes-ends k k' h minus v z z' told cast value fits makes inside name =
+    let e : EdgeName = record k.name { y2 = z' } in
+    let e_fits : FitsName e = record { x1 = name.x1; y1 = name.y1; x2 = name.x2; y2 = subst (FitsSigned w64) (sym cast) fits } in
+    closes_by k k' (field.Coordinate corner.Y2 minus) v h told (name_line k.version k.stage (edge.Ends e)) e inside
+    (record { name = e; fits = e_fits; same = (refl, refl, refl, cast ∙ value); text = refl; line = refl }) e_fits makes
+
+-- the point of a vertex, of which the last coordinate was read
+pub closes-point : (k k' : Kept) (h : AnswerHead) (minus : Bool) (v : ℕ) (x z z' : ℤ) (told : Option Event) → x ≡ k.name.x1 → z' ≡ z → z ≡ signed minus v → FitsSigned w64 z
+    → MakesLine (record k { name = record k.name { y1 = z' } }) (line.SplitVertex (vertex.At (record { x = x; y = z' }))) k' told
+    → IsInField (field.Coordinate corner.Y minus) v → FitsName k.name → Closes k (scan.Number (field.Coordinate corner.Y minus) v) h k' h told
+closes-point k k' h minus v x z z' told x_is cast value fits makes inside name =
     let e : EdgeName = record k.name { y1 = z' } in
-    let on : SplitName = name.Vertex (record { x = x; y = z' }) in
-    let e_fits : FitsName e = record { x1 = name_fits.x1; y1 = subst (FitsSigned w64) (sym cast) fits; x2 = name_fits.x2; y2 = name_fits.y2 } in
-    closes_number k (record k { stage = stage.Body cuts (nodes + 1); name = e }) (field.Coordinate corner.Y minus) v h h (Some (event.Split on)) (split_line k.version on) inside
-    (record { name = e; fits = e_fits; same = (refl, cast ∙ value); text = refl; line = λ i. line.SplitVertex (record { x = x_is i; y = z' }) })
-    (λ s' d. split_due k k.version on cuts nodes s' is d) refl refl (λ n. refl) refl e_fits
+    let e_fits : FitsName e = record { x1 = name.x1; y1 = subst (FitsSigned w64) (sym cast) fits; x2 = name.x2; y2 = name.y2 } in
+    closes_by k k' (field.Coordinate corner.Y minus) v h told (line.SplitVertex (vertex.At (record { x = x; y = z' }))) e inside
+    (record { name = e; fits = e_fits; same = (refl, cast ∙ value); text = refl; line = λ i. line.SplitVertex (vertex.At (record { x = x_is i; y = z' })) }) e_fits makes
 
 -- a number that ends no line
 pub no_line-weight : (k : Kept) (f : Field) (v : ℕ) → f ≡ field.Weight → IsInField f v → IsNoLineLeft k (scan.Number f v)
@@ -188,16 +267,27 @@ inner_corner k corner.Y z l inner inner_too h = inner_too refl
 pub no_line-corner : (k : Kept) (c : Corner) (minus : Bool) (v : ℕ) → (c ≡ corner.Y2 → ⊥) → (c ≡ corner.Y → ⊥) → IsInField (field.Coordinate c minus) v → IsNoLineLeft k (scan.Number (field.Coordinate c minus) v)
 no_line-corner k c minus v inner inner_too inside l s' left due = inner_corner k c (signed minus v) l inner inner_too (over_end k (field.Coordinate c minus) v l inside left)
 
--- a vertex where no node is due
-vertex_line : (k : Kept) (z : ℤ) (l : Line) → BehindCoordinate k corner.Y z [] l → (p : Point) × (l ≡ line.SplitVertex p)
-vertex_line k z l h = (record { x = h.name.x1; y = h.name.y1 }, h.line)
+-- an edge's ends where no line of an edge is due
+ends_line : (k : Kept) (z : ℤ) (l : Line) → BehindCoordinate k corner.Y2 z [] l → (e : EdgeLabel) × (l ≡ name_line k.version k.stage e)
+ends_line k z l h = (edge.Ends h.name, h.line)
 
-pub no_line-vertex : (k : Kept) (c : Corner) (minus : Bool) (v : ℕ) → c ≡ corner.Y → ((p : Point) (s' : Stage) → step k.stage (line.SplitVertex p) ≡ Some s' → ⊥) → IsInField (field.Coordinate c minus) v
-    → IsNoLineLeft k (scan.Number (field.Coordinate c minus) v)
+pub no_line-ends : (k : Kept) (c : Corner) (minus : Bool) (v : ℕ) → c ≡ corner.Y2 → ((e : EdgeLabel) (s' : Stage) → step k.stage (name_line k.version k.stage e) ≡ Some s' → ⊥)
+    → IsInField (field.Coordinate c minus) v → IsNoLineLeft k (scan.Number (field.Coordinate c minus) v)
+no_line-ends k c minus v is none inside l s' left due =
+    let behind = over_end k (field.Coordinate c minus) v l inside left in
+    let ends = ends_line k (signed minus v) l (subst (λ d. BehindCoordinate k d (signed minus v) [] l) is behind) in
+    none ends.0 s' (ap (step k.stage) (sym ends.1) ∙ due)
+
+-- a vertex where no node is due
+vertex_line : (k : Kept) (z : ℤ) (l : Line) → BehindCoordinate k corner.Y z [] l → (p : VertexLabel) × (l ≡ line.SplitVertex p)
+vertex_line k z l h = (vertex.At (record { x = h.name.x1; y = h.name.y1 }), h.line)
+
+pub no_line-vertex : (k : Kept) (c : Corner) (minus : Bool) (v : ℕ) → c ≡ corner.Y → ((p : VertexLabel) (s' : Stage) → step k.stage (line.SplitVertex p) ≡ Some s' → ⊥)
+    → IsInField (field.Coordinate c minus) v → IsNoLineLeft k (scan.Number (field.Coordinate c minus) v)
 no_line-vertex k c minus v is none inside l s' left due =
     let behind = over_end k (field.Coordinate c minus) v l inside left in
-    let vertex = vertex_line k (signed minus v) l (subst (λ d. BehindCoordinate k d (signed minus v) [] l) is behind) in
-    none vertex.0 s' (ap (step k.stage) (sym vertex.1) ∙ due)
+    let on = vertex_line k (signed minus v) l (subst (λ d. BehindCoordinate k d (signed minus v) [] l) is behind) in
+    none on.0 s' (ap (step k.stage) (sym on.1) ∙ due)
 
 -- ---- sets
 
@@ -228,12 +318,13 @@ no_line-set k place short l s' left due = let whole = set_whole k place l left i
 pub no_line-other : (k : Kept) (s : Scan) → ((f : Field) (v : ℕ) → s ≡ scan.Number f v → ⊥) → ((place : ℕ) → s ≡ scan.Set place → ⊥) → ((c : Closed) → s ≡ scan.LineEnd c → ⊥) → IsSound k s → IsNoLineLeft k s
 no_line-other k (scan.Word w place) number set closed sound l s' left due =
     let some = ap length left.1 in
+    let within = sound.0 in
     omega (arith, length-drop place (word_bytes w), length-append (drop place (word_bytes w)) left.0)
 no_line-other k scan.Version number set closed sound l s' left due = ⊎_elim (λ (one : ([] ≡ codes "1") × (l ≡ line.Title version.One)). let e = one.0 in absurd cc) (λ (two : ([] ≡ codes "2") × (l ≡ line.Title version.Two)). let e = two.0 in absurd cc) left
 no_line-other k scan.Status number set closed sound l s' left due = ⊎_elim (λ (one : WordLeft k word.Optimal 0 [] l). let e = one.1 in absurd cc) (λ (other : WordLeft k word.Stopped 0 [] l). let e = other.1 in absurd cc) left
 no_line-other k scan.Kind number set closed sound l s' left due = ⊎_elim (λ (one : WordLeft k word.Least 0 [] l). let e = one.1 in absurd cc) (λ (other : WordLeft k word.Spent 0 [] l). let e = other.1 in absurd cc) left
-no_line-other k (scan.Node v) number set closed sound l s' left due = ⊎_elim (λ (one : WordsLeft k (word.Split v) 0 [] l). let e = one.1 in absurd cc) (λ (other : WordsLeft k word.Leaf 0 [] l). let e = other.1 in absurd cc) left
-no_line-other k scan.On number set closed sound l s' left due = ⊎_elim (λ (one : WordLeft k word.Edge 0 [] l). let e = one.1 in absurd cc) (λ (other : WordLeft k word.Vertex 0 [] l). let e = other.1 in absurd cc) left
+no_line-other k (scan.Node v F) number set closed sound l s' left due = ⊎_elim (λ (one : WordsLeft k (word.Split v F) 0 [] l). let e = one.1 in absurd cc) (λ (other : WordsLeft k word.Leaf 0 [] l). let e = other.1 in absurd cc) left
+no_line-other k (scan.On F) number set closed sound l s' left due = ⊎_elim (λ (one : WordLeft k (word.Edge F) 0 [] l). let e = one.1 in absurd cc) (λ (other : WordLeft k (word.Vertex F) 0 [] l). let e = other.1 in absurd cc) left
 no_line-other k (scan.Due f) number set closed sound l s' left due = no_first k f [] l left refl
 no_line-other k (scan.Coordinate c) number set closed sound l s' left due = ⊎_elim
     (λ (plain : NumberLeft k (field.Coordinate c false) [] [] l). no_first k (field.Coordinate c false) [] l plain refl)
@@ -339,7 +430,10 @@ dead-other k field.Length v weight name inside = dead-blank k field.Length v ins
 dead-other k field.Bound v weight name inside = dead-blank k field.Bound v inside (λ rest l h. let text = h.0 in cc)
 dead-other k field.Openings v weight name inside = dead-blank k field.Openings v inside (λ rest l h. let text = h.0 in cc)
 dead-other k (field.Total least) v weight name inside = dead-blank k (field.Total least) v inside (λ rest l h. let text = h.0 in cc)
-dead-other k field.Count v weight name inside = dead-blank k field.Count v inside (λ rest l h. let text = h.0 in cc)
+dead-other k field.LastOpenings v weight name inside = dead-blank k field.LastOpenings v inside (λ rest l h. let text = h.0 in cc)
+dead-other k (field.Count most) v weight name inside = dead-blank k (field.Count most) v inside (λ rest l h. let text = h.0 in cc)
+dead-other k (field.EdgeNumber last) v weight name inside = dead-blank k (field.EdgeNumber last) v inside (λ rest l h. let text = h.0 in cc)
+dead-other k (field.VertexNumber last) v weight name inside = dead-blank k (field.VertexNumber last) v inside (λ rest l h. let text = h.0 in cc)
 dead-other k field.Leaf v weight name inside = dead-blank k field.Leaf v inside (λ rest l h. let text = h.0 in cc)
 dead-other k field.Weight v weight name inside = absurd (weight refl)
 dead-other k (field.Coordinate c minus) v weight name inside = absurd (name c minus refl)

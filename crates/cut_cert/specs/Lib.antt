@@ -1,3 +1,5 @@
+pub mod Forms
+pub mod Notes
 pub mod Value
 pub mod Words
 pub mod Text

@@ -1,5 +1,5 @@
 -- What is still due of a line: the bytes that may follow those that were read of it, and the line that they make.
-use Rattle.std.specs.Prelude.{ℕ, suc, zero, ◌≡◌, ◌<◌, ◌≤◌, ◌+◌, ◌*◌, ◌/◌, ◌^◌, ◌⊎◌, ℤ, pos, negsuc, Bool, true, false}
+use Rattle.std.specs.Prelude.{ℕ, suc, zero, ◌≡◌, ◌<◌, ◌≤◌, ◌+◌, ◌*◌, ◌/◌, ◌^◌, min, ◌⊎◌, ℤ, pos, negsuc, Bool, true, false}
 use Rattle.std.specs.Prelude.{List, [], ◌∷◌, ◌++◌, length, drop, codes, Option, Some}
 use Rattle.std.specs.Fmt.{decimal, signed_decimal}
 use Rattle.spelled.specs.Words.{Lacks}
@@ -20,10 +20,16 @@ use Rattle.cut_cert.specs.declared.scan.Corner.{Corner}
 use Rattle.cut_cert.specs.declared.scan.Corner.TheVariants as corner
 use Rattle.cut_cert.specs.declared.scan.Closed.{Closed}
 use Rattle.cut_cert.specs.declared.scan.Closed.TheVariants as closed
+use Rattle.cut_cert.specs.declared.form.Form.{Form}
+use Rattle.cut_cert.specs.declared.form.Form.TheVariants as form
+use Rattle.cut_cert.specs.declared.label.EdgeLabel.{EdgeLabel}
+use Rattle.cut_cert.specs.declared.label.EdgeLabel.TheVariants as edge
+use Rattle.cut_cert.specs.declared.label.VertexLabel.TheVariants as vertex
 use Rattle.cut_cert.specs.declared.split.SplitName.TheVariants as name
 use Rattle.cut_cert.specs.declared.version.Version.{Version}
 use Rattle.cut_cert.specs.declared.version.Version.TheVariants as version
-use Rattle.cut_cert.specs.Words.{set_text}
+use Rattle.cut_cert.specs.Forms.{HasVertices, IsVersionOf, most_edges}
+use Rattle.cut_cert.specs.Words.{set_text, title_words}
 use Rattle.cut_cert.specs.Spelling.{FitsName}
 use Rattle.cut_cert.specs.Lines.{split_line, step}
 use Rattle.cut_cert.specs.LineFits.{version_with}
@@ -35,42 +41,56 @@ use Rattle.cut_cert.specs.declared.event.Event.{Event}
 -- the bytes of a word
 abbrev pub word_bytes : Word → List ℕ
 word_bytes word.Title = codes "rst answer "
+word_bytes word.GraphTitle = title_words version.Graph
 word_bytes word.Length = codes "length "
 word_bytes word.Bound = codes "bound "
 word_bytes word.Status = codes "status "
 word_bytes word.Optimal = codes "optimal"
 word_bytes word.Stopped = codes "stopped"
 word_bytes word.Openings = codes "openings "
+word_bytes word.LastOpenings = codes "openings "
 word_bytes word.Concat = codes "concat "
 word_bytes word.Least = codes "least "
 word_bytes word.Spent = codes "spent "
-word_bytes word.Edges = codes "edges "
+word_bytes (word.Edges most) = codes "edges "
 word_bytes word.Tree = codes "tree"
-word_bytes (word.Split v) = codes "split "
-word_bytes word.Edge = codes "edge "
-word_bytes word.Vertex = codes "vertex "
+word_bytes (word.Split v F) = codes "split "
+word_bytes (word.Edge F) = codes "edge "
+word_bytes (word.Vertex F) = codes "vertex "
 word_bytes word.Leaf = codes "leaf "
 word_bytes word.Cut = codes "cut "
 word_bytes word.End = codes "end"
 
+-- what is due where an edge's label or a vertex's is
+abbrev pub edge_scan : Form → Scan
+edge_scan (form.OnGrid V) = scan.Coordinate corner.X1
+edge_scan (form.OfGraph E V) = scan.Due (field.EdgeNumber E)
+
+abbrev pub vertex_scan : Form → Scan
+vertex_scan (form.OnGrid V) = scan.Coordinate corner.X
+vertex_scan (form.OfGraph E V) = scan.Due (field.VertexNumber V)
+
 -- what is due behind a word
 abbrev pub behind_word : Word → Scan
 behind_word word.Title = scan.Version
+behind_word word.GraphTitle = scan.LineEnd (closed.Title version.Graph)
 behind_word word.Length = scan.Due field.Length
 behind_word word.Bound = scan.Due field.Bound
 behind_word word.Status = scan.Status
 behind_word word.Optimal = scan.LineEnd (closed.Status true)
 behind_word word.Stopped = scan.LineEnd (closed.Status false)
 behind_word word.Openings = scan.Due field.Openings
+behind_word word.LastOpenings = scan.Due field.LastOpenings
 behind_word word.Concat = scan.Kind
 behind_word word.Least = scan.Due (field.Total true)
 behind_word word.Spent = scan.Due (field.Total false)
-behind_word word.Edges = scan.Due field.Count
+behind_word (word.Edges most) = scan.Due (field.Count most)
 behind_word word.Tree = scan.LineEnd closed.Tree
-behind_word (word.Split version.One) = scan.Coordinate corner.X1
-behind_word (word.Split version.Two) = scan.On
-behind_word word.Edge = scan.Coordinate corner.X1
-behind_word word.Vertex = scan.Coordinate corner.X
+behind_word (word.Split version.One F) = edge_scan F
+behind_word (word.Split version.Two F) = scan.On F
+behind_word (word.Split version.Graph F) = scan.On F
+behind_word (word.Edge F) = edge_scan F
+behind_word (word.Vertex F) = vertex_scan F
 behind_word word.Leaf = scan.Due field.Leaf
 behind_word word.Cut = scan.Due field.Weight
 behind_word word.End = scan.LineEnd closed.End
@@ -85,6 +105,8 @@ closed_line closed.End = line.End
 -- the numbers that may stand in a field: from the first to below the second
 abbrev pub least_of : Field → ℕ
 least_of field.Weight = 1
+least_of (field.EdgeNumber last) = 1
+least_of (field.VertexNumber last) = 1
 least_of (field.Coordinate c true) = 1
 least_of f = 0
 
@@ -92,8 +114,11 @@ abbrev pub limit_of : Field → ℕ
 limit_of field.Length = 2 ^ 64
 limit_of field.Bound = 2 ^ 64
 limit_of field.Openings = 2 ^ 8
+limit_of field.LastOpenings = 2 ^ 8
 limit_of (field.Total least) = 2 ^ 128
-limit_of field.Count = 2 ^ 32
+limit_of (field.Count most) = min (most + 1) (2 ^ 32)
+limit_of (field.EdgeNumber last) = min (last + 1) (2 ^ 32)
+limit_of (field.VertexNumber last) = min (last + 1) (2 ^ 32)
 limit_of field.Leaf = 2 ^ 32
 limit_of field.Weight = 2 ^ 64
 limit_of (field.Coordinate c false) = 2 ^ 63
@@ -109,16 +134,16 @@ signed false n = pos n
 signed true zero = pos 0
 signed true (suc n) = negsuc n
 
--- a name's line in a text of a version, where such a line is due
-abbrev pub name_line : Version → Stage → EdgeName → Line
+-- the line of an edge's label in a text of a version, where such a line is due
+abbrev pub name_line : Version → Stage → EdgeLabel → Line
 name_line v (stage.Edges edges) e = line.Edge e
 name_line v s e = split_line v (name.Edge e)
 
 -- the line that a name's coordinates make: a vertex has the first two of them
 abbrev pub corner_line : Kept → Corner → EdgeName → Line
-corner_line k corner.X e = line.SplitVertex (record { x = e.x1; y = e.y1 })
-corner_line k corner.Y e = line.SplitVertex (record { x = e.x1; y = e.y1 })
-corner_line k c e = name_line k.version k.stage e
+corner_line k corner.X e = line.SplitVertex (vertex.At (record { x = e.x1; y = e.y1 }))
+corner_line k corner.Y e = line.SplitVertex (vertex.At (record { x = e.x1; y = e.y1 }))
+corner_line k c e = name_line k.version k.stage (edge.Ends e)
 
 -- no other coordinate follows
 abbrev pub IsLast : Corner → Type 0
@@ -170,8 +195,11 @@ abbrev pub BehindNumber : Kept → Field → ℕ → List ℕ → Line → Type 
 BehindNumber k field.Length n rest l = (rest ≡ []) × (l ≡ line.Length n)
 BehindNumber k field.Bound n rest l = (rest ≡ []) × (l ≡ line.Bound n)
 BehindNumber k field.Openings n rest l = (rest ≡ []) × (l ≡ line.Openings n)
+BehindNumber k field.LastOpenings n rest l = (rest ≡ []) × (l ≡ line.LastOpenings n)
 BehindNumber k (field.Total least) n rest l = (rest ≡ []) × (l ≡ line.Concat (record { least = least; total = n }))
-BehindNumber k field.Count n rest l = (rest ≡ []) × (l ≡ line.Count n)
+BehindNumber k (field.Count most) n rest l = (rest ≡ []) × (l ≡ line.Count n)
+BehindNumber k (field.EdgeNumber last) n rest l = (rest ≡ []) × (l ≡ name_line k.version k.stage (edge.Number n))
+BehindNumber k (field.VertexNumber last) n rest l = (rest ≡ []) × (l ≡ line.SplitVertex (vertex.Number n))
 BehindNumber k field.Leaf n rest l = (rest ≡ []) × (l ≡ line.Leaf n)
 BehindNumber k field.Weight n rest l = BehindWeight k n rest l
 BehindNumber k (field.Coordinate c minus) n rest l = BehindCoordinate k c (signed minus n) rest l
@@ -211,13 +239,13 @@ abbrev pub WordLeft : Kept → Word → ℕ → List ℕ → Line → Type 0
 WordLeft k w place rest l =
     (behind : List ℕ) × (rest ≡ drop place (word_bytes w) ++ behind) × ValueLeft k (behind_word w) behind l
 
--- one of two words, or one of two versions
+-- one of two words, or one of two versions of a text on a grid
 abbrev pub ForkLeft : Kept → Scan → List ℕ → Line → Type 0
 ForkLeft k scan.Version rest l =
     ((rest ≡ codes "1") × (l ≡ line.Title version.One)) ⊎ ((rest ≡ codes "2") × (l ≡ line.Title version.Two))
 ForkLeft k scan.Status rest l = WordLeft k word.Optimal 0 rest l ⊎ WordLeft k word.Stopped 0 rest l
 ForkLeft k scan.Kind rest l = WordLeft k word.Least 0 rest l ⊎ WordLeft k word.Spent 0 rest l
-ForkLeft k scan.On rest l = WordLeft k word.Edge 0 rest l ⊎ WordLeft k word.Vertex 0 rest l
+ForkLeft k (scan.On F) rest l = WordLeft k (word.Edge F) 0 rest l ⊎ WordLeft k (word.Vertex F) 0 rest l
 ForkLeft k s rest l = ValueLeft k s rest l
 
 -- a word from a place on, and what is due behind it, which may be one of two words
@@ -228,35 +256,44 @@ WordsLeft k w place rest l =
 -- With these bytes behind those that were read, the line is l.
 abbrev pub Left : Kept → Scan → List ℕ → Line → Type 0
 Left k (scan.Word w place) rest l = WordsLeft k w place rest l
-Left k (scan.Node v) rest l = WordsLeft k (word.Split v) 0 rest l ⊎ WordsLeft k word.Leaf 0 rest l
+Left k (scan.Node v F) rest l = WordsLeft k (word.Split v F) 0 rest l ⊎ WordsLeft k word.Leaf 0 rest l
 Left k s rest l = ForkLeft k s rest l
 
--- what is due at a line's beginning, in a text of a version
-abbrev pub first_scan : Version → Stage → Scan
-first_scan v stage.Title = scan.Word word.Title 0
-first_scan v stage.Length = scan.Word word.Length 0
-first_scan v stage.Bound = scan.Word word.Bound 0
-first_scan v stage.Status = scan.Word word.Status 0
-first_scan v stage.Openings = scan.Word word.Openings 0
-first_scan v stage.Concat = scan.Word word.Concat 0
-first_scan v stage.Count = scan.Word word.Edges 0
-first_scan v (stage.Edges zero) = scan.Word word.Tree 0
-first_scan v (stage.Edges (suc edges)) = scan.Coordinate corner.X1
-first_scan v (stage.Body zero zero) = scan.Word word.End 0
-first_scan v (stage.Body zero (suc nodes)) = scan.Node v
-first_scan v (stage.Body (suc cuts) nodes) = scan.Word word.Cut 0
-first_scan v stage.Done = scan.Ended
+-- what is due at a line's beginning, in a text of a form and a version
+abbrev pub first_scan : Form → Version → Stage → Scan
+first_scan (form.OnGrid V) v stage.Title = scan.Word word.Title 0
+first_scan (form.OfGraph E V) v stage.Title = scan.Word word.GraphTitle 0
+first_scan F v stage.Length = scan.Word word.Length 0
+first_scan F v stage.Bound = scan.Word word.Bound 0
+first_scan F v stage.Status = scan.Word word.Status 0
+first_scan (form.OnGrid V) v stage.Openings = scan.Word word.Openings 0
+first_scan (form.OfGraph E V) v stage.Openings = scan.Word word.LastOpenings 0
+first_scan F v stage.Concat = scan.Word word.Concat 0
+first_scan F v stage.Count = scan.Word (word.Edges (most_edges F)) 0
+first_scan F v (stage.Edges zero) = scan.Word word.Tree 0
+first_scan F v (stage.Edges (suc edges)) = edge_scan F
+first_scan F v (stage.Body zero zero) = scan.Word word.End 0
+first_scan F v (stage.Body zero (suc nodes)) = scan.Node v F
+first_scan F v (stage.Body (suc cuts) nodes) = scan.Word word.Cut 0
+first_scan F v stage.Done = scan.Ended
 
--- More of the line is due, and what is kept agrees with that: a word's byte is due, a number is within its field, the
--- weight of a cut fits, no later flag is set.
+-- a field has a number, a split may be on a vertex, and the form has such a text
+abbrev pub IsOpen : Scan → Type 0
+IsOpen (scan.Due f) = least_of f < limit_of f
+IsOpen (scan.On F) = HasVertices F
+IsOpen (scan.Node v F) = IsVersionOf F v × HasVertices F
+IsOpen s = Unit {0}
+
+-- More of the line is due, and what is kept agrees with that: a word's byte is due and something behind it, a number is
+-- within its field, the weight of a cut fits, no later flag is set.
 abbrev pub IsUnderway : Kept → Scan → Type 0
-IsUnderway k (scan.Word w place) = place < length (word_bytes w)
+IsUnderway k (scan.Word w place) = (place < length (word_bytes w)) × IsOpen (behind_word w)
 IsUnderway k (scan.Number f n) = IsInField f n
 IsUnderway k (scan.Set place) = (0 < k.weight) × (k.weight < 2 ^ 64) × (place ≤ (length k.members + 3) / 4)
     × ((v : ℕ) → 4 * place ≤ v → has k.members v ≡ false)
 IsUnderway k scan.Ended = ⊥
 IsUnderway k scan.Refused = ⊥
-IsUnderway k s = Unit {0}
+IsUnderway k s = IsOpen s
 
 -- that, or the text is at its end
 abbrev pub IsSound : Kept → Scan → Type 0
@@ -273,8 +310,8 @@ abbrev pub IsFork : Scan → Type 0
 IsFork scan.Version = Unit {0}
 IsFork scan.Status = Unit {0}
 IsFork scan.Kind = Unit {0}
-IsFork (scan.Node v) = Unit {0}
-IsFork scan.On = Unit {0}
+IsFork (scan.Node v F) = Unit {0}
+IsFork (scan.On F) = Unit {0}
 IsFork s = ⊥
 
 -- no line goes on with the byte
@@ -318,6 +355,15 @@ pub record Closes (k : Kept) (s : Scan) (h : AnswerHead) (k' : Kept) (h' : Answe
   pub event : (n : ℕ) → event_at n (line_told h' line) ≡ given n told k'.members
   pub members : k'.members ≡ k.members
   pub name : FitsName k'.name
+
+-- This line, which is none of the head, makes the next state of what is kept, and its event is the one that is told.
+pub record MakesLine (k : Kept) (l : Line) (k' : Kept) (told : Option Event) : Type 0 where
+  pub stage : (s' : Stage) → step k.stage l ≡ Some s' → k'.stage ≡ s'
+  pub version : k'.version ≡ version_with k.version l
+  pub head : (h : AnswerHead) → h ≡ head_with h l
+  pub event : (h : AnswerHead) (n : ℕ) → event_at n (line_told h l) ≡ given n told k'.members
+  pub members : k'.members ≡ k.members
+  pub name : k'.name ≡ k.name
 
 -- what was read is no line that is due
 abbrev pub IsNoLineLeft : Kept → Scan → Type 0
