@@ -24,7 +24,7 @@ use Rattle.cut_cert.specs.declared.version.Version.{Version}
 use Rattle.cut_cert.specs.declared.version.Version.TheVariants as version
 use Rattle.cut_cert.specs.Forms.{IsVersionOf, most_edges, set_size}
 use Rattle.cut_cert.specs.Notes.{no_note}
-use Rattle.cut_cert.specs.Spelling.{FitsHead, FitsEdge, FitsSplit, FitsTree, FitsAnswer}
+use Rattle.cut_cert.specs.Spelling.{FitsHead, FitsSplit, FitsTree, FitsAnswer}
 use Rattle.cut_cert.specs.Lines.{split_line, tree_lines, head_lines, proof_lines, body_lines, answer_lines, run}
 use Rattle.cut_cert.specs.LineFits.{FitsLine, FitsLines, version_with, version_from}
 use Rattle.cut_cert.proofs.Steps.{step-split_line}

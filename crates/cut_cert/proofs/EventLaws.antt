@@ -13,7 +13,7 @@ use Rattle.cut_cert.specs.Value.{WrittenAnswer}
 use Rattle.cut_cert.specs.Lines.{answer_lines, run}
 use Rattle.cut_cert.specs.Events.{events_of, head_with, line_told, event_at, events_from, no_head, head_from}
 use Rattle.cut_cert.specs.Forms.{HasNote, HasNoNote, silent_lines}
-use Rattle.cut_cert.specs.LineFits.{FitsLines, version_with}
+use Rattle.cut_cert.specs.LineFits.{FitsLines}
 use Rattle.cut_cert.proofs.Steps.{step-done}
 
 -- ---- lines one after another

@@ -1,5 +1,5 @@
 -- What is kept of a form while its lines are read.
-use Rattle.std.proofs.Common.{ℕ, suc, zero, ◌≡◌, ◌+◌, ◌<◌, ◌≤◌, List, [], ◌∷◌, arith, refl, sym, subst, Option, Some, None}
+use Rattle.std.proofs.Common.{suc, zero, ◌≡◌, ◌<◌, ◌≤◌, List, [], ◌∷◌, arith, refl, sym, subst, Option, Some, None}
 use Rattle.std.specs.Prelude.{All, ◌^◌, length, option_and_then}
 use Rattle.cut_cert.specs.declared.form.Form.{Form}
 use Rattle.cut_cert.specs.declared.form.Form.TheVariants as form
@@ -8,7 +8,6 @@ use Rattle.cut_cert.specs.declared.label.EdgeLabel.TheVariants as edge
 use Rattle.cut_cert.specs.declared.line.Stage.{Stage}
 use Rattle.cut_cert.specs.declared.line.Stage.TheVariants as stage
 use Rattle.cut_cert.specs.declared.version.Version.{Version}
-use Rattle.cut_cert.specs.declared.version.Version.TheVariants as version
 use Rattle.cut_cert.specs.AnswerLine.{Line}
 use Rattle.cut_cert.specs.LineKinds as line
 use Rattle.cut_cert.specs.Forms.{IsVersionOf, first_version, most_edges}

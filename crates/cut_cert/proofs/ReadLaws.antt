@@ -11,7 +11,7 @@ use Rattle.cut_cert.specs.Value.{WrittenAnswer}
 use Rattle.cut_cert.specs.Spelling.{FitsAnswer, SpellsAnswer}
 use Rattle.cut_cert.specs.declared.version.Version.{Version}
 use Rattle.cut_cert.specs.declared.form.Form.{Form}
-use Rattle.cut_cert.specs.Forms.{IsVersionOf, first_version, silent_lines}
+use Rattle.cut_cert.specs.Forms.{first_version, silent_lines}
 use Rattle.cut_cert.specs.Lines.{line_bytes, line_text, lines_text, answer_lines, step, run}
 use Rattle.cut_cert.specs.LineFits.{FitsLine, FitsLines, IsLineRead, IsNoLine, version_with, version_from}
 use Rattle.cut_cert.specs.Events.{events_of, events_from, no_head}

@@ -37,7 +37,8 @@ use Rattle.cut_cert.proofs.Steps.{step-done}
 use Rattle.cut_cert.specs.declared.scan.Kept.{Kept}
 use Rattle.cut_cert.proofs.FormLemmas.{first_of, room_behind, version_behind}
 use Rattle.cut_cert.proofs.Machine.{run-append, answer_value}
-use Rattle.cut_cert.proofs.ScanLines.{start_due, start_left, start_sound, start_ended, some_left, underway, underway-sound, underway-open}
+use Rattle.cut_cert.proofs.ScanLines.{start_due, start_left, start_sound, start_ended}
+use Rattle.cut_cert.proofs.ScanMore.{some_left, underway, underway-sound, underway-open}
 
 -- ---- the first byte is due
 

@@ -5,7 +5,6 @@ use Rattle.net_graph.specs.declared.packing.Cut.{Cut}
 use Rattle.cut_cert.specs.declared.form.Form.{Form}
 use Rattle.cut_cert.specs.declared.form.Form.TheVariants as form
 use Rattle.cut_cert.specs.declared.label.EdgeLabel.{EdgeLabel}
-use Rattle.cut_cert.specs.declared.label.VertexLabel.{VertexLabel}
 use Rattle.cut_cert.specs.declared.split.SplitName.{SplitName}
 use Rattle.cut_cert.specs.declared.split.SplitName.TheVariants as name
 use Rattle.cut_cert.specs.declared.version.Version.{Version}

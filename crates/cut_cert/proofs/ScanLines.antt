@@ -1,138 +1,29 @@
--- What is due at a line's beginning are the lines that are due, and what is due can always be gone on with.
-use Rattle.std.proofs.Common.{ℕ, suc, zero, ◌≡◌, ◌+◌, ◌/◌, ◌<◌, ◌≤◌, ◌^◌, ℤ, Bool, true, false, List, [], ◌∷◌, ◌++◌, length, drop, refl, sym, ap, subst, ◌∙◌, arith, append_assoc, Some, inl, inr, ⊎_elim}
-use Rattle.std.specs.Prelude.{◌⊎◌, codes, pos, FitsSigned}
-use Rattle.std.specs.Int.{w64}
-use Rattle.std.specs.Fmt.{decimal, signed_decimal}
-use Rattle.std.proofs.lemmas.List.{append-nil, drop_all, length-drop}
-use Rattle.points_in.specs.declared.point.Point.{Point}
-use Rattle.net_graph.specs.declared.packing.Cut.{Cut}
-use Rattle.hanan_grid.specs.declared.name.EdgeName.{EdgeName}
+-- What is due at a line's beginning are the lines that are due.
+use Rattle.std.proofs.Common.{ℕ, suc, zero, ◌≡◌, ◌<◌, ◌≤◌, ◌^◌, Bool, true, false, List, [], ◌∷◌, ◌++◌, length, refl, sym, ap, ◌∙◌, arith, append_assoc, Some, inl, inr, ⊎_elim}
+use Rattle.std.specs.Prelude.{codes}
+use Rattle.std.specs.Fmt.{decimal}
+use Rattle.std.proofs.lemmas.List.{append-nil}
 use Rattle.cut_cert.specs.AnswerLine.{Line}
 use Rattle.cut_cert.specs.LineKinds as line
 use Rattle.cut_cert.specs.declared.form.Form.{Form}
 use Rattle.cut_cert.specs.declared.form.Form.TheVariants as form
 use Rattle.cut_cert.specs.declared.label.EdgeLabel.{EdgeLabel}
-use Rattle.cut_cert.specs.declared.label.EdgeLabel.TheVariants as edge
-use Rattle.cut_cert.specs.declared.label.VertexLabel.{VertexLabel}
-use Rattle.cut_cert.specs.declared.label.VertexLabel.TheVariants as vertex
 use Rattle.cut_cert.specs.declared.line.Stage.{Stage}
 use Rattle.cut_cert.specs.declared.line.Stage.TheVariants as stage
 use Rattle.cut_cert.specs.declared.scan.Kept.{Kept}
-use Rattle.cut_cert.specs.declared.scan.Word.{Word}
 use Rattle.cut_cert.specs.declared.scan.Word.TheVariants as word
-use Rattle.cut_cert.specs.declared.scan.Field.{Field}
 use Rattle.cut_cert.specs.declared.scan.Field.TheVariants as field
-use Rattle.cut_cert.specs.declared.scan.Corner.{Corner}
-use Rattle.cut_cert.specs.declared.scan.Corner.TheVariants as corner
-use Rattle.cut_cert.specs.declared.scan.Scan.{Scan}
 use Rattle.cut_cert.specs.declared.scan.Scan.TheVariants as scan
 use Rattle.cut_cert.specs.declared.version.Version.{Version}
 use Rattle.cut_cert.specs.declared.version.Version.TheVariants as version
-use Rattle.cut_cert.specs.Words.{concat_word, name_words, point_words, edge_words, vertex_words, set_text}
+use Rattle.cut_cert.specs.Words.{concat_word, edge_words, vertex_words, set_text}
 use Rattle.cut_cert.specs.Forms.{HasVertices, IsVersionOf, SaysKind, most_edges, set_size}
-use Rattle.cut_cert.specs.Spelling.{FitsName, FitsPoint, FitsEdge, FitsVertex, FitsCut}
 use Rattle.cut_cert.specs.Lines.{line_bytes, step}
 use Rattle.cut_cert.specs.LineFits.{FitsLine, IsLineRead, version_with}
-use Rattle.cut_cert.specs.Scanning.{least_of, IsInField, signed, name_line, corner_line, behind_x1, behind_y1, word_bytes, behind_word, closed_line, BehindNumber, BehindCoordinate, NumberLeft, SetLeft, ValueLeft, WordLeft, ForkLeft, WordsLeft, Left, edge_scan, vertex_scan, first_scan, IsOpen, IsUnderway, IsSound}
-use Rattle.cut_cert.specs.SetLaws.{length-set_text}
+use Rattle.cut_cert.specs.Scanning.{name_line, WordLeft, ForkLeft, WordsLeft, Left, edge_scan, first_scan, IsSound}
 use Rattle.cut_cert.proofs.Steps.{step-done}
-use Rattle.cut_cert.proofs.WordLemmas.{name_pieces, point_pieces}
-use Rattle.cut_cert.proofs.Due.{zero_fits}
-use Rattle.cut_cert.proofs.FormLemmas.{HasRoom, most_edges-few}
-use Rattle.cut_cert.proofs.ScanNumbers.{spelled_of, coordinate_left}
-
--- ---- the lines that are due
-
--- a line that was read, under another name
-read_as : (v : Version) (F : Form) (s s' : Stage) (bytes : List ℕ) (l l' : Line) → l ≡ l' → IsLineRead v F s bytes l' s' → IsLineRead v F s bytes l s'
-read_as v F s s' bytes l l' is read = subst (λ x. IsLineRead v F s bytes x s') (sym is) read
-
--- a number alone
-number_text : (k : Kept) (f : Field) (rest : List ℕ) (l : Line) (h : NumberLeft k f [] rest l) → h.behind ≡ [] → rest ≡ decimal h.number
-number_text k f rest l h none = h.parts ∙ ap (λ x. h.more ++ x) none ∙ append-nil h.more ∙ sym h.spelled
-
--- a number alone is due
-number_due : (k : Kept) (f : Field) (n : ℕ) (l : Line) → IsInField f n → BehindNumber k f n [] l → NumberLeft k f [] (decimal n) l
-number_due k f n l inside follows = record { number = n; more = decimal n; behind = []; parts = sym (append-nil (decimal n)); spelled = refl; inside = inside; follows = follows }
-
--- the words of a name are due
-name_text : (k : Kept) (rest : List ℕ) (l : Line) → ValueLeft k (scan.Coordinate corner.X1) rest l → (e : EdgeName) × FitsName e × (rest ≡ name_words e) × (l ≡ name_line k.version k.stage (edge.Ends e))
-name_text k rest l h =
-    let s = spelled_of k corner.X1 rest l h in
-    let b = s.follows in
-    (b.name, b.fits, s.text ∙ (λ i. signed_decimal (sym b.same i) ++ b.text i) ∙ sym (name_pieces b.name), b.line)
-
-name_due : (k : Kept) (e : EdgeName) (rest : List ℕ) (l : Line) → FitsName e → rest ≡ name_words e → l ≡ name_line k.version k.stage (edge.Ends e) → ValueLeft k (scan.Coordinate corner.X1) rest l
-name_due k e rest l fits text is =
-    coordinate_left k corner.X1 e.x1 rest (32 ∷ behind_x1 e) l (text ∙ name_pieces e) fits.x1 (record { name = e; fits = fits; same = refl; text = refl; line = is })
-
--- the words of a point are due
-point_text : (k : Kept) (rest : List ℕ) (l : Line) → ValueLeft k (scan.Coordinate corner.X) rest l → (p : Point) × FitsPoint p × (rest ≡ point_words p) × (l ≡ line.SplitVertex (vertex.At p))
-point_text k rest l h =
-    let s = spelled_of k corner.X rest l h in
-    let b = s.follows in
-    let p : Point = record { x = b.name.x1; y = b.name.y1 } in
-    (p, record { x = b.fits.x1; y = b.fits.y1 }, s.text ∙ (λ i. signed_decimal (sym b.same i) ++ b.text i) ∙ sym (point_pieces p), b.line)
-
-point_due : (k : Kept) (p : Point) → FitsPoint p → ValueLeft k (scan.Coordinate corner.X) (point_words p) (line.SplitVertex (vertex.At p))
-point_due k p fits =
-    let e : EdgeName = record { x1 = p.x; y1 = p.y; x2 = pos 0; y2 = pos 0 } in
-    coordinate_left k corner.X p.x (point_words p) (32 ∷ signed_decimal p.y) (line.SplitVertex (vertex.At p)) (point_pieces p) fits.x
-    (record { name = e; fits = record { x1 = fits.x; y1 = fits.y; x2 = zero_fits; y2 = zero_fits }; same = refl; text = refl; line = refl })
-
--- the words of an edge's label are due
-edge_text : (F : Form) (k : Kept) (rest : List ℕ) (l : Line) → ValueLeft k (edge_scan F) rest l → (e : EdgeLabel) × FitsEdge F e × (rest ≡ edge_words e) × (l ≡ name_line k.version k.stage e)
-edge_text (form.OnGrid V) k rest l h = let n = name_text k rest l h in (edge.Ends n.0, n.1, n.2, n.3)
-edge_text (form.OfGraph E V) k rest l h =
-    let least = h.inside.least in
-    let limit = h.inside.limit in
-    (edge.Number h.number, record { first = least; within = omega arith; width = omega arith }, number_text k (field.EdgeNumber E) rest l h h.follows.0, h.follows.1)
-
-edge_due : (F : Form) (k : Kept) (e : EdgeLabel) (rest : List ℕ) (l : Line) → FitsEdge F e → rest ≡ edge_words e → l ≡ name_line k.version k.stage e → ValueLeft k (edge_scan F) rest l
-edge_due (form.OnGrid V) k (edge.Ends e) rest l fits text is = name_due k e rest l fits text is
-edge_due (form.OnGrid V) k (edge.Number n) rest l fits text is = absurd fits
-edge_due (form.OfGraph E V) k (edge.Ends e) rest l fits text is = absurd fits
-edge_due (form.OfGraph E V) k (edge.Number n) rest l fits text is =
-    let last = fits.within in
-    let width = fits.width in
-    subst (λ x. NumberLeft k (field.EdgeNumber E) [] x l) (sym text) (number_due k (field.EdgeNumber E) n l (record { least = fits.first; limit = omega arith }) (refl, is))
-
--- the words of a vertex's label are due
-vertex_text : (F : Form) (k : Kept) (rest : List ℕ) (l : Line) → ValueLeft k (vertex_scan F) rest l → (p : VertexLabel) × FitsVertex F p × (rest ≡ vertex_words p) × (l ≡ line.SplitVertex p)
-vertex_text (form.OnGrid V) k rest l h = let n = point_text k rest l h in (vertex.At n.0, n.1, n.2, n.3)
-vertex_text (form.OfGraph E V) k rest l h =
-    let least = h.inside.least in
-    let limit = h.inside.limit in
-    (vertex.Number h.number, record { first = least; within = omega arith; width = omega arith }, number_text k (field.VertexNumber V) rest l h h.follows.0, h.follows.1)
-
-vertex_due : (F : Form) (k : Kept) (p : VertexLabel) → FitsVertex F p → ValueLeft k (vertex_scan F) (vertex_words p) (line.SplitVertex p)
-vertex_due (form.OnGrid V) k (vertex.At p) fits = point_due k p fits
-vertex_due (form.OnGrid V) k (vertex.Number n) fits = absurd fits
-vertex_due (form.OfGraph E V) k (vertex.At p) fits = absurd fits
-vertex_due (form.OfGraph E V) k (vertex.Number n) fits =
-    let last = fits.within in
-    let width = fits.width in
-    number_due k (field.VertexNumber V) n (line.SplitVertex (vertex.Number n)) (record { least = fits.first; limit = omega arith }) (refl, refl)
-
--- a count of edges within its field is one that fits
-count_fits : (F : Form) (n : ℕ) → IsInField (field.Count (most_edges F)) n → n ≤ most_edges F
-count_fits F n inside = let limit = inside.limit in omega arith
-
-count_inside : (F : Form) (n : ℕ) → n ≤ most_edges F → IsInField (field.Count (most_edges F)) n
-count_inside F n few = record { least = omega arith; limit = omega (arith, most_edges-few F) }
-
--- a cut's words are due
-cut_text : (V : ℕ) (k : Kept) (rest : List ℕ) (l : Line) → length k.members ≡ V → NumberLeft k field.Weight [] rest l
-    → (c : Cut) × (rest ≡ decimal c.weight ++ codes " " ++ set_text c.members) × FitsCut V c × (l ≡ line.Cut c)
-cut_text V k rest l vertices h =
-    let b = h.follows in
-    let least = h.inside.least in
-    let limit = h.inside.limit in (
-      record { weight = h.number; members = b.set },
-      h.parts ∙ (λ i. sym h.spelled i ++ b.text i) ∙ sym (append_assoc (decimal h.number) (codes " ") (set_text b.set)),
-      record { some = omega arith; weight = omega arith; members = b.size ∙ vertices },
-      b.line,
-    )
+use Rattle.cut_cert.proofs.FormLemmas.{HasRoom}
+use Rattle.cut_cert.proofs.ValuesDue.{read_as, number_text, number_due, edge_text, edge_due, vertex_text, vertex_due, count_fits, count_inside, cut_text, edge_value, edge_fork, value_edge, fork_edge}
 
 -- the line of a leaf is due where a node is
 leaf_due : (v : Version) (F : Form) (k : Kept) (nodes : ℕ) (rest : List ℕ) (l : Line) → WordsLeft k word.Leaf 0 rest l → (s' : Stage) × IsLineRead v F (stage.Body 0 (suc nodes)) rest l s'
@@ -166,23 +57,6 @@ split_due v F k nodes rest l says told is h = ⊎_elim
           (record { told = h.1 ∙ ap (λ x. codes "split " ++ x) (on_vertex.1 ∙ ap (λ x. codes "vertex " ++ x) n.2); fits = (says, n.1); due = refl }),
     ))
     h.2
-
--- where an edge is named, neither a word nor one of two is due
-edge_value : (F : Form) (k : Kept) (rest : List ℕ) (l : Line) → Left k (edge_scan F) rest l → ValueLeft k (edge_scan F) rest l
-edge_value (form.OnGrid V) k rest l h = h
-edge_value (form.OfGraph E V) k rest l h = h
-
-edge_fork : (F : Form) (k : Kept) (rest : List ℕ) (l : Line) → ForkLeft k (edge_scan F) rest l → ValueLeft k (edge_scan F) rest l
-edge_fork (form.OnGrid V) k rest l h = h
-edge_fork (form.OfGraph E V) k rest l h = h
-
-value_edge : (F : Form) (k : Kept) (rest : List ℕ) (l : Line) → ValueLeft k (edge_scan F) rest l → Left k (edge_scan F) rest l
-value_edge (form.OnGrid V) k rest l h = h
-value_edge (form.OfGraph E V) k rest l h = h
-
-fork_edge : (F : Form) (k : Kept) (rest : List ℕ) (l : Line) → ValueLeft k (edge_scan F) rest l → ForkLeft k (edge_scan F) rest l
-fork_edge (form.OnGrid V) k rest l h = h
-fork_edge (form.OfGraph E V) k rest l h = h
 
 -- what is due at a line's beginning is a line that is due
 pub start_due : (F : Form) (k : Kept) (v : Version) (s : Stage) (rest : List ℕ) (l : Line) → length k.members ≡ set_size F → k.version ≡ v → k.stage ≡ s → Left k (first_scan F v s) rest l
@@ -414,177 +288,3 @@ start_ended F v (stage.Body zero zero) e = absurd cc
 start_ended F v (stage.Body zero (suc nodes)) e = absurd cc
 start_ended F v (stage.Body (suc cuts) nodes) e = absurd cc
 start_ended F v stage.Done e = refl
-
--- ---- what is due can be gone on with
-
--- a coordinate within its limits
-pub signed_fits : (c : Corner) (minus : Bool) (n : ℕ) → IsInField (field.Coordinate c minus) n → FitsSigned w64 (signed minus n)
-signed_fits c false n inside = let limit = inside.limit in record { sfits = omega arith }
-signed_fits c true zero inside = record { sfits = omega arith }
-signed_fits c true (suc n) inside = let limit = inside.limit in record { sfits = omega arith }
-
--- some bytes that make it a line
-behind_corner_some : (k : Kept) (c : Corner) (z : ℤ) → FitsName k.name → FitsSigned w64 z → (rest : List ℕ) × (l : Line) × BehindCoordinate k c z rest l
-behind_corner_some k corner.X1 z name fits =
-    let e : EdgeName = record { x1 = z; y1 = k.name.y1; x2 = k.name.x2; y2 = k.name.y2 } in
-    (32 ∷ behind_x1 e, name_line k.version k.stage (edge.Ends e), record { name = e; fits = record { x1 = fits; y1 = name.y1; x2 = name.x2; y2 = name.y2 }; same = refl; text = refl; line = refl })
-behind_corner_some k corner.Y1 z name fits =
-    let e : EdgeName = record { x1 = k.name.x1; y1 = z; x2 = k.name.x2; y2 = k.name.y2 } in
-    (32 ∷ behind_y1 e, name_line k.version k.stage (edge.Ends e), record { name = e; fits = record { x1 = name.x1; y1 = fits; x2 = name.x2; y2 = name.y2 }; same = (refl, refl); text = refl; line = refl })
-behind_corner_some k corner.X2 z name fits =
-    let e : EdgeName = record { x1 = k.name.x1; y1 = k.name.y1; x2 = z; y2 = k.name.y2 } in
-    (32 ∷ signed_decimal e.y2, name_line k.version k.stage (edge.Ends e), record { name = e; fits = record { x1 = name.x1; y1 = name.y1; x2 = fits; y2 = name.y2 }; same = (refl, refl, refl); text = refl; line = refl })
-behind_corner_some k corner.Y2 z name fits =
-    let e : EdgeName = record { x1 = k.name.x1; y1 = k.name.y1; x2 = k.name.x2; y2 = z } in
-    ([], name_line k.version k.stage (edge.Ends e), record { name = e; fits = record { x1 = name.x1; y1 = name.y1; x2 = name.x2; y2 = fits }; same = (refl, refl, refl, refl); text = refl; line = refl })
-behind_corner_some k corner.X z name fits =
-    let e : EdgeName = record { x1 = z; y1 = k.name.y1; x2 = k.name.x2; y2 = k.name.y2 } in
-    (32 ∷ signed_decimal e.y1, corner_line k corner.X e, record { name = e; fits = record { x1 = fits; y1 = name.y1; x2 = name.x2; y2 = name.y2 }; same = refl; text = refl; line = refl })
-behind_corner_some k corner.Y z name fits =
-    let e : EdgeName = record { x1 = k.name.x1; y1 = z; x2 = k.name.x2; y2 = k.name.y2 } in
-    ([], corner_line k corner.Y e, record { name = e; fits = record { x1 = name.x1; y1 = fits; x2 = name.x2; y2 = name.y2 }; same = (refl, refl); text = refl; line = refl })
-
-behind_some : (k : Kept) (f : Field) (n : ℕ) → IsInField f n → FitsName k.name → (rest : List ℕ) × (l : Line) × BehindNumber k f n rest l
-behind_some k field.Length n inside name = ([], line.Length n, (refl, refl))
-behind_some k field.Bound n inside name = ([], line.Bound n, (refl, refl))
-behind_some k field.Openings n inside name = ([], line.Openings n, (refl, refl))
-behind_some k (field.Total least) n inside name = ([], line.Concat (record { least = least; total = n }), (refl, refl))
-behind_some k field.LastOpenings n inside name = ([], line.LastOpenings n, (refl, refl))
-behind_some k (field.Count most) n inside name = ([], line.Count n, (refl, refl))
-behind_some k (field.EdgeNumber last) n inside name = ([], name_line k.version k.stage (edge.Number n), (refl, refl))
-behind_some k (field.VertexNumber last) n inside name = ([], line.SplitVertex (vertex.Number n), (refl, refl))
-behind_some k field.Leaf n inside name = ([], line.Leaf n, (refl, refl))
-behind_some k field.Weight n inside name = (32 ∷ set_text k.members, line.Cut (record { weight = n; members = k.members }), record { set = k.members; size = refl; text = refl; line = refl })
-behind_some k (field.Coordinate c minus) n inside name = behind_corner_some k c (signed minus n) name (signed_fits c minus n inside)
-
-digits_left : (k : Kept) (f : Field) (n : ℕ) (digits more : List ℕ) → IsInField f n → FitsName k.name → decimal n ≡ digits ++ more → (rest : List ℕ) × (l : Line) × NumberLeft k f digits rest l
-digits_left k f n digits more inside name spelled =
-    let b = behind_some k f n inside name in
-    (more ++ b.0, b.1, record { number = n; more = more; behind = b.0; parts = refl; spelled = spelled; inside = inside; follows = b.2 })
-
-due_some : (k : Kept) (f : Field) → IsOpen (scan.Due f) → FitsName k.name → (rest : List ℕ) × (l : Line) × NumberLeft k f [] rest l
-due_some k f can name = digits_left k f (least_of f) [] (decimal (least_of f)) (record { least = omega arith; limit = can }) name refl
-
-coordinate_some : (k : Kept) (c : Corner) → FitsName k.name → (rest : List ℕ) × (l : Line) × ValueLeft k (scan.Coordinate c) rest l
-coordinate_some k c name = let d = due_some k (field.Coordinate c false) (omega arith) name in (d.0, d.1, inl d.2)
-
--- some label where one can be named
-edge_some : (F : Form) (k : Kept) → IsOpen (edge_scan F) → FitsName k.name → (rest : List ℕ) × (l : Line) × ValueLeft k (edge_scan F) rest l
-edge_some (form.OnGrid V) k can name = coordinate_some k corner.X1 name
-edge_some (form.OfGraph E V) k can name = due_some k (field.EdgeNumber E) can name
-
-vertex_some : (F : Form) (k : Kept) → IsOpen (vertex_scan F) → FitsName k.name → (rest : List ℕ) × (l : Line) × ValueLeft k (vertex_scan F) rest l
-vertex_some (form.OnGrid V) k can name = coordinate_some k corner.X name
-vertex_some (form.OfGraph E V) k can name = due_some k (field.VertexNumber V) can name
-
-on_some : (F : Form) (k : Kept) → HasVertices F → FitsName k.name → (rest : List ℕ) × (l : Line) × ForkLeft k (scan.On F) rest l
-on_some (form.OnGrid V) k some name =
-    let d = coordinate_some k corner.X name in
-    (codes "vertex " ++ d.0, d.1, inr (d.0, refl, d.2))
-on_some (form.OfGraph E V) k some name =
-    let d = due_some k (field.VertexNumber V) (omega arith) name in
-    (codes "vertex " ++ d.0, d.1, inr (d.0, refl, d.2))
-
-fork_some : (F : Form) (k : Kept) → (rest : List ℕ) × (l : Line) × ValueLeft k (edge_scan F) rest l → (rest : List ℕ) × (l : Line) × ForkLeft k (edge_scan F) rest l
-fork_some F k d = (d.0, d.1, fork_edge F k d.0 d.1 d.2)
-
-fork_vertex : (F : Form) (k : Kept) → (rest : List ℕ) × (l : Line) × ValueLeft k (vertex_scan F) rest l → (rest : List ℕ) × (l : Line) × ForkLeft k (vertex_scan F) rest l
-fork_vertex (form.OnGrid V) k d = d
-fork_vertex (form.OfGraph E V) k d = d
-
-word_some : (k : Kept) (w : Word) → IsOpen (behind_word w) → FitsName k.name → (rest : List ℕ) × (l : Line) × ForkLeft k (behind_word w) rest l
-word_some k word.Title can name = (codes "1", line.Title version.One, inl (refl, refl))
-word_some k word.GraphTitle can name = ([], line.Title version.Graph, (refl, refl))
-word_some k word.Length can name = due_some k field.Length can name
-word_some k word.Bound can name = due_some k field.Bound can name
-word_some k word.Status can name = (codes "optimal", line.Status true, inl ([], refl, (refl, refl)))
-word_some k word.Optimal can name = ([], line.Status true, (refl, refl))
-word_some k word.Stopped can name = ([], line.Status false, (refl, refl))
-word_some k word.Openings can name = due_some k field.Openings can name
-word_some k word.LastOpenings can name = due_some k field.LastOpenings can name
-word_some k word.Concat can name = let d = due_some k (field.Total true) (omega arith) name in (codes "least " ++ d.0, d.1, inl (d.0, refl, d.2))
-word_some k word.Least can name = due_some k (field.Total true) can name
-word_some k word.Spent can name = due_some k (field.Total false) can name
-word_some k (word.Edges most) can name = due_some k (field.Count most) can name
-word_some k word.Tree can name = ([], line.Tree, (refl, refl))
-word_some k (word.Split version.One F) can name = fork_some F k (edge_some F k can name)
-word_some k (word.Split version.Two F) can name = on_some F k can name
-word_some k (word.Split version.Graph F) can name = on_some F k can name
-word_some k (word.Edge F) can name = fork_some F k (edge_some F k can name)
-word_some k (word.Vertex F) can name = fork_vertex F k (vertex_some F k can name)
-word_some k word.Leaf can name = due_some k field.Leaf can name
-word_some k word.Cut can name = due_some k field.Weight can name
-word_some k word.End can name = ([], line.End, (refl, refl))
-
--- more of a line is due, or the text is at its end
-pub underway : (k : Kept) (s : Scan) → IsSound k s → (s ≡ scan.Ended) ⊎ IsUnderway k s
-underway k (scan.Word w place) sound = inr sound
-underway k scan.Version sound = inr sound
-underway k scan.Status sound = inr sound
-underway k scan.Kind sound = inr sound
-underway k (scan.Node v F) sound = inr sound
-underway k (scan.On F) sound = inr sound
-underway k (scan.Due f) sound = inr sound
-underway k (scan.Coordinate c) sound = inr sound
-underway k (scan.Number f n) sound = inr sound
-underway k (scan.Set place) sound = inr sound
-underway k (scan.LineEnd c) sound = inr sound
-underway k scan.Ended sound = inl refl
-underway k scan.Refused sound = absurd sound
-
-pub underway-sound : (k : Kept) (s : Scan) → IsUnderway k s → IsSound k s
-underway-sound k (scan.Word w place) sound = sound
-underway-sound k scan.Version sound = sound
-underway-sound k scan.Status sound = sound
-underway-sound k scan.Kind sound = sound
-underway-sound k (scan.Node v F) sound = sound
-underway-sound k (scan.On F) sound = sound
-underway-sound k (scan.Due f) sound = sound
-underway-sound k (scan.Coordinate c) sound = sound
-underway-sound k (scan.Number f n) sound = sound
-underway-sound k (scan.Set place) sound = sound
-underway-sound k (scan.LineEnd c) sound = sound
-underway-sound k scan.Ended sound = absurd sound
-underway-sound k scan.Refused sound = absurd sound
-
-pub underway-open : (k : Kept) (s : Scan) → s ≡ scan.Ended → IsUnderway k s → ⊥
-underway-open k s is sound = subst (IsUnderway k) is sound
-
--- some bytes make what was read a line
-pub some_left : (k : Kept) (s : Scan) → IsUnderway k s → FitsName k.name → (rest : List ℕ) × (l : Line) × Left k s rest l
-some_left k (scan.Word w place) sound name = let b = word_some k w sound.1 name in (drop place (word_bytes w) ++ b.0, b.1, (b.0, refl, b.2))
-some_left k scan.Version sound name = (codes "1", line.Title version.One, inl (refl, refl))
-some_left k scan.Status sound name = (codes "optimal", line.Status true, inl ([], refl, (refl, refl)))
-some_left k scan.Kind sound name = let d = due_some k (field.Total true) (omega arith) name in (codes "least " ++ d.0, d.1, inl (d.0, refl, d.2))
-some_left k (scan.On F) sound name = on_some F k sound name
-some_left k (scan.Node v F) sound name = let d = due_some k field.Leaf (omega arith) name in (codes "leaf " ++ d.0, d.1, inr (d.0, refl, d.2))
-some_left k (scan.Due f) sound name = due_some k f sound name
-some_left k (scan.Coordinate c) sound name = coordinate_some k c name
-some_left k (scan.Number f n) sound name = digits_left k f n (decimal n) [] sound name (sym (append-nil (decimal n)))
-some_left k (scan.Set place) sound name = (
-  drop place (set_text k.members),
-  line.Cut (record { weight = k.weight; members = k.members }),
-  record { set = k.members; size = refl; same = λ v below. refl; text = refl; line = refl; weight = (sound.0, sound.1) },
-)
-some_left k (scan.LineEnd c) sound name = ([], closed_line c, (refl, refl))
-some_left k scan.Ended sound name = absurd sound
-some_left k scan.Refused sound name = absurd sound
-
--- ---- the end of a line
-
--- a set that ends a line has all its digits
-pub set_whole : (k : Kept) (place : ℕ) (l : Line) → SetLeft k place [] l → (length k.members + 3) / 4 ≤ place
-set_whole k place l h =
-    let size = h.size in
-    let none = ap length h.text in
-    omega (arith, length-drop place (set_text h.set), length-set_text h.set)
-
-pub set_left : (k : Kept) (place : ℕ) → (0 < k.weight) → k.weight < 2 ^ 64 → (length k.members + 3) / 4 ≤ place → SetLeft k place [] (line.Cut (record { weight = k.weight; members = k.members }))
-set_left k place some fits whole = record {
-  set = k.members;
-  size = refl;
-  same = λ v below. refl;
-  text = sym (drop_all place (set_text k.members) (omega (arith, length-set_text k.members)));
-  line = refl;
-  weight = (some, fits);
-}

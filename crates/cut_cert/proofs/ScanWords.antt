@@ -1,5 +1,5 @@
 -- What is due of a word behind one more byte of it.
-use Rattle.std.proofs.Common.{ℕ, suc, zero, ⊎_elim, ◌≡◌, ◌+◌, ◌<◌, ◌≤◌, List, [], ◌∷◌, ◌++◌, length, drop, get_or, sym, ap, ◌∙◌, arith, subst}
+use Rattle.std.proofs.Common.{ℕ, suc, ◌≡◌, ◌+◌, ◌<◌, ◌≤◌, List, [], ◌∷◌, ◌++◌, length, drop, get_or, sym, ap, ◌∙◌, arith, subst}
 use Rattle.std.proofs.Math.Seq.{drop-cons}
 use Rattle.std.proofs.lemmas.List.{drop_all}
 use Rattle.cut_cert.specs.AnswerLine.{Line}
@@ -12,7 +12,7 @@ use Rattle.cut_cert.specs.declared.form.Form.{Form}
 use Rattle.cut_cert.specs.declared.version.Version.{Version}
 use Rattle.cut_cert.specs.declared.version.Version.TheVariants as version
 use Rattle.cut_cert.specs.Forms.{HasVertices, IsVersionOf}
-use Rattle.cut_cert.specs.Scanning.{word_bytes, behind_word, WordLeft, ForkLeft, Left, LeadsTo, IsOpen, IsUnderway}
+use Rattle.cut_cert.specs.Scanning.{word_bytes, behind_word, ForkLeft, Left, LeadsTo, IsOpen, IsUnderway}
 
 -- the byte at a place of a word and those behind it
 word_split : (w : Word) (place b : ℕ) → place < length (word_bytes w) → get_or (word_bytes w) place 0 ≡ b → drop place (word_bytes w) ≡ b ∷ drop (place + 1) (word_bytes w)

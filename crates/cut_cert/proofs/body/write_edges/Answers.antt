@@ -1,4 +1,4 @@
-use Rattle.std.proofs.Common.{◌++◌, map, take, ap, sym, ◌∙◌, arith, subst, rules}
+use Rattle.std.proofs.Common.{◌++◌, map, take, ap, sym, ◌∙◌, arith, subst}
 use Rattle.text_out.specs.GatherLaws.{gathers_two}
 use Rattle.net_graph.specs.Members.{members_of}
 use Rattle.cut_cert.specs.LineKinds as line

@@ -1,5 +1,5 @@
 use Rattle.std.proofs.Common.{arith}
-use Rattle.cut_cert.proofs.ScanClose.{no_line-corner, no_line-ends, no_line-vertex}
+use Rattle.cut_cert.proofs.NamesClosed.{no_line-corner, no_line-ends, no_line-vertex}
 use Rattle.cut_cert.proofs.WordLemmas.{none_then}
 use Rattle.cut_cert.proofs.scan.close.close_coordinate.Goals as goal
 

@@ -1,4 +1,4 @@
-use Rattle.cut_cert.proofs.ScanClose.{makes-edge, makes-split}
+use Rattle.cut_cert.proofs.NamesClosed.{makes-edge, makes-split}
 use Rattle.cut_cert.proofs.scan.close.close_edge.Goals as goal
 
 pub returns-in_ok-checked_sub-in-Edges-clause-makes : goal.returns-in_ok-checked_sub-in-Edges-clause-makes

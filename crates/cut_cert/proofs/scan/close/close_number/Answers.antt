@@ -1,5 +1,6 @@
 use Rattle.std.proofs.Common.{◌^◌}
-use Rattle.cut_cert.proofs.ScanClose.{same_small, no_line-weight, closes-length, closes-bound, closes-openings, closes-last_openings, closes-total, closes-count, closes-vertex_number, no_line-number}
+use Rattle.cut_cert.proofs.ScanClose.{same_small, no_line-weight, closes-length, closes-bound, closes-openings, closes-last_openings, closes-total, closes-count}
+use Rattle.cut_cert.proofs.NamesClosed.{closes-vertex_number, no_line-number}
 use Rattle.cut_cert.proofs.WordLemmas.{none_then, some_then}
 use Rattle.cut_cert.proofs.scan.close.close_number.Goals as goal
 

@@ -1,6 +1,6 @@
 use Rattle.std.specs.Int.{w64}
 use Rattle.std.proofs.lemmas.Int.{to_z-of_z}
-use Rattle.cut_cert.proofs.ScanClose.{closes-point}
+use Rattle.cut_cert.proofs.NamesClosed.{closes-point}
 use Rattle.cut_cert.proofs.WordLemmas.{some_then}
 use Rattle.cut_cert.proofs.scan.close.close_point.Goals as goal
 

@@ -1,4 +1,4 @@
-use Rattle.cut_cert.proofs.ScanClose.{makes-vertex}
+use Rattle.cut_cert.proofs.NamesClosed.{makes-vertex}
 use Rattle.cut_cert.proofs.scan.close.close_vertex.Goals as goal
 
 pub returns-clause-makes : goal.returns-clause-makes
