@@ -107,6 +107,7 @@ limit_of field.Weight = 2 ^ 64
 limit_of (field.Coordinate c false) = 2 ^ 63
 limit_of (field.Coordinate c true) = 2 ^ 63 + 1
 
+-- the number may stand in the field
 pub record IsInField (f : Field) (n : ℕ) : Type 0 where
   pub least : least_of f ≤ n
   pub limit : n < limit_of f
@@ -129,7 +130,8 @@ first_scan F v (stage.Body zero (suc nodes)) = scan.Node v F
 first_scan F v (stage.Body (suc cuts) nodes) = scan.Word word.Cut 0
 first_scan F v stage.Done = scan.Ended
 
--- a field has a number, a split may be on a vertex, and the form has such a text
+-- something can stand there: the field has a number, there is a vertex that a split may be on, and a node is due in a
+-- text that the form has
 abbrev pub IsOpen : Scan → Type 0
 IsOpen (scan.Due f) = least_of f < limit_of f
 IsOpen (scan.On F) = HasVertices F

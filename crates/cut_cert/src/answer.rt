@@ -49,7 +49,7 @@ pub fn write_answer<S: Sink>(sink: &mut S, grid: &Grid, answer: &Answer) -> Resu
 /// Writes the text of an answer in a graph, whose edges and vertices are named by their numbers, counted from 1. The
 /// note on the concatenation is not written. It takes no memory; on an `Err` the sink failed, and the text was cut
 /// short. The whole text spells the answer without its note, whatever the sink does.
-#[tactic(auto, using(text_out::specs::GatherLaws::pieces))]
+#[tactic(auto, using(text_out::specs::GatherLaws::pieces, crate::proofs::FitLemmas::graph_proof))]
 pub fn write_graph_answer<S: Sink>(
     sink: &mut S,
     graph: &NetGraph,

@@ -34,6 +34,7 @@ pub(crate) fn word_byte(word: Word, place: u8, byte: u8) -> Option<Scan>
 }
 
 // What is due behind the first byte of one of two words; None where neither begins with the byte.
+#[tactic(auto, using(crate::proofs::ScanWords::split_open, crate::proofs::ScanWords::vertex_open))]
 pub(crate) fn fork_byte(fork: Scan, byte: u8) -> Option<Scan>
     ensures leads { IfSome result (λ next. (k : Kept) → LeadsTo k fork byte k next) }
     ensures sound { IfSome result (λ next. (k : Kept) → IsUnderway k fork → IsUnderway k next) }
