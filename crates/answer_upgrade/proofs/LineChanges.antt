@@ -8,6 +8,8 @@ use Rattle.std.proofs.lemmas.Str.Parse.{digit_at}
 use Rattle.std.proofs.lemmas.List.Elements.{All-from_get_or, All-head, All-tail, All-cons, All-nil, All-append}
 use Rattle.spelled.specs.Numbers.{signed_decimal_nonempty}
 use Rattle.hanan_grid.specs.declared.name.EdgeName.{EdgeName}
+use Rattle.cut_cert.specs.declared.form.Form.TheVariants as form
+use Rattle.cut_cert.specs.declared.label.EdgeLabel.TheVariants as edge
 use Rattle.cut_cert.specs.declared.version.Version.{Version}
 use Rattle.cut_cert.specs.declared.version.Version.TheVariants as version
 use Rattle.cut_cert.specs.AnswerLine.{Line}
@@ -65,23 +67,27 @@ above : (a : ℕ) → 57 < a → a ≤ 57 → ⊥
 above a high low = omega arith
 
 -- the title and a split of version 1 are longer
-pub short_line : (v : Version) (V : ℕ) (l : Line) → FitsLine v V l → length (line_bytes l) < 7 → change.Stays ≡ change_of l
+pub short_line : (v : Version) (V : ℕ) (l : Line) → FitsLine v (form.OnGrid V) l → length (line_bytes l) < 7 → change.Stays ≡ change_of l
 short_line v V (line.Title version.One) f short = absurd (omega arith)
 short_line v V (line.Title version.Two) f short = absurd (omega arith)
-short_line v V (line.Split e) f short = absurd (omega (arith, length-append (codes "split ") (name_words e), name-some e f.1))
+short_line v V (line.Title version.Graph) f short = absurd f.1
+short_line v V (line.Split (edge.Ends e)) f short = absurd (omega (arith, length-append (codes "split ") (name_words e), name-some e f.1))
+short_line v V (line.Split (edge.Number n)) f short = absurd f.1
 short_line v V l f short = refl
 
 -- the title alone begins with an r
-pub title_line : (v : Version) (V : ℕ) (l : Line) → FitsLine v V l → get_or (line_bytes l) 0 0 ≡ 114 → change.Title ≡ change_of l
+pub title_line : (v : Version) (V : ℕ) (l : Line) → FitsLine v (form.OnGrid V) l → get_or (line_bytes l) 0 0 ≡ 114 → change.Title ≡ change_of l
 title_line v V (line.Title w) f first = refl
 title_line v V (line.Length n) f first = absurd (apart 108 114 (omega arith) first)
 title_line v V (line.Bound n) f first = absurd (apart 98 114 (omega arith) first)
 title_line v V (line.Status true) f first = absurd (apart 115 114 (omega arith) first)
 title_line v V (line.Status false) f first = absurd (apart 115 114 (omega arith) first)
 title_line v V (line.Openings n) f first = absurd (apart 111 114 (omega arith) first)
+title_line v V (line.LastOpenings n) f first = absurd f.0
 title_line v V (line.Concat c) f first = absurd (apart 99 114 (omega arith) first)
 title_line v V (line.Count n) f first = absurd (apart 101 114 (omega arith) first)
-title_line v V (line.Edge e) f first = let low = name_at e 0 f in absurd (omega arith)
+title_line v V (line.Edge (edge.Ends e)) f first = let low = name_at e 0 f in absurd (omega arith)
+title_line v V (line.Edge (edge.Number n)) f first = absurd f
 title_line v V line.Tree f first = absurd (apart 116 114 (omega arith) first)
 title_line v V (line.Split e) f first = absurd (apart 115 114 (omega arith) first)
 title_line v V (line.SplitEdge e) f first = absurd (apart 115 114 (omega arith) first)
@@ -91,22 +97,28 @@ title_line v V (line.Cut c) f first = absurd (apart 99 114 (omega arith) first)
 title_line v V line.End f first = absurd (apart 101 114 (omega arith) first)
 
 -- another line whose fourth byte is no i is no split
-pub other_line : (v : Version) (V : ℕ) (l : Line) → FitsLine v V l → (get_or (line_bytes l) 0 0 ≡ 114 → ⊥) → (get_or (line_bytes l) 3 0 ≡ 105 → ⊥) → change.Stays ≡ change_of l
-other_line v V (line.Title w) f first fourth = absurd (first refl)
+pub other_line : (v : Version) (V : ℕ) (l : Line) → FitsLine v (form.OnGrid V) l → (get_or (line_bytes l) 0 0 ≡ 114 → ⊥) → (get_or (line_bytes l) 3 0 ≡ 105 → ⊥) → change.Stays ≡ change_of l
+other_line v V (line.Title version.One) f first fourth = absurd (first refl)
+other_line v V (line.Title version.Two) f first fourth = absurd (first refl)
+other_line v V (line.Title version.Graph) f first fourth = absurd (first refl)
 other_line v V (line.Split e) f first fourth = absurd (fourth refl)
 other_line v V l f first fourth = refl
 
 -- a split whose seventh byte is one of a number is of version 1
-pub bare_line : (v : Version) (V : ℕ) (l : Line) → FitsLine v V l → get_or (line_bytes l) 3 0 ≡ 105 → get_or (line_bytes l) 6 0 ≤ 57 → change.Split ≡ change_of l
-bare_line v V (line.Title w) f fourth behind = absurd (apart 32 105 (omega arith) fourth)
+pub bare_line : (v : Version) (V : ℕ) (l : Line) → FitsLine v (form.OnGrid V) l → get_or (line_bytes l) 3 0 ≡ 105 → get_or (line_bytes l) 6 0 ≤ 57 → change.Split ≡ change_of l
+bare_line v V (line.Title version.One) f fourth behind = absurd (apart 32 105 (omega arith) fourth)
+bare_line v V (line.Title version.Two) f fourth behind = absurd (apart 32 105 (omega arith) fourth)
+bare_line v V (line.Title version.Graph) f fourth behind = absurd (apart 32 105 (omega arith) fourth)
 bare_line v V (line.Length n) f fourth behind = absurd (apart 103 105 (omega arith) fourth)
 bare_line v V (line.Bound n) f fourth behind = absurd (apart 110 105 (omega arith) fourth)
 bare_line v V (line.Status true) f fourth behind = absurd (apart 116 105 (omega arith) fourth)
 bare_line v V (line.Status false) f fourth behind = absurd (apart 116 105 (omega arith) fourth)
 bare_line v V (line.Openings n) f fourth behind = absurd (apart 110 105 (omega arith) fourth)
+bare_line v V (line.LastOpenings n) f fourth behind = absurd f.0
 bare_line v V (line.Concat c) f fourth behind = absurd (apart 99 105 (omega arith) fourth)
 bare_line v V (line.Count n) f fourth behind = absurd (apart 101 105 (omega arith) fourth)
-bare_line v V (line.Edge e) f fourth behind = let low = name_at e 3 f in absurd (omega arith)
+bare_line v V (line.Edge (edge.Ends e)) f fourth behind = let low = name_at e 3 f in absurd (omega arith)
+bare_line v V (line.Edge (edge.Number n)) f fourth behind = absurd f
 bare_line v V line.Tree f fourth behind = absurd (apart 101 105 (omega arith) fourth)
 bare_line v V (line.Split e) f fourth behind = refl
 bare_line v V (line.SplitEdge e) f fourth behind = absurd (above 101 (omega arith) behind)
@@ -116,9 +128,12 @@ bare_line v V (line.Cut c) f fourth behind = absurd (apart 32 105 (omega arith) 
 bare_line v V line.End f fourth behind = absurd (apart 0 105 (omega arith) fourth)
 
 -- a line whose seventh byte is past those of numbers is no split of version 1
-pub named_line : (v : Version) (V : ℕ) (l : Line) → FitsLine v V l → (get_or (line_bytes l) 0 0 ≡ 114 → ⊥) → (get_or (line_bytes l) 6 0 ≤ 57 → ⊥) → change.Stays ≡ change_of l
-named_line v V (line.Title w) f first behind = absurd (first refl)
-named_line v V (line.Split e) f first behind = let low = name_at e 0 f.1 in absurd (behind (omega arith))
+pub named_line : (v : Version) (V : ℕ) (l : Line) → FitsLine v (form.OnGrid V) l → (get_or (line_bytes l) 0 0 ≡ 114 → ⊥) → (get_or (line_bytes l) 6 0 ≤ 57 → ⊥) → change.Stays ≡ change_of l
+named_line v V (line.Title version.One) f first behind = absurd (first refl)
+named_line v V (line.Title version.Two) f first behind = absurd (first refl)
+named_line v V (line.Title version.Graph) f first behind = absurd (first refl)
+named_line v V (line.Split (edge.Ends e)) f first behind = let low = name_at e 0 f.1 in absurd (behind (omega arith))
+named_line v V (line.Split (edge.Number n)) f first behind = absurd f.1
 named_line v V l f first behind = refl
 
 -- ---- what a line becomes

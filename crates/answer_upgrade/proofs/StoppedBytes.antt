@@ -3,16 +3,17 @@ use Rattle.std.proofs.Common.{ℕ, ◌≡◌, ◌-◌, ◌<◌, ◌≤◌, List,
 use Rattle.std.proofs.Math.Seq.{drop-cons}
 use Rattle.std.proofs.lemmas.List.{append-nil, take_more, take-append-drop, take_rest}
 use Rattle.cut_cert.specs.declared.event.AnswerEvent.{AnswerEvent}
+use Rattle.cut_cert.specs.declared.form.Form.TheVariants as form
 use Rattle.cut_cert.specs.declared.reader.EventReader.{EventReader}
 use Rattle.cut_cert.specs.Reading.{StopsAt}
 use Rattle.cut_cert.specs.Reader.{Reads}
 use Rattle.answer_upgrade.specs.Spelling.{IsReading, Stops}
 
-pub stands_for : (V : ℕ) (xs ys : List ℕ) (events : List AnswerEvent) (reader : EventReader) → xs ≡ ys → Reads V xs events reader → IsReading V ys reader
-stands_for V xs ys events reader same reads = (events, subst (λ x. Reads V x events reader) same reads)
+pub stands_for : (V : ℕ) (xs ys : List ℕ) (events : List AnswerEvent) (reader : EventReader) → xs ≡ ys → Reads (form.OnGrid V) xs events reader → IsReading V ys reader
+stands_for V xs ys events reader same reads = (events, subst (λ x. Reads (form.OnGrid V) x events reader) same reads)
 
-pub stops_in : (V : ℕ) (xs ys : List ℕ) (m n : ℕ) (events : List AnswerEvent) → xs ≡ ys → m ≡ n → StopsAt V xs m events → Stops V ys n
-stops_in V xs ys m n events same line stops = (events, subst (λ x. StopsAt V x n events) same (subst (λ k. StopsAt V xs k events) line stops))
+pub stops_in : (V : ℕ) (xs ys : List ℕ) (m n : ℕ) (events : List AnswerEvent) → xs ≡ ys → m ≡ n → StopsAt (form.OnGrid V) xs m events → Stops V ys n
+stops_in V xs ys m n events same line stops = (events, subst (λ x. StopsAt (form.OnGrid V) x n events) same (subst (λ k. StopsAt (form.OnGrid V) xs k events) line stops))
 
 -- after n more bytes the parts are still the whole
 pub moved_on : (front rest : List ℕ) (n : ℕ) → front ++ rest ≡ (front ++ take n rest) ++ take (length rest - n) (drop n rest)

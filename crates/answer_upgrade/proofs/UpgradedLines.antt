@@ -5,9 +5,13 @@ use Rattle.std.proofs.lemmas.List.Concat.{flat_map-append}
 use Rattle.spelled.specs.Words.{Lacks}
 use Rattle.spelled.specs.Fronts.{front_unique, separator_missing}
 use Rattle.net_graph.specs.declared.packing.Cut.{Cut}
-use Rattle.hanan_grid.specs.declared.name.EdgeName.{EdgeName}
+use Rattle.cut_cert.specs.declared.form.Form.{Form}
+use Rattle.cut_cert.specs.declared.form.Form.TheVariants as form
+use Rattle.cut_cert.specs.declared.label.EdgeLabel.{EdgeLabel}
 use Rattle.cert_tree.specs.Tree.{Tree}
 use Rattle.cert_tree.specs.Tree.Tree.{Leaf, Split}
+use Rattle.cut_cert.specs.declared.head.AnswerHead.{AnswerHead}
+use Rattle.cut_cert.specs.Forms.{IsVersionOf}
 use Rattle.cut_cert.specs.declared.split.SplitName.{SplitName}
 use Rattle.cut_cert.specs.declared.split.SplitName.TheVariants as name
 use Rattle.cut_cert.specs.declared.version.Version.{Version}
@@ -26,7 +30,7 @@ cuts_stay : (cuts : List Cut) → map upgraded_line (map line.Cut cuts) ≡ map 
 cuts_stay [] = refl
 cuts_stay (c ∷ cuts) = ap (λ x. line.Cut c ∷ x) (cuts_stay cuts)
 
-edges_stay : (edges : List EdgeName) → map upgraded_line (map line.Edge edges) ≡ map line.Edge edges
+edges_stay : (edges : List EdgeLabel) → map upgraded_line (map line.Edge edges) ≡ map line.Edge edges
 edges_stay [] = refl
 edges_stay (e ∷ edges) = ap (λ x. line.Edge e ∷ x) (edges_stay edges)
 
@@ -34,6 +38,7 @@ edges_stay (e ∷ edges) = ap (λ x. line.Edge e ∷ x) (edges_stay edges)
 split_becomes : (v : Version) (on : SplitName) → upgraded_line (split_line v on) ≡ split_line version.Two on
 split_becomes version.One (name.Edge e) = refl
 split_becomes version.Two (name.Edge e) = refl
+split_becomes version.Graph (name.Edge e) = refl
 split_becomes v (name.Vertex p) = refl
 
 tree_becomes : (v : Version) (t : Tree SplitName) → map upgraded_line (tree_lines v t) ≡ tree_lines version.Two t
@@ -46,43 +51,50 @@ proof_becomes : (v : Version) (t : Tree SplitName) → map upgraded_line (proof_
 proof_becomes v t =
     ap (λ x. line.Tree ∷ x) (map-append upgraded_line (tree_lines v t) (line.End ∷ []) ∙ ap (λ x. x ++ line.End ∷ []) (tree_becomes v t))
 
-network_stays : (edges : List EdgeName) → map upgraded_line (network_lines edges) ≡ network_lines edges
+network_stays : (edges : List EdgeLabel) → map upgraded_line (network_lines edges) ≡ network_lines edges
 network_stays edges = ap (λ x. line.Count (length edges) ∷ x) (edges_stay edges)
 
-pub answer_becomes : (a : WrittenAnswer) → map upgraded_line (answer_lines a) ≡ answer_lines (upgraded a)
-answer_becomes a =
+-- so does a head on a grid
+head_becomes : (V : ℕ) (v : Version) (h : AnswerHead) → IsVersionOf (form.OnGrid V) v → map upgraded_line (head_lines v h) ≡ head_lines version.Two h
+head_becomes V version.One h of = refl
+head_becomes V version.Two h of = refl
+head_becomes V version.Graph h of = absurd of
+
+pub answer_becomes : (V : ℕ) (a : WrittenAnswer) → IsVersionOf (form.OnGrid V) a.version → map upgraded_line (answer_lines a) ≡ answer_lines (upgraded a)
+answer_becomes V a of =
     map-append upgraded_line (head_lines a.version a.head) (body_lines a)
+    ∙ ap (λ x. x ++ map upgraded_line (body_lines a)) (head_becomes V a.version a.head of)
     ∙ ap (λ x. head_lines version.Two a.head ++ x)
     (map-append upgraded_line (network_lines a.edges) (proof_lines a.version a.tree) ∙ (λ k. network_stays a.edges k ++ proof_becomes a.version a.tree k))
 
 -- ---- one line after another
 
 -- the lines that were written and those that are left of a text
-pub record Passed (V : ℕ) (ls : List Line) (rest : List ℕ) : Type 0 where
+pub record Passed (F : Form) (ls : List Line) (rest : List ℕ) : Type 0 where
   pub done : List Line
   pub left : List Line
   pub version : Version
   pub parts : ls ≡ done ++ left
-  pub fits : FitsLines version V left
+  pub fits : FitsLines version F left
   pub text : rest ≡ lines_text left
 
 -- the next line of those that are left
-pub record Next (V : ℕ) (line_read after : List ℕ) (left : List Line) : Type 0 where
+pub record Next (F : Form) (line_read after : List ℕ) (left : List Line) : Type 0 where
   pub here : Line
   pub behind : List Line
   pub version : Version
   pub parts : left ≡ here ∷ behind
-  pub fits : FitsLine version V here
-  pub fits_behind : FitsLines version V behind
+  pub fits : FitsLine version F here
+  pub fits_behind : FitsLines version F behind
   pub told : line_read ≡ line_bytes here
   pub text : after ≡ lines_text behind
 
-pub next_line : (v : Version) (V : ℕ) (left : List Line) (rest line_read after : List ℕ) → ((w : Version) (U : ℕ) (l : Line) → FitsLine w U l → Lacks (line_bytes l) 10)
-    → FitsLines v V left → rest ≡ lines_text left → rest ≡ line_read ++ 10 ∷ after → Lacks line_read 10 → Next V line_read after left
-next_line v V [] rest line_read after lack fits text parts lacks =
+pub next_line : (v : Version) (F : Form) (left : List Line) (rest line_read after : List ℕ) → ((w : Version) (G : Form) (l : Line) → FitsLine w G l → Lacks (line_bytes l) 10)
+    → FitsLines v F left → rest ≡ lines_text left → rest ≡ line_read ++ 10 ∷ after → Lacks line_read 10 → Next F line_read after left
+next_line v F [] rest line_read after lack fits text parts lacks =
     let short = ap length (sym parts ∙ text) in absurd (omega (arith, length-append line_read (10 ∷ after)))
-next_line v V (m ∷ ms) rest line_read after lack fits text parts lacks =
-    let first = front_unique 10 line_read (line_bytes m) after (lines_text ms) lacks (lack (version_with v m) V m fits.0)
+next_line v F (m ∷ ms) rest line_read after lack fits text parts lacks =
+    let first = front_unique 10 line_read (line_bytes m) after (lines_text ms) lacks (lack (version_with v m) F m fits.0)
     (sym parts ∙ text ∙ append_assoc (line_bytes m) (10 ∷ []) (lines_text ms)) in
     record { here = m; behind = ms; version = version_with v m; parts = refl; fits = fits.0; fits_behind = fits.1; told = first.0; text = first.1 }
 

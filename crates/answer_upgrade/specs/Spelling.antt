@@ -1,6 +1,7 @@
--- What is told of bytes that may be an answer's text.
+-- What is told of bytes that may be the text of an answer on a grid.
 use Rattle.std.specs.Prelude.{ℕ, ◌≡◌, List}
 use Rattle.cut_cert.specs.declared.event.AnswerEvent.{AnswerEvent}
+use Rattle.cut_cert.specs.declared.form.Form.TheVariants as form
 use Rattle.cut_cert.specs.declared.reader.EventReader.{EventReader}
 use Rattle.cut_cert.specs.Reader.{Reads}
 use Rattle.cut_cert.specs.Reading.{StopsAt}
@@ -12,14 +13,14 @@ use Rattle.answer_upgrade.specs.declared.told.Spelled.TheVariants as told
 
 -- the reader stands for the bytes, whatever their events are
 abbrev pub IsReading : ℕ → List ℕ → EventReader → Type 0
-IsReading V bytes reader = (events : List AnswerEvent) × Reads V bytes events reader
+IsReading V bytes reader = (events : List AnswerEvent) × Reads (form.OnGrid V) bytes events reader
 
 -- the bytes spell no answer, and cease to begin one in this line
 abbrev pub Stops : ℕ → List ℕ → ℕ → Type 0
-Stops V bytes n = (events : List AnswerEvent) × StopsAt V bytes n events
+Stops V bytes n = (events : List AnswerEvent) × StopsAt (form.OnGrid V) bytes n events
 
 -- they spell an answer of this version, or none
 abbrev pub TellsSpelling : ℕ → List ℕ → Spelled → Type 0
 TellsSpelling V bytes (told.Whole n) =
-    (answer : WrittenAnswer) × SpellsAnswer V bytes answer × (n ≡ version_number answer.version)
+    (answer : WrittenAnswer) × SpellsAnswer (form.OnGrid V) bytes answer × (n ≡ version_number answer.version)
 TellsSpelling V bytes (told.Fault n) = Stops V bytes n

@@ -1,5 +1,6 @@
--- What the lines of an answer's text become in version 2.
+-- What the lines of the text of an answer on a grid become in version 2.
 use Rattle.std.specs.Prelude.{ℕ, List}
+use Rattle.cut_cert.specs.declared.form.Form.TheVariants as form
 use Rattle.cut_cert.specs.declared.version.Version.TheVariants as version
 use Rattle.cut_cert.specs.AnswerLine.{Line}
 use Rattle.cut_cert.specs.LineKinds as line
@@ -9,9 +10,9 @@ pub use Rattle.cut_cert.specs.Value.{upgraded}
 use Rattle.answer_upgrade.specs.declared.change.Change.{Change}
 use Rattle.answer_upgrade.specs.declared.change.Change.TheVariants as change
 
--- the bytes spell an answer
+-- the bytes spell an answer on a grid of V vertices
 abbrev pub IsSpelling : ℕ → List ℕ → Type 0
-IsSpelling V bytes = (answer : WrittenAnswer) × SpellsAnswer V bytes answer
+IsSpelling V bytes = (answer : WrittenAnswer) × SpellsAnswer (form.OnGrid V) bytes answer
 
 -- the line that a line becomes
 abbrev pub upgraded_line : Line → Line

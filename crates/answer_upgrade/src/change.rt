@@ -1,6 +1,7 @@
-//! What becomes of a line of an answer's text in version 2.
+//! What becomes of a line of the text of an answer on a grid in version 2.
 
 ghost use Rattle.std.specs.Prelude.{◌≡◌, ◌<◌, ℕ, length};
+ghost use Rattle.cut_cert.specs.declared.form.Form.TheVariants as form_of;
 ghost use Rattle.cut_cert.specs.declared.version.Version.{Version};
 ghost use Rattle.cut_cert.specs.AnswerLine.{Line};
 ghost use Rattle.cut_cert.specs.Lines.{line_bytes};
@@ -22,7 +23,7 @@ pub(crate) enum Change {
 // What becomes of a line. No other line than the title begins with an `r`, no other than a split's has an `i` as its
 // fourth byte, and behind the word of a split a number stands in version 1 alone.
 pub(crate) fn change_of(line: &[u8]) -> Change
-    ensures change { (v : Version) (V : ℕ) (l : Line) → FitsLine v V l → line.now ≡ line_bytes l →
+    ensures change { (v : Version) (V : ℕ) (l : Line) → FitsLine v (form_of.OnGrid V) l → line.now ≡ line_bytes l →
         result ≡ change_of l }
     ensures long { result ≡ change.Split → 6 < length line.now }
 {

@@ -9,8 +9,8 @@ use cut_cert::{EventReader, Spelling};
 use net_graph::VertexSet;
 use std::alloc::{AllocError, Global};
 
-/// Tells whether the bytes are the text of an answer, for cuts that are sets of so many vertices. An `Err` comes for
-/// want of memory alone: it takes that of one set.
+/// Tells whether the bytes are the text of an answer on a grid, for cuts that are sets of so many vertices. An `Err`
+/// comes for want of memory alone: it takes that of one set.
 pub fn spelled(alloc: Global, vertices: u32, bytes: &[u8]) -> Result<Spelled, AllocError>
     requires { length bytes.now < 2 ^ 32 }
     ensures { IfOk result (TellsSpelling vertices bytes.now) }

@@ -1,8 +1,9 @@
-//! The text of an answer in version 2, made from its text in either version.
+//! The text of an answer on a grid in version 2, made from its text in either version.
 
 ghost use Rattle.std.specs.Prelude.{◌≡◌, ◌<◌, ℕ, List, ◌++◌, length, map, drop, codes};
 ghost use Rattle.rst_outside.specs.Sink.{Writes};
 ghost use Rattle.text_out.specs.Gathers.{Gathers};
+ghost use Rattle.cut_cert.specs.declared.form.Form.TheVariants as form_of;
 ghost use Rattle.cut_cert.specs.declared.version.Version.{Version};
 ghost use Rattle.cut_cert.specs.AnswerLine.{Line};
 ghost use Rattle.cut_cert.specs.LineFits.{FitsLine, FitsLines};
@@ -23,7 +24,7 @@ use text_out::{Block, finish, literal};
 /// vertices.
 pub fn write_upgraded<S: Sink>(sink: &mut S, vertices: u32, bytes: &[u8]) -> Result<(), PutFault>
     requires { IsSpelling vertices bytes.now }
-    ensures { (answer : WrittenAnswer) → SpellsAnswer vertices bytes.now answer →
+    ensures { (answer : WrittenAnswer) → SpellsAnswer (form_of.OnGrid vertices) bytes.now answer →
         Writes (S.state sink.old) (answer_text (upgraded answer)) (S.state sink.new) result }
 {
     lines_fit();
@@ -35,7 +36,7 @@ pub fn write_upgraded<S: Sink>(sink: &mut S, vertices: u32, bytes: &[u8]) -> Res
 
 // The lines of a text in version 2.
 fn write_lines<S: Sink>(block: &mut Block, sink: &mut S, bytes: &[u8])
-    ensures { (v : Version) (V : ℕ) (ls : List Line) → FitsLines v V ls → bytes.now ≡ lines_text ls →
+    ensures { (v : Version) (V : ℕ) (ls : List Line) → FitsLines v (form_of.OnGrid V) ls → bytes.now ≡ lines_text ls →
         Gathers (S.state sink.old) block.old (lines_text (map upgraded_line ls)) (S.state sink.new) block.new }
 {
     lines_fit();
@@ -48,7 +49,7 @@ fn write_lines<S: Sink>(block: &mut Block, sink: &mut S, bytes: &[u8])
 
 // A line in version 2.
 fn write_line<S: Sink>(block: &mut Block, sink: &mut S, line: &[u8])
-    ensures { (v : Version) (V : ℕ) (l : Line) → FitsLine v V l → line.now ≡ line_bytes l →
+    ensures { (v : Version) (V : ℕ) (l : Line) → FitsLine v (form_of.OnGrid V) l → line.now ≡ line_bytes l →
         Gathers (S.state sink.old) block.old (line_text (upgraded_line l)) (S.state sink.new) block.new }
 {
     match change_of(line) {

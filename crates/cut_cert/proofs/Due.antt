@@ -1,10 +1,14 @@
 -- The lines of an answer are due, and lines of which each was due can be gone on with to the end of an answer.
-use Rattle.std.proofs.Common.{ℕ, suc, zero, ◌≡◌, List, [], ◌∷◌, ◌++◌, length, map, refl, ap, subst, ◌∙◌, arith, append_assoc, Some, replicate, false, rules}
+use Rattle.std.proofs.Common.{ℕ, suc, zero, ◌≡◌, ◌≤◌, List, [], ◌∷◌, ◌++◌, length, map, refl, ap, subst, ◌∙◌, arith, append_assoc, Some, replicate, false, rules}
 use Rattle.std.specs.Prelude.{All, pos, FitsSigned, option_and_then}
 use Rattle.std.specs.Int.{w64}
 use Rattle.std.proofs.lemmas.List.{length-replicate}
 use Rattle.std.proofs.lemmas.List.Elements.{All-head, All-tail, All-cons, All-nil, All-append, All-map, All-replicate, All-from_recursion}
 use Rattle.net_graph.specs.declared.packing.Cut.{Cut}
+use Rattle.cut_cert.specs.declared.form.Form.{Form}
+use Rattle.cut_cert.specs.declared.form.Form.TheVariants as form
+use Rattle.cut_cert.specs.declared.label.EdgeLabel.{EdgeLabel}
+use Rattle.cut_cert.specs.declared.label.EdgeLabel.TheVariants as edge
 use Rattle.hanan_grid.specs.declared.name.EdgeName.{EdgeName}
 use Rattle.cut_cert.specs.declared.head.AnswerHead.{AnswerHead}
 use Rattle.cut_cert.specs.AnswerLine.{Line}
@@ -18,10 +22,13 @@ use Rattle.cut_cert.specs.declared.split.SplitName.{SplitName}
 use Rattle.cut_cert.specs.declared.split.SplitName.TheVariants as name
 use Rattle.cut_cert.specs.declared.version.Version.{Version}
 use Rattle.cut_cert.specs.declared.version.Version.TheVariants as version
+use Rattle.cut_cert.specs.Forms.{IsVersionOf, most_edges, set_size}
+use Rattle.cut_cert.specs.Notes.{no_note}
 use Rattle.cut_cert.specs.Spelling.{FitsHead, FitsSplit, FitsTree, FitsAnswer}
 use Rattle.cut_cert.specs.Lines.{split_line, tree_lines, head_lines, proof_lines, body_lines, answer_lines, run}
 use Rattle.cut_cert.specs.LineFits.{FitsLine, FitsLines, version_with, version_from}
 use Rattle.cut_cert.proofs.Steps.{step-split_line}
+use Rattle.cut_cert.proofs.FormLemmas.{HasRoom, edges_counted}
 
 -- ---- the lines of an answer
 
@@ -38,28 +45,35 @@ run_tree v (Split on o i) nodes ls =
     ∙ ap (run (stage.Body 0 (suc (suc nodes)))) (append_assoc (tree_lines v o) (tree_lines v i) ls) ∙ run_tree v o (suc nodes) (tree_lines v i ++ ls) ∙ run_tree v i nodes ls
 
 -- edges are due as they were counted
-run_edges : (edges : List EdgeName) (ls : List Line) → run (stage.Edges (length edges)) (map line.Edge edges ++ ls) ≡ run (stage.Edges 0) ls
+run_edges : (edges : List EdgeLabel) (ls : List Line) → run (stage.Edges (length edges)) (map line.Edge edges ++ ls) ≡ run (stage.Edges 0) ls
 run_edges [] ls = refl
 run_edges (e ∷ edges) ls = run_edges edges ls
 
+-- a head leads to the count of edges
+run_head : (v : Version) (h : AnswerHead) (ls : List Line) → run stage.Title (head_lines v h ++ ls) ≡ run stage.Count ls
+run_head version.One h ls = refl
+run_head version.Two h ls = refl
+run_head version.Graph h ls = refl
+
 -- the lines of an answer lead from the title to the end
 pub run-answer : (a : WrittenAnswer) → run stage.Title (answer_lines a) ≡ Some stage.Done
-run-answer a = run_edges a.edges (proof_lines a.version a.tree) ∙ run_tree a.version a.tree 0 (line.End ∷ [])
+run-answer a = run_head a.version a.head (body_lines a) ∙ run_edges a.edges (proof_lines a.version a.tree) ∙ run_tree a.version a.tree 0 (line.End ∷ [])
 
 -- ---- they fit
 
 -- lines of a version fit one after another
-all_fit : (v : Version) (V : ℕ) (ls : List Line) → All (FitsLine v V) ls → FitsLines v V ls
-all_fit v V [] f = tt
-all_fit v V (line.Title w ∷ ls) f =
-    let same : v ≡ w = All-head (FitsLine v V) (line.Title w) ls f in
-    (refl, subst (λ x. FitsLines x V ls) same (all_fit v V ls (All-tail (FitsLine v V) (line.Title w) ls f)))
-all_fit v V (l ∷ ls) f = (All-head (FitsLine v V) l ls f, all_fit v V ls (All-tail (FitsLine v V) l ls f))
+all_fit : (v : Version) (F : Form) (ls : List Line) → All (FitsLine v F) ls → FitsLines v F ls
+all_fit v F [] f = tt
+all_fit v F (line.Title w ∷ ls) f =
+    let title = All-head (FitsLine v F) (line.Title w) ls f in
+    let same : v ≡ w = title.0 in
+    ((refl, title.1), subst (λ x. FitsLines x F ls) same (all_fit v F ls (All-tail (FitsLine v F) (line.Title w) ls f)))
+all_fit v F (l ∷ ls) f = (All-head (FitsLine v F) l ls f, all_fit v F ls (All-tail (FitsLine v F) l ls f))
 
 -- lines and those behind them
-pub fits_append : (v : Version) (V : ℕ) (xs ys : List Line) → FitsLines v V xs → FitsLines (version_from v xs) V ys → FitsLines v V (xs ++ ys)
-fits_append v V [] ys f g = g
-fits_append v V (x ∷ xs) ys f g = (f.0, fits_append (version_with v x) V xs ys f.1 g)
+pub fits_append : (v : Version) (F : Form) (xs ys : List Line) → FitsLines v F xs → FitsLines (version_from v xs) F ys → FitsLines v F (xs ++ ys)
+fits_append v F [] ys f g = g
+fits_append v F (x ∷ xs) ys f g = (f.0, fits_append (version_with v x) F xs ys f.1 g)
 
 -- the version that lines and one more tell
 pub version_from-append : (v : Version) (xs ys : List Line) → version_from v (xs ++ ys) ≡ version_from (version_from v xs) ys
@@ -67,67 +81,84 @@ version_from-append v [] ys = refl
 version_from-append v (x ∷ xs) ys = version_from-append (version_with v x) xs ys
 
 -- the line of a split that fits fits
-split_fits : (v : Version) (V : ℕ) (on : SplitName) → FitsSplit v on → FitsLine v V (split_line v on)
-split_fits version.One V (name.Edge e) f = (refl, f)
-split_fits version.Two V (name.Edge e) f = (refl, f)
-split_fits v V (name.Vertex p) f = f
+split_fits : (v : Version) (F : Form) (on : SplitName) → FitsSplit v F on → FitsLine v F (split_line v on)
+split_fits version.One F (name.Edge e) f = (refl, f)
+split_fits version.Two F (name.Edge e) f = (tt, f)
+split_fits version.Graph F (name.Edge e) f = (tt, f)
+split_fits v F (name.Vertex p) f = f
 
 -- the lines of a tree that fits fit
-tree_fits : (v : Version) (V : ℕ) (t : Tree SplitName) → FitsTree v V t → All (FitsLine v V) (tree_lines v t)
-tree_fits v V (Leaf cuts) f = All-cons (FitsLine v V) (line.Leaf (length cuts)) (map line.Cut cuts) f.count (All-map (FitsLine v V) line.Cut cuts f.each)
-tree_fits v V (Split on o i) f =
-    All-cons (FitsLine v V) (split_line v on) (tree_lines v o ++ tree_lines v i) (split_fits v V on f.0) (All-append (FitsLine v V) (tree_lines v o) (tree_lines v i) (tree_fits v V o f.1) (tree_fits v V i f.2))
+tree_fits : (v : Version) (F : Form) (t : Tree SplitName) → FitsTree v F t → All (FitsLine v F) (tree_lines v t)
+tree_fits v F (Leaf cuts) f = All-cons (FitsLine v F) (line.Leaf (length cuts)) (map line.Cut cuts) f.count (All-map (FitsLine v F) line.Cut cuts f.each)
+tree_fits v F (Split on o i) f =
+    All-cons (FitsLine v F) (split_line v on) (tree_lines v o ++ tree_lines v i) (split_fits v F on f.0) (All-append (FitsLine v F) (tree_lines v o) (tree_lines v i) (tree_fits v F o f.1) (tree_fits v F i f.2))
 
 -- the lines of a head that fits fit
-head_fits : (v : Version) (V : ℕ) (h : AnswerHead) → FitsHead h → All (FitsLine v V) (head_lines v h)
-head_fits v V h f = All-from_recursion (FitsLine v V) (head_lines v h) (refl, (f.length, (f.bound, (tt, (f.openings, (f.total, tt))))))
+head_fits : (v : Version) (F : Form) (h : AnswerHead) → IsVersionOf F v → FitsHead h → All (FitsLine v F) (head_lines v h)
+head_fits version.One (form.OnGrid V) h of f =
+    All-from_recursion (FitsLine version.One (form.OnGrid V)) (head_lines version.One h) ((refl, tt), (f.length, (f.bound, (tt, ((tt, f.openings), (f.total, tt))))))
+head_fits version.Two (form.OnGrid V) h of f =
+    All-from_recursion (FitsLine version.Two (form.OnGrid V)) (head_lines version.Two h) ((refl, tt), (f.length, (f.bound, (tt, ((tt, f.openings), (f.total, tt))))))
+head_fits version.Graph (form.OfGraph E V) h of f =
+    All-from_recursion (FitsLine version.Graph (form.OfGraph E V)) (head_lines version.Graph h) ((refl, tt), (f.length, (f.bound, (tt, ((tt, f.openings), tt)))))
+head_fits version.Graph (form.OnGrid V) h of f = absurd of
+head_fits version.One (form.OfGraph E V) h of f = absurd of
+head_fits version.Two (form.OfGraph E V) h of f = absurd of
 
 -- the lines of an answer that fits fit
-version_fits : (V : ℕ) (a : WrittenAnswer) → FitsAnswer V a → All (FitsLine a.version V) (answer_lines a)
-version_fits V a f =
-    let P : Line → Type 0 = FitsLine a.version V in
+version_fits : (F : Form) (a : WrittenAnswer) → FitsAnswer F a → All (FitsLine a.version F) (answer_lines a)
+version_fits F a f =
+    let P : Line → Type 0 = FitsLine a.version F in
     let behind : All P (tree_lines a.version a.tree ++ line.End ∷ []) =
-    All-append P (tree_lines a.version a.tree) (line.End ∷ []) (tree_fits a.version V a.tree f.tree) (All-cons P line.End [] tt (All-nil P)) in
+    All-append P (tree_lines a.version a.tree) (line.End ∷ []) (tree_fits a.version F a.tree f.tree) (All-cons P line.End [] tt (All-nil P)) in
     let below : All P (map line.Edge a.edges ++ proof_lines a.version a.tree) =
     All-append P (map line.Edge a.edges) (proof_lines a.version a.tree) (All-map P line.Edge a.edges f.edges)
     (All-cons P line.Tree (tree_lines a.version a.tree ++ line.End ∷ []) tt behind) in
-    All-append P (head_lines a.version a.head) (body_lines a) (head_fits a.version V a.head f.head)
-    (All-cons P (line.Count (length a.edges)) (map line.Edge a.edges ++ proof_lines a.version a.tree) f.count below)
+    All-append P (head_lines a.version a.head) (body_lines a) (head_fits a.version F a.head f.version f.head)
+    (All-cons P (line.Count (length a.edges)) (map line.Edge a.edges ++ proof_lines a.version a.tree) (edges_counted F a.edges f.edges f.count) below)
 
--- from the first version on: the title tells the answer's
-pub answer_fits : (V : ℕ) (a : WrittenAnswer) → FitsAnswer V a → FitsLines version.One V (answer_lines a)
-answer_fits V a f = all_fit a.version V (answer_lines a) (version_fits V a f)
+-- from any version on: the title tells the answer's
+pub answer_fits : (v : Version) (F : Form) (a : WrittenAnswer) → FitsAnswer F a → FitsLines v F (answer_lines a)
+answer_fits v F a f = all_fit a.version F (answer_lines a) (version_fits F a f)
 
 -- ---- going on to an end
 
--- a cut and a name that fit
-abbrev some_cut : ℕ → Cut
-some_cut V = record { weight = 1; members = replicate V false }
+-- a cut and a label that fit, where there is an edge
+abbrev some_cut : Form → Cut
+some_cut F = record { weight = 1; members = replicate (set_size F) false }
 
 abbrev some_name : EdgeName
 some_name = record { x1 = pos 0; y1 = pos 0; x2 = pos 0; y2 = pos 0 }
 
+abbrev some_edge : Form → EdgeLabel
+some_edge (form.OnGrid V) = edge.Ends some_name
+some_edge (form.OfGraph E V) = edge.Number 1
+
 -- lines that lead from a stage to the end
-abbrev body_end : ℕ → ℕ → ℕ → List Line
-body_end V cuts nodes = replicate cuts (line.Cut (some_cut V)) ++ (replicate nodes (line.Leaf 0) ++ line.End ∷ [])
+abbrev body_end : Form → ℕ → ℕ → List Line
+body_end F cuts nodes = replicate cuts (line.Cut (some_cut F)) ++ (replicate nodes (line.Leaf 0) ++ line.End ∷ [])
 
-abbrev edges_end : ℕ → ℕ → List Line
-edges_end V edges = replicate edges (line.Edge some_name) ++ line.Tree ∷ body_end V 0 1
+abbrev edges_end : Form → ℕ → List Line
+edges_end F edges = replicate edges (line.Edge (some_edge F)) ++ line.Tree ∷ body_end F 0 1
 
-abbrev concat_end : ℕ → List Line
-concat_end V = line.Concat (record { least = false; total = 0 }) ∷ line.Count 0 ∷ edges_end V 0
+abbrev concat_end : Form → List Line
+concat_end F = line.Concat no_note ∷ line.Count 0 ∷ edges_end F 0
 
-abbrev pub end_of : Version → ℕ → Stage → List Line
-end_of v V stage.Title = line.Title v ∷ line.Length 0 ∷ line.Bound 0 ∷ line.Status false ∷ line.Openings 0 ∷ concat_end V
-end_of v V stage.Length = line.Length 0 ∷ line.Bound 0 ∷ line.Status false ∷ line.Openings 0 ∷ concat_end V
-end_of v V stage.Bound = line.Bound 0 ∷ line.Status false ∷ line.Openings 0 ∷ concat_end V
-end_of v V stage.Status = line.Status false ∷ line.Openings 0 ∷ concat_end V
-end_of v V stage.Openings = line.Openings 0 ∷ concat_end V
-end_of v V stage.Concat = concat_end V
-end_of v V stage.Count = line.Count 0 ∷ edges_end V 0
-end_of v V (stage.Edges edges) = edges_end V edges
-end_of v V (stage.Body cuts nodes) = body_end V cuts nodes
-end_of v V stage.Done = []
+abbrev openings_end : Form → List Line
+openings_end (form.OnGrid V) = line.Openings 0 ∷ concat_end (form.OnGrid V)
+openings_end (form.OfGraph E V) = line.LastOpenings 0 ∷ line.Count 0 ∷ edges_end (form.OfGraph E V) 0
+
+abbrev pub end_of : Version → Form → Stage → List Line
+end_of v F stage.Title = line.Title v ∷ line.Length 0 ∷ line.Bound 0 ∷ line.Status false ∷ openings_end F
+end_of v F stage.Length = line.Length 0 ∷ line.Bound 0 ∷ line.Status false ∷ openings_end F
+end_of v F stage.Bound = line.Bound 0 ∷ line.Status false ∷ openings_end F
+end_of v F stage.Status = line.Status false ∷ openings_end F
+end_of v F stage.Openings = openings_end F
+end_of v F stage.Concat = concat_end F
+end_of v F stage.Count = line.Count 0 ∷ edges_end F 0
+end_of v F (stage.Edges edges) = edges_end F edges
+end_of v F (stage.Body cuts nodes) = body_end F cuts nodes
+end_of v F stage.Done = []
 
 -- leaves without cuts lead to the end
 run_leaves : (nodes : ℕ) → run (stage.Body 0 nodes) (replicate nodes (line.Leaf 0) ++ line.End ∷ []) ≡ Some stage.Done
@@ -135,74 +166,90 @@ run_leaves zero = refl
 run_leaves (suc nodes) = run_leaves nodes
 
 -- cuts and then such leaves do
-run_body_end : (V cuts nodes : ℕ) → run (stage.Body cuts nodes) (body_end V cuts nodes) ≡ Some stage.Done
-run_body_end V zero nodes = run_leaves nodes
-run_body_end V (suc cuts) nodes = run_body_end V cuts nodes
+run_body_end : (F : Form) (cuts nodes : ℕ) → run (stage.Body cuts nodes) (body_end F cuts nodes) ≡ Some stage.Done
+run_body_end F zero nodes = run_leaves nodes
+run_body_end F (suc cuts) nodes = run_body_end F cuts nodes
 
 -- edges and then such a tree do
-run_edges_end : (V edges : ℕ) → run (stage.Edges edges) (edges_end V edges) ≡ Some stage.Done
-run_edges_end V zero = refl
-run_edges_end V (suc edges) = run_edges_end V edges
+run_edges_end : (F : Form) (edges : ℕ) → run (stage.Edges edges) (edges_end F edges) ≡ Some stage.Done
+run_edges_end F zero = refl
+run_edges_end F (suc edges) = run_edges_end F edges
+
+-- the end of a head does
+run_openings_end : (F : Form) → run stage.Openings (openings_end F) ≡ Some stage.Done
+run_openings_end (form.OnGrid V) = refl
+run_openings_end (form.OfGraph E V) = refl
 
 -- from every stage the end is reached
-pub run-end_of : (v : Version) (V : ℕ) (s : Stage) → run s (end_of v V s) ≡ Some stage.Done
-run-end_of v V stage.Title = refl
-run-end_of v V stage.Length = refl
-run-end_of v V stage.Bound = refl
-run-end_of v V stage.Status = refl
-run-end_of v V stage.Openings = refl
-run-end_of v V stage.Concat = refl
-run-end_of v V stage.Count = refl
-run-end_of v V (stage.Edges edges) = run_edges_end V edges
-run-end_of v V (stage.Body cuts nodes) = run_body_end V cuts nodes
-run-end_of v V stage.Done = refl
+pub run-end_of : (v : Version) (F : Form) (s : Stage) → run s (end_of v F s) ≡ Some stage.Done
+run-end_of v F stage.Title = run_openings_end F
+run-end_of v F stage.Length = run_openings_end F
+run-end_of v F stage.Bound = run_openings_end F
+run-end_of v F stage.Status = run_openings_end F
+run-end_of v F stage.Openings = run_openings_end F
+run-end_of v F stage.Concat = refl
+run-end_of v F stage.Count = refl
+run-end_of v F (stage.Edges edges) = run_edges_end F edges
+run-end_of v F (stage.Body cuts nodes) = run_body_end F cuts nodes
+run-end_of v F stage.Done = refl
 
 -- these lines fit
-body_end_fits : (v : Version) (V cuts nodes : ℕ) → All (FitsLine v V) (body_end V cuts nodes)
-body_end_fits v V cuts nodes =
-    All-append (FitsLine v V) (replicate cuts (line.Cut (some_cut V))) (replicate nodes (line.Leaf 0) ++ line.End ∷ [])
-    (All-replicate (FitsLine v V) cuts (line.Cut (some_cut V)) (record { some = omega arith; weight = omega arith; members = length-replicate V false }))
-    (All-append (FitsLine v V) (replicate nodes (line.Leaf 0)) (line.End ∷ []) (All-replicate (FitsLine v V) nodes (line.Leaf 0) (omega arith)) (All-cons (FitsLine v V) line.End [] tt (All-nil (FitsLine v V))))
+body_end_fits : (v : Version) (F : Form) (cuts nodes : ℕ) → All (FitsLine v F) (body_end F cuts nodes)
+body_end_fits v F cuts nodes =
+    All-append (FitsLine v F) (replicate cuts (line.Cut (some_cut F))) (replicate nodes (line.Leaf 0) ++ line.End ∷ [])
+    (All-replicate (FitsLine v F) cuts (line.Cut (some_cut F)) (record { some = omega arith; weight = omega arith; members = length-replicate (set_size F) false }))
+    (All-append (FitsLine v F) (replicate nodes (line.Leaf 0)) (line.End ∷ []) (All-replicate (FitsLine v F) nodes (line.Leaf 0) (omega arith)) (All-cons (FitsLine v F) line.End [] tt (All-nil (FitsLine v F))))
 
 -- the coordinate 0 fits
 pub zero_fits : FitsSigned w64 (pos 0)
 zero_fits = search rules
 
-edges_end_fits : (v : Version) (V edges : ℕ) → All (FitsLine v V) (edges_end V edges)
-edges_end_fits v V edges =
-    All-append (FitsLine v V) (replicate edges (line.Edge some_name)) (line.Tree ∷ body_end V 0 1)
-    (All-replicate (FitsLine v V) edges (line.Edge some_name) (record { x1 = zero_fits; y1 = zero_fits; x2 = zero_fits; y2 = zero_fits }))
-    (All-cons (FitsLine v V) line.Tree (body_end V 0 1) tt (body_end_fits v V 0 1))
+-- edges that there are, or none
+some_edges_fit : (v : Version) (F : Form) (edges : ℕ) → edges ≤ most_edges F → All (FitsLine v F) (replicate edges (line.Edge (some_edge F)))
+some_edges_fit v (form.OnGrid V) edges few =
+    All-replicate (FitsLine v (form.OnGrid V)) edges (line.Edge (edge.Ends some_name)) (record { x1 = zero_fits; y1 = zero_fits; x2 = zero_fits; y2 = zero_fits })
+some_edges_fit v (form.OfGraph (suc E) V) edges few =
+    All-replicate (FitsLine v (form.OfGraph (suc E) V)) edges (line.Edge (edge.Number 1)) (record { first = omega arith; within = omega arith; width = omega arith })
+some_edges_fit v (form.OfGraph zero V) zero few = All-nil (FitsLine v (form.OfGraph zero V))
+some_edges_fit v (form.OfGraph zero V) (suc edges) few = absurd (omega arith)
 
-count_end_fits : (v : Version) (V : ℕ) → All (FitsLine v V) (end_of v V stage.Count)
-count_end_fits v V = All-cons (FitsLine v V) (line.Count 0) (edges_end V 0) (omega arith) (edges_end_fits v V 0)
+edges_end_fits : (v : Version) (F : Form) (edges : ℕ) → edges ≤ most_edges F → All (FitsLine v F) (edges_end F edges)
+edges_end_fits v F edges few =
+    All-append (FitsLine v F) (replicate edges (line.Edge (some_edge F))) (line.Tree ∷ body_end F 0 1)
+    (some_edges_fit v F edges few)
+    (All-cons (FitsLine v F) line.Tree (body_end F 0 1) tt (body_end_fits v F 0 1))
 
-concat_end_fits : (v : Version) (V : ℕ) → All (FitsLine v V) (concat_end V)
-concat_end_fits v V = All-cons (FitsLine v V) (line.Concat (record { least = false; total = 0 })) (end_of v V stage.Count) (omega arith) (count_end_fits v V)
+count_end_fits : (v : Version) (F : Form) → All (FitsLine v F) (end_of v F stage.Count)
+count_end_fits v F = All-cons (FitsLine v F) (line.Count 0) (edges_end F 0) (omega arith) (edges_end_fits v F 0 (omega arith))
 
-openings_end_fits : (v : Version) (V : ℕ) → All (FitsLine v V) (end_of v V stage.Openings)
-openings_end_fits v V = All-cons (FitsLine v V) (line.Openings 0) (concat_end V) (omega arith) (concat_end_fits v V)
+concat_end_fits : (v : Version) (F : Form) → All (FitsLine v F) (concat_end F)
+concat_end_fits v F = All-cons (FitsLine v F) (line.Concat no_note) (end_of v F stage.Count) (omega arith) (count_end_fits v F)
 
-status_end_fits : (v : Version) (V : ℕ) → All (FitsLine v V) (end_of v V stage.Status)
-status_end_fits v V = All-cons (FitsLine v V) (line.Status false) (end_of v V stage.Openings) tt (openings_end_fits v V)
+openings_end_fits : (v : Version) (F : Form) → All (FitsLine v F) (end_of v F stage.Openings)
+openings_end_fits v (form.OnGrid V) = All-cons (FitsLine v (form.OnGrid V)) (line.Openings 0) (concat_end (form.OnGrid V)) (tt, omega arith) (concat_end_fits v (form.OnGrid V))
+openings_end_fits v (form.OfGraph E V) =
+    All-cons (FitsLine v (form.OfGraph E V)) (line.LastOpenings 0) (end_of v (form.OfGraph E V) stage.Count) (tt, omega arith) (count_end_fits v (form.OfGraph E V))
 
-bound_end_fits : (v : Version) (V : ℕ) → All (FitsLine v V) (end_of v V stage.Bound)
-bound_end_fits v V = All-cons (FitsLine v V) (line.Bound 0) (end_of v V stage.Status) (omega arith) (status_end_fits v V)
+status_end_fits : (v : Version) (F : Form) → All (FitsLine v F) (end_of v F stage.Status)
+status_end_fits v F = All-cons (FitsLine v F) (line.Status false) (end_of v F stage.Openings) tt (openings_end_fits v F)
 
-length_end_fits : (v : Version) (V : ℕ) → All (FitsLine v V) (end_of v V stage.Length)
-length_end_fits v V = All-cons (FitsLine v V) (line.Length 0) (end_of v V stage.Bound) (omega arith) (bound_end_fits v V)
+bound_end_fits : (v : Version) (F : Form) → All (FitsLine v F) (end_of v F stage.Bound)
+bound_end_fits v F = All-cons (FitsLine v F) (line.Bound 0) (end_of v F stage.Status) (omega arith) (status_end_fits v F)
 
-version_end_fits : (v : Version) (V : ℕ) (s : Stage) → All (FitsLine v V) (end_of v V s)
-version_end_fits v V stage.Title = All-cons (FitsLine v V) (line.Title v) (end_of v V stage.Length) refl (length_end_fits v V)
-version_end_fits v V stage.Length = length_end_fits v V
-version_end_fits v V stage.Bound = bound_end_fits v V
-version_end_fits v V stage.Status = status_end_fits v V
-version_end_fits v V stage.Openings = openings_end_fits v V
-version_end_fits v V stage.Concat = concat_end_fits v V
-version_end_fits v V stage.Count = count_end_fits v V
-version_end_fits v V (stage.Edges edges) = edges_end_fits v V edges
-version_end_fits v V (stage.Body cuts nodes) = body_end_fits v V cuts nodes
-version_end_fits v V stage.Done = All-nil (FitsLine v V)
+length_end_fits : (v : Version) (F : Form) → All (FitsLine v F) (end_of v F stage.Length)
+length_end_fits v F = All-cons (FitsLine v F) (line.Length 0) (end_of v F stage.Bound) (omega arith) (bound_end_fits v F)
 
-pub end_of_fits : (v : Version) (V : ℕ) (s : Stage) → FitsLines v V (end_of v V s)
-end_of_fits v V s = all_fit v V (end_of v V s) (version_end_fits v V s)
+version_end_fits : (v : Version) (F : Form) (s : Stage) → IsVersionOf F v → HasRoom F s → All (FitsLine v F) (end_of v F s)
+version_end_fits v F stage.Title of room = All-cons (FitsLine v F) (line.Title v) (end_of v F stage.Length) (refl, of) (length_end_fits v F)
+version_end_fits v F stage.Length of room = length_end_fits v F
+version_end_fits v F stage.Bound of room = bound_end_fits v F
+version_end_fits v F stage.Status of room = status_end_fits v F
+version_end_fits v F stage.Openings of room = openings_end_fits v F
+version_end_fits v F stage.Concat of room = concat_end_fits v F
+version_end_fits v F stage.Count of room = count_end_fits v F
+version_end_fits v F (stage.Edges edges) of room = edges_end_fits v F edges room
+version_end_fits v F (stage.Body cuts nodes) of room = body_end_fits v F cuts nodes
+version_end_fits v F stage.Done of room = All-nil (FitsLine v F)
+
+pub end_of_fits : (v : Version) (F : Form) (s : Stage) → IsVersionOf F v → HasRoom F s → FitsLines v F (end_of v F s)
+end_of_fits v F s of room = all_fit v F (end_of v F s) (version_end_fits v F s of room)

@@ -118,6 +118,7 @@ pub record IsFirstDigit (n b : ℕ) : Type 0 where
   pub low : 48 ≤ b
   pub high : b < 58
   pub some : 0 < n → 48 < b
+  pub within : b - 48 ≤ n
 
 pub first_digit : (n b : ℕ) (rest : List ℕ) → n < 2 ^ 128 → decimal n ≡ b ∷ rest → IsFirstDigit n b
 first_digit n b rest g e =
@@ -128,7 +129,7 @@ first_digit n b rest g e =
     ⊎_elim
     (λ (few : w < 10).
     let byte : b ≡ 48 + w = let digits = front.is ∙ decimal_digit w few in cc in
-    record { low = omega arith; high = omega arith; some = λ k. let s = some k in omega arith })
+    record { low = omega arith; high = omega arith; some = λ k. (let s = some k in omega arith); within = omega arith })
     (λ (many : 10 ≤ w).
     let digits = ap length (front.is ∙ decimal_step_wide w many (omega arith)) in
     let part = digits_some (w / 10) (omega arith) in

@@ -5,6 +5,9 @@ use Rattle.std.specs.Fmt.{decimal, signed_decimal}
 use Rattle.std.proofs.lemmas.List.{append-nil, map-append, take_more}
 use Rattle.std.proofs.lemmas.List.Concat.{flat_map-append}
 use Rattle.points_in.specs.declared.point.Point.{Point}
+use Rattle.cut_cert.specs.declared.label.EdgeLabel.{EdgeLabel}
+use Rattle.cut_cert.specs.declared.label.EdgeLabel.TheVariants as edge
+use Rattle.cut_cert.specs.declared.label.VertexLabel.TheVariants as vertex
 use Rattle.net_graph.specs.declared.packing.Cut.{Cut}
 use Rattle.hanan_grid.specs.declared.name.EdgeName.{EdgeName}
 use Rattle.cut_cert.specs.declared.head.AnswerHead.{AnswerHead}
@@ -12,7 +15,7 @@ use Rattle.cut_cert.specs.declared.version.Version.TheVariants as version
 use Rattle.cut_cert.specs.Value.{WrittenAnswer}
 use Rattle.cut_cert.specs.AnswerLine.{Line}
 use Rattle.cut_cert.specs.LineKinds as line
-use Rattle.cut_cert.specs.Words.{set_text, status_word, concat_word, name_words}
+use Rattle.cut_cert.specs.Words.{set_text, status_word, concat_word, edge_words}
 use Rattle.cut_cert.specs.Lines.{line_bytes, line_text, lines_text, head_lines, network_lines, proof_lines, tree_lines, answer_lines}
 
 -- the text of lines and of one more
@@ -60,17 +63,24 @@ length-head_lines h =
       length-concat h,
     )
 
--- the line of an edge
-pub length-edge : (e : EdgeName) → length (line_text (line.Edge e)) ≡ 4 + length (signed_decimal e.x1) + length (signed_decimal e.y1) + length (signed_decimal e.x2) + length (signed_decimal e.y2)
+-- the line of an edge's ends
+pub length-edge : (e : EdgeName) → length (line_text (line.Edge (edge.Ends e))) ≡ 4 + length (signed_decimal e.x1) + length (signed_decimal e.y1) + length (signed_decimal e.x2) + length (signed_decimal e.y2)
 length-edge e = simp length-append (omega arith)
 
 -- the line of a split on an edge
-pub length-split_edge : (e : EdgeName) → length (line_text (line.SplitEdge e)) ≡ 11 + length (line_text (line.Edge e))
-length-split_edge e = omega (arith, length-append (codes "split edge ") (name_words e), length-append (codes "split edge " ++ name_words e) (10 ∷ []), length-append (name_words e) (10 ∷ []))
+pub length-split_edge : (e : EdgeLabel) → length (line_text (line.SplitEdge e)) ≡ 11 + length (line_text (line.Edge e))
+length-split_edge e = omega (arith, length-append (codes "split edge ") (edge_words e), length-append (codes "split edge " ++ edge_words e) (10 ∷ []), length-append (edge_words e) (10 ∷ []))
 
 -- the line of a split on a vertex
-pub length-split_vertex : (p : Point) → length (line_text (line.SplitVertex p)) ≡ 15 + length (signed_decimal p.x) + length (signed_decimal p.y)
+pub length-split_vertex : (p : Point) → length (line_text (line.SplitVertex (vertex.At p))) ≡ 15 + length (signed_decimal p.x) + length (signed_decimal p.y)
 length-split_vertex p = simp length-append (omega arith)
+
+-- the lines of numbers
+pub length-edge_number : (n : ℕ) → length (line_text (line.Edge (edge.Number n))) ≡ 1 + length (decimal n)
+length-edge_number n = simp length-append (omega arith)
+
+pub length-vertex_number : (n : ℕ) → length (line_text (line.SplitVertex (vertex.Number n))) ≡ 14 + length (decimal n)
+length-vertex_number n = simp length-append (omega arith)
 
 -- the line of a cut
 pub length-cut : (c : Cut) → length (line_text (line.Cut c)) ≡ 6 + length (decimal c.weight) + length (set_text c.members)

@@ -8,6 +8,7 @@ pub mod NetworkLemmas
 pub mod NodeLines
 pub mod PackingLemmas
 pub mod FitLemmas
+pub mod FormLemmas
 pub mod Machine
 pub mod Due
 pub mod LineTexts
@@ -23,6 +24,10 @@ pub mod ScanSets
 pub mod SetDigits
 pub mod SetRuns
 pub mod Steps
+pub mod ValuesDue
 pub mod ScanLines
+pub mod ScanMore
 pub mod ReaderLaws
 pub mod ScanClose
+pub mod NamesClosed
+pub mod ScanBlanks

@@ -1,4 +1,4 @@
--- The line of a cut, of an edge and of a point is determined by a list that begins with it.
+-- The line of a cut, of an edge's ends and of a point is determined by a list that begins with it.
 use Rattle.std.proofs.Common.{ℕ, ◌≡◌, List, [], ◌∷◌, ◌++◌, sym, ◌∙◌, arith, append_assoc}
 use Rattle.std.specs.Prelude.{codes}
 use Rattle.std.specs.Fmt.{decimal, signed_decimal}
@@ -10,7 +10,7 @@ use Rattle.hanan_grid.specs.declared.name.EdgeName.{EdgeName}
 use Rattle.cut_cert.specs.LineKinds as line
 use Rattle.cut_cert.specs.Lines.{line_text}
 use Rattle.cut_cert.specs.Spelling.{FitsName, FitsPoint, FitsCut}
-use Rattle.cut_cert.specs.Words.{point_words, set_text}
+use Rattle.cut_cert.specs.Words.{name_words, point_words, set_text}
 use Rattle.cut_cert.proofs.Digits.{set_front}
 use Rattle.cut_cert.proofs.Pieces.{number_front, IsToldByFront}
 
@@ -44,12 +44,12 @@ from_x2 e p = signed_decimal e.x2 ++ 32 ∷ from_y2 e p
 abbrev from_y1 : EdgeName → List ℕ → List ℕ
 from_y1 e p = signed_decimal e.y1 ++ 32 ∷ from_x2 e p
 
--- an edge's line and what follows it, piece by piece
-edge_pieces : (e : EdgeName) (p : List ℕ) → line_text (line.Edge e) ++ p ≡ signed_decimal e.x1 ++ 32 ∷ from_y1 e p
+-- an edge's ends and what follows them, piece by piece
+edge_pieces : (e : EdgeName) (p : List ℕ) → (name_words e ++ 10 ∷ []) ++ p ≡ signed_decimal e.x1 ++ 32 ∷ from_y1 e p
 edge_pieces e p = simp append_assoc
 
--- the line of an edge
-pub edge_front : IsToldByFront FitsName (λ e. line_text (line.Edge e))
+-- the words of an edge's ends
+pub edge_front : IsToldByFront FitsName (λ e. name_words e ++ 10 ∷ [])
 edge_front d e p q f g h =
     let x1 = signed_front_unique 32 d.x1 e.x1 (from_y1 d p) (from_y1 e q) (omega arith) f.x1 g.x1 (sym (edge_pieces d p) ∙ h ∙ edge_pieces e q) in
     let y1 = signed_front_unique 32 d.y1 e.y1 (from_x2 d p) (from_x2 e q) (omega arith) f.y1 g.y1 x1.1 in

@@ -9,7 +9,8 @@ use Rattle.cut_cert.specs.declared.line.Stage.{Stage}
 use Rattle.cut_cert.specs.declared.line.Stage.TheVariants as stage
 use Rattle.cut_cert.specs.declared.event.AnswerEvent.{AnswerEvent}
 use Rattle.cut_cert.specs.declared.version.Version.{Version}
-use Rattle.cut_cert.specs.declared.version.Version.TheVariants as version
+use Rattle.cut_cert.specs.declared.form.Form.{Form}
+use Rattle.cut_cert.specs.Forms.{first_version}
 use Rattle.cut_cert.specs.Lines.{line_bytes, line_text, lines_text, run}
 use Rattle.cut_cert.specs.LineFits.{FitsLine, FitsLines, IsLineRead, version_with, version_from}
 use Rattle.cut_cert.specs.Events.{head_with, line_told, event_at, events_from, no_head, head_from}
@@ -19,22 +20,22 @@ use Rattle.cut_cert.proofs.Due.{fits_append, version_from-append}
 use Rattle.cut_cert.proofs.EventLaws.{events_from-append, head_from-append}
 
 -- before the first line
-pub read_none : (V : ℕ) (bytes : List ℕ) → ReadSoFar V bytes bytes stage.Title version.One no_head 1 []
-read_none V bytes = record { lines = []; fits = tt; due = refl; text = refl; told = refl; version_told = refl; head_told = refl; count = refl }
+pub read_none : (F : Form) (bytes : List ℕ) → ReadSoFar F bytes bytes stage.Title (first_version F) no_head 1 []
+read_none F bytes = record { lines = []; fits = tt; due = refl; text = refl; told = refl; version_told = refl; head_told = refl; count = refl }
 
 -- lines and one more that is due behind them
-pub fits_more : (v : Version) (V : ℕ) (ls : List Line) (l : Line) → v ≡ version_from version.One ls → FitsLines version.One V ls → FitsLine (version_with v l) V l
-    → FitsLines version.One V (ls ++ l ∷ [])
-fits_more v V ls l is f g =
-    fits_append version.One V ls (l ∷ []) f (subst (λ w. FitsLines w V (l ∷ [])) is (g, tt))
+pub fits_more : (v : Version) (F : Form) (ls : List Line) (l : Line) → v ≡ version_from (first_version F) ls → FitsLines (first_version F) F ls → FitsLine (version_with v l) F l
+    → FitsLines (first_version F) F (ls ++ l ∷ [])
+fits_more v F ls l is f g =
+    fits_append (first_version F) F ls (l ∷ []) f (subst (λ w. FitsLines w F (l ∷ [])) is (g, tt))
 
 -- behind one more line
-pub read_more : (V : ℕ) (bytes rest after bytes_read : List ℕ) (s s' : Stage) (v : Version) (head : AnswerHead) (number : ℕ) (events : List AnswerEvent) (l : Line)
-    → ReadSoFar V bytes rest s v head number events → rest ≡ bytes_read ++ 10 ∷ after → IsLineRead v V s bytes_read l s'
-    → ReadSoFar V bytes after s' (version_with v l) (head_with head l) (number + 1) (events ++ event_at number (line_told (head_with head l) l))
-read_more V bytes rest after bytes_read s s' v head number events l so_far parts read = record {
+pub read_more : (F : Form) (bytes rest after bytes_read : List ℕ) (s s' : Stage) (v : Version) (head : AnswerHead) (number : ℕ) (events : List AnswerEvent) (l : Line)
+    → ReadSoFar F bytes rest s v head number events → rest ≡ bytes_read ++ 10 ∷ after → IsLineRead v F s bytes_read l s'
+    → ReadSoFar F bytes after s' (version_with v l) (head_with head l) (number + 1) (events ++ event_at number (line_told (head_with head l) l))
+read_more F bytes rest after bytes_read s s' v head number events l so_far parts read = record {
   lines = so_far.lines ++ l ∷ [];
-  fits = fits_more v V so_far.lines l so_far.version_told so_far.fits read.fits;
+  fits = fits_more v F so_far.lines l so_far.version_told so_far.fits read.fits;
   due = run-append stage.Title so_far.lines (l ∷ []) ∙ ap (option_and_then (λ u. run u (l ∷ []))) so_far.due ∙ ap (option_and_then (λ u. Some u)) read.due;
   text =
       let line : bytes_read ++ 10 ∷ after ≡ lines_text (l ∷ []) ++ after =
@@ -46,7 +47,7 @@ read_more V bytes rest after bytes_read s s' v head number events l so_far parts
       (λ i. so_far.told i ++ event_at (place i) (line_told (head_with (so_far.head_told i) l) l))
       ∙ ap (λ x. events_from no_head 1 so_far.lines ++ x) (sym (append-nil (event_at (1 + length so_far.lines) (line_told (head_with (head_from no_head so_far.lines) l) l))))
       ∙ sym (events_from-append no_head 1 so_far.lines (l ∷ []));
-  version_told = ap (λ w. version_with w l) so_far.version_told ∙ sym (version_from-append version.One so_far.lines (l ∷ []));
+  version_told = ap (λ w. version_with w l) so_far.version_told ∙ sym (version_from-append (first_version F) so_far.lines (l ∷ []));
   head_told = ap (λ h. head_with h l) so_far.head_told ∙ sym (head_from-append no_head so_far.lines (l ∷ []));
   count = omega (arith, length-append so_far.lines (l ∷ []));
 }

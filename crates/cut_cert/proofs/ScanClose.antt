@@ -1,13 +1,8 @@
--- What the end of a line makes of what was read.
-use Rattle.std.proofs.Common.{ℕ, suc, ◌≡◌, ◌+◌, ◌-◌, ◌/◌, ◌<◌, ◌≤◌, ◌^◌, ℤ, Bool, List, [], ◌∷◌, length, refl, sym, ap, subst, ◌∙◌, arith, Result, Ok, Err, Option, Some, None, true, false, drop, replicate, length-append, ⊎_elim}
-use Rattle.std.specs.Prelude.{codes, FitsSigned}
-use Rattle.std.specs.Int.{w64}
+-- What the end of a line makes of a number or a set that was read.
+use Rattle.std.proofs.Common.{ℕ, suc, ◌≡◌, ◌+◌, ◌-◌, ◌/◌, ◌<◌, ◌≤◌, ◌^◌, Bool, List, [], ◌∷◌, length, refl, sym, ap, subst, ◌∙◌, arith, Result, Ok, Err, Option, Some, None, true, false, drop, length-append, ⊎_elim}
+use Rattle.std.specs.Prelude.{codes}
 use Rattle.std.specs.Result.{OkIff, result_ok}
-use Rattle.std.proofs.lemmas.List.{length-drop, length-replicate}
-use Rattle.net_graph.specs.Flags.{has}
-use Rattle.cut_cert.specs.SetLaws.{none_has}
-use Rattle.points_in.specs.declared.point.Point.{Point}
-use Rattle.hanan_grid.specs.declared.name.EdgeName.{EdgeName}
+use Rattle.std.proofs.lemmas.List.{length-drop}
 use Rattle.cut_cert.specs.declared.head.AnswerHead.{AnswerHead}
 use Rattle.cut_cert.specs.declared.event.Event.{Event}
 use Rattle.cut_cert.specs.declared.event.Event.TheVariants as event
@@ -18,25 +13,20 @@ use Rattle.cut_cert.specs.declared.line.Stage.TheVariants as stage
 use Rattle.cut_cert.specs.declared.scan.Kept.{Kept}
 use Rattle.cut_cert.specs.declared.scan.Field.{Field}
 use Rattle.cut_cert.specs.declared.scan.Field.TheVariants as field
-use Rattle.cut_cert.specs.declared.scan.Corner.{Corner}
-use Rattle.cut_cert.specs.declared.scan.Corner.TheVariants as corner
 use Rattle.cut_cert.specs.declared.scan.Closed.{Closed}
 use Rattle.cut_cert.specs.declared.scan.Word.TheVariants as word
 use Rattle.cut_cert.specs.declared.scan.Scan.{Scan}
 use Rattle.cut_cert.specs.declared.scan.Scan.TheVariants as scan
-use Rattle.cut_cert.specs.declared.split.SplitName.{SplitName}
-use Rattle.cut_cert.specs.declared.split.SplitName.TheVariants as name
-use Rattle.cut_cert.specs.declared.version.Version.{Version}
 use Rattle.cut_cert.specs.declared.version.Version.TheVariants as version
 use Rattle.cut_cert.specs.Spelling.{FitsName}
-use Rattle.cut_cert.specs.Lines.{split_line, step}
+use Rattle.cut_cert.specs.Lines.{step}
 use Rattle.cut_cert.specs.LineFits.{version_with}
 use Rattle.cut_cert.specs.Events.{head_with, line_told, event_at}
 use Rattle.cut_cert.specs.Given.{given}
-use Rattle.cut_cert.specs.Scanning.{word_bytes, WordLeft, WordsLeft, IsInField, IsLast, signed, name_line, BehindNumber, BehindCoordinate, NumberLeft, Left, IsDead, IsSound, IsNoLineLeft, Closes, IsNext, LeadsTo}
-use Rattle.cut_cert.proofs.ScanNumbers.{no_first, over_end, left_over, dead-blank, leads-x1, leads-y1, leads-x2, leads-x, leads-weight}
-use Rattle.cut_cert.proofs.ScanLines.{set_whole, set_left}
-use Rattle.cut_cert.proofs.Steps.{step-length, step-bound, step-openings, step-concat, step-count, step-leaf, step-edge, step-split, step-split_line, step-cut}
+use Rattle.cut_cert.specs.Scanning.{word_bytes, WordLeft, WordsLeft, IsInField, BehindNumber, NumberLeft, Left, IsSound, IsNoLineLeft, Closes}
+use Rattle.cut_cert.proofs.ScanNumbers.{no_first, over_end, left_over}
+use Rattle.cut_cert.proofs.Steps.{step-length, step-bound, step-openings, step-last_openings, step-concat, step-count, step-leaf, step-cut}
+use Rattle.cut_cert.proofs.ScanMore.{set_whole, set_left}
 
 -- a number that was made smaller is the same
 pub same_small : {E : Type 0} (fit : Result ℕ E) (bound m x : ℕ) (r : Option ℕ) → OkIff fit (m < bound) m → r ≡ result_ok fit → r ≡ Some x → x ≡ m
@@ -45,7 +35,7 @@ same_small (Err d) bound m x r fits is was = let none : None ≡ Some x = sym is
 
 -- ---- numbers
 
-closes_number : (k k' : Kept) (f : Field) (v : ℕ) (h h' : AnswerHead) (told : Option Event) (l : Line) → IsInField f v → BehindNumber k f v [] l → ((s' : Stage) → step k.stage l ≡ Some s' → k'.stage ≡ s')
+pub closes_number : (k k' : Kept) (f : Field) (v : ℕ) (h h' : AnswerHead) (told : Option Event) (l : Line) → IsInField f v → BehindNumber k f v [] l → ((s' : Stage) → step k.stage l ≡ Some s' → k'.stage ≡ s')
     → k'.version ≡ version_with k.version l → h' ≡ head_with h l → ((n : ℕ) → event_at n (line_told h' l) ≡ given n told k'.members) → k'.members ≡ k.members → FitsName k'.name → Closes k (scan.Number f v) h k' h' told
 closes_number k k' f v h h' told l inside behind stage version head event members name =
     record { line = l; left = left_over k f v [] l inside behind; stage = stage; version = version; head = head; event = event; members = members; name = name }
@@ -71,6 +61,15 @@ closes-openings k h f v x is same inside name =
     let there : IsInField field.Openings v = subst (λ g. IsInField g v) is inside in
     subst C (sym is) (closes_number k (record k { stage = stage.Concat }) field.Openings v h (record h { openings = x }) None (line.Openings v) there (refl, refl) (λ s' e. step-openings k.stage s' v e) refl (λ i. record h { openings = same i }) (λ n. refl) refl name)
 
+pub closes-last_openings : (k : Kept) (h : AnswerHead) (f : Field) (v x : ℕ) → f ≡ field.LastOpenings → x ≡ v → IsInField f v → FitsName k.name
+    → Closes k (scan.Number f v) h (record k { stage = stage.Count }) (record h { openings = x }) (Some (event.Head (record h { openings = x })))
+closes-last_openings k h f v x is same inside name =
+    let h' : AnswerHead = record h { openings = x } in
+    let C : Field → Type 0 = λ g. Closes k (scan.Number g v) h (record k { stage = stage.Count }) h' (Some (event.Head h')) in
+    let there : IsInField field.LastOpenings v = subst (λ g. IsInField g v) is inside in
+    subst C (sym is) (closes_number k (record k { stage = stage.Count }) field.LastOpenings v h h' (Some (event.Head h')) (line.LastOpenings v) there (refl, refl)
+    (λ s' e. step-last_openings k.stage s' v e) refl (λ i. record h { openings = same i }) (λ n. refl) refl name)
+
 pub closes-total : (k : Kept) (h : AnswerHead) (f : Field) (v : ℕ) (least : Bool) → f ≡ field.Total least → IsInField f v → FitsName k.name
     → Closes k (scan.Number f v) h (record k { stage = stage.Count }) (record h { concat = record { least = least; total = v } }) (Some (event.Head (record h { concat = record { least = least; total = v } })))
 closes-total k h f v least is inside name =
@@ -80,12 +79,12 @@ closes-total k h f v least is inside name =
     subst C (sym is) (closes_number k (record k { stage = stage.Count }) (field.Total least) v h h' (Some (event.Head h')) (line.Concat (record { least = least; total = v })) there (refl, refl)
     (λ s' e. step-concat k.stage s' (record { least = least; total = v }) e) refl refl (λ n. refl) refl name)
 
-pub closes-count : (k : Kept) (h : AnswerHead) (f : Field) (v x : ℕ) → f ≡ field.Count → x ≡ v → IsInField f v → FitsName k.name
+pub closes-count : (k : Kept) (h : AnswerHead) (f : Field) (most v x : ℕ) → f ≡ field.Count most → x ≡ v → IsInField f v → FitsName k.name
     → Closes k (scan.Number f v) h (record k { stage = stage.Edges x }) h (Some (event.EdgeCount x))
-closes-count k h f v x is same inside name =
+closes-count k h f most v x is same inside name =
     let C : Field → ℕ → Type 0 = λ g y. Closes k (scan.Number g v) h (record k { stage = stage.Edges y }) h (Some (event.EdgeCount y)) in
-    let there : IsInField field.Count v = subst (λ g. IsInField g v) is inside in
-    subst (λ g. C g x) (sym is) (subst (λ y. C field.Count y) (sym same) (closes_number k (record k { stage = stage.Edges v }) field.Count v h h (Some (event.EdgeCount v)) (line.Count v) there (refl, refl)
+    let there : IsInField (field.Count most) v = subst (λ g. IsInField g v) is inside in
+    subst (λ g. C g x) (sym is) (subst (λ y. C (field.Count most) y) (sym same) (closes_number k (record k { stage = stage.Edges v }) (field.Count most) v h h (Some (event.EdgeCount v)) (line.Count v) there (refl, refl)
     (λ s' e. step-count k.stage s' v e) refl refl (λ n. refl) refl name))
 
 pub closes-leaf : (k : Kept) (h : AnswerHead) (cuts c nodes left : ℕ) → k.stage ≡ stage.Body c nodes → left ≡ nodes - 1 → cuts < 2 ^ 32 → FitsName k.name
@@ -100,104 +99,12 @@ closes-leaf k h cuts c nodes left is less few name =
     ap (stage.Body cuts) here ∙ due.2)
     refl refl (λ n. refl) refl name
 
--- ---- names
-
--- a name's last coordinate
-name_behind : (k : Kept) (e : EdgeName) (minus : Bool) (v : ℕ) → FitsName e → e.x1 ≡ k.name.x1 → e.y1 ≡ k.name.y1 → e.x2 ≡ k.name.x2 → e.y2 ≡ signed minus v → BehindCoordinate k corner.Y2 (signed minus v) [] (name_line k.version k.stage e)
-name_behind k e minus v fits x1 y1 x2 y2 = record { name = e; fits = fits; same = (x1, y1, x2, y2); text = refl; line = refl }
-
-last_fits : (k : Kept) (z : ℤ) → FitsName k.name → FitsSigned w64 z → FitsName (record k.name { y2 = z })
-last_fits k z name fits = record { x1 = name.x1; y1 = name.y1; x2 = name.x2; y2 = fits }
-
-pub closes-edge : (k : Kept) (h : AnswerHead) (minus : Bool) (v edges left : ℕ) (z z' : ℤ) → k.stage ≡ stage.Edges edges → left ≡ edges - 1 → z' ≡ z → z ≡ signed minus v → FitsSigned w64 z → IsInField (field.Coordinate corner.Y2 minus) v → FitsName k.name
-    → Closes k (scan.Number (field.Coordinate corner.Y2 minus) v) h (record k { stage = stage.Edges left; name = record k.name { y2 = z' } }) h (Some (event.Edge (record k.name { y2 = z' })))
-closes-edge k h minus v edges left z z' is less cast value fits inside name =
-    let e : EdgeName = record k.name { y2 = z' } in
-    let e_fits : FitsName e = last_fits k z' name (subst (FitsSigned w64) (sym cast) fits) in
-    closes_number k (record k { stage = stage.Edges left; name = e }) (field.Coordinate corner.Y2 minus) v h h (Some (event.Edge e)) (line.Edge e) inside
-    (subst (BehindCoordinate k corner.Y2 (signed minus v) []) (ap (λ s. name_line k.version s e) is) (name_behind k e minus v e_fits refl refl refl (cast ∙ value)))
-    (λ s' d.
-    let due = step-edge k.stage s' e d in
-    let both : stage.Edges edges ≡ stage.Edges (suc due.0) = sym is ∙ due.1 in
-    let count : edges ≡ suc due.0 = cc in
-    let here : left ≡ due.0 = omega arith in
-    ap stage.Edges here ∙ due.2)
-    refl refl (λ n. refl) refl e_fits
-
--- the line of a split: two parts are due behind it
-split_due : (k : Kept) (v : Version) (on : SplitName) (cuts nodes : ℕ) (s' : Stage) → k.stage ≡ stage.Body cuts nodes → step k.stage (split_line v on) ≡ Some s' → stage.Body cuts (nodes + 1) ≡ s'
-split_due k v on cuts nodes s' is e =
-    let due = step-split k.stage s' (sym (step-split_line v on k.stage) ∙ e) in
-    let both : stage.Body cuts nodes ≡ stage.Body 0 (suc due.0) = sym is ∙ due.1 in
-    let none : cuts ≡ 0 = cc in
-    let count : nodes ≡ suc due.0 = cc in
-    let more : nodes + 1 ≡ suc (suc due.0) = omega arith in
-    (λ i. stage.Body (none i) (more i)) ∙ due.2
-
--- it tells nothing of the head or the version, and its event is the split
-split_event : (v : Version) (on : SplitName) (h : AnswerHead) (n : ℕ) (members : List Bool) → event_at n (line_told h (split_line v on)) ≡ given n (Some (event.Split on)) members
-split_event version.One (name.Edge e) h n members = refl
-split_event version.Two (name.Edge e) h n members = refl
-split_event v (name.Vertex p) h n members = refl
-
-split_head : (v : Version) (on : SplitName) (h : AnswerHead) → h ≡ head_with h (split_line v on)
-split_head version.One (name.Edge e) h = refl
-split_head version.Two (name.Edge e) h = refl
-split_head v (name.Vertex p) h = refl
-
-split_version : (w v : Version) (on : SplitName) → w ≡ version_with w (split_line v on)
-split_version w version.One (name.Edge e) = refl
-split_version w version.Two (name.Edge e) = refl
-split_version w v (name.Vertex p) = refl
-
-pub closes-split : (k : Kept) (h : AnswerHead) (minus : Bool) (v cuts nodes : ℕ) (z z' : ℤ) → k.stage ≡ stage.Body cuts nodes → z' ≡ z → z ≡ signed minus v → FitsSigned w64 z → IsInField (field.Coordinate corner.Y2 minus) v → FitsName k.name
-    → Closes k (scan.Number (field.Coordinate corner.Y2 minus) v) h (record k { stage = stage.Body cuts (nodes + 1); name = record k.name { y2 = z' } }) h (Some (event.Split (name.Edge (record k.name { y2 = z' }))))
-closes-split k h minus v cuts nodes z z' is cast value fits inside name_fits =
-    let e : EdgeName = record k.name { y2 = z' } in
-    let on : SplitName = name.Edge e in
-    let e_fits : FitsName e = last_fits k z' name_fits (subst (FitsSigned w64) (sym cast) fits) in
-    closes_number k (record k { stage = stage.Body cuts (nodes + 1); name = e }) (field.Coordinate corner.Y2 minus) v h h (Some (event.Split on)) (split_line k.version on) inside
-    (subst (BehindCoordinate k corner.Y2 (signed minus v) []) (ap (λ s. name_line k.version s e) is) (name_behind k e minus v e_fits refl refl refl (cast ∙ value)))
-    (λ s' d. split_due k k.version on cuts nodes s' is d) (split_version k.version k.version on) (split_head k.version on h) (λ n. split_event k.version on h n k.members) refl e_fits
-
-pub closes-vertex : (k : Kept) (h : AnswerHead) (minus : Bool) (v cuts nodes : ℕ) (x z z' : ℤ) → x ≡ k.name.x1 → k.stage ≡ stage.Body cuts nodes → z' ≡ z → z ≡ signed minus v → FitsSigned w64 z → IsInField (field.Coordinate corner.Y minus) v → FitsName k.name
-    → Closes k (scan.Number (field.Coordinate corner.Y minus) v) h (record k { stage = stage.Body cuts (nodes + 1); name = record k.name { y1 = z' } }) h (Some (event.Split (name.Vertex (record { x = x; y = z' }))))
-closes-vertex k h minus v cuts nodes x z z' x_is is cast value fits inside name_fits =
-    let e : EdgeName = record k.name { y1 = z' } in
-    let on : SplitName = name.Vertex (record { x = x; y = z' }) in
-    let e_fits : FitsName e = record { x1 = name_fits.x1; y1 = subst (FitsSigned w64) (sym cast) fits; x2 = name_fits.x2; y2 = name_fits.y2 } in
-    closes_number k (record k { stage = stage.Body cuts (nodes + 1); name = e }) (field.Coordinate corner.Y minus) v h h (Some (event.Split on)) (split_line k.version on) inside
-    (record { name = e; fits = e_fits; same = (refl, cast ∙ value); text = refl; line = λ i. line.SplitVertex (record { x = x_is i; y = z' }) })
-    (λ s' d. split_due k k.version on cuts nodes s' is d) refl refl (λ n. refl) refl e_fits
-
 -- a number that ends no line
 pub no_line-weight : (k : Kept) (f : Field) (v : ℕ) → f ≡ field.Weight → IsInField f v → IsNoLineLeft k (scan.Number f v)
 no_line-weight k f v is inside l s' left due =
     let there : IsInField field.Weight v = subst (λ g. IsInField g v) is inside in
     let behind = over_end k field.Weight v l there (subst (λ g. Left k (scan.Number g v) [] l) is left) in
     let text = behind.text in cc
-
-inner_corner : (k : Kept) (c : Corner) (z : ℤ) (l : Line) → (c ≡ corner.Y2 → ⊥) → (c ≡ corner.Y → ⊥) → BehindCoordinate k c z [] l → ⊥
-inner_corner k corner.X1 z l inner inner_too h = let text = h.text in cc
-inner_corner k corner.Y1 z l inner inner_too h = let text = h.text in cc
-inner_corner k corner.X2 z l inner inner_too h = let text = h.text in cc
-inner_corner k corner.Y2 z l inner inner_too h = inner refl
-inner_corner k corner.X z l inner inner_too h = let text = h.text in cc
-inner_corner k corner.Y z l inner inner_too h = inner_too refl
-
-pub no_line-corner : (k : Kept) (c : Corner) (minus : Bool) (v : ℕ) → (c ≡ corner.Y2 → ⊥) → (c ≡ corner.Y → ⊥) → IsInField (field.Coordinate c minus) v → IsNoLineLeft k (scan.Number (field.Coordinate c minus) v)
-no_line-corner k c minus v inner inner_too inside l s' left due = inner_corner k c (signed minus v) l inner inner_too (over_end k (field.Coordinate c minus) v l inside left)
-
--- a vertex where no node is due
-vertex_line : (k : Kept) (z : ℤ) (l : Line) → BehindCoordinate k corner.Y z [] l → (p : Point) × (l ≡ line.SplitVertex p)
-vertex_line k z l h = (record { x = h.name.x1; y = h.name.y1 }, h.line)
-
-pub no_line-vertex : (k : Kept) (c : Corner) (minus : Bool) (v : ℕ) → c ≡ corner.Y → ((p : Point) (s' : Stage) → step k.stage (line.SplitVertex p) ≡ Some s' → ⊥) → IsInField (field.Coordinate c minus) v
-    → IsNoLineLeft k (scan.Number (field.Coordinate c minus) v)
-no_line-vertex k c minus v is none inside l s' left due =
-    let behind = over_end k (field.Coordinate c minus) v l inside left in
-    let vertex = vertex_line k (signed minus v) l (subst (λ d. BehindCoordinate k d (signed minus v) [] l) is behind) in
-    none vertex.0 s' (ap (step k.stage) (sym vertex.1) ∙ due)
 
 -- ---- sets
 
@@ -228,12 +135,13 @@ no_line-set k place short l s' left due = let whole = set_whole k place l left i
 pub no_line-other : (k : Kept) (s : Scan) → ((f : Field) (v : ℕ) → s ≡ scan.Number f v → ⊥) → ((place : ℕ) → s ≡ scan.Set place → ⊥) → ((c : Closed) → s ≡ scan.LineEnd c → ⊥) → IsSound k s → IsNoLineLeft k s
 no_line-other k (scan.Word w place) number set closed sound l s' left due =
     let some = ap length left.1 in
+    let within = sound.0 in
     omega (arith, length-drop place (word_bytes w), length-append (drop place (word_bytes w)) left.0)
 no_line-other k scan.Version number set closed sound l s' left due = ⊎_elim (λ (one : ([] ≡ codes "1") × (l ≡ line.Title version.One)). let e = one.0 in absurd cc) (λ (two : ([] ≡ codes "2") × (l ≡ line.Title version.Two)). let e = two.0 in absurd cc) left
 no_line-other k scan.Status number set closed sound l s' left due = ⊎_elim (λ (one : WordLeft k word.Optimal 0 [] l). let e = one.1 in absurd cc) (λ (other : WordLeft k word.Stopped 0 [] l). let e = other.1 in absurd cc) left
 no_line-other k scan.Kind number set closed sound l s' left due = ⊎_elim (λ (one : WordLeft k word.Least 0 [] l). let e = one.1 in absurd cc) (λ (other : WordLeft k word.Spent 0 [] l). let e = other.1 in absurd cc) left
-no_line-other k (scan.Node v) number set closed sound l s' left due = ⊎_elim (λ (one : WordsLeft k (word.Split v) 0 [] l). let e = one.1 in absurd cc) (λ (other : WordsLeft k word.Leaf 0 [] l). let e = other.1 in absurd cc) left
-no_line-other k scan.On number set closed sound l s' left due = ⊎_elim (λ (one : WordLeft k word.Edge 0 [] l). let e = one.1 in absurd cc) (λ (other : WordLeft k word.Vertex 0 [] l). let e = other.1 in absurd cc) left
+no_line-other k (scan.Node v F) number set closed sound l s' left due = ⊎_elim (λ (one : WordsLeft k (word.Split v F) 0 [] l). let e = one.1 in absurd cc) (λ (other : WordsLeft k word.Leaf 0 [] l). let e = other.1 in absurd cc) left
+no_line-other k (scan.On F) number set closed sound l s' left due = ⊎_elim (λ (one : WordLeft k (word.Edge F) 0 [] l). let e = one.1 in absurd cc) (λ (other : WordLeft k (word.Vertex F) 0 [] l). let e = other.1 in absurd cc) left
 no_line-other k (scan.Due f) number set closed sound l s' left due = no_first k f [] l left refl
 no_line-other k (scan.Coordinate c) number set closed sound l s' left due = ⊎_elim
     (λ (plain : NumberLeft k (field.Coordinate c false) [] [] l). no_first k (field.Coordinate c false) [] l plain refl)
@@ -244,102 +152,3 @@ no_line-other k (scan.Set place) number set closed sound l s' left due = set pla
 no_line-other k (scan.LineEnd c) number set closed sound l s' left due = closed c refl
 no_line-other k scan.Ended number set closed sound l s' left due = left
 no_line-other k scan.Refused number set closed sound l s' left due = left
-
--- ---- blanks
-
-pub next-weight : (k : Kept) (f : Field) (v x : ℕ) (members : List Bool) → f ≡ field.Weight → x ≡ v → members ≡ replicate (length k.members) false → IsInField f v → FitsName k.name
-    → IsNext k (scan.Number f v) 32 (record k { weight = x; members = members }) (scan.Set 0)
-next-weight k f v x members is same cleared inside name =
-    let there : IsInField field.Weight v = subst (λ g. IsInField g v) is inside in
-    let least = there.least in
-    let limit = there.limit in
-    let size : length members ≡ length k.members = ap length cleared ∙ length-replicate (length k.members) false in
-    record {
-      leads = subst (λ g. LeadsTo k (scan.Number g v) 32 (record k { weight = x; members = members }) (scan.Set 0)) (sym is) (leads-weight k (record k { weight = x; members = members }) v there same size);
-      sound = (omega arith, omega arith, omega arith, (λ u later. ap (λ m. has m u) cleared ∙ none_has (length k.members) u));
-      name = name;
-      stage = refl;
-      version = refl;
-      size = size;
-    }
-
-pub next-x1 : (k : Kept) (c : Corner) (minus : Bool) (v : ℕ) (z z' : ℤ) → c ≡ corner.X1 → z' ≡ z → z ≡ signed minus v → FitsSigned w64 z → IsInField (field.Coordinate c minus) v → FitsName k.name
-    → IsNext k (scan.Number (field.Coordinate c minus) v) 32 (record k { name = record k.name { x1 = z' } }) (scan.Coordinate corner.Y1)
-next-x1 k c minus v z z' is cast value fits inside name =
-    let there : IsInField (field.Coordinate corner.X1 minus) v = subst (λ d. IsInField (field.Coordinate d minus) v) is inside in
-    let k' : Kept = record k { name = record k.name { x1 = z' } } in
-    record {
-      leads = subst (λ d. LeadsTo k (scan.Number (field.Coordinate d minus) v) 32 k' (scan.Coordinate corner.Y1)) (sym is) (leads-x1 k k' minus v there refl refl (cast ∙ value));
-      sound = tt;
-      name = record { x1 = subst (FitsSigned w64) (sym cast) fits; y1 = name.y1; x2 = name.x2; y2 = name.y2 };
-      stage = refl;
-      version = refl;
-      size = refl;
-    }
-
-pub next-y1 : (k : Kept) (c : Corner) (minus : Bool) (v : ℕ) (z z' : ℤ) → c ≡ corner.Y1 → z' ≡ z → z ≡ signed minus v → FitsSigned w64 z → IsInField (field.Coordinate c minus) v → FitsName k.name
-    → IsNext k (scan.Number (field.Coordinate c minus) v) 32 (record k { name = record k.name { y1 = z' } }) (scan.Coordinate corner.X2)
-next-y1 k c minus v z z' is cast value fits inside name =
-    let there : IsInField (field.Coordinate corner.Y1 minus) v = subst (λ d. IsInField (field.Coordinate d minus) v) is inside in
-    let k' : Kept = record k { name = record k.name { y1 = z' } } in
-    record {
-      leads = subst (λ d. LeadsTo k (scan.Number (field.Coordinate d minus) v) 32 k' (scan.Coordinate corner.X2)) (sym is) (leads-y1 k k' minus v there refl refl refl (cast ∙ value));
-      sound = tt;
-      name = record { x1 = name.x1; y1 = subst (FitsSigned w64) (sym cast) fits; x2 = name.x2; y2 = name.y2 };
-      stage = refl;
-      version = refl;
-      size = refl;
-    }
-
-pub next-x2 : (k : Kept) (c : Corner) (minus : Bool) (v : ℕ) (z z' : ℤ) → c ≡ corner.X2 → z' ≡ z → z ≡ signed minus v → FitsSigned w64 z → IsInField (field.Coordinate c minus) v → FitsName k.name
-    → IsNext k (scan.Number (field.Coordinate c minus) v) 32 (record k { name = record k.name { x2 = z' } }) (scan.Coordinate corner.Y2)
-next-x2 k c minus v z z' is cast value fits inside name =
-    let there : IsInField (field.Coordinate corner.X2 minus) v = subst (λ d. IsInField (field.Coordinate d minus) v) is inside in
-    let k' : Kept = record k { name = record k.name { x2 = z' } } in
-    record {
-      leads = subst (λ d. LeadsTo k (scan.Number (field.Coordinate d minus) v) 32 k' (scan.Coordinate corner.Y2)) (sym is) (leads-x2 k k' minus v there refl refl refl refl (cast ∙ value));
-      sound = tt;
-      name = record { x1 = name.x1; y1 = name.y1; x2 = subst (FitsSigned w64) (sym cast) fits; y2 = name.y2 };
-      stage = refl;
-      version = refl;
-      size = refl;
-    }
-
-pub next-x : (k : Kept) (c : Corner) (minus : Bool) (v : ℕ) (z z' : ℤ) → c ≡ corner.X → z' ≡ z → z ≡ signed minus v → FitsSigned w64 z → IsInField (field.Coordinate c minus) v → FitsName k.name
-    → IsNext k (scan.Number (field.Coordinate c minus) v) 32 (record k { name = record k.name { x1 = z' } }) (scan.Coordinate corner.Y)
-next-x k c minus v z z' is cast value fits inside name =
-    let there : IsInField (field.Coordinate corner.X minus) v = subst (λ d. IsInField (field.Coordinate d minus) v) is inside in
-    let k' : Kept = record k { name = record k.name { x1 = z' } } in
-    record {
-      leads = subst (λ d. LeadsTo k (scan.Number (field.Coordinate d minus) v) 32 k' (scan.Coordinate corner.Y)) (sym is) (leads-x k k' minus v there (cast ∙ value));
-      sound = tt;
-      name = record { x1 = subst (FitsSigned w64) (sym cast) fits; y1 = name.y1; x2 = name.x2; y2 = name.y2 };
-      stage = refl;
-      version = refl;
-      size = refl;
-    }
-
--- no blank may stand behind a last coordinate
-last_over : (k : Kept) (c : Corner) (z : ℤ) (rest : List ℕ) (l : Line) → IsLast c → BehindCoordinate k c z (32 ∷ rest) l → ⊥
-last_over k corner.X1 z rest l last h = last
-last_over k corner.Y1 z rest l last h = last
-last_over k corner.X2 z rest l last h = last
-last_over k corner.Y2 z rest l last h = let text = h.text in cc
-last_over k corner.X z rest l last h = last
-last_over k corner.Y z rest l last h = let text = h.text in cc
-
-pub dead-last : (k : Kept) (f : Field) (c : Corner) (minus : Bool) (v : ℕ) → f ≡ field.Coordinate c minus → IsLast c → IsInField f v → IsDead k (scan.Number f v) 32
-dead-last k f c minus v is last inside =
-    let there : IsInField (field.Coordinate c minus) v = subst (λ g. IsInField g v) is inside in
-    subst (λ g. IsDead k (scan.Number g v) 32) (sym is) (dead-blank k (field.Coordinate c minus) v there (λ rest l h. last_over k c (signed minus v) rest l last h))
-
--- nor behind the last number of another line
-pub dead-other : (k : Kept) (f : Field) (v : ℕ) → (f ≡ field.Weight → ⊥) → ((c : Corner) (minus : Bool) → f ≡ field.Coordinate c minus → ⊥) → IsInField f v → IsDead k (scan.Number f v) 32
-dead-other k field.Length v weight name inside = dead-blank k field.Length v inside (λ rest l h. let text = h.0 in cc)
-dead-other k field.Bound v weight name inside = dead-blank k field.Bound v inside (λ rest l h. let text = h.0 in cc)
-dead-other k field.Openings v weight name inside = dead-blank k field.Openings v inside (λ rest l h. let text = h.0 in cc)
-dead-other k (field.Total least) v weight name inside = dead-blank k (field.Total least) v inside (λ rest l h. let text = h.0 in cc)
-dead-other k field.Count v weight name inside = dead-blank k field.Count v inside (λ rest l h. let text = h.0 in cc)
-dead-other k field.Leaf v weight name inside = dead-blank k field.Leaf v inside (λ rest l h. let text = h.0 in cc)
-dead-other k field.Weight v weight name inside = absurd (weight refl)
-dead-other k (field.Coordinate c minus) v weight name inside = absurd (name c minus refl)

@@ -6,6 +6,7 @@ use Rattle.std.specs.Fmt.{decimal, signed_decimal}
 use Rattle.std.proofs.lemmas.List.{append-nil}
 use Rattle.cut_cert.specs.AnswerLine.{Line}
 use Rattle.cut_cert.specs.LineKinds as line
+use Rattle.cut_cert.specs.declared.label.EdgeLabel.TheVariants as edge
 use Rattle.cut_cert.specs.declared.scan.Kept.{Kept}
 use Rattle.cut_cert.specs.declared.scan.Field.{Field}
 use Rattle.cut_cert.specs.declared.scan.Field.TheVariants as field
@@ -17,39 +18,20 @@ use Rattle.cut_cert.specs.Scanning.{least_of, limit_of, IsInField, signed, Behin
 use Rattle.cut_cert.proofs.Pieces.{number_one}
 use Rattle.cut_cert.proofs.FrontNumbers.{IsFirstDigit, digits_some, digit_more, next_digit, first_digit, digit_spelled}
 
--- every field's numbers have at most 128 bits, and more than one digit
+-- every field's numbers have at most 128 bits
 pub limit-wide : (f : Field) → limit_of f ≤ 2 ^ 128
 limit-wide field.Length = omega arith
 limit-wide field.Bound = omega arith
 limit-wide field.Openings = omega arith
 limit-wide (field.Total least) = omega arith
-limit-wide field.Count = omega arith
+limit-wide field.LastOpenings = omega arith
+limit-wide (field.Count most) = omega arith
+limit-wide (field.EdgeNumber last) = omega arith
+limit-wide (field.VertexNumber last) = omega arith
 limit-wide field.Leaf = omega arith
 limit-wide field.Weight = omega arith
 limit-wide (field.Coordinate c false) = omega arith
 limit-wide (field.Coordinate c true) = omega arith
-
-pub limit-some : (f : Field) → 10 ≤ limit_of f
-limit-some field.Length = omega arith
-limit-some field.Bound = omega arith
-limit-some field.Openings = omega arith
-limit-some (field.Total least) = omega arith
-limit-some field.Count = omega arith
-limit-some field.Leaf = omega arith
-limit-some field.Weight = omega arith
-limit-some (field.Coordinate c false) = omega arith
-limit-some (field.Coordinate c true) = omega arith
-
-pub least-few : (f : Field) → least_of f ≤ 1
-least-few field.Length = omega arith
-least-few field.Bound = omega arith
-least-few field.Openings = omega arith
-least-few (field.Total least) = omega arith
-least-few field.Count = omega arith
-least-few field.Leaf = omega arith
-least-few field.Weight = omega arith
-least-few (field.Coordinate c false) = omega arith
-least-few (field.Coordinate c true) = omega arith
 
 in_field-wide : (f : Field) (n : ℕ) → IsInField f n → n < 2 ^ 128
 in_field-wide f n inside = let below = inside.limit in omega (arith, limit-wide f)
@@ -68,7 +50,10 @@ behind_blank k field.Length n b rest l h = let text = h.0 in absurd cc
 behind_blank k field.Bound n b rest l h = let text = h.0 in absurd cc
 behind_blank k field.Openings n b rest l h = let text = h.0 in absurd cc
 behind_blank k (field.Total least) n b rest l h = let text = h.0 in absurd cc
-behind_blank k field.Count n b rest l h = let text = h.0 in absurd cc
+behind_blank k field.LastOpenings n b rest l h = let text = h.0 in absurd cc
+behind_blank k (field.Count most) n b rest l h = let text = h.0 in absurd cc
+behind_blank k (field.EdgeNumber last) n b rest l h = let text = h.0 in absurd cc
+behind_blank k (field.VertexNumber last) n b rest l h = let text = h.0 in absurd cc
 behind_blank k field.Leaf n b rest l h = let text = h.0 in absurd cc
 behind_blank k field.Weight n b rest l h = let text = h.text in cc
 behind_blank k (field.Coordinate c minus) n b rest l h = corner_blank k c (signed minus n) b rest l h
@@ -135,12 +120,14 @@ no_first k f rest l h none =
     let some = digits_some h.number (in_field-wide f h.number h.inside) in
     omega (arith, length-append h.more h.behind)
 
-pub dead-first : (k : Kept) (f : Field) (b : ℕ) → (48 ≤ b → b < 58 → (b ≡ 48 → least_of f ≡ 1 → ⊥) → ⊥) → IsDead k (scan.Due f) b
+pub dead-first : (k : Kept) (f : Field) (b : ℕ) → (48 ≤ b → b < 58 → (b ≡ 48 → least_of f ≡ 1 → ⊥) → b - 48 < limit_of f → ⊥) → IsDead k (scan.Due f) b
 dead-first k f b none rest l h =
     let first = first_of f b rest h.number h.more h.behind h.parts h.spelled h.inside in
     let is = first.is in
     let least = first.inside.least in
-    none is.low is.high (λ zero_digit one. let some : 0 < first.number = omega arith in let above = is.some some in omega arith)
+    let limit = first.inside.limit in
+    let within = is.within in
+    none is.low is.high (λ zero_digit one. let some : 0 < first.number = omega arith in let above = is.some some in omega arith) (omega arith)
 
 -- a further digit
 pub leads-next : (k : Kept) (f : Field) (v digit b : ℕ) → IsInField f v → 0 < v → digit < 10 → b ≡ 48 + digit → 10 * v + digit < limit_of f
@@ -292,13 +279,13 @@ leads-x1 k k' minus v here stage version x1 = record {
       let text = b.text in
       let rest_is : rest ≡ behind_x1 b.name = cc in
       coordinate_left k' corner.Y1 b.name.y1 rest (32 ∷ behind_y1 b.name) l rest_is b.fits.y1
-      (record { name = b.name; fits = b.fits; same = (b.same ∙ sym x1, refl); text = refl; line = b.line ∙ (λ i. name_line (sym version i) (sym stage i) b.name) });
+      (record { name = b.name; fits = b.fits; same = (b.same ∙ sym x1, refl); text = refl; line = b.line ∙ (λ i. name_line (sym version i) (sym stage i) (edge.Ends b.name)) });
   back = λ rest l h.
       let s = spelled_of k' corner.Y1 rest l h in
       let f = s.follows in
       let rest_is : rest ≡ behind_x1 f.name = s.text ∙ (λ i. signed_decimal (sym f.same.1 i) ++ f.text i) in
       left_over k (field.Coordinate corner.X1 minus) v (32 ∷ rest) l here
-      (record { name = f.name; fits = f.fits; same = f.same.0 ∙ x1; text = ap (λ x. 32 ∷ x) rest_is; line = f.line ∙ (λ i. name_line (version i) (stage i) f.name) });
+      (record { name = f.name; fits = f.fits; same = f.same.0 ∙ x1; text = ap (λ x. 32 ∷ x) rest_is; line = f.line ∙ (λ i. name_line (version i) (stage i) (edge.Ends f.name)) });
 }
 
 pub leads-y1 : (k k' : Kept) (minus : Bool) (v : ℕ) → IsInField (field.Coordinate corner.Y1 minus) v → k'.stage ≡ k.stage → k'.version ≡ k.version → k'.name.x1 ≡ k.name.x1 → k'.name.y1 ≡ signed minus v
@@ -309,13 +296,13 @@ leads-y1 k k' minus v here stage version x1 y1 = record {
       let text = b.text in
       let rest_is : rest ≡ behind_y1 b.name = cc in
       coordinate_left k' corner.X2 b.name.x2 rest (32 ∷ signed_decimal b.name.y2) l rest_is b.fits.x2
-      (record { name = b.name; fits = b.fits; same = (b.same.0 ∙ sym x1, b.same.1 ∙ sym y1, refl); text = refl; line = b.line ∙ (λ i. name_line (sym version i) (sym stage i) b.name) });
+      (record { name = b.name; fits = b.fits; same = (b.same.0 ∙ sym x1, b.same.1 ∙ sym y1, refl); text = refl; line = b.line ∙ (λ i. name_line (sym version i) (sym stage i) (edge.Ends b.name)) });
   back = λ rest l h.
       let s = spelled_of k' corner.X2 rest l h in
       let f = s.follows in
       let rest_is : rest ≡ behind_y1 f.name = s.text ∙ (λ i. signed_decimal (sym f.same.2 i) ++ f.text i) in
       left_over k (field.Coordinate corner.Y1 minus) v (32 ∷ rest) l here
-      (record { name = f.name; fits = f.fits; same = (f.same.0 ∙ x1, f.same.1 ∙ y1); text = ap (λ x. 32 ∷ x) rest_is; line = f.line ∙ (λ i. name_line (version i) (stage i) f.name) });
+      (record { name = f.name; fits = f.fits; same = (f.same.0 ∙ x1, f.same.1 ∙ y1); text = ap (λ x. 32 ∷ x) rest_is; line = f.line ∙ (λ i. name_line (version i) (stage i) (edge.Ends f.name)) });
 }
 
 pub leads-x2 : (k k' : Kept) (minus : Bool) (v : ℕ) → IsInField (field.Coordinate corner.X2 minus) v → k'.stage ≡ k.stage → k'.version ≡ k.version → k'.name.x1 ≡ k.name.x1 → k'.name.y1 ≡ k.name.y1
@@ -326,13 +313,13 @@ leads-x2 k k' minus v here stage version x1 y1 x2 = record {
       let text = b.text in
       let rest_is : rest ≡ signed_decimal b.name.y2 ++ [] = (let plain : rest ≡ signed_decimal b.name.y2 = cc in plain ∙ sym (append-nil (signed_decimal b.name.y2))) in
       coordinate_left k' corner.Y2 b.name.y2 rest [] l rest_is b.fits.y2
-      (record { name = b.name; fits = b.fits; same = (b.same.0 ∙ sym x1, b.same.1 ∙ sym y1, b.same.2 ∙ sym x2, refl); text = refl; line = b.line ∙ (λ i. name_line (sym version i) (sym stage i) b.name) });
+      (record { name = b.name; fits = b.fits; same = (b.same.0 ∙ sym x1, b.same.1 ∙ sym y1, b.same.2 ∙ sym x2, refl); text = refl; line = b.line ∙ (λ i. name_line (sym version i) (sym stage i) (edge.Ends b.name)) });
   back = λ rest l h.
       let s = spelled_of k' corner.Y2 rest l h in
       let f = s.follows in
       let rest_is : rest ≡ signed_decimal f.name.y2 = s.text ∙ (λ i. signed_decimal (sym f.same.3 i) ++ f.text i) ∙ append-nil (signed_decimal f.name.y2) in
       left_over k (field.Coordinate corner.X2 minus) v (32 ∷ rest) l here
-      (record { name = f.name; fits = f.fits; same = (f.same.0 ∙ x1, f.same.1 ∙ y1, f.same.2 ∙ x2); text = ap (λ x. 32 ∷ x) rest_is; line = f.line ∙ (λ i. name_line (version i) (stage i) f.name) });
+      (record { name = f.name; fits = f.fits; same = (f.same.0 ∙ x1, f.same.1 ∙ y1, f.same.2 ∙ x2); text = ap (λ x. 32 ∷ x) rest_is; line = f.line ∙ (λ i. name_line (version i) (stage i) (edge.Ends f.name)) });
 }
 
 pub leads-x : (k k' : Kept) (minus : Bool) (v : ℕ) → IsInField (field.Coordinate corner.X minus) v → k'.name.x1 ≡ signed minus v

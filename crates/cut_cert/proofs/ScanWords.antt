@@ -3,12 +3,16 @@ use Rattle.std.proofs.Common.{ℕ, suc, ◌≡◌, ◌+◌, ◌<◌, ◌≤◌, 
 use Rattle.std.proofs.Math.Seq.{drop-cons}
 use Rattle.std.proofs.lemmas.List.{drop_all}
 use Rattle.cut_cert.specs.AnswerLine.{Line}
+use Rattle.cut_cert.specs.declared.form.Form.TheVariants as form
 use Rattle.cut_cert.specs.declared.scan.Kept.{Kept}
 use Rattle.cut_cert.specs.declared.scan.Word.{Word}
 use Rattle.cut_cert.specs.declared.scan.Word.TheVariants as word
 use Rattle.cut_cert.specs.declared.scan.Scan.TheVariants as scan
+use Rattle.cut_cert.specs.declared.form.Form.{Form}
+use Rattle.cut_cert.specs.declared.version.Version.{Version}
 use Rattle.cut_cert.specs.declared.version.Version.TheVariants as version
-use Rattle.cut_cert.specs.Scanning.{word_bytes, behind_word, ForkLeft, Left, LeadsTo}
+use Rattle.cut_cert.specs.Forms.{HasVertices, IsVersionOf}
+use Rattle.cut_cert.specs.Scanning.{word_bytes, behind_word, ForkLeft, Left, LeadsTo, IsOpen, IsUnderway}
 
 -- the byte at a place of a word and those behind it
 word_split : (w : Word) (place b : ℕ) → place < length (word_bytes w) → get_or (word_bytes w) place 0 ≡ b → drop place (word_bytes w) ≡ b ∷ drop (place + 1) (word_bytes w)
@@ -33,21 +37,27 @@ leads-word k w place b inside is = record {
 -- what is due behind a word is no word
 behind_left : (k : Kept) (w : Word) (rest : List ℕ) (l : Line) → (ForkLeft k (behind_word w) rest l → Left k (behind_word w) rest l) × (Left k (behind_word w) rest l → ForkLeft k (behind_word w) rest l)
 behind_left k word.Title rest l = ((λ h. h), (λ h. h))
+behind_left k word.GraphTitle rest l = ((λ h. h), (λ h. h))
 behind_left k word.Length rest l = ((λ h. h), (λ h. h))
 behind_left k word.Bound rest l = ((λ h. h), (λ h. h))
 behind_left k word.Status rest l = ((λ h. h), (λ h. h))
 behind_left k word.Optimal rest l = ((λ h. h), (λ h. h))
 behind_left k word.Stopped rest l = ((λ h. h), (λ h. h))
 behind_left k word.Openings rest l = ((λ h. h), (λ h. h))
+behind_left k word.LastOpenings rest l = ((λ h. h), (λ h. h))
 behind_left k word.Concat rest l = ((λ h. h), (λ h. h))
 behind_left k word.Least rest l = ((λ h. h), (λ h. h))
 behind_left k word.Spent rest l = ((λ h. h), (λ h. h))
-behind_left k word.Edges rest l = ((λ h. h), (λ h. h))
+behind_left k (word.Edges most) rest l = ((λ h. h), (λ h. h))
 behind_left k word.Tree rest l = ((λ h. h), (λ h. h))
-behind_left k (word.Split version.One) rest l = ((λ h. h), (λ h. h))
-behind_left k (word.Split version.Two) rest l = ((λ h. h), (λ h. h))
-behind_left k word.Edge rest l = ((λ h. h), (λ h. h))
-behind_left k word.Vertex rest l = ((λ h. h), (λ h. h))
+behind_left k (word.Split version.One (form.OnGrid V)) rest l = ((λ h. h), (λ h. h))
+behind_left k (word.Split version.One (form.OfGraph E V)) rest l = ((λ h. h), (λ h. h))
+behind_left k (word.Split version.Two F) rest l = ((λ h. h), (λ h. h))
+behind_left k (word.Split version.Graph F) rest l = ((λ h. h), (λ h. h))
+behind_left k (word.Edge (form.OnGrid V)) rest l = ((λ h. h), (λ h. h))
+behind_left k (word.Edge (form.OfGraph E V)) rest l = ((λ h. h), (λ h. h))
+behind_left k (word.Vertex (form.OnGrid V)) rest l = ((λ h. h), (λ h. h))
+behind_left k (word.Vertex (form.OfGraph E V)) rest l = ((λ h. h), (λ h. h))
 behind_left k word.Leaf rest l = ((λ h. h), (λ h. h))
 behind_left k word.Cut rest l = ((λ h. h), (λ h. h))
 behind_left k word.End rest l = ((λ h. h), (λ h. h))
@@ -64,3 +74,43 @@ leads-last k w place b inside is last =
           (behind_left k w rest l).0 (subst (λ x. ForkLeft k (behind_word w) x l) all next.2);
       back = λ rest l h. one.back rest l (rest, sym (ap (λ x. x ++ rest) none), (behind_left k w rest l).1 h);
     }
+
+-- what is open behind a word is underway
+pub behind_underway : (k : Kept) (w : Word) → IsOpen (behind_word w) → IsUnderway k (behind_word w)
+behind_underway k word.Title can = tt
+behind_underway k word.GraphTitle can = tt
+behind_underway k word.Length can = can
+behind_underway k word.Bound can = can
+behind_underway k word.Status can = tt
+behind_underway k word.Optimal can = tt
+behind_underway k word.Stopped can = tt
+behind_underway k word.Openings can = can
+behind_underway k word.LastOpenings can = can
+behind_underway k word.Concat can = tt
+behind_underway k word.Least can = can
+behind_underway k word.Spent can = can
+behind_underway k (word.Edges most) can = can
+behind_underway k word.Tree can = tt
+behind_underway k (word.Split version.One (form.OnGrid V)) can = tt
+behind_underway k (word.Split version.One (form.OfGraph E V)) can = can
+behind_underway k (word.Split version.Two F) can = can
+behind_underway k (word.Split version.Graph F) can = can
+behind_underway k (word.Edge (form.OnGrid V)) can = tt
+behind_underway k (word.Edge (form.OfGraph E V)) can = can
+behind_underway k (word.Vertex (form.OnGrid V)) can = tt
+behind_underway k (word.Vertex (form.OfGraph E V)) can = can
+behind_underway k word.Leaf can = can
+behind_underway k word.Cut can = can
+behind_underway k word.End can = tt
+
+-- a split's word, where a node is due in a text of the form
+pub split_open : (F : Form) (v : Version) → IsVersionOf F v × HasVertices F → IsOpen (behind_word (word.Split v F))
+split_open (form.OnGrid V) version.One can = tt
+split_open (form.OfGraph E V) version.One can = absurd can.0
+split_open F version.Two can = can.1
+split_open F version.Graph can = can.1
+
+-- a vertex's word, where there is one
+pub vertex_open : (F : Form) → HasVertices F → IsOpen (behind_word (word.Vertex F))
+vertex_open (form.OnGrid V) some = tt
+vertex_open (form.OfGraph E V) some = omega arith

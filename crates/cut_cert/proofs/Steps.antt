@@ -1,7 +1,7 @@
 -- What is due before a line that was due, and behind it.
 use Rattle.std.proofs.Common.{ℕ, suc, zero, ◌≡◌, refl, Some, None}
 use Rattle.net_graph.specs.declared.packing.Cut.{Cut}
-use Rattle.hanan_grid.specs.declared.name.EdgeName.{EdgeName}
+use Rattle.cut_cert.specs.declared.label.EdgeLabel.{EdgeLabel}
 use Rattle.cut_cert.specs.declared.head.ConcatNote.{ConcatNote}
 use Rattle.cut_cert.specs.declared.split.SplitName.{SplitName}
 use Rattle.cut_cert.specs.declared.split.SplitName.TheVariants as name
@@ -58,6 +58,21 @@ step-openings (stage.Body zero (suc m)) s' n e = absurd cc
 step-openings (stage.Body (suc k) m) s' n e = absurd cc
 step-openings stage.Done s' n e = absurd cc
 
+pub step-last_openings : (s s' : Stage) (n : ℕ) → step s (line.LastOpenings n) ≡ Some s' → stage.Count ≡ s'
+step-last_openings stage.Openings s' n e = cc
+step-last_openings stage.Title s' n e = absurd cc
+step-last_openings stage.Length s' n e = absurd cc
+step-last_openings stage.Bound s' n e = absurd cc
+step-last_openings stage.Status s' n e = absurd cc
+step-last_openings stage.Concat s' n e = absurd cc
+step-last_openings stage.Count s' n e = absurd cc
+step-last_openings (stage.Edges zero) s' n e = absurd cc
+step-last_openings (stage.Edges (suc k)) s' n e = absurd cc
+step-last_openings (stage.Body zero zero) s' n e = absurd cc
+step-last_openings (stage.Body zero (suc m)) s' n e = absurd cc
+step-last_openings (stage.Body (suc k) m) s' n e = absurd cc
+step-last_openings stage.Done s' n e = absurd cc
+
 pub step-concat : (s s' : Stage) (c : ConcatNote) → step s (line.Concat c) ≡ Some s' → stage.Count ≡ s'
 step-concat stage.Concat s' c e = cc
 step-concat stage.Title s' c e = absurd cc
@@ -103,7 +118,7 @@ step-leaf (stage.Body zero zero) s' n e = absurd cc
 step-leaf (stage.Body (suc k) m) s' n e = absurd cc
 step-leaf stage.Done s' n e = absurd cc
 
-pub step-edge : (s s' : Stage) (d : EdgeName) → step s (line.Edge d) ≡ Some s' → (edges : ℕ) × (s ≡ stage.Edges (suc edges)) × (stage.Edges edges ≡ s')
+pub step-edge : (s s' : Stage) (d : EdgeLabel) → step s (line.Edge d) ≡ Some s' → (edges : ℕ) × (s ≡ stage.Edges (suc edges)) × (stage.Edges edges ≡ s')
 step-edge (stage.Edges (suc edges)) s' d e = (edges, refl, cc)
 step-edge stage.Title s' d e = absurd cc
 step-edge stage.Length s' d e = absurd cc
@@ -132,10 +147,11 @@ step-split (stage.Body zero zero) s' e = absurd cc
 step-split (stage.Body (suc k) m) s' e = absurd cc
 step-split stage.Done s' e = absurd cc
 
--- the line of a split in either version
+-- the line of a split in any version
 pub step-split_line : (v : Version) (on : SplitName) (s : Stage) → step s (split_line v on) ≡ split_step s
 step-split_line version.One (name.Edge e) s = refl
 step-split_line version.Two (name.Edge e) s = refl
+step-split_line version.Graph (name.Edge e) s = refl
 step-split_line v (name.Vertex p) s = refl
 
 -- nothing is due behind the end

@@ -1,7 +1,9 @@
 -- The same answer in version 2 has a text, and tells the same events in the same lines.
 use Rattle.std.proofs.Common.{ℕ, suc, ◌≡◌, List, [], ◌∷◌, ◌++◌, length, map, refl, sym, ap, ◌∙◌, append_assoc, Some, None}
 use Rattle.net_graph.specs.declared.packing.Cut.{Cut}
-use Rattle.hanan_grid.specs.declared.name.EdgeName.{EdgeName}
+use Rattle.cut_cert.specs.declared.form.Form.{Form}
+use Rattle.cut_cert.specs.declared.form.Form.TheVariants as form
+use Rattle.cut_cert.specs.declared.label.EdgeLabel.{EdgeLabel}
 use Rattle.cert_tree.specs.Tree.{Tree}
 use Rattle.cert_tree.specs.Tree.Tree.{Leaf, Split}
 use Rattle.cut_cert.specs.declared.head.AnswerHead.{AnswerHead}
@@ -12,8 +14,9 @@ use Rattle.cut_cert.specs.declared.version.Version.{Version}
 use Rattle.cut_cert.specs.declared.version.Version.TheVariants as version
 use Rattle.cut_cert.specs.AnswerLine.{Line}
 use Rattle.cut_cert.specs.LineKinds as line
-use Rattle.cut_cert.specs.Lines.{split_line, tree_lines, proof_lines}
-use Rattle.cut_cert.specs.Events.{events_from, events_of}
+use Rattle.cut_cert.specs.Forms.{IsVersionOf}
+use Rattle.cut_cert.specs.Lines.{split_line, tree_lines, proof_lines, head_lines, body_lines}
+use Rattle.cut_cert.specs.Events.{events_from, events_of, no_head}
 use Rattle.cut_cert.specs.Spelling.{FitsTree, SpellsAnswer}
 use Rattle.cut_cert.specs.Text.{answer_text}
 use Rattle.cut_cert.specs.Value.{WrittenAnswer, upgraded}
@@ -21,15 +24,17 @@ use Rattle.cut_cert.specs.Value.{WrittenAnswer, upgraded}
 -- ---- it has a text
 
 -- a tree that fits one version fits version 2
-fits_two : (v : Version) (V : ℕ) (t : Tree SplitName) → FitsTree v V t → FitsTree version.Two V t
-fits_two v V (Leaf cuts) f = f
-fits_two v V (Split (name.Edge e) o i) f = (f.0, fits_two v V o f.1, fits_two v V i f.2)
-fits_two v V (Split (name.Vertex p) o i) f = ((refl, f.0.1), fits_two v V o f.1, fits_two v V i f.2)
+fits_two : (v : Version) (F : Form) (t : Tree SplitName) → FitsTree v F t → FitsTree version.Two F t
+fits_two v F (Leaf cuts) f = f
+fits_two v F (Split (name.Edge e) o i) f = (f.0, fits_two v F o f.1, fits_two v F i f.2)
+fits_two v F (Split (name.Vertex p) o i) f = ((tt, f.0.1), fits_two v F o f.1, fits_two v F i f.2)
 
-pub upgraded_spells : (V : ℕ) (bytes : List ℕ) (a : WrittenAnswer) → SpellsAnswer V bytes a → SpellsAnswer V (answer_text (upgraded a)) (upgraded a)
+pub upgraded_spells : (V : ℕ) (bytes : List ℕ) (a : WrittenAnswer) → SpellsAnswer (form.OnGrid V) bytes a → SpellsAnswer (form.OnGrid V) (answer_text (upgraded a)) (upgraded a)
 upgraded_spells V bytes a spells =
-    let f = spells.fits in
-    record { fits = record { head = f.head; count = f.count; edges = f.edges; tree = fits_two a.version V a.tree f.tree }; spelled = refl }
+    let f = spells.fits in record {
+      fits = record { version = tt; head = f.head; note = tt; count = f.count; edges = f.edges; tree = fits_two a.version (form.OnGrid V) a.tree f.tree };
+      spelled = refl;
+    }
 
 -- ---- it tells the same
 
@@ -38,6 +43,7 @@ split_alike : (v : Version) (on : SplitName) (h : AnswerHead) (n : ℕ) (xs ys :
     → events_from h n (split_line version.Two on ∷ xs) ≡ events_from h n (split_line v on ∷ ys)
 split_alike version.One (name.Edge e) h n xs ys same = ap (λ x. record { line = n; event = event.Split (name.Edge e); members = None } ∷ x) same
 split_alike version.Two (name.Edge e) h n xs ys same = ap (λ x. record { line = n; event = event.Split (name.Edge e); members = None } ∷ x) same
+split_alike version.Graph (name.Edge e) h n xs ys same = ap (λ x. record { line = n; event = event.Split (name.Edge e); members = None } ∷ x) same
 split_alike v (name.Vertex p) h n xs ys same = ap (λ x. record { line = n; event = event.Split (name.Vertex p); members = None } ∷ x) same
 
 -- cuts and edges before lines that tell the same
@@ -46,7 +52,7 @@ cuts_alike : (cuts : List Cut) (h : AnswerHead) (n : ℕ) (xs ys : List Line) �
 cuts_alike [] h n xs ys same = same n
 cuts_alike (c ∷ cuts) h n xs ys same = ap (λ x. record { line = n; event = event.Cut c.weight; members = Some c.members } ∷ x) (cuts_alike cuts h (suc n) xs ys same)
 
-edges_alike : (edges : List EdgeName) (h : AnswerHead) (n : ℕ) (xs ys : List Line) → ((m : ℕ) → events_from h m xs ≡ events_from h m ys)
+edges_alike : (edges : List EdgeLabel) (h : AnswerHead) (n : ℕ) (xs ys : List Line) → ((m : ℕ) → events_from h m xs ≡ events_from h m ys)
     → events_from h n (map line.Edge edges ++ xs) ≡ events_from h n (map line.Edge edges ++ ys)
 edges_alike [] h n xs ys same = same n
 edges_alike (e ∷ edges) h n xs ys same = ap (λ x. record { line = n; event = event.Edge e; members = None } ∷ x) (edges_alike edges h (suc n) xs ys same)
@@ -67,7 +73,15 @@ proof_alike : (v : Version) (t : Tree SplitName) (h : AnswerHead) (n : ℕ) → 
 proof_alike v t h n =
     ap (λ x. record { line = n; event = event.Tree; members = None } ∷ x) (tree_alike v t h (suc n) (line.End ∷ []) (line.End ∷ []) (λ m. refl))
 
-pub upgraded_told : (a : WrittenAnswer) → events_of (upgraded a) ≡ events_of a
-upgraded_told a =
-    ap (λ x. record { line = 6; event = event.Head a.head; members = None } ∷ record { line = 7; event = event.EdgeCount (length a.edges); members = None } ∷ x)
-    (edges_alike a.edges a.head 8 (proof_lines version.Two a.tree) (proof_lines a.version a.tree) (λ m. proof_alike a.version a.tree a.head m))
+-- a head in both versions, before such lines
+head_alike : (V : ℕ) (v : Version) (h : AnswerHead) (xs ys : List Line) → IsVersionOf (form.OnGrid V) v → events_from h 7 xs ≡ events_from h 7 ys
+    → events_from no_head 1 (head_lines version.Two h ++ xs) ≡ events_from no_head 1 (head_lines v h ++ ys)
+head_alike V version.One h xs ys of same = ap (λ x. record { line = 6; event = event.Head h; members = None } ∷ x) same
+head_alike V version.Two h xs ys of same = ap (λ x. record { line = 6; event = event.Head h; members = None } ∷ x) same
+head_alike V version.Graph h xs ys of same = absurd of
+
+pub upgraded_told : (V : ℕ) (bytes : List ℕ) (a : WrittenAnswer) → SpellsAnswer (form.OnGrid V) bytes a → events_of (upgraded a) ≡ events_of a
+upgraded_told V bytes a spells =
+    head_alike V a.version a.head (body_lines (upgraded a)) (body_lines a) spells.fits.version
+    (ap (λ x. record { line = 7; event = event.EdgeCount (length a.edges); members = None } ∷ x)
+    (edges_alike a.edges a.head 8 (proof_lines version.Two a.tree) (proof_lines a.version a.tree) (λ m. proof_alike a.version a.tree a.head m)))

@@ -1,10 +1,14 @@
--- What the text of an answer on a grid tells, and which answers are fit for it.
+-- What the texts of an answer on a grid and in a graph tell, and which answers are fit for them.
 use Rattle.std.specs.Prelude.{ℕ, ◌≡◌, ◌+◌, ◌*◌, ◌<◌, ◌≤◌, List, length, map, All, IfSome, Option}
 use Rattle.points_in.specs.declared.point.Point.{Point}
 use Rattle.net_graph.specs.declared.packing.Cut.{Cut}
 use Rattle.net_graph.specs.Members.{members_of}
 use Rattle.net_graph.specs.Graph.{Graph}
-use Rattle.hanan_grid.specs.declared.name.EdgeName.{EdgeName}
+use Rattle.cut_cert.specs.declared.form.Form.{Form}
+use Rattle.cut_cert.specs.declared.label.EdgeLabel.{EdgeLabel}
+use Rattle.cut_cert.specs.declared.label.EdgeLabel.TheVariants as edge
+use Rattle.cut_cert.specs.declared.label.VertexLabel.{VertexLabel}
+use Rattle.cut_cert.specs.declared.label.VertexLabel.TheVariants as vertex
 use Rattle.hanan_grid.specs.Grid.{xs_of, ys_of}
 use Rattle.hanan_grid.specs.Names.{name_of_edge, point_of_vertex}
 use Rattle.cert_tree.specs.declared.split.SplitOn.{SplitOn}
@@ -16,22 +20,50 @@ use Rattle.cert_tree.specs.Tree.Tree.{Leaf, Split}
 use Rattle.cut_cert.specs.declared.split.SplitName.{SplitName}
 use Rattle.cut_cert.specs.declared.split.SplitName.TheVariants as name
 use Rattle.cut_cert.specs.declared.version.Version.TheVariants as version
+use Rattle.cut_cert.specs.Notes.{no_note}
 use Rattle.cut_cert.specs.Spelling.{FitsSplit}
 use Rattle.cert_tree.specs.Preorder.{nodes_of, packings_of, split_count}
 
--- the name of the edge or the vertex that a split is on
+-- how the edges and the vertices of a graph are labelled
+pub record Labels : Type 0 where
+  pub edge : ℕ → EdgeLabel
+  pub vertex : ℕ → VertexLabel
+
+-- on the grid of these terminals an edge by its ends, and a vertex by its point
+abbrev pub grid_labels : List Point → Labels
+grid_labels ps = record {
+  edge = λ e. edge.Ends (name_of_edge ps e);
+  vertex = λ v. vertex.At (point_of_vertex (xs_of ps) (ys_of ps) v);
+}
+
+-- in a graph each by its number, counted from 1
+abbrev pub number_labels : Labels
+number_labels = record { edge = λ e. edge.Number (e + 1); vertex = λ v. vertex.Number (v + 1) }
+
+-- the label of the edge or the vertex that a split is on
+abbrev pub split_label : Labels → SplitOn → SplitName
+split_label labels (split.Edge e) = name.Edge (labels.edge e)
+split_label labels (split.Vertex v) = name.Vertex (labels.vertex v)
+
+-- a tree with the edges and vertices of its splits labelled
+abbrev pub labelled : Labels → Tree SplitOn → Tree SplitName
+labelled labels (Leaf cuts) = Leaf cuts
+labelled labels (Split on outside inside) =
+    Split (split_label labels on) (labelled labels outside) (labelled labels inside)
+
+-- the labels of edges, in the order of their numbers
+abbrev pub edge_labels : Labels → List ℕ → List EdgeLabel
+edge_labels labels numbers = map labels.edge numbers
+
+-- the same on the grid of these terminals
 abbrev pub split_name : List Point → SplitOn → SplitName
-split_name ps (split.Edge e) = name.Edge (name_of_edge ps e)
-split_name ps (split.Vertex v) = name.Vertex (point_of_vertex (xs_of ps) (ys_of ps) v)
+split_name ps on = split_label (grid_labels ps) on
 
--- a tree with the edges and vertices of its splits named
 abbrev pub named : List Point → Tree SplitOn → Tree SplitName
-named ps (Leaf cuts) = Leaf cuts
-named ps (Split on outside inside) = Split (split_name ps on) (named ps outside) (named ps inside)
+named ps tree = labelled (grid_labels ps) tree
 
--- the edges of a set, named, in ascending number
-abbrev pub names_of : List Point → List ℕ → List EdgeName
-names_of ps numbers = map (name_of_edge ps) numbers
+abbrev pub names_of : List Point → List ℕ → List EdgeLabel
+names_of ps numbers = edge_labels (grid_labels ps) numbers
 
 -- what the text of an answer tells, on the grid of these terminals: it is of version 2
 abbrev pub value_of : List Point → Answer → WrittenAnswer
@@ -40,6 +72,15 @@ value_of ps a = record {
   head = a.head;
   edges = names_of ps (members_of a.network);
   tree = named ps a.tree;
+}
+
+-- what it tells in a graph: nothing of a concatenation
+abbrev pub graph_value_of : Answer → WrittenAnswer
+graph_value_of a = record {
+  version = version.Graph;
+  head = record a.head { concat = no_note };
+  edges = edge_labels number_labels (members_of a.network);
+  tree = labelled number_labels a.tree;
 }
 
 -- a cut weighs at least 1, and its set is one of the graph's vertices
@@ -61,9 +102,9 @@ IsSplitOn g (split.Vertex v) = v < g.vertices
 abbrev pub IsNodeOn : Graph → Option SplitOn → Type 0
 IsNodeOn g node = IfSome node (IsSplitOn g)
 
--- a node that is a split is named by 64-bit coordinates
-abbrev pub FitsNode : List Point → Option SplitOn → Type 0
-FitsNode ps node = IfSome node (λ on. FitsSplit version.Two (split_name ps on))
+-- a node that is a split is named in the form's way
+abbrev pub FitsNode : Form → Labels → Option SplitOn → Type 0
+FitsNode F labels node = IfSome node (λ on. FitsSplit version.Two F (split_label labels on))
 
 -- the network is a set of the graph's edges, and the tree has at most 255 splits, each on one of the graph's edges
 -- or vertices

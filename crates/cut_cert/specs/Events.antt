@@ -1,5 +1,5 @@
 -- What the lines of an answer tell.
-use Rattle.std.specs.Prelude.{ℕ, suc, Bool, false, List, [], ◌∷◌, ◌++◌, Option, Some, None}
+use Rattle.std.specs.Prelude.{ℕ, suc, Bool, List, [], ◌∷◌, ◌++◌, Option, Some, None}
 use Rattle.net_graph.specs.declared.packing.Cut.{Cut}
 use Rattle.cut_cert.specs.declared.head.AnswerHead.{AnswerHead}
 use Rattle.cut_cert.specs.AnswerLine.{Line}
@@ -10,6 +10,7 @@ use Rattle.cut_cert.specs.declared.event.AnswerEvent.{AnswerEvent}
 use Rattle.cut_cert.specs.declared.split.SplitName.TheVariants as name
 use Rattle.cut_cert.specs.Value.{WrittenAnswer}
 use Rattle.cut_cert.specs.Lines.{answer_lines}
+pub use Rattle.cut_cert.specs.Notes.{no_head}
 
 -- an event, and the members of its cut
 abbrev pub Told : Type 0
@@ -25,11 +26,13 @@ head_with h (line.Length n) = record h { length = n }
 head_with h (line.Bound n) = record h { bound = n }
 head_with h (line.Status optimal) = record h { optimal = optimal }
 head_with h (line.Openings n) = record h { openings = n }
+head_with h (line.LastOpenings n) = record h { openings = n }
 head_with h (line.Concat c) = record h { concat = c }
 head_with h l = h
 
 -- what a line tells, where the head so far is h
 abbrev pub line_told : AnswerHead → Line → Option Told
+line_told h (line.LastOpenings n) = Some (event.Head h, None)
 line_told h (line.Concat c) = Some (event.Head h, None)
 line_told h (line.Count n) = Some (event.EdgeCount n, None)
 line_told h (line.Edge e) = Some (event.Edge e, None)
@@ -52,15 +55,12 @@ abbrev pub events_from : AnswerHead → ℕ → List Line → List AnswerEvent
 events_from h n [] = []
 events_from h n (l ∷ ls) = event_at n (line_told (head_with h l) l) ++ events_from (head_with h l) (suc n) ls
 
--- a head of which nothing was told
-abbrev pub no_head : AnswerHead
-no_head = record { length = 0; bound = 0; optimal = false; openings = 0; concat = record { least = false; total = 0 } }
-
 -- the head that lines tell
 abbrev pub head_from : AnswerHead → List Line → AnswerHead
 head_from h [] = h
 head_from h (l ∷ ls) = head_from (head_with h l) ls
 
--- The events of an answer are those of its lines: the head ends with line 6, and each other event is one line.
+-- The events of an answer are those of its lines: the head ends with line 6, or 5 in a graph, and each other event is
+-- one line.
 abbrev pub events_of : WrittenAnswer → List AnswerEvent
 events_of a = events_from no_head 1 (answer_lines a)

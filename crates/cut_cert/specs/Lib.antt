@@ -1,3 +1,5 @@
+pub mod Forms
+pub mod Notes
 pub mod Value
 pub mod Words
 pub mod Text
@@ -12,6 +14,7 @@ pub mod Reading
 pub mod Events
 pub mod LinesRead
 pub mod Given
+pub mod ScanStates
 pub mod Scanning
 pub mod Reader
 pub mod RowLending

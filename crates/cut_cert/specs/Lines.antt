@@ -3,7 +3,7 @@ use Rattle.std.specs.Prelude.{ℕ, suc, zero, List, [], ◌∷◌, ◌++◌, len
 use Rattle.std.specs.Prelude.{option_and_then}
 use Rattle.std.specs.Fmt.{decimal}
 use Rattle.net_graph.specs.declared.packing.Cut.{Cut}
-use Rattle.hanan_grid.specs.declared.name.EdgeName.{EdgeName}
+use Rattle.cut_cert.specs.declared.label.EdgeLabel.{EdgeLabel}
 use Rattle.cut_cert.specs.declared.head.AnswerHead.{AnswerHead}
 use Rattle.cut_cert.specs.declared.split.SplitName.{SplitName}
 use Rattle.cut_cert.specs.declared.split.SplitName.TheVariants as name
@@ -16,22 +16,23 @@ use Rattle.cut_cert.specs.declared.line.Stage.TheVariants as stage
 use Rattle.cut_cert.specs.Value.{WrittenAnswer}
 use Rattle.cert_tree.specs.Tree.{Tree}
 use Rattle.cert_tree.specs.Tree.Tree.{Leaf, Split}
-use Rattle.cut_cert.specs.Words.{version_word, status_word, concat_word, name_words, point_words, set_text}
+use Rattle.cut_cert.specs.Words.{title_words, status_word, concat_word, edge_words, vertex_words, set_text}
 
 -- the bytes of a line
 abbrev pub line_bytes : Line → List ℕ
-line_bytes (line.Title v) = codes "rst answer " ++ version_word v
+line_bytes (line.Title v) = title_words v
 line_bytes (line.Length n) = codes "length " ++ decimal n
 line_bytes (line.Bound n) = codes "bound " ++ decimal n
 line_bytes (line.Status optimal) = codes "status " ++ status_word optimal
 line_bytes (line.Openings n) = codes "openings " ++ decimal n
+line_bytes (line.LastOpenings n) = codes "openings " ++ decimal n
 line_bytes (line.Concat c) = codes "concat " ++ concat_word c.least ++ codes " " ++ decimal c.total
 line_bytes (line.Count n) = codes "edges " ++ decimal n
-line_bytes (line.Edge e) = name_words e
+line_bytes (line.Edge e) = edge_words e
 line_bytes line.Tree = codes "tree"
-line_bytes (line.Split e) = codes "split " ++ name_words e
-line_bytes (line.SplitEdge e) = codes "split edge " ++ name_words e
-line_bytes (line.SplitVertex p) = codes "split vertex " ++ point_words p
+line_bytes (line.Split e) = codes "split " ++ edge_words e
+line_bytes (line.SplitEdge e) = codes "split edge " ++ edge_words e
+line_bytes (line.SplitVertex p) = codes "split vertex " ++ vertex_words p
 line_bytes (line.Leaf n) = codes "leaf " ++ decimal n
 line_bytes (line.Cut c) = codes "cut " ++ decimal c.weight ++ codes " " ++ set_text c.members
 line_bytes line.End = codes "end"
@@ -48,6 +49,7 @@ abbrev pub split_line : Version → SplitName → Line
 split_line v (name.Vertex p) = line.SplitVertex p
 split_line version.One (name.Edge e) = line.Split e
 split_line version.Two (name.Edge e) = line.SplitEdge e
+split_line version.Graph (name.Edge e) = line.SplitEdge e
 
 -- the lines of a leaf: how many cuts it has, and the cuts
 abbrev pub leaf_lines : List Cut → List Line
@@ -58,18 +60,20 @@ abbrev pub tree_lines : Version → Tree SplitName → List Line
 tree_lines v (Leaf cuts) = leaf_lines cuts
 tree_lines v (Split on outside inside) = split_line v on ∷ (tree_lines v outside ++ tree_lines v inside)
 
--- the lines of a head: the result, and the search
+-- the lines of a head: the result, and the search, of which a text of a graph has no note on the concatenation
 abbrev pub result_lines : Version → AnswerHead → List Line
 result_lines v h = line.Title v ∷ line.Length h.length ∷ line.Bound h.bound ∷ line.Status h.optimal ∷ []
 
-abbrev pub search_lines : AnswerHead → List Line
-search_lines h = line.Openings h.openings ∷ line.Concat h.concat ∷ []
+abbrev pub search_lines : Version → AnswerHead → List Line
+search_lines version.One h = line.Openings h.openings ∷ line.Concat h.concat ∷ []
+search_lines version.Two h = line.Openings h.openings ∷ line.Concat h.concat ∷ []
+search_lines version.Graph h = line.LastOpenings h.openings ∷ []
 
 abbrev pub head_lines : Version → AnswerHead → List Line
-head_lines v h = result_lines v h ++ search_lines h
+head_lines v h = result_lines v h ++ search_lines v h
 
 -- the lines of a network: how many edges it has, and the edges
-abbrev pub network_lines : List EdgeName → List Line
+abbrev pub network_lines : List EdgeLabel → List Line
 network_lines edges = line.Count (length edges) ∷ map line.Edge edges
 
 -- the lines of a tree between the line before it and the line that ends the text
@@ -98,6 +102,7 @@ step stage.Length (line.Length n) = Some stage.Bound
 step stage.Bound (line.Bound n) = Some stage.Status
 step stage.Status (line.Status optimal) = Some stage.Openings
 step stage.Openings (line.Openings n) = Some stage.Concat
+step stage.Openings (line.LastOpenings n) = Some stage.Count
 step stage.Concat (line.Concat c) = Some stage.Count
 step stage.Count (line.Count n) = Some (stage.Edges n)
 step (stage.Edges zero) line.Tree = Some (stage.Body 0 1)

@@ -6,19 +6,20 @@ use Rattle.cut_cert.specs.declared.line.Stage.{Stage}
 use Rattle.cut_cert.specs.declared.line.Stage.TheVariants as stage
 use Rattle.cut_cert.specs.declared.event.AnswerEvent.{AnswerEvent}
 use Rattle.cut_cert.specs.declared.version.Version.{Version}
-use Rattle.cut_cert.specs.declared.version.Version.TheVariants as version
+use Rattle.cut_cert.specs.declared.form.Form.{Form}
+use Rattle.cut_cert.specs.Forms.{first_version}
 use Rattle.cut_cert.specs.Lines.{lines_text, run}
 use Rattle.cut_cert.specs.LineFits.{FitsLines, version_from}
 use Rattle.cut_cert.specs.Events.{events_from, no_head, head_from}
 
 -- the lines that were read, and what is kept of them
-pub record ReadSoFar (V : ℕ) (bytes rest : List ℕ) (s : Stage) (v : Version) (head : AnswerHead) (number : ℕ)
+pub record ReadSoFar (F : Form) (bytes rest : List ℕ) (s : Stage) (v : Version) (head : AnswerHead) (number : ℕ)
     (events : List AnswerEvent) : Type 0 where
   pub lines : List Line
-  pub fits : FitsLines version.One V lines
+  pub fits : FitsLines (first_version F) F lines
   pub due : run stage.Title lines ≡ Some s
   pub text : bytes ≡ lines_text lines ++ rest
   pub told : events ≡ events_from no_head 1 lines
-  pub version_told : v ≡ version_from version.One lines
+  pub version_told : v ≡ version_from (first_version F) lines
   pub head_told : head ≡ head_from no_head lines
   pub count : number ≡ length lines + 1

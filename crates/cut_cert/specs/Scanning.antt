@@ -18,8 +18,9 @@ use Rattle.cut_cert.specs.declared.scan.Field.{Field}
 use Rattle.cut_cert.specs.declared.scan.Field.TheVariants as field
 use Rattle.cut_cert.specs.declared.scan.Corner.{Corner}
 use Rattle.cut_cert.specs.declared.scan.Corner.TheVariants as corner
-use Rattle.cut_cert.specs.declared.scan.Closed.{Closed}
-use Rattle.cut_cert.specs.declared.scan.Closed.TheVariants as closed
+use Rattle.cut_cert.specs.declared.label.EdgeLabel.{EdgeLabel}
+use Rattle.cut_cert.specs.declared.label.EdgeLabel.TheVariants as edge
+use Rattle.cut_cert.specs.declared.label.VertexLabel.TheVariants as vertex
 use Rattle.cut_cert.specs.declared.split.SplitName.TheVariants as name
 use Rattle.cut_cert.specs.declared.version.Version.{Version}
 use Rattle.cut_cert.specs.declared.version.Version.TheVariants as version
@@ -31,77 +32,7 @@ use Rattle.cut_cert.specs.Events.{head_with, line_told, event_at}
 use Rattle.cut_cert.specs.Given.{given}
 use Rattle.cut_cert.specs.declared.head.AnswerHead.{AnswerHead}
 use Rattle.cut_cert.specs.declared.event.Event.{Event}
-
--- the bytes of a word
-abbrev pub word_bytes : Word → List ℕ
-word_bytes word.Title = codes "rst answer "
-word_bytes word.Length = codes "length "
-word_bytes word.Bound = codes "bound "
-word_bytes word.Status = codes "status "
-word_bytes word.Optimal = codes "optimal"
-word_bytes word.Stopped = codes "stopped"
-word_bytes word.Openings = codes "openings "
-word_bytes word.Concat = codes "concat "
-word_bytes word.Least = codes "least "
-word_bytes word.Spent = codes "spent "
-word_bytes word.Edges = codes "edges "
-word_bytes word.Tree = codes "tree"
-word_bytes (word.Split v) = codes "split "
-word_bytes word.Edge = codes "edge "
-word_bytes word.Vertex = codes "vertex "
-word_bytes word.Leaf = codes "leaf "
-word_bytes word.Cut = codes "cut "
-word_bytes word.End = codes "end"
-
--- what is due behind a word
-abbrev pub behind_word : Word → Scan
-behind_word word.Title = scan.Version
-behind_word word.Length = scan.Due field.Length
-behind_word word.Bound = scan.Due field.Bound
-behind_word word.Status = scan.Status
-behind_word word.Optimal = scan.LineEnd (closed.Status true)
-behind_word word.Stopped = scan.LineEnd (closed.Status false)
-behind_word word.Openings = scan.Due field.Openings
-behind_word word.Concat = scan.Kind
-behind_word word.Least = scan.Due (field.Total true)
-behind_word word.Spent = scan.Due (field.Total false)
-behind_word word.Edges = scan.Due field.Count
-behind_word word.Tree = scan.LineEnd closed.Tree
-behind_word (word.Split version.One) = scan.Coordinate corner.X1
-behind_word (word.Split version.Two) = scan.On
-behind_word word.Edge = scan.Coordinate corner.X1
-behind_word word.Vertex = scan.Coordinate corner.X
-behind_word word.Leaf = scan.Due field.Leaf
-behind_word word.Cut = scan.Due field.Weight
-behind_word word.End = scan.LineEnd closed.End
-
--- the line that a last word makes
-abbrev pub closed_line : Closed → Line
-closed_line (closed.Title v) = line.Title v
-closed_line (closed.Status optimal) = line.Status optimal
-closed_line closed.Tree = line.Tree
-closed_line closed.End = line.End
-
--- the numbers that may stand in a field: from the first to below the second
-abbrev pub least_of : Field → ℕ
-least_of field.Weight = 1
-least_of (field.Coordinate c true) = 1
-least_of f = 0
-
-abbrev pub limit_of : Field → ℕ
-limit_of field.Length = 2 ^ 64
-limit_of field.Bound = 2 ^ 64
-limit_of field.Openings = 2 ^ 8
-limit_of (field.Total least) = 2 ^ 128
-limit_of field.Count = 2 ^ 32
-limit_of field.Leaf = 2 ^ 32
-limit_of field.Weight = 2 ^ 64
-limit_of (field.Coordinate c false) = 2 ^ 63
-limit_of (field.Coordinate c true) = 2 ^ 63 + 1
-
-pub record IsInField (f : Field) (n : ℕ) : Type 0 where
-  pub least : least_of f ≤ n
-  pub limit : n < limit_of f
+pub use Rattle.cut_cert.specs.ScanStates.{word_bytes, edge_scan, vertex_scan, behind_word, closed_line, least_of, limit_of, IsInField, first_scan, IsOpen, IsFork}
 
 -- a number with its sign
 abbrev pub signed : Bool → ℕ → ℤ
@@ -109,16 +40,16 @@ signed false n = pos n
 signed true zero = pos 0
 signed true (suc n) = negsuc n
 
--- a name's line in a text of a version, where such a line is due
-abbrev pub name_line : Version → Stage → EdgeName → Line
+-- the line of an edge's label in a text of a version, where such a line is due
+abbrev pub name_line : Version → Stage → EdgeLabel → Line
 name_line v (stage.Edges edges) e = line.Edge e
 name_line v s e = split_line v (name.Edge e)
 
 -- the line that a name's coordinates make: a vertex has the first two of them
 abbrev pub corner_line : Kept → Corner → EdgeName → Line
-corner_line k corner.X e = line.SplitVertex (record { x = e.x1; y = e.y1 })
-corner_line k corner.Y e = line.SplitVertex (record { x = e.x1; y = e.y1 })
-corner_line k c e = name_line k.version k.stage e
+corner_line k corner.X e = line.SplitVertex (vertex.At (record { x = e.x1; y = e.y1 }))
+corner_line k corner.Y e = line.SplitVertex (vertex.At (record { x = e.x1; y = e.y1 }))
+corner_line k c e = name_line k.version k.stage (edge.Ends e)
 
 -- no other coordinate follows
 abbrev pub IsLast : Corner → Type 0
@@ -170,8 +101,11 @@ abbrev pub BehindNumber : Kept → Field → ℕ → List ℕ → Line → Type 
 BehindNumber k field.Length n rest l = (rest ≡ []) × (l ≡ line.Length n)
 BehindNumber k field.Bound n rest l = (rest ≡ []) × (l ≡ line.Bound n)
 BehindNumber k field.Openings n rest l = (rest ≡ []) × (l ≡ line.Openings n)
+BehindNumber k field.LastOpenings n rest l = (rest ≡ []) × (l ≡ line.LastOpenings n)
 BehindNumber k (field.Total least) n rest l = (rest ≡ []) × (l ≡ line.Concat (record { least = least; total = n }))
-BehindNumber k field.Count n rest l = (rest ≡ []) × (l ≡ line.Count n)
+BehindNumber k (field.Count most) n rest l = (rest ≡ []) × (l ≡ line.Count n)
+BehindNumber k (field.EdgeNumber last) n rest l = (rest ≡ []) × (l ≡ name_line k.version k.stage (edge.Number n))
+BehindNumber k (field.VertexNumber last) n rest l = (rest ≡ []) × (l ≡ line.SplitVertex (vertex.Number n))
 BehindNumber k field.Leaf n rest l = (rest ≡ []) × (l ≡ line.Leaf n)
 BehindNumber k field.Weight n rest l = BehindWeight k n rest l
 BehindNumber k (field.Coordinate c minus) n rest l = BehindCoordinate k c (signed minus n) rest l
@@ -211,13 +145,13 @@ abbrev pub WordLeft : Kept → Word → ℕ → List ℕ → Line → Type 0
 WordLeft k w place rest l =
     (behind : List ℕ) × (rest ≡ drop place (word_bytes w) ++ behind) × ValueLeft k (behind_word w) behind l
 
--- one of two words, or one of two versions
+-- one of two words, or one of two versions of a text on a grid
 abbrev pub ForkLeft : Kept → Scan → List ℕ → Line → Type 0
 ForkLeft k scan.Version rest l =
     ((rest ≡ codes "1") × (l ≡ line.Title version.One)) ⊎ ((rest ≡ codes "2") × (l ≡ line.Title version.Two))
 ForkLeft k scan.Status rest l = WordLeft k word.Optimal 0 rest l ⊎ WordLeft k word.Stopped 0 rest l
 ForkLeft k scan.Kind rest l = WordLeft k word.Least 0 rest l ⊎ WordLeft k word.Spent 0 rest l
-ForkLeft k scan.On rest l = WordLeft k word.Edge 0 rest l ⊎ WordLeft k word.Vertex 0 rest l
+ForkLeft k (scan.On F) rest l = WordLeft k (word.Edge F) 0 rest l ⊎ WordLeft k (word.Vertex F) 0 rest l
 ForkLeft k s rest l = ValueLeft k s rest l
 
 -- a word from a place on, and what is due behind it, which may be one of two words
@@ -228,35 +162,19 @@ WordsLeft k w place rest l =
 -- With these bytes behind those that were read, the line is l.
 abbrev pub Left : Kept → Scan → List ℕ → Line → Type 0
 Left k (scan.Word w place) rest l = WordsLeft k w place rest l
-Left k (scan.Node v) rest l = WordsLeft k (word.Split v) 0 rest l ⊎ WordsLeft k word.Leaf 0 rest l
+Left k (scan.Node v F) rest l = WordsLeft k (word.Split v F) 0 rest l ⊎ WordsLeft k word.Leaf 0 rest l
 Left k s rest l = ForkLeft k s rest l
 
--- what is due at a line's beginning, in a text of a version
-abbrev pub first_scan : Version → Stage → Scan
-first_scan v stage.Title = scan.Word word.Title 0
-first_scan v stage.Length = scan.Word word.Length 0
-first_scan v stage.Bound = scan.Word word.Bound 0
-first_scan v stage.Status = scan.Word word.Status 0
-first_scan v stage.Openings = scan.Word word.Openings 0
-first_scan v stage.Concat = scan.Word word.Concat 0
-first_scan v stage.Count = scan.Word word.Edges 0
-first_scan v (stage.Edges zero) = scan.Word word.Tree 0
-first_scan v (stage.Edges (suc edges)) = scan.Coordinate corner.X1
-first_scan v (stage.Body zero zero) = scan.Word word.End 0
-first_scan v (stage.Body zero (suc nodes)) = scan.Node v
-first_scan v (stage.Body (suc cuts) nodes) = scan.Word word.Cut 0
-first_scan v stage.Done = scan.Ended
-
--- More of the line is due, and what is kept agrees with that: a word's byte is due, a number is within its field, the
--- weight of a cut fits, no later flag is set.
+-- More of the line is due, and what is kept agrees with that: a word's byte is due and something behind it, a number is
+-- within its field, the weight of a cut fits, no later flag is set.
 abbrev pub IsUnderway : Kept → Scan → Type 0
-IsUnderway k (scan.Word w place) = place < length (word_bytes w)
+IsUnderway k (scan.Word w place) = (place < length (word_bytes w)) × IsOpen (behind_word w)
 IsUnderway k (scan.Number f n) = IsInField f n
 IsUnderway k (scan.Set place) = (0 < k.weight) × (k.weight < 2 ^ 64) × (place ≤ (length k.members + 3) / 4)
     × ((v : ℕ) → 4 * place ≤ v → has k.members v ≡ false)
 IsUnderway k scan.Ended = ⊥
 IsUnderway k scan.Refused = ⊥
-IsUnderway k s = Unit {0}
+IsUnderway k s = IsOpen s
 
 -- that, or the text is at its end
 abbrev pub IsSound : Kept → Scan → Type 0
@@ -267,15 +185,6 @@ IsSound k s = IsUnderway k s
 pub record LeadsTo (k : Kept) (s : Scan) (byte : ℕ) (k' : Kept) (s' : Scan) : Type 0 where
   pub on : (rest : List ℕ) (l : Line) → Left k s (byte ∷ rest) l → Left k' s' rest l
   pub back : (rest : List ℕ) (l : Line) → Left k' s' rest l → Left k s (byte ∷ rest) l
-
--- one of two words is due
-abbrev pub IsFork : Scan → Type 0
-IsFork scan.Version = Unit {0}
-IsFork scan.Status = Unit {0}
-IsFork scan.Kind = Unit {0}
-IsFork (scan.Node v) = Unit {0}
-IsFork scan.On = Unit {0}
-IsFork s = ⊥
 
 -- no line goes on with the byte
 abbrev pub IsDead : Kept → Scan → ℕ → Type 0
@@ -318,6 +227,15 @@ pub record Closes (k : Kept) (s : Scan) (h : AnswerHead) (k' : Kept) (h' : Answe
   pub event : (n : ℕ) → event_at n (line_told h' line) ≡ given n told k'.members
   pub members : k'.members ≡ k.members
   pub name : FitsName k'.name
+
+-- This line, which is none of the head, makes the next state of what is kept, and its event is the one that is told.
+pub record MakesLine (k : Kept) (l : Line) (k' : Kept) (told : Option Event) : Type 0 where
+  pub stage : (s' : Stage) → step k.stage l ≡ Some s' → k'.stage ≡ s'
+  pub version : k'.version ≡ version_with k.version l
+  pub head : (h : AnswerHead) → h ≡ head_with h l
+  pub event : (h : AnswerHead) (n : ℕ) → event_at n (line_told h l) ≡ given n told k'.members
+  pub members : k'.members ≡ k.members
+  pub name : k'.name ≡ k.name
 
 -- what was read is no line that is due
 abbrev pub IsNoLineLeft : Kept → Scan → Type 0

@@ -1,15 +1,22 @@
--- Which bytes spell which answer, where the sets are sets of V vertices.
-use Rattle.std.specs.Prelude.{ℕ, ◌≡◌, ◌<◌, ◌^◌, List, ◌++◌, length, All, FitsSigned}
+-- Which bytes spell which answer of a form.
+use Rattle.std.specs.Prelude.{ℕ, ◌≡◌, ◌<◌, ◌≤◌, ◌^◌, List, ◌++◌, length, All, FitsSigned}
 use Rattle.std.specs.Int.{w64}
 use Rattle.net_graph.specs.declared.packing.Cut.{Cut}
 use Rattle.points_in.specs.declared.point.Point.{Point}
 use Rattle.hanan_grid.specs.declared.name.EdgeName.{EdgeName}
+use Rattle.cut_cert.specs.declared.form.Form.{Form}
+use Rattle.cut_cert.specs.declared.form.Form.TheVariants as form
 use Rattle.cut_cert.specs.declared.head.AnswerHead.{AnswerHead}
+use Rattle.cut_cert.specs.declared.label.EdgeLabel.{EdgeLabel}
+use Rattle.cut_cert.specs.declared.label.EdgeLabel.TheVariants as edge
+use Rattle.cut_cert.specs.declared.label.VertexLabel.{VertexLabel}
+use Rattle.cut_cert.specs.declared.label.VertexLabel.TheVariants as vertex
 use Rattle.cut_cert.specs.declared.split.SplitName.{SplitName}
 use Rattle.cut_cert.specs.declared.split.SplitName.TheVariants as name
 use Rattle.cut_cert.specs.declared.version.Version.{Version}
-use Rattle.cut_cert.specs.declared.version.Version.TheVariants as version
+use Rattle.cut_cert.specs.Forms.{IsVersionOf, SaysKind, set_size}
 use Rattle.cut_cert.specs.Value.{WrittenAnswer}
+use Rattle.cut_cert.specs.Notes.{no_note}
 use Rattle.cert_tree.specs.Tree.{Tree}
 use Rattle.cert_tree.specs.Tree.Tree.{Leaf, Split}
 use Rattle.cut_cert.specs.Text.{answer_text}
@@ -33,10 +40,29 @@ pub record FitsPoint (p : Point) : Type 0 where
   pub x : FitsSigned w64 p.x
   pub y : FitsSigned w64 p.y
 
--- the coordinates that a split is named by are 64-bit numbers, and only version 2 has splits on vertices
-abbrev pub FitsSplit : Version → SplitName → Type 0
-FitsSplit v (name.Edge e) = FitsName e
-FitsSplit v (name.Vertex p) = (v ≡ version.Two) × FitsPoint p
+-- a number counts from 1 to the last, and 32 bits hold it
+pub record FitsNumber (last n : ℕ) : Type 0 where
+  pub first : 0 < n
+  pub within : n ≤ last
+  pub width : n < 2 ^ 32
+
+-- on a grid an edge is named by its ends and a vertex by its point, and in a graph by the number of one of them
+abbrev pub FitsEdge : Form → EdgeLabel → Type 0
+FitsEdge (form.OnGrid V) (edge.Ends e) = FitsName e
+FitsEdge (form.OnGrid V) (edge.Number n) = ⊥
+FitsEdge (form.OfGraph E V) (edge.Ends e) = ⊥
+FitsEdge (form.OfGraph E V) (edge.Number n) = FitsNumber E n
+
+abbrev pub FitsVertex : Form → VertexLabel → Type 0
+FitsVertex (form.OnGrid V) (vertex.At p) = FitsPoint p
+FitsVertex (form.OnGrid V) (vertex.Number n) = ⊥
+FitsVertex (form.OfGraph E V) (vertex.At p) = ⊥
+FitsVertex (form.OfGraph E V) (vertex.Number n) = FitsNumber V n
+
+-- what a split is on is named in the form's way, and version 1 has no splits on vertices
+abbrev pub FitsSplit : Version → Form → SplitName → Type 0
+FitsSplit v F (name.Edge e) = FitsEdge F e
+FitsSplit v F (name.Vertex p) = SaysKind v × FitsVertex F p
 
 -- the weight of a cut is a 64-bit number
 abbrev pub FitsWeight : Cut → Type 0
@@ -53,24 +79,31 @@ pub record FitsLeaf (V : ℕ) (cuts : List Cut) : Type 0 where
   pub count : length cuts < 2 ^ 32
   pub each : All (FitsCut V) cuts
 
--- every leaf and every split of a tree fits a text of this version
-abbrev pub FitsTree : Version → ℕ → Tree SplitName → Type 0
-FitsTree v V (Leaf cuts) = FitsLeaf V cuts
-FitsTree v V (Split on outside inside) = FitsSplit v on × FitsTree v V outside × FitsTree v V inside
+-- every leaf and every split of a tree fits a text of this version and form
+abbrev pub FitsTree : Version → Form → Tree SplitName → Type 0
+FitsTree v F (Leaf cuts) = FitsLeaf (set_size F) cuts
+FitsTree v F (Split on outside inside) = FitsSplit v F on × FitsTree v F outside × FitsTree v F inside
 
--- every part of an answer fits a text of its version
-pub record FitsAnswer (V : ℕ) (a : WrittenAnswer) : Type 0 where
+-- in a graph nothing is told of a concatenation
+abbrev pub FitsNote : Form → AnswerHead → Type 0
+FitsNote (form.OnGrid V) h = Unit {0}
+FitsNote (form.OfGraph E V) h = h.concat ≡ no_note
+
+-- every part of an answer fits a text of its version and form
+pub record FitsAnswer (F : Form) (a : WrittenAnswer) : Type 0 where
+  pub version : IsVersionOf F a.version
   pub head : FitsHead a.head
+  pub note : FitsNote F a.head
   pub count : length a.edges < 2 ^ 32
-  pub edges : All FitsName a.edges
-  pub tree : FitsTree a.version V a.tree
+  pub edges : All (FitsEdge F) a.edges
+  pub tree : FitsTree a.version F a.tree
 
 -- the bytes spell the answer
-pub record SpellsAnswer (V : ℕ) (bytes : List ℕ) (a : WrittenAnswer) : Type 0 where
-  pub fits : FitsAnswer V a
+pub record SpellsAnswer (F : Form) (bytes : List ℕ) (a : WrittenAnswer) : Type 0 where
+  pub fits : FitsAnswer F a
   pub spelled : bytes ≡ answer_text a
 
 -- No spelling is a proper front of another, and bytes spell one answer at most.
 abbrev pub OneReading : Type 0
-OneReading = (V : ℕ) (a b p q : List ℕ) (x y : WrittenAnswer) →
-    SpellsAnswer V a x → SpellsAnswer V b y → a ++ p ≡ b ++ q → (a ≡ b) × (x ≡ y)
+OneReading = (F : Form) (a b p q : List ℕ) (x y : WrittenAnswer) →
+    SpellsAnswer F a x → SpellsAnswer F b y → a ++ p ≡ b ++ q → (a ≡ b) × (x ≡ y)

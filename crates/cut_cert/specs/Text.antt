@@ -1,4 +1,4 @@
--- The text of an answer, in both versions (this project's own format).
+-- The text of an answer, in every version (this project's own formats).
 use Rattle.std.specs.Prelude.{ℕ, List}
 use Rattle.cut_cert.specs.Value.{WrittenAnswer}
 use Rattle.cut_cert.specs.Lines.{answer_lines, lines_text}

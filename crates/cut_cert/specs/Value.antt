@@ -1,7 +1,7 @@
--- What an answer tells: its version, its head, the names of its network's edges, and its tree of cuts, whose splits are
--- on edges or vertices.
+-- What an answer tells: its version, its head, the labels of its network's edges, and its tree of cuts, whose splits
+-- are on edges or vertices.
 use Rattle.std.specs.Prelude.{List}
-use Rattle.hanan_grid.specs.declared.name.EdgeName.{EdgeName}
+use Rattle.cut_cert.specs.declared.label.EdgeLabel.{EdgeLabel}
 use Rattle.cert_tree.specs.Tree.{Tree}
 use Rattle.cut_cert.specs.declared.head.AnswerHead.{AnswerHead}
 use Rattle.cut_cert.specs.declared.split.SplitName.{SplitName}
@@ -12,9 +12,9 @@ use Rattle.cut_cert.specs.declared.version.Version.TheVariants as version
 pub record WrittenAnswer : Type 0 where
   pub version : Version
   pub head : AnswerHead
-  pub edges : List EdgeName
+  pub edges : List EdgeLabel
   pub tree : Tree SplitName
 
--- the same value with the version 2
+-- the same value with the version 2 of the texts on a grid
 abbrev pub upgraded : WrittenAnswer → WrittenAnswer
 upgraded a = record a { version = version.Two }

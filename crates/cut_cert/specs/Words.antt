@@ -1,19 +1,25 @@
 -- The words of an answer's lines.
 use Rattle.std.specs.Prelude.{ℕ, ◌+◌, ◌*◌, Bool, false, List, [], ◌∷◌, ◌++◌, codes, if◌then◌else◌}
-use Rattle.std.specs.Fmt.{signed_decimal, digit_glyph}
+use Rattle.std.specs.Fmt.{decimal, signed_decimal, digit_glyph}
 use Rattle.points_in.specs.declared.point.Point.{Point}
 use Rattle.hanan_grid.specs.declared.name.EdgeName.{EdgeName}
+use Rattle.cut_cert.specs.declared.label.EdgeLabel.{EdgeLabel}
+use Rattle.cut_cert.specs.declared.label.EdgeLabel.TheVariants as edge
+use Rattle.cut_cert.specs.declared.label.VertexLabel.{VertexLabel}
+use Rattle.cut_cert.specs.declared.label.VertexLabel.TheVariants as vertex
 use Rattle.cut_cert.specs.declared.version.Version.{Version}
 use Rattle.cut_cert.specs.declared.version.Version.TheVariants as version
 
--- the number of a version, and its digit
+-- the number of a version, and its title
 abbrev pub version_number : Version → ℕ
 version_number version.One = 1
 version_number version.Two = 2
+version_number version.Graph = 1
 
-abbrev pub version_word : Version → List ℕ
-version_word version.One = codes "1"
-version_word version.Two = codes "2"
+abbrev pub title_words : Version → List ℕ
+title_words version.One = codes "rst answer 1"
+title_words version.Two = codes "rst answer 2"
+title_words version.Graph = codes "rst graph 1"
 
 -- the word of an answer's status, and the word of its concatenation
 abbrev pub status_word : Bool → List ℕ
@@ -30,6 +36,15 @@ name_words e = signed_decimal e.x1 ++ codes " " ++ signed_decimal e.y1 ++ codes 
 -- the two words of a vertex's point
 abbrev pub point_words : Point → List ℕ
 point_words p = signed_decimal p.x ++ codes " " ++ signed_decimal p.y
+
+-- the words of an edge's label and of a vertex's
+abbrev pub edge_words : EdgeLabel → List ℕ
+edge_words (edge.Ends e) = name_words e
+edge_words (edge.Number n) = decimal n
+
+abbrev pub vertex_words : VertexLabel → List ℕ
+vertex_words (vertex.At p) = point_words p
+vertex_words (vertex.Number n) = decimal n
 
 -- 1 for a member, else 0
 abbrev pub flag_value : Bool → ℕ

@@ -1,19 +1,19 @@
 //! What a reader tells of an answer's text.
 
 use crate::head::AnswerHead;
+use crate::label::EdgeLabel;
 use crate::split::SplitName;
-use hanan_grid::EdgeName;
 use net_graph::VertexSet;
 
 /// What a line of an answer tells. The lines of the head are told together.
 #[derive(Clone, Copy, Debug, PartialEq, Eq)]
 pub enum Event {
-    /// The first six lines.
+    /// The lines of the head: the first six on a grid, and the first five in a graph.
     Head(AnswerHead),
     /// How many edges follow.
     EdgeCount(u32),
     /// An edge of the network.
-    Edge(EdgeName),
+    Edge(EdgeLabel),
     /// The tree follows.
     Tree,
     /// A split, with the edge or the vertex that it is on: its part outside follows, and then its part inside.

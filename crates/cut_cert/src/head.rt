@@ -20,7 +20,7 @@ pub struct AnswerHead {
     pub optimal: bool,
     /// How many openings, which are splits of the tree, the search was allowed: 0 to 255.
     pub openings: u8,
-    /// The note on the concatenation.
+    /// The note on the concatenation. Nothing is told of it in a graph: then it is not least, and its total is 0.
     pub concat: ConcatNote,
 }
 

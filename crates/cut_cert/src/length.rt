@@ -13,12 +13,15 @@ ghost use Rattle.cut_cert.specs.Text.{answer_text};
 ghost use Rattle.cert_tree.specs.Preorder.{nodes_of, packings_of};
 ghost use Rattle.cut_cert.specs.Answers.{IsAnswerOn, IsNodeOn, IsPackingOn, names_of, named, value_of};
 
-use crate::answer::{Answer, count_of, split_name};
+use crate::answer::Answer;
+use crate::body::{count_of, split_label};
 use crate::head::AnswerHead;
+use crate::label::{EdgeLabel, VertexLabel};
+use crate::labelled::Labelled;
 use crate::split::SplitName;
 use crate::write::{kind_of, status_word};
 use cert_tree::CertTree;
-use hanan_grid::{EdgeName, Grid};
+use hanan_grid::Grid;
 use itoa::Buffer;
 use net_graph::{Cut, EdgeSet, Packing};
 
@@ -57,7 +60,7 @@ fn edges_len(grid: &Grid, network: &EdgeSet) -> u64
     let mut sum = 0;
     for e in 0..network.len() {
         if network.has(e) {
-            sum += edge_len(&grid.edge_name(e));
+            sum += edge_len(&grid.edge_label(e));
         }
     }
     sum
@@ -75,7 +78,7 @@ fn tree_len(grid: &Grid, tree: &CertTree) -> u64
     let mut sum = 0;
     for node in tree.nodes() {
         match node {
-            Some(on) => sum += split_len(&split_name(grid, on)),
+            Some(on) => sum += split_len(&split_label(grid, on)),
             None => {
                 sum += leaf_len(tree.packing(leaf));
                 leaf += 1;
@@ -116,11 +119,19 @@ fn head_len(head: &AnswerHead) -> u64
 }
 
 // The length of an edge's line.
-fn edge_len(name: &EdgeName) -> u64
-    ensures length { result ≡ length (line_text (line_of.Edge name.now)) }
+fn edge_len(label: &EdgeLabel) -> u64
+    ensures length { result ≡ length (line_text (line_of.Edge label.now)) }
     ensures short { result ≤ 164 }
 {
-    4 + signed_len(&name.x1) + signed_len(&name.y1) + signed_len(&name.x2) + signed_len(&name.y2)
+    match label {
+        EdgeLabel::Ends(name) => {
+            4 + signed_len(&name.x1)
+                + signed_len(&name.y1)
+                + signed_len(&name.x2)
+                + signed_len(&name.y2)
+        }
+        EdgeLabel::Number(number) => 1 + number_len(u128::from(*number)),
+    }
 }
 
 // The length of a split's line.
@@ -130,7 +141,18 @@ fn split_len(name: &SplitName) -> u64
 {
     match name {
         SplitName::Edge(edge) => 11 + edge_len(edge),
-        SplitName::Vertex(point) => 15 + signed_len(&point.x) + signed_len(&point.y),
+        SplitName::Vertex(vertex) => vertex_len(vertex),
+    }
+}
+
+// The length of the line of a split on a vertex.
+fn vertex_len(label: &VertexLabel) -> u64
+    ensures length { result ≡ length (line_text (line_of.SplitVertex label.now)) }
+    ensures short { result ≤ 95 }
+{
+    match label {
+        VertexLabel::At(point) => 15 + signed_len(&point.x) + signed_len(&point.y),
+        VertexLabel::Number(number) => 14 + number_len(u128::from(*number)),
     }
 }
 

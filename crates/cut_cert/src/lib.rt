@@ -2,10 +2,15 @@
 #![tactic(auto)]
 
 mod answer;
+mod body;
 mod event;
+mod form;
 mod head;
+mod label;
+mod labelled;
 mod length;
 mod line;
+mod naming;
 mod reader;
 mod reading;
 mod row;
@@ -14,9 +19,11 @@ mod split;
 mod version;
 mod write;
 
-pub use answer::{Answer, write_answer};
+pub use answer::{Answer, write_answer, write_graph_answer};
 pub use event::{AnswerEvent, Event};
+pub use form::Form;
 pub use head::{AnswerHead, ConcatNote};
+pub use label::{EdgeLabel, VertexLabel};
 pub use length::answer_len;
 pub use reader::{EventReader, Spelling};
 pub use reading::{lines_fit, one_reading, reads_beginnings, upgraded_alike};

@@ -4,11 +4,13 @@ ghost use Rattle.std.specs.Prelude.{◌≤◌, ◌+◌};
 ghost use Rattle.cut_cert.specs.Lines.{nodes_due};
 
 use crate::event::Event;
+use crate::form::Form;
 use crate::head::AnswerHead;
 use crate::line::Stage;
 use crate::scan::byte::scan_byte;
-use crate::scan::close::{close_line, first_scan};
-use crate::scan::{Kept, Scan, Word};
+use crate::scan::close::close_line;
+use crate::scan::start::first_scan;
+use crate::scan::{Kept, Scan};
 use crate::version::Version;
 use hanan_grid::EdgeName;
 use net_graph::VertexSet;
@@ -23,6 +25,7 @@ pub struct Spelling {
 /// A reader of an answer's text that is fed byte by byte. It keeps no bytes and takes no memory.
 #[derive(Drop)]
 pub struct EventReader {
+    form: Form,
     kept: Kept,
     scan: Scan,
     head: AnswerHead,
@@ -36,22 +39,44 @@ impl EventReader {
     ghost use Rattle.std.specs.Prelude.{ℕ, ◌≡◌, ◌≢◌, ◌+◌, ◌-◌, ◌<◌, ◌≤◌, ◌^◌, false, List, [], ◌∷◌, ◌++◌, length};
     ghost use Rattle.std.specs.Prelude.{take, replicate, IsTrue, MatchBool, Err, IfOk, IfErr, None, IfSome, IfNone};
     ghost use Rattle.cut_cert.specs.declared.event.AnswerEvent.{AnswerEvent};
+    ghost use Rattle.cut_cert.specs.declared.form.Form.{Form};
+    ghost use Rattle.cut_cert.specs.declared.form.Form.TheVariants as form_of;
+    ghost use Rattle.cut_cert.specs.Forms.{HasVertices, first_version, set_size};
     ghost use Rattle.cut_cert.specs.Reading.{IsReadWhole, StopsAt, line_feeds};
     ghost use Rattle.cut_cert.specs.Given.{given};
     ghost use Rattle.cut_cert.specs.Reader.{Reads, Refuses, CeasesAt, TellsVersion, bytes_fed, line_due, set_read};
 
-    /// A reader that was fed no byte, for cuts that are sets of so many vertices. It keeps the set of a cut in the one
-    /// that it is handed.
+    /// A reader of an answer on a grid that was fed no byte, for cuts that are sets of so many vertices. It keeps the
+    /// set of a cut in the one that it is handed.
     pub fn begin(vertices: u32, members: VertexSet) -> EventReader
         requires { members ≡ replicate vertices false }
-        ensures { Reads vertices [] [] result }
+        ensures { Reads (form_of.OnGrid vertices) [] [] result }
     {
-        prove!(members.len() == vertices);
-        let _ = vertices;
+        EventReader::of_form(Form::OnGrid(vertices), Version::One, members)
+    }
+
+    /// A reader of an answer in a graph with so many edges and vertices that was fed no byte. It keeps the set of a cut
+    /// in the one that it is handed.
+    pub fn of_graph(edges: u32, vertices: u32, members: VertexSet) -> EventReader
+        requires some { 0 < vertices }
+        requires members { members ≡ replicate vertices false }
+        ensures { Reads (form_of.OfGraph edges vertices) [] [] result }
+    {
+        EventReader::of_form(Form::OfGraph(edges, vertices), Version::Graph, members)
+    }
+
+    // A reader of an answer of a form that was fed no byte.
+    fn of_form(form: Form, version: Version, members: VertexSet) -> EventReader
+        requires version { version ≡ first_version form }
+        requires some { HasVertices form }
+        requires members { members ≡ replicate (set_size form) false }
+        ensures { Reads form [] [] result }
+    {
         EventReader {
+            form,
             kept: Kept {
                 stage: Stage::Title,
-                version: Version::One,
+                version,
                 name: EdgeName {
                     x1: 0,
                     y1: 0,
@@ -61,7 +86,7 @@ impl EventReader {
                 weight: 0,
                 members,
             },
-            scan: Scan::Word(Word::Title, 0),
+            scan: first_scan(form, version, Stage::Title),
             head: AnswerHead::default(),
             line: 1,
             fed: 0,
@@ -69,16 +94,16 @@ impl EventReader {
     }
 
     /// Reads one more byte, and tells the event that it ends: an event ends with the line feed of its line, and that
-    /// of the head with the sixth. An `Err` comes at the first byte with which no answer's text begins, and for good
+    /// of the head with the sixth, or with the fifth in a graph. An `Err` comes at the first byte with which no answer's text begins, and for good
     /// from then on, with the same line.
     pub fn feed(&mut self, byte: u8) -> Result<Option<Event>, Spelling>
         requires { bytes_fed self.old < 2 ^ 32 - 1 }
         ensures fed { bytes_fed self.new ≡ bytes_fed self.old + 1 }
-        ensures reads { (V : ℕ) (bytes : List ℕ) (events : List AnswerEvent) → Reads V bytes events self.old →
-            IfOk result (λ told. Reads V (bytes ++ byte ∷ [])
+        ensures reads { (F : Form) (bytes : List ℕ) (events : List AnswerEvent) → Reads F bytes events self.old →
+            IfOk result (λ told. Reads F (bytes ++ byte ∷ [])
             (events ++ given (line_due self.old) told (set_read self.new)) self.new) }
-        ensures ceases { (V : ℕ) (bytes : List ℕ) (events : List AnswerEvent) → Reads V bytes events self.old →
-            IfErr result (λ fault. CeasesAt V bytes byte fault.line events) }
+        ensures ceases { (F : Form) (bytes : List ℕ) (events : List AnswerEvent) → Reads F bytes events self.old →
+            IfErr result (λ fault. CeasesAt F bytes byte fault.line events) }
         ensures refuses { IfErr result (λ fault. Refuses self.new fault.line) }
         ensures refused { (n : ℕ) → Refuses self.old n → result ≡ Err (record { line = n }) }
     {
@@ -100,8 +125,8 @@ impl EventReader {
         requires { bytes_fed self.old + length piece.now < 2 ^ 32 }
         ensures few { result ≤ length piece.now }
         ensures fed { bytes_fed self.new ≡ bytes_fed self.old + result }
-        ensures reads { (V : ℕ) (bytes : List ℕ) (events : List AnswerEvent) → Reads V bytes events self.old →
-            Reads V (bytes ++ take result piece.now) events self.new }
+        ensures reads { (F : Form) (bytes : List ℕ) (events : List AnswerEvent) → Reads F bytes events self.old →
+            Reads F (bytes ++ take result piece.now) events self.new }
         ensures refused { (n : ℕ) → Refuses self.old n → Refuses self.new n }
     {
         let Scan::Set(place) = self.scan else {
@@ -117,17 +142,17 @@ impl EventReader {
     fn end_line(&mut self) -> Option<Option<Event>>
         requires { bytes_fed self.old < 2 ^ 32 - 1 }
         ensures fed { bytes_fed self.new ≡ bytes_fed self.old + 1 }
-        ensures reads { IfSome result (λ told. (V : ℕ) (bytes : List ℕ) (events : List AnswerEvent) →
-            Reads V bytes events self.old →
-            Reads V (bytes ++ 10 ∷ []) (events ++ given (line_due self.old) told (set_read self.new)) self.new) }
-        ensures ceases { IfNone result ((V : ℕ) (bytes : List ℕ) (events : List AnswerEvent) →
-            Reads V bytes events self.old → CeasesAt V bytes 10 (line_due self.old) events) }
+        ensures reads { IfSome result (λ told. (F : Form) (bytes : List ℕ) (events : List AnswerEvent) →
+            Reads F bytes events self.old →
+            Reads F (bytes ++ 10 ∷ []) (events ++ given (line_due self.old) told (set_read self.new)) self.new) }
+        ensures ceases { IfNone result ((F : Form) (bytes : List ℕ) (events : List AnswerEvent) →
+            Reads F bytes events self.old → CeasesAt F bytes 10 (line_due self.old) events) }
         ensures kept { IfNone result (line_due self.new ≡ line_due self.old) }
         ensures refused { (n : ℕ) → Refuses self.old n → result ≡ None }
     {
         self.fed += 1;
         let event = close_line(&mut self.kept, &mut self.head, self.scan)?;
-        self.scan = first_scan(self.kept.version, self.kept.stage);
+        self.scan = first_scan(self.form, self.kept.version, self.kept.stage);
         self.line += 1;
         Some(event)
     }
@@ -137,11 +162,11 @@ impl EventReader {
         requires room { bytes_fed self.old < 2 ^ 32 - 1 }
         requires inside { byte ≢ 10 }
         ensures fed { bytes_fed self.new ≡ bytes_fed self.old + 1 }
-        ensures reads { IfSome result (λ told. (V : ℕ) (bytes : List ℕ) (events : List AnswerEvent) →
-            Reads V bytes events self.old →
-            Reads V (bytes ++ byte ∷ []) (events ++ given (line_due self.old) told (set_read self.new)) self.new) }
-        ensures ceases { IfNone result ((V : ℕ) (bytes : List ℕ) (events : List AnswerEvent) →
-            Reads V bytes events self.old → CeasesAt V bytes byte (line_due self.old) events) }
+        ensures reads { IfSome result (λ told. (F : Form) (bytes : List ℕ) (events : List AnswerEvent) →
+            Reads F bytes events self.old →
+            Reads F (bytes ++ byte ∷ []) (events ++ given (line_due self.old) told (set_read self.new)) self.new) }
+        ensures ceases { IfNone result ((F : Form) (bytes : List ℕ) (events : List AnswerEvent) →
+            Reads F bytes events self.old → CeasesAt F bytes byte (line_due self.old) events) }
         ensures kept { line_due self.new ≡ line_due self.old }
         ensures refused { (n : ℕ) → Refuses self.old n → result ≡ None }
     {
@@ -160,20 +185,21 @@ impl EventReader {
     /// The line of the next byte, counted from 1.
     pub fn line(&self) -> u64
         ensures line { result ≡ line_due self.now }
-        ensures feeds { (V : ℕ) (bytes : List ℕ) (events : List AnswerEvent) → Reads V bytes events self.now →
+        ensures feeds { (F : Form) (bytes : List ℕ) (events : List AnswerEvent) → Reads F bytes events self.now →
             result ≡ line_feeds bytes + 1 }
     {
         self.line
     }
 
-    /// The version of the text, 1 or 2, behind its head: that of each answer that begins with the bytes.
+    /// The version of the text behind its head, 1 or 2, and 1 in a graph: that of each answer that begins with the
+    /// bytes.
     pub fn version(&self) -> u8
         requires { 6 < line_due self.now }
-        ensures { (V : ℕ) (bytes : List ℕ) (events : List AnswerEvent) → Reads V bytes events self.now →
-            TellsVersion V bytes result }
+        ensures { (F : Form) (bytes : List ℕ) (events : List AnswerEvent) → Reads F bytes events self.now →
+            TellsVersion F bytes result }
     {
         match self.kept.version {
-            Version::One => 1,
+            Version::One | Version::Graph => 1,
             Version::Two => 2,
         }
     }
@@ -181,7 +207,7 @@ impl EventReader {
     /// How many bytes were fed. No tool asks for it.
     pub fn fed(&self) -> u64
         ensures fed { result ≡ bytes_fed self.now }
-        ensures length { (V : ℕ) (bytes : List ℕ) (events : List AnswerEvent) → Reads V bytes events self.now →
+        ensures length { (F : Form) (bytes : List ℕ) (events : List AnswerEvent) → Reads F bytes events self.now →
             result ≡ length bytes }
     {
         self.fed
@@ -189,10 +215,10 @@ impl EventReader {
 
     /// Whether the end was told and nothing came after it.
     pub fn ended(&self) -> bool
-        ensures reads { (V : ℕ) (bytes : List ℕ) (events : List AnswerEvent) → Reads V bytes events self.now →
-            MatchBool result (IsReadWhole V bytes events) (StopsAt V bytes (line_due self.now) events) }
-        ensures headed { IsTrue result → (V : ℕ) (bytes : List ℕ) (events : List AnswerEvent) →
-            Reads V bytes events self.now → 6 < line_due self.now }
+        ensures reads { (F : Form) (bytes : List ℕ) (events : List AnswerEvent) → Reads F bytes events self.now →
+            MatchBool result (IsReadWhole F bytes events) (StopsAt F bytes (line_due self.now) events) }
+        ensures headed { IsTrue result → (F : Form) (bytes : List ℕ) (events : List AnswerEvent) →
+            Reads F bytes events self.now → 6 < line_due self.now }
         ensures refused { (n : ℕ) → Refuses self.now n → result ≡ false }
     {
         matches!(self.scan, Scan::Ended)

@@ -3,9 +3,10 @@
 ghost use Rattle.std.specs.Prelude.{◌≡◌, ℕ, List};
 ghost use Rattle.spelled.specs.Words.{IsLine};
 ghost use Rattle.cut_cert.specs.declared.event.AnswerEvent.{AnswerEvent};
+ghost use Rattle.cut_cert.specs.declared.form.Form.{Form};
+ghost use Rattle.cut_cert.specs.declared.form.Form.TheVariants as form_of;
 ghost use Rattle.cut_cert.specs.declared.reader.EventReader.{EventReader};
 ghost use Rattle.cut_cert.specs.declared.version.Version.{Version};
-ghost use Rattle.cut_cert.specs.declared.version.Version.TheVariants as version_of;
 ghost use Rattle.cut_cert.specs.AnswerLine.{Line};
 ghost use Rattle.cut_cert.specs.Events.{events_of};
 ghost use Rattle.cut_cert.specs.LineFits.{FitsLine, FitsLines};
@@ -24,22 +25,24 @@ pub fn one_reading()
 /// The bytes for which a reader stands begin an answer, and its events are the first of each answer that begins with
 /// them. A law: the call does nothing, and its caller knows the fact from there on.
 pub fn reads_beginnings()
-    ensures { (V : ℕ) (bytes : List ℕ) (events : List AnswerEvent) (reader : EventReader) →
-        Reads V bytes events reader → BeginsWith V bytes events }
+    ensures { (F : Form) (bytes : List ℕ) (events : List AnswerEvent) (reader : EventReader) →
+        Reads F bytes events reader → BeginsWith F bytes events }
 {}
 
-/// The lines of an answer that bytes spell fit the version that its title tells, and a line that fits holds no line
-/// feed. A law: the call does nothing, and its caller knows the facts from there on.
+/// The lines of an answer that bytes spell fit its form and the version that its title tells, and a line that fits
+/// holds no line feed. A law: the call does nothing, and its caller knows the facts from there on.
 pub fn lines_fit()
-    ensures fit { (V : ℕ) (bytes : List ℕ) (answer : WrittenAnswer) → SpellsAnswer V bytes answer →
-        FitsLines version_of.One V (answer_lines answer) }
-    ensures lines { (v : Version) (V : ℕ) (l : Line) → FitsLine v V l → IsLine (line_bytes l) }
+    ensures fit { (v : Version) (F : Form) (bytes : List ℕ) (answer : WrittenAnswer) → SpellsAnswer F bytes answer →
+        FitsLines v F (answer_lines answer) }
+    ensures lines { (v : Version) (F : Form) (l : Line) → FitsLine v F l → IsLine (line_bytes l) }
 {}
 
-/// Every answer that has a text has one in version 2 too, which tells the same events, each in the same line. A law: the
-/// call does nothing, and its caller knows the facts from there on.
+/// Every answer on a grid that has a text has one in version 2 too, which tells the same events, each in the same line.
+/// A law: the call does nothing, and its caller knows the facts from there on.
 pub fn upgraded_alike()
-    ensures spells { (V : ℕ) (bytes : List ℕ) (answer : WrittenAnswer) → SpellsAnswer V bytes answer →
-        SpellsAnswer V (answer_text (upgraded answer)) (upgraded answer) }
-    ensures told { (answer : WrittenAnswer) → events_of (upgraded answer) ≡ events_of answer }
+    ensures spells { (V : ℕ) (bytes : List ℕ) (answer : WrittenAnswer) →
+        SpellsAnswer (form_of.OnGrid V) bytes answer →
+        SpellsAnswer (form_of.OnGrid V) (answer_text (upgraded answer)) (upgraded answer) }
+    ensures told { (V : ℕ) (bytes : List ℕ) (answer : WrittenAnswer) →
+        SpellsAnswer (form_of.OnGrid V) bytes answer → events_of (upgraded answer) ≡ events_of answer }
 {}

@@ -4,8 +4,10 @@ pub(crate) mod byte;
 pub(crate) mod close;
 pub(crate) mod number;
 pub(crate) mod set;
+pub(crate) mod start;
 pub(crate) mod words;
 
+use crate::form::Form;
 use crate::line::Stage;
 use crate::version::Version;
 use hanan_grid::EdgeName;
@@ -30,12 +32,12 @@ pub(crate) enum Scan {
     // The byte of this place of a word.
     Word(Word, u8),
     // The first byte of one of two words: of a version, of a status, of what a total is, of a node in a text of this
-    // version, or of what a split is on.
+    // version and form, or of what a split is on.
     Version,
     Status,
     Kind,
-    Node(Version),
-    On,
+    Node(Version, Form),
+    On(Form),
     // A number's first digit.
     Due(Field),
     // A coordinate's first digit, or the minus before it.
@@ -54,22 +56,27 @@ pub(crate) enum Scan {
 // The words of the format.
 #[derive(Clone, Copy)]
 pub(crate) enum Word {
+    // The title on a grid short of its version, and the whole title in a graph.
     Title,
+    GraphTitle,
     Length,
     Bound,
     Status,
     Optimal,
     Stopped,
+    // The word of the openings where the note on the concatenation follows, and where none does.
     Openings,
+    LastOpenings,
     Concat,
     Least,
     Spent,
-    Edges,
+    // The word of the count of edges, of which there may be so many.
+    Edges(u32),
     Tree,
-    // The word of a split in a text of this version.
-    Split(Version),
-    Edge,
-    Vertex,
+    // The word of a split in a text of this version and form, and the words of what it is on.
+    Split(Version, Form),
+    Edge(Form),
+    Vertex(Form),
     Leaf,
     Cut,
     End,
@@ -81,9 +88,14 @@ pub(crate) enum Field {
     Length,
     Bound,
     Openings,
+    LastOpenings,
     // The total of a concatenation, and whether it is the least.
     Total(bool),
-    Count,
+    // How many edges there are, at most so many.
+    Count(u32),
+    // The number of an edge or of a vertex, from 1 to so many.
+    EdgeNumber(u32),
+    VertexNumber(u32),
     Leaf,
     Weight,
     // A coordinate without its sign, and whether a minus stood before it.

@@ -1,13 +1,12 @@
 //! What a split of an answer's text is on.
 
-use hanan_grid::EdgeName;
-use points_in::Point;
+use crate::label::{EdgeLabel, VertexLabel};
 
 /// What a split is on, as the text names it.
 #[derive(Clone, Copy, Debug, PartialEq, Eq)]
 pub enum SplitName {
-    /// An edge, by its ends: whether a network has it.
-    Edge(EdgeName),
-    /// A vertex, by its point: whether a network reaches it. Only version 2 of the text has such splits.
-    Vertex(Point),
+    /// An edge: whether a network has it.
+    Edge(EdgeLabel),
+    /// A vertex: whether a network reaches it. Version 1 of the text on a grid has no such splits.
+    Vertex(VertexLabel),
 }

@@ -3,8 +3,10 @@
 /// A version of an answer's text, which its first line tells (this project's own format).
 #[derive(Clone, Copy, Debug, PartialEq, Eq)]
 pub enum Version {
-    /// Every split is on an edge, and its line is the name of the edge behind `split`.
+    /// The first one on a grid: every split is on an edge, and its line is the name of the edge behind `split`.
     One,
-    /// A split is on an edge or on a vertex, and its line says which behind `split`.
+    /// The second one on a grid: a split is on an edge or on a vertex, and its line says which behind `split`.
     Two,
+    /// The one in a graph: its splits' lines are as in the second one on a grid, and it has no note on a concatenation.
+    Graph,
 }

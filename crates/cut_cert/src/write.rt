@@ -1,67 +1,84 @@
-//! The parts of an answer's text that need no grid.
+//! The parts of an answer's text that name no edge and no vertex.
 
 ghost use Rattle.std.specs.Prelude.{ℕ, ◌≡◌, ◌+◌, ◌*◌, ◌==◌, ◌<◌, ◌^◌, ◌++◌, length, map, slice_get, All, Some, codes};
 ghost use Rattle.std.specs.Int.{bit_at};
 ghost use Rattle.text_out.specs.Gathers.{Gathers};
 ghost use Rattle.net_graph.specs.Flags.{has};
-ghost use Rattle.cut_cert.specs.declared.version.Version.TheVariants as version_of;
 ghost use Rattle.cut_cert.specs.LineKinds as line_of;
 ghost use Rattle.cut_cert.specs.Lines.{head_lines, leaf_lines, line_text, lines_text};
-ghost use Rattle.cut_cert.specs.Lines.{result_lines, search_lines, split_line};
+ghost use Rattle.cut_cert.specs.Lines.{result_lines, search_lines};
 ghost use Rattle.cut_cert.specs.SetLaws.{digit_in_word};
 ghost use Rattle.cut_cert.specs.Spelling.{FitsHead, FitsWeight};
-ghost use Rattle.cut_cert.specs.Words.{concat_word, set_text, status_word};
+ghost use Rattle.cut_cert.specs.Words.{concat_word, set_text, status_word, title_words};
 
 use crate::head::{AnswerHead, ConcatNote};
-use crate::split::SplitName;
-use hanan_grid::EdgeName;
+use crate::version::Version;
 use itoa::Integer;
 use net_graph::{Cut, Packing, VertexSet};
-use points_in::Point;
 use rst_outside::Sink;
-use text_out::{Block, literal, number, signed};
+use text_out::{Block, literal, number};
 
-// The first six lines.
+// The lines of a head, in a text of this version.
 #[tactic(auto, using(text_out::specs::GatherLaws::pieces))]
-pub(crate) fn write_head<S: Sink>(block: &mut Block, sink: &mut S, head: &AnswerHead)
+pub(crate) fn write_head<S: Sink>(
+    block: &mut Block,
+    sink: &mut S,
+    version: Version,
+    head: &AnswerHead,
+)
     ensures text { Gathers (S.state sink.old) block.old
-        (lines_text (head_lines version_of.Two head.now))
+        (lines_text (head_lines version head.now))
         (S.state sink.new) block.new }
     ensures fits { FitsHead head.now }
 {
-    write_result(block, sink, head);
-    write_search(block, sink, head);
+    write_result(block, sink, version, head);
+    write_search(block, sink, version, head);
 }
 
 // The first four lines.
 #[tactic(auto, using(text_out::specs::GatherLaws::pieces))]
-fn write_result<S: Sink>(block: &mut Block, sink: &mut S, head: &AnswerHead)
+fn write_result<S: Sink>(block: &mut Block, sink: &mut S, version: Version, head: &AnswerHead)
     ensures text { Gathers (S.state sink.old) block.old
-        (lines_text (result_lines version_of.Two head.now))
+        (lines_text (result_lines version head.now))
         (S.state sink.new) block.new }
     ensures length { head.now.length < 2 ^ 64 }
     ensures bound { head.now.bound < 2 ^ 64 }
 {
     let length = head.length;
     let bound = head.bound;
-    literal(block, sink, b"rst answer 2\n");
+    literal(block, sink, title_of(version));
+    literal(block, sink, b"\n");
     write_number(block, sink, b"length ", length);
     write_number(block, sink, b"bound ", bound);
     write_status(block, sink, head.optimal);
 }
 
-// The next two lines.
+// The title of a text of this version.
+fn title_of(version: Version) -> &'static [u8]
+    ensures { result.now ≡ title_words version }
+{
+    match version {
+        Version::One => b"rst answer 1",
+        Version::Two => b"rst answer 2",
+        Version::Graph => b"rst graph 1",
+    }
+}
+
+// The lines behind those: on a grid two, and in a graph one.
 #[tactic(auto, using(text_out::specs::GatherLaws::pieces))]
-fn write_search<S: Sink>(block: &mut Block, sink: &mut S, head: &AnswerHead)
+fn write_search<S: Sink>(block: &mut Block, sink: &mut S, version: Version, head: &AnswerHead)
     ensures text { Gathers (S.state sink.old) block.old
-        (lines_text (search_lines head.now))
+        (lines_text (search_lines version head.now))
         (S.state sink.new) block.new }
     ensures openings { head.now.openings < 2 ^ 8 }
     ensures total { head.now.concat.total < 2 ^ 128 }
 {
     let openings = head.openings;
+    let _total = head.concat.total;
     write_number(block, sink, b"openings ", openings);
-    write_concat(block, sink, &head.concat);
+    if version != Version::Graph {
+        write_concat(block, sink, &head.concat);
+    }
 }
 
 // A line of a word and a number.
@@ -118,51 +135,6 @@ pub(crate) fn kind_of(least: bool) -> &'static [u8]
     ensures { result.now ≡ concat_word least }
 {
     if least { b"least" } else { b"spent" }
-}
-
-// The line of an edge.
-#[tactic(auto, using(text_out::specs::GatherLaws::pieces))]
-pub(crate) fn write_edge<S: Sink>(block: &mut Block, sink: &mut S, name: &EdgeName)
-    ensures { Gathers (S.state sink.old) block.old (line_text (line_of.Edge name.now)) (S.state sink.new) block.new }
-{
-    signed(block, sink, &name.x1);
-    literal(block, sink, b" ");
-    signed(block, sink, &name.y1);
-    literal(block, sink, b" ");
-    signed(block, sink, &name.x2);
-    literal(block, sink, b" ");
-    signed(block, sink, &name.y2);
-    literal(block, sink, b"\n");
-}
-
-// The line of a split.
-#[tactic(auto, using(text_out::specs::GatherLaws::pieces))]
-pub(crate) fn write_split<S: Sink>(block: &mut Block, sink: &mut S, name: &SplitName)
-    ensures { Gathers (S.state sink.old) block.old
-        (line_text (split_line version_of.Two name.now))
-        (S.state sink.new) block.new }
-{
-    match name {
-        SplitName::Edge(edge) => {
-            literal(block, sink, b"split edge ");
-            write_edge(block, sink, edge);
-        }
-        SplitName::Vertex(point) => write_vertex(block, sink, point),
-    }
-}
-
-// The line of a split on a vertex.
-#[tactic(auto, using(text_out::specs::GatherLaws::pieces))]
-fn write_vertex<S: Sink>(block: &mut Block, sink: &mut S, point: &Point)
-    ensures { Gathers (S.state sink.old) block.old
-        (line_text (line_of.SplitVertex point.now))
-        (S.state sink.new) block.new }
-{
-    literal(block, sink, b"split vertex ");
-    signed(block, sink, &point.x);
-    literal(block, sink, b" ");
-    signed(block, sink, &point.y);
-    literal(block, sink, b"\n");
 }
 
 // A leaf with its cuts.

@@ -4,6 +4,7 @@ use Rattle.points_in.specs.declared.point.Point.{Point}
 use Rattle.points_in.specs.Terminals.{terminals_of}
 use Rattle.hanan_grid.specs.Grid.{hanan_grid_of}
 use Rattle.cut_cert.specs.Value.{WrittenAnswer}
+use Rattle.cut_cert.specs.declared.form.Form.TheVariants as form
 use Rattle.cut_cert.specs.Spelling.{SpellsAnswer}
 use Rattle.answer_upgrade.specs.declared.told.Spelled.TheVariants.{Fault}
 use Rattle.answer_upgrade.specs.Spelling.{TellsSpelling}
@@ -37,11 +38,11 @@ taken_misspelled name before after grid vertices line bytes (ps, lists, of_point
 -- what was taken is printed in version 2
 pub printed_run : UpgradingKeepsVerdict → (name : List ℕ) (before after : Outside) (taken : TakenAnswer) (status : ℕ) →
     TakesAnswer name before.read after.read (Ok taken) → LeavesFiles before.read after.read →
-    ((answer : WrittenAnswer) → SpellsAnswer taken.vertices taken.bytes.items answer →
+    ((answer : WrittenAnswer) → SpellsAnswer (form.OnGrid taken.vertices) taken.bytes.items answer →
     PrintsOrNot (codes "upgrade") (upgrade_print answer) before.written after.written status) →
     EndsUpgrade name before after status
 printed_run law name before after taken status (ps, is_taken, same, (answer, spells)) leaves prints =
-    let spelled = subst (λ n. SpellsAnswer n taken.bytes.items answer) same spells in
+    let spelled = subst (λ n. SpellsAnswer (form.OnGrid n) taken.bytes.items answer) same spells in
     let few : length taken.bytes.items ≤ 2 ^ 28 = is_taken.input.within in record {
       found = Some (Ok (upgrade_print answer));
       finds = (

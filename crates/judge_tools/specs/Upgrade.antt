@@ -4,6 +4,7 @@ use Rattle.points_in.specs.declared.point.Point.{Point}
 use Rattle.points_in.specs.Terminals.{terminals_of}
 use Rattle.cut_cert.specs.Value.{WrittenAnswer}
 use Rattle.cut_cert.specs.Text.{answer_text}
+use Rattle.cut_cert.specs.declared.form.Form.TheVariants as form
 use Rattle.cut_cert.specs.Spelling.{SpellsAnswer}
 use Rattle.answer_upgrade.specs.declared.told.Spelled.TheVariants.{Fault}
 use Rattle.answer_upgrade.specs.Spelling.{TellsSpelling}
@@ -58,7 +59,7 @@ HaveOneVerdict ps these those = (f : Finished) → IsVerdict ps these f ↔ IsVe
 abbrev pub Upgrades : List ℕ → Readable → Readable → Result Print UpgradeFault → Type 0
 Upgrades name before after (Ok print) =
     (ps : List Point) × (bytes : List ℕ) × (answer : WrittenAnswer) × IsTaken name before after ps bytes
-    × SpellsAnswer (grid_of_points ps).vertices bytes answer
+    × SpellsAnswer (form.OnGrid (grid_of_points ps).vertices) bytes answer
     × HaveOneVerdict (terminals_of ps) bytes (answer_text (upgraded answer)) × (print ≡ upgrade_print answer)
 Upgrades name before after (Err fault) = IsUpgradeFault name before after fault
 

@@ -13,6 +13,7 @@ use Rattle.cut_cert.specs.declared.head.ConcatNote.{ConcatNote}
 use Rattle.cut_cert.specs.declared.version.Version.TheVariants as version
 use Rattle.cut_cert.specs.Value.{WrittenAnswer}
 use Rattle.cut_cert.specs.Text.{answer_text}
+use Rattle.cut_cert.specs.declared.form.Form.TheVariants as form
 use Rattle.cut_cert.specs.Spelling.{SpellsAnswer}
 use Rattle.cert_check.specs.Accepted.{IsAccepted}
 use Rattle.frame.specs.declared.status.AnswerStatus.TheVariants.{Done, Stopped}
@@ -27,7 +28,7 @@ use Rattle.search_tools.specs.Steps.{IsFor, IsSpelled, solution_text, solution_s
 accepted_solution : (openings first_length : ℕ) (ps : List Point) (set : List Bool) (tree : Tree SplitOn)
     (note : ConcatNote) →
     let g = hanan_grid_of ps in
-    SpellsAnswer g.vertices (search_text openings ps set tree note) (solution openings ps set tree note) →
+    SpellsAnswer (form.OnGrid g.vertices) (search_text openings ps set tree note) (solution openings ps set tree note) →
     IsSearched g openings first_length set tree → All (IsNodeOn g) (nodes_of tree) → split_count tree ≤ 255 →
     IsAccepted ps (search_text openings ps set tree note)
 accepted_solution openings first_length ps set tree note spells searched nodes few = (
@@ -76,8 +77,9 @@ permitted_answer options ps trees s is spells =
     subst (λ (h : List Point). IsAnswerOn (hanan_grid_of h) s.answer) is.grid is.fits in record {
       accepted =
           accepted_solution options.openings note.total ps s.answer.network s.answer.tree note
-          (subst (λ (h : List Point). SpellsAnswer (hanan_grid_of h).vertices text written) is.grid
-          (subst (λ (w : WrittenAnswer). SpellsAnswer (hanan_grid_of s.grid).vertices (answer_text w) w) told spells))
+          (subst (λ (h : List Point). SpellsAnswer (form.OnGrid (hanan_grid_of h).vertices) text written) is.grid
+          (subst (λ (w : WrittenAnswer). SpellsAnswer (form.OnGrid (hanan_grid_of s.grid).vertices) (answer_text w) w) told
+          spells))
           is.searched fits.nodes fits.few;
       searched = is.searched;
       concat = is.concat;

@@ -19,6 +19,7 @@ use Rattle.branch.specs.States.{IsNetworkOf}
 use Rattle.cut_cert.specs.declared.answer.Answer.{Answer}
 use Rattle.cut_cert.specs.declared.head.ConcatNote.{ConcatNote}
 use Rattle.cut_cert.specs.Text.{answer_text}
+use Rattle.cut_cert.specs.declared.form.Form.TheVariants as form
 use Rattle.cut_cert.specs.Spelling.{SpellsAnswer}
 use Rattle.cut_cert.specs.Answers.{IsAnswerOn, value_of}
 use Rattle.frame.specs.declared.status.AnswerStatus.{AnswerStatus}
@@ -90,7 +91,8 @@ IsPrintable s = IsAnswerOn (hanan_grid_of s.grid) s.answer
 
 -- its text spells it
 abbrev pub IsSpelled : Solution → Type 0
-IsSpelled s = SpellsAnswer (hanan_grid_of s.grid).vertices (solution_text s) (value_of s.grid s.answer)
+IsSpelled s =
+    SpellsAnswer (form.OnGrid (hanan_grid_of s.grid).vertices) (solution_text s) (value_of s.grid s.answer)
 
 -- The answer tells a network of the grid and a tree of cuts, as a search from a network ends with them that is no
 -- longer than a concatenation of these trees.

@@ -25,7 +25,7 @@ pub(crate) fn scan_byte(kept: &mut Kept, scan: Scan, byte: u8) -> Option<Scan>
         Scan::Word(word, place) => word_byte(word, place, byte),
         Scan::Due(field) => first_digit(field, byte),
         Scan::Coordinate(corner) => coordinate_byte(corner, byte),
-        Scan::Version | Scan::Status | Scan::Kind | Scan::Node(_) | Scan::On => {
+        Scan::Version | Scan::Status | Scan::Kind | Scan::Node(_, _) | Scan::On(_) => {
             fork_byte(scan, byte)
         }
         Scan::LineEnd(_) | Scan::Ended | Scan::Refused => None,

@@ -1,8 +1,8 @@
 //! The end of a line.
 
 ghost use Rattle.std.specs.Prelude.{◌≡◌, ℕ, ◌<◌, ◌≤◌, ◌^◌, ◌+◌, ◌-◌, Bool, Some, None, IfSome, IfNone};
-ghost use Rattle.hanan_grid.specs.declared.name.EdgeName.{EdgeName};
-ghost use Rattle.points_in.specs.declared.point.Point.{Point};
+ghost use Rattle.cut_cert.specs.declared.label.EdgeLabel.{EdgeLabel};
+ghost use Rattle.cut_cert.specs.declared.label.VertexLabel.{VertexLabel};
 ghost use Rattle.cut_cert.specs.declared.head.AnswerHead.{AnswerHead};
 ghost use Rattle.cut_cert.specs.LineKinds as line_of;
 ghost use Rattle.cut_cert.specs.declared.scan.Corner.TheVariants as corner_of;
@@ -10,16 +10,16 @@ ghost use Rattle.cut_cert.specs.declared.scan.Field.TheVariants as field_of;
 ghost use Rattle.cut_cert.specs.declared.scan.Scan.TheVariants as scan_of;
 ghost use Rattle.cut_cert.specs.declared.line.Stage.{Stage};
 ghost use Rattle.cut_cert.specs.Lines.{step, nodes_due};
-ghost use Rattle.cut_cert.specs.Scanning.{Closes, IsInField, IsNoLineLeft, IsSound, first_scan, name_line, signed};
+ghost use Rattle.cut_cert.specs.Scanning.{Closes, IsInField, IsNoLineLeft, IsSound, MakesLine, name_line, signed};
 ghost use Rattle.cut_cert.specs.Spelling.{FitsName};
 
 use crate::event::Event;
 use crate::head::{AnswerHead, ConcatNote};
+use crate::label::{EdgeLabel, VertexLabel};
 use crate::line::Stage;
 use crate::scan::byte::with_sign;
-use crate::scan::{Closed, Corner, Field, Kept, Scan, Word};
+use crate::scan::{Closed, Corner, Field, Kept, Scan};
 use crate::split::SplitName;
-use crate::version::Version;
 use points_in::Point;
 
 // Ends the line: notes what it tells of the head and what is due behind it, and tells its event, if it is one. None
@@ -41,27 +41,6 @@ pub(crate) fn close_line(
         Scan::Number(field, value) => close_number(kept, head, field, value),
         Scan::Set(place) => close_set(kept, place),
         _ => None,
-    }
-}
-
-// What is due at the beginning of a line of a text of this version.
-pub(crate) fn first_scan(version: Version, stage: Stage) -> Scan
-    ensures { result ≡ first_scan version stage }
-{
-    match stage {
-        Stage::Title => Scan::Word(Word::Title, 0),
-        Stage::Length => Scan::Word(Word::Length, 0),
-        Stage::Bound => Scan::Word(Word::Bound, 0),
-        Stage::Status => Scan::Word(Word::Status, 0),
-        Stage::Openings => Scan::Word(Word::Openings, 0),
-        Stage::Concat => Scan::Word(Word::Concat, 0),
-        Stage::Count => Scan::Word(Word::Edges, 0),
-        Stage::Edges(0) => Scan::Word(Word::Tree, 0),
-        Stage::Edges(_) => Scan::Coordinate(Corner::X1),
-        Stage::Body(0, 0) => Scan::Word(Word::End, 0),
-        Stage::Body(0, _) => Scan::Node(version),
-        Stage::Body(_, _) => Scan::Word(Word::Cut, 0),
-        Stage::Done => Scan::Ended,
     }
 }
 
@@ -122,6 +101,11 @@ fn close_number(
             kept.stage = Stage::Concat;
             Some(None)
         }
+        Field::LastOpenings => {
+            head.openings = u8::try_from(value).ok()?;
+            kept.stage = Stage::Count;
+            Some(Some(Event::Head(*head)))
+        }
         Field::Total(least) => {
             head.concat = ConcatNote {
                 least,
@@ -130,12 +114,16 @@ fn close_number(
             kept.stage = Stage::Count;
             Some(Some(Event::Head(*head)))
         }
-        Field::Count => {
+        Field::Count(_) => {
             let edges = u32::try_from(value).ok()?;
             kept.stage = Stage::Edges(edges);
             Some(Some(Event::EdgeCount(edges)))
         }
         Field::Leaf => close_leaf(kept, u32::try_from(value).ok()?),
+        Field::EdgeNumber(_) => close_edge(kept, EdgeLabel::Number(u32::try_from(value).ok()?)),
+        Field::VertexNumber(_) => {
+            close_vertex(kept, VertexLabel::Number(u32::try_from(value).ok()?))
+        }
         Field::Coordinate(corner, minus) => close_coordinate(kept, corner, minus, value),
         Field::Weight => None,
     }
@@ -172,54 +160,78 @@ fn close_coordinate(
 {
     match corner {
         Corner::Y2 => close_name(kept, with_sign(minus, value)?),
-        Corner::Y => close_vertex(kept, with_sign(minus, value)?),
+        Corner::Y => close_point(kept, with_sign(minus, value)?),
         _ => None,
     }
 }
 
-// Ends a line whose last word is a name's last coordinate.
+// Ends a line whose last word is the last coordinate of an edge's ends.
 fn close_name(kept: &mut Kept, last: i64) -> Option<Option<Event>>
     requires { nodes_due kept.old.stage < 2 ^ 64 - 1 }
     ensures closes { IfSome result (λ told. (h : AnswerHead) (minus : Bool) (value : ℕ) → last ≡ signed minus value →
         IsInField (field_of.Coordinate corner_of.Y2 minus) value → FitsName kept.old.name →
         Closes kept.old (scan_of.Number (field_of.Coordinate corner_of.Y2 minus) value) h kept.new h told) }
-    ensures none { IfNone result ((e : EdgeName) (s' : Stage) →
+    ensures none { IfNone result ((e : EdgeLabel) (s' : Stage) →
         step kept.old.stage (name_line kept.old.version kept.old.stage e) ≡ Some s' → ⊥) }
     ensures few { nodes_due kept.new.stage ≤ nodes_due kept.old.stage + 1 }
 {
     kept.name.y2 = last;
+    close_edge(kept, EdgeLabel::Ends(kept.name))
+}
+
+// Ends the line of an edge of the network, or of a split on an edge.
+fn close_edge(kept: &mut Kept, label: EdgeLabel) -> Option<Option<Event>>
+    requires { nodes_due kept.old.stage < 2 ^ 64 - 1 }
+    ensures makes { IfSome result (λ told.
+        MakesLine kept.old (name_line kept.old.version kept.old.stage label) kept.new told) }
+    ensures none { IfNone result ((e : EdgeLabel) (s' : Stage) →
+        step kept.old.stage (name_line kept.old.version kept.old.stage e) ≡ Some s' → ⊥) }
+    ensures few { nodes_due kept.new.stage ≤ nodes_due kept.old.stage + 1 }
+{
     match kept.stage {
         Stage::Edges(edges) => {
             kept.stage = Stage::Edges(edges.checked_sub(1)?);
-            Some(Some(Event::Edge(kept.name)))
+            Some(Some(Event::Edge(label)))
         }
         Stage::Body(cuts, nodes) => {
             kept.stage = Stage::Body(cuts, nodes + 1);
-            Some(Some(Event::Split(SplitName::Edge(kept.name))))
+            Some(Some(Event::Split(SplitName::Edge(label))))
         }
         _ => None,
     }
 }
 
-// Ends the line of a split on a vertex.
-fn close_vertex(kept: &mut Kept, last: i64) -> Option<Option<Event>>
+// Ends a line whose last word is the last coordinate of a vertex's point.
+fn close_point(kept: &mut Kept, last: i64) -> Option<Option<Event>>
     requires { nodes_due kept.old.stage < 2 ^ 64 - 1 }
     ensures closes { IfSome result (λ told. (h : AnswerHead) (minus : Bool) (value : ℕ) → last ≡ signed minus value →
         IsInField (field_of.Coordinate corner_of.Y minus) value → FitsName kept.old.name →
         Closes kept.old (scan_of.Number (field_of.Coordinate corner_of.Y minus) value) h kept.new h told) }
-    ensures none { IfNone result ((p : Point) (s' : Stage) →
+    ensures none { IfNone result ((p : VertexLabel) (s' : Stage) →
+        step kept.old.stage (line_of.SplitVertex p) ≡ Some s' → ⊥) }
+    ensures few { nodes_due kept.new.stage ≤ nodes_due kept.old.stage + 1 }
+{
+    kept.name.y1 = last;
+    let point = Point {
+        x: kept.name.x1,
+        y: last,
+    };
+    close_vertex(kept, VertexLabel::At(point))
+}
+
+// Ends the line of a split on a vertex.
+fn close_vertex(kept: &mut Kept, label: VertexLabel) -> Option<Option<Event>>
+    requires { nodes_due kept.old.stage < 2 ^ 64 - 1 }
+    ensures makes { IfSome result (λ told. MakesLine kept.old (line_of.SplitVertex label) kept.new told) }
+    ensures none { IfNone result ((p : VertexLabel) (s' : Stage) →
         step kept.old.stage (line_of.SplitVertex p) ≡ Some s' → ⊥) }
     ensures few { nodes_due kept.new.stage ≤ nodes_due kept.old.stage + 1 }
 {
     let Stage::Body(cuts, nodes) = kept.stage else {
         return None;
     };
-    kept.name.y1 = last;
     kept.stage = Stage::Body(cuts, nodes + 1);
-    Some(Some(Event::Split(SplitName::Vertex(Point {
-        x: kept.name.x1,
-        y: last,
-    }))))
+    Some(Some(Event::Split(SplitName::Vertex(label))))
 }
 
 // Ends a cut's line, of whose set so many digits were read.

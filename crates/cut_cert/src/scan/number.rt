@@ -17,6 +17,10 @@ pub(crate) fn first_digit(field: Field, byte: u8) -> Option<Scan>
     if digit == 0 && is_positive(field) {
         return None;
     }
+    let (tenth, last) = greatest(field);
+    if tenth == 0 && digit > last {
+        return None;
+    }
     Some(Scan::Number(field, digit as u128))
 }
 
@@ -65,7 +69,10 @@ fn digit_of(byte: u8) -> Option<u8>
 fn is_positive(field: Field) -> bool
     ensures { IsTrue result ↔ (least_of field ≡ 1) }
 {
-    matches!(field, Field::Weight | Field::Coordinate(_, true))
+    matches!(
+        field,
+        Field::Weight | Field::EdgeNumber(_) | Field::VertexNumber(_) | Field::Coordinate(_, true)
+    )
 }
 
 // The greatest number of a field without its last digit, and that digit.
@@ -75,9 +82,12 @@ fn greatest(field: Field) -> (u128, u8)
 {
     match field {
         Field::Length | Field::Bound | Field::Weight => (1_844_674_407_370_955_161, 5),
-        Field::Openings => (25, 5),
+        Field::Openings | Field::LastOpenings => (25, 5),
         Field::Total(_) => (34_028_236_692_093_846_346_337_460_743_176_821_145, 5),
-        Field::Count | Field::Leaf => (429_496_729, 5),
+        Field::Leaf => (429_496_729, 5),
+        Field::Count(last) | Field::EdgeNumber(last) | Field::VertexNumber(last) => {
+            (u128::from(last / 10), (last % 10) as u8)
+        }
         Field::Coordinate(_, false) => (922_337_203_685_477_580, 7),
         Field::Coordinate(_, true) => (922_337_203_685_477_580, 8),
     }

@@ -2,6 +2,7 @@ use Rattle.std.proofs.Common.{◌≡◌, ◌-◌, ◌++◌, [], length, take, dr
 use Rattle.std.specs.Prelude.{◌==◌}
 use Rattle.std.proofs.lemmas.Bool.Decides.{nat_tests}
 use Rattle.std.proofs.lemmas.List.{append-nil, length-take-le}
+use Rattle.cut_cert.specs.declared.form.Form.TheVariants as form
 use Rattle.cut_cert.specs.Spelling.{SpellsAnswer}
 use Rattle.answer_upgrade.specs.Spelling.{Stops}
 use Rattle.answer_upgrade.proofs.StoppedBytes.{stops_in, moved_on, empty_of}
@@ -33,7 +34,7 @@ returns-in-Err c =
 pub version-requires : goal.version-requires
 version-requires c =
     let (front, parts, reading) = c.loop-rest.invariant.reads in
-    c.ended.ensures.headed c.if-ended.true c.args.vertices front reading.0 reading.1
+    c.ended.ensures.headed c.if-ended.true (form.OnGrid c.args.vertices) front reading.0 reading.1
 
 pub returns-then-ended : goal.returns-then-ended
 returns-then-ended c =
@@ -42,9 +43,9 @@ returns-then-ended c =
     let test : (length rest == 0) ≡ true = sym c.is_empty.ensures ∙ c.loop-rest-test.false in
     let none : length rest ≡ 0 = grind (arith, nat_tests) in
     let all : front ≡ c.args.bytes.now = sym (parts ∙ ap (λ x. front ++ x) (empty_of rest none) ∙ append-nil front) in
-    let whole = c.if-ended.ensures.reads c.args.vertices front reading.0 reading.1 in
-    let told = c.version.ensures c.args.vertices front reading.0 reading.1 [] whole.answer (subst (λ x. SpellsAnswer c.args.vertices x whole.answer) (sym (append-nil front)) whole.spells) in
-    (whole.answer, subst (λ x. SpellsAnswer c.args.vertices x whole.answer) all whole.spells, told)
+    let whole = c.if-ended.ensures.reads (form.OnGrid c.args.vertices) front reading.0 reading.1 in
+    let told = c.version.ensures (form.OnGrid c.args.vertices) front reading.0 reading.1 [] whole.answer (subst (λ x. SpellsAnswer (form.OnGrid c.args.vertices) x whole.answer) (sym (append-nil front)) whole.spells) in
+    (whole.answer, subst (λ x. SpellsAnswer (form.OnGrid c.args.vertices) x whole.answer) all whole.spells, told)
 
 pub returns : goal.returns
 returns c =
@@ -53,5 +54,5 @@ returns c =
     let test : (length rest == 0) ≡ true = sym c.is_empty.ensures ∙ c.loop-rest-test.false in
     let none : length rest ≡ 0 = grind (arith, nat_tests) in
     let all : front ≡ c.args.bytes.now = sym (parts ∙ ap (λ x. front ++ x) (empty_of rest none) ∙ append-nil front) in
-    let stops = c.if-ended.ensures.reads c.args.vertices front reading.0 reading.1 in
+    let stops = c.if-ended.ensures.reads (form.OnGrid c.args.vertices) front reading.0 reading.1 in
     stops_in c.args.vertices _ _ _ _ _ all (sym c.line-line.ensures.line) stops

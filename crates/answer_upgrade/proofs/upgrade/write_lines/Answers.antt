@@ -1,6 +1,7 @@
 use Rattle.std.proofs.Common.{◌++◌, ◌∷◌, [], length, refl, ap, arith, length-append}
 use Rattle.text_out.specs.GatherLaws.{gathers_nothing, gathers_two}
 use Rattle.answer_upgrade.proofs.UpgradedLines.{next_line, done_more, text_more, none_left, all_done}
+use Rattle.cut_cert.specs.declared.form.Form.TheVariants as form
 use Rattle.answer_upgrade.proofs.upgrade.write_lines.Goals as goal
 
 pub lines-init : goal.lines-init
@@ -12,7 +13,7 @@ lines-smaller g c = omega (arith, ap length c.in-Some.ensures.parts, length-appe
 pub lines-preserved : goal.lines-preserved
 lines-preserved g c = λ v V ls fits text.
     let (passed, gathers) = c.lines.invariant v V ls fits text in
-    let next = next_line passed.version V passed.left c.lines.rest.now c.in-Some.line.now c.in-Some.left.now c.lines_fit.ensures.lines passed.fits passed.text c.in-Some.ensures.parts c.in-Some.ensures.line in (
+    let next = next_line passed.version (form.OnGrid V) passed.left c.lines.rest.now c.in-Some.line.now c.in-Some.left.now c.lines_fit.ensures.lines passed.fits passed.text c.in-Some.ensures.parts c.in-Some.ensures.line in (
       record {
         done = passed.done ++ next.here ∷ [];
         left = next.behind;

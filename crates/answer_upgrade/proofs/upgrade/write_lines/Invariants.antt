@@ -1,5 +1,6 @@
 use Rattle.std.proofs.Common.{◌≡◌, ℕ, List, length, map}
 use Rattle.text_out.specs.Gathers.{Gathers}
+use Rattle.cut_cert.specs.declared.form.Form.TheVariants as form
 use Rattle.cut_cert.specs.declared.version.Version.{Version}
 use Rattle.cut_cert.specs.AnswerLine.{Line}
 use Rattle.cut_cert.specs.LineFits.{FitsLines}
@@ -10,8 +11,8 @@ use Rattle.answer_upgrade.proofs.upgrade.write_lines.Given as goal
 
 -- the lines that are left are those behind the ones that were written
 abbrev pub invariant-lines : goal.invariant-lines
-invariant-lines g l = (v : Version) (V : ℕ) (ls : List Line) → FitsLines v V ls → l.bytes ≡ lines_text ls →
-    (passed : Passed V ls l.rest)
+invariant-lines g l = (v : Version) (V : ℕ) (ls : List Line) → FitsLines v (form.OnGrid V) ls → l.bytes ≡ lines_text ls →
+    (passed : Passed (form.OnGrid V) ls l.rest)
     × Gathers (g.S.Sink.state l.initial.sink) l.initial.block (lines_text (map upgraded_line passed.done)) (g.S.Sink.state l.sink) l.block
 
 abbrev pub decreases-lines : goal.decreases-lines

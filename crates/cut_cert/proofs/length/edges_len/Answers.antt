@@ -1,3 +1,4 @@
+use Rattle.cut_cert.specs.Answers.{grid_labels}
 use Rattle.std.proofs.Common.{◌+◌, length, ap, sym, ◌∙◌, arith}
 use Rattle.cut_cert.specs.LineKinds as line
 use Rattle.cut_cert.specs.Lines.{line_text}
@@ -9,15 +10,15 @@ pub loop-e-preserved : goal.loop-e-preserved
 loop-e-preserved c = elim c.if-has.branch [
   | then-has w ↦ record {
     length =
-        let line = w.edge_len-sum.ensures.length ∙ ap (λ name. length (line_text (line.Edge name))) w.edge_name.ensures.name in
+        let line = w.edge_len-sum.ensures.length ∙ ap (λ name. length (line_text (line.Edge name))) w.edge_label.ensures.label in
         w.sum-is ∙ ap (λ n. c.loop-e.sum + n) line
-        ∙ lines_length-member c.args.grid.now c.args.network.now c.loop-e.e c.loop-e.sum (omega arith) (sym c.has.ensures.within ∙ w.if-has.true) c.loop-e.invariant.length;
+        ∙ lines_length-member (grid_labels c.args.grid.now) c.args.network.now c.loop-e.e c.loop-e.sum (omega arith) (sym c.has.ensures.within ∙ w.if-has.true) c.loop-e.invariant.length;
     short = omega arith;
   }
   | else-has w ↦ record {
     length =
         w.sum-is ∙ c.loop-e.invariant.length
-        ∙ ap length (lines-other c.args.grid.now c.args.network.now c.loop-e.e (omega arith) (sym c.has.ensures.within ∙ w.if-has.false));
+        ∙ ap length (lines-other (grid_labels c.args.grid.now) c.args.network.now c.loop-e.e (omega arith) (sym c.has.ensures.within ∙ w.if-has.false));
     short = omega arith;
   }
 ]

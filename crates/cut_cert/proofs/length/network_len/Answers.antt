@@ -1,3 +1,4 @@
+use Rattle.cut_cert.specs.Answers.{grid_labels}
 use Rattle.std.proofs.Common.{◌≡◌, ◌+◌, length, map, refl, ap, sym, ◌∙◌, arith}
 use Rattle.std.specs.Prelude.{codes}
 use Rattle.std.specs.Fmt.{decimal}
@@ -12,7 +13,7 @@ use Rattle.cut_cert.proofs.length.network_len.Goals as goal
 pub returns-clause-length : goal.returns-clause-length
 returns-clause-length c =
     let names = names_of c.args.grid.now (members_of c.args.network.now) in
-    let count = count-names c.args.grid.now (members_of c.args.network.now) c.count_of.result c.count_of.ensures in
+    let count = count-names (grid_labels c.args.grid.now) (members_of c.args.network.now) c.count_of.result c.count_of.ensures in
     let digits : c.number_len.result ≡ length (decimal (length names)) = c.number_len.ensures.length ∙ ap (λ n. length (decimal n)) (c.from.ensures ∙ count) in
     let all : 7 + c.number_len.result + c.edges_len.result ≡ 7 + length (decimal (length names)) + length (lines_text (map line.Edge names)) = omega arith in
     all ∙ sym (length-number (codes "edges ") (length names) (line.Count (length names)) (map line.Edge names) refl)

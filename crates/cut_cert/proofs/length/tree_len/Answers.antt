@@ -1,3 +1,4 @@
+use Rattle.cut_cert.specs.Answers.{grid_labels}
 use Rattle.std.proofs.Common.{◌+◌, ◌++◌, length, take, ◌∙◌, ap, arith}
 use Rattle.std.proofs.lemmas.List.{take_all}
 use Rattle.hanan_grid.specs.Grid.{hanan_grid_of}
@@ -49,16 +50,16 @@ loop-node-preserved c =
       | in-Some w ↦ record {
         leaf = w.leaf-is ∙ c.loop-node.invariant.leaf ∙ split_leaves nodes i w.in-Some.on c.loop-node-test.true w.in-Some.is;
         length =
-            let name = w.split_name.ensures.name in
-            let text = ap (λ name. lines_text (nodes_lines c.args.grid.now (take i nodes) packings) ++ line_text (split_line version.Two name)) name ∙ split_step c.args.grid.now nodes packings i w.in-Some.on c.loop-node-test.true w.in-Some.is in
-            w.sum-is ∙ sum_more _ (line_text (split_line version.Two w.split_name.result)) _ c.loop-node.sum w.split_len-sum.result c.loop-node.invariant.length w.split_len-sum.ensures.length text;
+            let name = w.split_label.ensures.name in
+            let text = ap (λ name. lines_text (nodes_lines (grid_labels c.args.grid.now) (take i nodes) packings) ++ line_text (split_line version.Two name)) name ∙ split_step (grid_labels c.args.grid.now) nodes packings i w.in-Some.on c.loop-node-test.true w.in-Some.is in
+            w.sum-is ∙ sum_more _ (line_text (split_line version.Two w.split_label.result)) _ c.loop-node.sum w.split_len-sum.result c.loop-node.invariant.length w.split_len-sum.ensures.length text;
         short = omega arith;
       }
       | in-None w ↦ record {
         leaf = w.leaf-is ∙ ap (λ n. n + 1) c.loop-node.invariant.leaf ∙ leaf_leaves nodes i c.loop-node-test.true w.in-None.is;
         length =
             let below = leaf_below c.args.tree.now nodes i c.loop-node.leaf c.nodes-node-items.ensures.nodes c.loop-node-test.true w.in-None.is c.loop-node.invariant.leaf in
-            let text = leaf_step c.args.grid.now nodes packings i c.loop-node.leaf w.packing.result.now c.loop-node-test.true w.in-None.is c.loop-node.invariant.leaf below w.packing.ensures in
+            let text = leaf_step (grid_labels c.args.grid.now) nodes packings i c.loop-node.leaf w.packing.result.now c.loop-node-test.true w.in-None.is c.loop-node.invariant.leaf below w.packing.ensures in
             w.sum-is ∙ sum_more _ (lines_text (leaf_lines w.packing.result.now)) _ c.loop-node.sum w.leaf_len-sum.result c.loop-node.invariant.length w.leaf_len-sum.ensures.length text;
         short =
             let few = packing-few (hanan_grid_of c.args.grid.now) packings c.loop-node.leaf w.packing.result.now c.requires.sound c.requires.packings w.packing.ensures in

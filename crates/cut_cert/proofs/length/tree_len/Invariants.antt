@@ -1,3 +1,4 @@
+use Rattle.cut_cert.specs.Answers.{grid_labels}
 use Rattle.std.proofs.Common.{◌≡◌, ◌+◌, ◌*◌, ◌≤◌, length, take}
 use Rattle.cert_tree.specs.Preorder.{packings_of, leaves_in}
 use Rattle.cut_cert.specs.Lines.{lines_text}
@@ -8,6 +9,6 @@ use Rattle.cut_cert.proofs.length.tree_len.Given as goal
 abbrev pub invariant-loop-node : goal.invariant-loop-node
 invariant-loop-node l = record {
   leaf : l.leaf ≡ leaves_in (take l.node-index l.node-items);
-  length : l.sum ≡ length (lines_text (nodes_lines l.grid (take l.node-index l.node-items) (packings_of l.tree)));
+  length : l.sum ≡ length (lines_text (nodes_lines (grid_labels l.grid) (take l.node-index l.node-items) (packings_of l.tree)));
   short : l.sum ≤ 175 * l.node-index + 12760297 * l.leaf;
 }

@@ -1,6 +1,7 @@
 -- What was taken, and how the run then ended, are a run.
 use Rattle.std.proofs.Common.{List, ℕ, sym, subst}
 use Rattle.frame.specs.Outside.{outside}
+use Rattle.cut_cert.specs.declared.form.Form.TheVariants as form
 use Rattle.cut_cert.specs.Spelling.{SpellsAnswer}
 use Rattle.cut_cert.specs.Text.{answer_text}
 use Rattle.answer_upgrade.specs.Upgraded.{upgraded}
@@ -18,7 +19,7 @@ returns-in-Ok-Ok g c =
     c.end_written.ensures (g.O.Sink.state c.args.out.now) (g.O.Sink.state c.write_upgraded-written.new.sink)
     (answer_text (upgraded answer))
     (c.write_upgraded-written.ensures answer
-    (subst (λ (b : List ℕ). SpellsAnswer c.in-Ok-Ok.taken.vertices b answer) (sym c.as_slice.ensures.value) spells)))
+    (subst (λ (b : List ℕ). SpellsAnswer (form.OnGrid c.in-Ok-Ok.taken.vertices) b answer) (sym c.as_slice.ensures.value) spells)))
 
 pub returns-in-Ok-Err : goal.returns-in-Ok-Err
 returns-in-Ok-Err g c =

@@ -7,4 +7,4 @@ returns-in_err-event-clause-ceases c = rw c.from_residual.ensures (λ V bytes ev
 
 pub returns-clause-reads : goal.returns-clause-reads
 returns-clause-reads c = λ V bytes events reads.
-    reads_line V bytes events c.args.self.now _ c.in_ok-event.event reads (record { closes = c.in_ok-event.ensures.closes reads.sound reads.name; next = c.first_scan-self.ensures; line = refl }) refl
+    reads_line V bytes events c.args.self.now _ c.in_ok-event.event reads (record { closes = c.in_ok-event.ensures.closes reads.sound reads.name; next = c.first_scan-self.ensures; line = refl; form = refl }) refl

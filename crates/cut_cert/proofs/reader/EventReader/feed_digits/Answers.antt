@@ -15,4 +15,4 @@ returns-clause-reads c V bytes events reads =
     let run = subst (λ s. IsRun old.kept s digits kept (scan.Set (c.in-Set.place + taken))) (sym c.in-Set.is)
     (c.set_digits-taken.ensures.run sound reads.name) in
     let count = sym (length-take-le taken c.args.piece.now c.set_digits-taken.ensures.few) in
-    reads_run V bytes events digits old _ reads (record { run = run; head = refl }) refl (ap (λ n. old.fed + n) count)
+    reads_run V bytes events digits old _ reads (record { run = run; head = refl; form = refl }) refl (ap (λ n. old.fed + n) count)

@@ -9,4 +9,4 @@ returns-in_err-self-clause-ceases c =
 
 pub returns-clause-reads : goal.returns-clause-reads
 returns-clause-reads c = λ V bytes events reads.
-    rw (append-nil events) (reads_on V bytes events c.args.byte c.args.self.now _ reads c.requires.inside (record { next = c.in_ok-self.ensures.next reads.sound reads.name; head = refl }) refl refl)
+    rw (append-nil events) (reads_on V bytes events c.args.byte c.args.self.now _ reads c.requires.inside (record { next = c.in_ok-self.ensures.next reads.sound reads.name; head = refl; form = refl }) refl refl)

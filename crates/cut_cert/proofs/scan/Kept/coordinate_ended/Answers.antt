@@ -1,6 +1,6 @@
 use Rattle.std.specs.Int.{w64}
 use Rattle.std.proofs.lemmas.Int.{to_z-of_z}
-use Rattle.cut_cert.proofs.ScanClose.{next-x1, next-y1, next-x2, next-x}
+use Rattle.cut_cert.proofs.ScanBlanks.{next-x1, next-y1, next-x2, next-x}
 use Rattle.cut_cert.proofs.scan.Kept.coordinate_ended.Goals as goal
 
 pub returns-in-X1-clause-next : goal.returns-in-X1-clause-next

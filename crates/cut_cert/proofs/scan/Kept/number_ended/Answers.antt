@@ -1,6 +1,7 @@
 use Rattle.std.proofs.Common.{◌^◌, refl}
 use Rattle.cut_cert.proofs.WordLemmas.{none_then}
-use Rattle.cut_cert.proofs.ScanClose.{same_small, next-weight, dead-last, dead-other}
+use Rattle.cut_cert.proofs.ScanClose.{same_small}
+use Rattle.cut_cert.proofs.ScanBlanks.{next-weight, dead-last, dead-other}
 use Rattle.cut_cert.proofs.scan.Kept.number_ended.Goals as goal
 
 pub returns-in_ok-self-in-Weight-clause-next : goal.returns-in_ok-self-in-Weight-clause-next

@@ -1,5 +1,5 @@
 use Rattle.std.proofs.Common.{arith}
-use Rattle.cut_cert.proofs.ScanClose.{no_line-corner, no_line-vertex}
+use Rattle.cut_cert.proofs.NamesClosed.{no_line-corner, no_line-ends, no_line-vertex}
 use Rattle.cut_cert.proofs.WordLemmas.{none_then}
 use Rattle.cut_cert.proofs.scan.close.close_coordinate.Goals as goal
 
@@ -12,4 +12,8 @@ returns-in_default c = record {
 
 pub returns-in_ok-with_sign-in-Y-clause-none : goal.returns-in_ok-with_sign-in-Y-clause-none
 returns-in_ok-with_sign-in-Y-clause-none c =
-    none_then c.close_vertex.result c.close_vertex.ensures.none (λ none. no_line-vertex c.args.kept.now c.args.corner c.args.minus c.args.value c.in-Y.is none)
+    none_then c.close_point.result c.close_point.ensures.none (λ none. no_line-vertex c.args.kept.now c.args.corner c.args.minus c.args.value c.in-Y.is none)
+
+pub returns-in_ok-with_sign-in-Y2-clause-none : goal.returns-in_ok-with_sign-in-Y2-clause-none
+returns-in_ok-with_sign-in-Y2-clause-none c =
+    none_then c.close_name.result c.close_name.ensures.none (λ none. no_line-ends c.args.kept.now c.args.corner c.args.minus c.args.value c.in-Y2.is none)

@@ -1,5 +1,5 @@
 use Rattle.std.proofs.Common.{length, get_or, sym, ap, ◌∙◌, arith}
-use Rattle.cut_cert.proofs.ScanWords.{leads-last}
+use Rattle.cut_cert.proofs.ScanWords.{leads-last, behind_underway}
 use Rattle.cut_cert.proofs.scan.words.word_byte.Goals as goal
 
 pub returns-else-at-bytes-2-clause-leads : goal.returns-else-at-bytes-2-clause-leads
@@ -9,3 +9,6 @@ returns-else-at-bytes-2-clause-leads c = λ k.
     let within = c.if-at-bytes.false in
     let last = c.if-at-bytes-2.false in
     rw c.behind.ensures (leads-last k c.args.word c.args.place c.args.byte (omega arith) (ap (λ x. get_or x c.args.place 0) (sym bytes) ∙ c.if-bytes-at.false) (omega arith))
+
+pub returns-else-at-bytes-2-clause-sound : goal.returns-else-at-bytes-2-clause-sound
+returns-else-at-bytes-2-clause-sound c = λ k sound. rw c.behind.ensures (behind_underway k c.args.word sound.1)

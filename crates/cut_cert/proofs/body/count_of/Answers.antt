@@ -1,7 +1,7 @@
 use Rattle.std.proofs.Common.{sym, ◌∙◌, arith}
 use Rattle.cut_cert.proofs.NetworkLemmas.{count-member, count-other}
-use Rattle.cut_cert.proofs.answer.count_of.Goals as goal
-use Rattle.cut_cert.proofs.answer.count_of.Goals.{then-has, else-has}
+use Rattle.cut_cert.proofs.body.count_of.Goals as goal
+use Rattle.cut_cert.proofs.body.count_of.Goals.{then-has, else-has}
 
 pub loop-e-preserved : goal.loop-e-preserved
 loop-e-preserved c = elim c.if-has.branch [

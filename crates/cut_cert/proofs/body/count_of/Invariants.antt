@@ -1,6 +1,6 @@
 use Rattle.std.proofs.Common.{◌≡◌, ◌≤◌, length, take}
 use Rattle.net_graph.specs.Members.{members_of}
-use Rattle.cut_cert.proofs.answer.count_of.Given as goal
+use Rattle.cut_cert.proofs.body.count_of.Given as goal
 
 -- as many as the members among the numbers passed
 abbrev pub invariant-loop-e : goal.invariant-loop-e

@@ -10,8 +10,8 @@ use Rattle.cert_tree.specs.Preorder.{packings_of}
 use Rattle.cut_cert.specs.Answers.{FitsNode}
 use Rattle.cut_cert.proofs.PackingLemmas.{All-found_more}
 use Rattle.cut_cert.proofs.NodeLines.{nodes_lines, nodes_lines-tree, split_step, split_leaves, leaf_step, leaf_leaves, leaf_below, leaf_last}
-use Rattle.cut_cert.proofs.answer.write_tree.Goals as goal
-use Rattle.cut_cert.proofs.answer.write_tree.Goals.{in-Some, in-None}
+use Rattle.cut_cert.proofs.body.write_tree.Goals as goal
+use Rattle.cut_cert.proofs.body.write_tree.Goals.{in-Some, in-None}
 
 pub packing-requires : goal.packing-requires
 packing-requires g c =
@@ -31,19 +31,19 @@ loop-node-preserved g c =
       | in-Some w ↦ record {
         leaf = w.leaf-is ∙ c.loop-node.invariant.leaf ∙ split_leaves nodes i w.in-Some.on c.loop-node-test.true w.in-Some.is;
         text =
-            let text = ap (λ name. lines_text (nodes_lines c.args.grid.now (take i nodes) packings) ++ line_text (split_line version.Two name)) w.split_name.ensures.name ∙ split_step c.args.grid.now nodes packings i w.in-Some.on c.loop-node-test.true w.in-Some.is in
+            let text = ap (λ name. lines_text (nodes_lines (g.L.Labelled.labels c.args.of.now) (take i nodes) packings) ++ line_text (split_line version.Two name)) w.split_label.ensures.name ∙ split_step (g.L.Labelled.labels c.args.of.now) nodes packings i w.in-Some.on c.loop-node-test.true w.in-Some.is in
             rw (w.sink-is, w.block-is) (gathers_two _ _ _ _ _ _ _ _ _ c.loop-node.invariant.text w.write_split.ensures text);
         names =
-            All-more (FitsNode c.args.grid.now) nodes i None c.loop-node-test.true c.loop-node.invariant.names (subst (FitsNode c.args.grid.now) (sym w.in-Some.is) (subst (FitsSplit version.Two) w.split_name.ensures.name w.split_name.ensures.fits));
+            All-more (FitsNode (g.L.Labelled.form c.args.of.now) (g.L.Labelled.labels c.args.of.now)) nodes i None c.loop-node-test.true c.loop-node.invariant.names (subst (FitsNode (g.L.Labelled.form c.args.of.now) (g.L.Labelled.labels c.args.of.now)) (sym w.in-Some.is) (subst (FitsSplit version.Two (g.L.Labelled.form c.args.of.now)) w.split_label.ensures.name w.split_label.ensures.fits));
         weights = rw w.leaf-is c.loop-node.invariant.weights;
       }
       | in-None w ↦ record {
         leaf = w.leaf-is ∙ ap (λ n. n + 1) c.loop-node.invariant.leaf ∙ leaf_leaves nodes i c.loop-node-test.true w.in-None.is;
         text =
             let below = leaf_below c.args.tree.now nodes i c.loop-node.leaf c.nodes-node-items.ensures.nodes c.loop-node-test.true w.in-None.is c.loop-node.invariant.leaf in
-            let text = leaf_step c.args.grid.now nodes packings i c.loop-node.leaf w.packing.result.now c.loop-node-test.true w.in-None.is c.loop-node.invariant.leaf below w.packing.ensures in
+            let text = leaf_step (g.L.Labelled.labels c.args.of.now) nodes packings i c.loop-node.leaf w.packing.result.now c.loop-node-test.true w.in-None.is c.loop-node.invariant.leaf below w.packing.ensures in
             rw (w.sink-is, w.block-is) (gathers_two _ _ _ _ _ _ _ _ _ c.loop-node.invariant.text w.write_leaf.ensures.text text);
-        names = All-more (FitsNode c.args.grid.now) nodes i None c.loop-node-test.true c.loop-node.invariant.names (subst (FitsNode c.args.grid.now) (sym w.in-None.is) (search rules));
+        names = All-more (FitsNode (g.L.Labelled.form c.args.of.now) (g.L.Labelled.labels c.args.of.now)) nodes i None c.loop-node-test.true c.loop-node.invariant.names (subst (FitsNode (g.L.Labelled.form c.args.of.now) (g.L.Labelled.labels c.args.of.now)) (sym w.in-None.is) (search rules));
         weights = rw w.leaf-is (All-found_more (All FitsWeight) packings c.loop-node.leaf w.packing.result.now c.loop-node.invariant.weights w.packing.ensures w.write_leaf.ensures.weights);
       }
     ]

@@ -6,13 +6,13 @@ use Rattle.cert_tree.specs.Preorder.{packings_of, leaves_in}
 use Rattle.cut_cert.specs.Answers.{FitsNode}
 use Rattle.cut_cert.specs.Lines.{lines_text}
 use Rattle.cut_cert.proofs.NodeLines.{nodes_lines}
-use Rattle.cut_cert.proofs.answer.write_tree.Given as goal
+use Rattle.cut_cert.proofs.body.write_tree.Given as goal
 
 -- the lines of the nodes passed, how many of them were leaves, and what is known of their numbers
 abbrev pub invariant-loop-node : goal.invariant-loop-node
 invariant-loop-node g l = record {
   leaf : l.leaf ≡ leaves_in (take l.node-index l.node-items);
-  text : Gathers (g.S.Sink.state l.initial.sink) l.initial.block (lines_text (nodes_lines l.grid (take l.node-index l.node-items) (packings_of l.tree))) (g.S.Sink.state l.sink) l.block;
-  names : All (FitsNode l.grid) (take l.node-index l.node-items);
+  text : Gathers (g.S.Sink.state l.initial.sink) l.initial.block (lines_text (nodes_lines (g.L.Labelled.labels l.of) (take l.node-index l.node-items) (packings_of l.tree))) (g.S.Sink.state l.sink) l.block;
+  names : All (FitsNode (g.L.Labelled.form l.of) (g.L.Labelled.labels l.of)) (take l.node-index l.node-items);
   weights : All (All FitsWeight) (take l.leaf (packings_of l.tree));
 }
