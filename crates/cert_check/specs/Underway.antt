@@ -5,12 +5,13 @@ use Rattle.hanan_grid.specs.Grid.{hanan_grid_of}
 use Rattle.cut_cert.specs.declared.event.AnswerEvent.{AnswerEvent}
 use Rattle.cut_cert.specs.declared.reader.EventReader.{EventReader}
 use Rattle.cut_cert.specs.Reader.{Reads, bytes_fed}
-use Rattle.cert_check.specs.declared.verdict.Cause.{Cause}
+use Rattle.tree_judge.specs.declared.cause.Cause.{Cause}
 use Rattle.cert_check.specs.declared.verdict.Verdict.TheVariants.{Refused}
-use Rattle.cert_check.specs.declared.judge.Judge.{Judge}
-use Rattle.cert_check.specs.Judged.{SoFar, Passes, nothing_told}
+use Rattle.tree_judge.specs.declared.judge.Judge.{Judge}
+use Rattle.tree_judge.specs.Judged.{SoFar, nothing_told}
+use Rattle.cert_check.specs.Judged.{Passes}
 use Rattle.cert_check.specs.Verdicts.{IsJudged}
-use Rattle.cert_check.specs.Standing.{IsJudgeOn, StandsFor}
+use Rattle.tree_judge.specs.Standing.{IsJudgeOn, StandsFor}
 
 -- the reader stands for some bytes
 abbrev pub IsReading : ℕ → EventReader → Type 0
@@ -20,7 +21,7 @@ IsReading V reader = ∥ ((bytes : List ℕ) × (events : List AnswerEvent) × R
 -- the reader stands for some bytes
 pub record IsUnderway (ps : List Point) (reader : EventReader) (judge : Judge) (fault : Option Cause) (count : ℕ)
     : Type 0 where
-  pub sizes : IsJudgeOn ps judge
+  pub sizes : IsJudgeOn (hanan_grid_of ps) judge
   pub few : bytes_fed reader ≤ count
   pub reads : IfNone fault (IsReading (hanan_grid_of ps).vertices reader)
 
@@ -34,6 +35,6 @@ PassAll ps s (e ∷ es) s' = (m : SoFar) × Passes ps s e.event e.members m × P
 abbrev pub Follows : List Point → List ℕ → EventReader → Judge → Option Cause → Type 0
 Follows ps bytes reader judge None =
     (events : List AnswerEvent) × (s : SoFar) × Reads (hanan_grid_of ps).vertices bytes events reader
-    × PassAll ps (nothing_told ps) events s × StandsFor ps s judge
+    × PassAll ps (nothing_told (hanan_grid_of ps)) events s × StandsFor (hanan_grid_of ps) s judge
 Follows ps bytes reader judge (Some cause) =
-    (rest : List ℕ) → IsJudged ps (bytes ++ rest) (record { verdict = Refused cause; network = judge.edges })
+    (rest : List ℕ) → IsJudged ps (bytes ++ rest) (record { verdict = Refused cause; network = network_of judge })

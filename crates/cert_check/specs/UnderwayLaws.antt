@@ -10,14 +10,14 @@ use Rattle.cert_tree.specs.declared.split.SplitOn.{SplitOn}
 use Rattle.cert_tree.specs.declared.split.SplitOn.TheVariants.{Edge, Vertex}
 use Rattle.cert_tree.specs.Decisions.{IsUndecidedSplit}
 use Rattle.cut_cert.specs.declared.reader.EventReader.{EventReader}
-use Rattle.cert_check.specs.declared.verdict.Cause.{Cause}
-use Rattle.cert_check.specs.declared.judge.Judge.{Judge}
+use Rattle.tree_judge.specs.declared.cause.Cause.{Cause}
+use Rattle.tree_judge.specs.declared.judge.Judge.{Judge}
 use Rattle.cert_check.specs.declared.turn.Turn.{Turn}
 use Rattle.cert_check.specs.Path.{IsWay, decision_along}
 use Rattle.cert_check.specs.Room.{Kept}
 use Rattle.cert_check.specs.Loads.{HasRows}
 use Rattle.cert_check.specs.Ways.{StandsOnWay}
-use Rattle.cert_check.specs.Standing.{IsJudgeOn}
+use Rattle.tree_judge.specs.Standing.{IsJudgeOn}
 use Rattle.cert_check.specs.Underway.{IsUnderway}
 
 IsVertexUndecided-prop : (g : Graph) (d : Decided) (v : ℕ) → IsProp (IsVertexUndecided g d v)
@@ -39,7 +39,7 @@ HasRows-prop g kept = hlevel (codes, Coded-set)
 StandsOnWay-prop : (g : Graph) (kept : Kept) → IsProp (StandsOnWay g kept)
 StandsOnWay-prop g kept = hlevel (codes, Coded-set, HasRows-prop, IsWay-prop)
 
-IsJudgeOn-prop : (ps : List Point) (judge : Judge) → IsProp (IsJudgeOn ps judge)
+IsJudgeOn-prop : (ps : List Point) (judge : Judge) → IsProp (IsJudgeOn (hanan_grid_of ps) judge)
 IsJudgeOn-prop ps judge = hlevel (codes, Coded-set, le_prop, StandsOnWay-prop)
 
 IfNone-prop : {X P : Type 0} (x : Option X) → IsProp P → IsProp (IfNone x P)

@@ -6,14 +6,15 @@ use Rattle.cut_cert.specs.declared.event.AnswerEvent.{AnswerEvent}
 use Rattle.cert_check.specs.declared.verdict.Verdict.TheVariants.{TooLong}
 use Rattle.cert_check.specs.declared.verdict.Finished.{Finished}
 use Rattle.cert_check.specs.Lines.{Behind, ReadsLines}
-use Rattle.cert_check.specs.Judged.{Judges, nothing_told}
+use Rattle.tree_judge.specs.Judged.{nothing_told}
+use Rattle.cert_check.specs.Judged.{Judges}
 
 -- the verdict on bytes of any number: that on the lines that they tell
 pub record IsJudged (ps : List Point) (bytes : List ℕ) (f : Finished) : Type 0 where
   pub events : List AnswerEvent
   pub behind : Behind
   pub read : ReadsLines (hanan_grid_of ps).vertices bytes events behind
-  pub judged : Judges ps (nothing_told ps) events behind f
+  pub judged : Judges ps (nothing_told (hanan_grid_of ps)) events behind f
 
 -- an answer has no more bytes than this
 abbrev pub byte_limit : ℕ

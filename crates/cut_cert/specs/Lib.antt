@@ -14,4 +14,3 @@ pub mod LinesRead
 pub mod Given
 pub mod Scanning
 pub mod Reader
-pub mod RowLending

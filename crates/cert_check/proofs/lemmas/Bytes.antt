@@ -13,17 +13,18 @@ use Rattle.cut_cert.specs.declared.reader.EventReader.{EventReader}
 use Rattle.cut_cert.specs.Given.{given}
 use Rattle.cut_cert.specs.Reading.{IsReadWhole, StopsAt}
 use Rattle.cut_cert.specs.Reader.{BeginsWith, CeasesAt, Reads}
-use Rattle.cert_check.specs.declared.verdict.Cause.{Cause}
-use Rattle.cert_check.specs.declared.verdict.Cause.TheVariants.{NotAnswer}
+use Rattle.tree_judge.specs.declared.cause.Cause.{Cause}
+use Rattle.tree_judge.specs.declared.cause.Cause.TheVariants.{NotAnswer}
 use Rattle.cert_check.specs.declared.verdict.Verdict.TheVariants.{Refused, TooLong}
 use Rattle.cert_check.specs.declared.verdict.Finished.{Finished}
-use Rattle.cert_check.specs.declared.judge.Judge.{Judge}
+use Rattle.tree_judge.specs.declared.judge.Judge.{Judge}
 use Rattle.cert_check.specs.Ends.{EndsWith}
 use Rattle.cert_check.specs.Lines.{Behind}
 use Rattle.cert_check.specs.Lines.Behind.{Ended, Ceased, Further}
-use Rattle.cert_check.specs.Judged.{SoFar, Passes, Fails, Judges, bound_found, nothing_told}
+use Rattle.tree_judge.specs.Judged.{SoFar, bound_found, nothing_told}
+use Rattle.cert_check.specs.Judged.{Passes, Fails, Judges}
 use Rattle.cert_check.specs.Verdicts.{IsJudged, IsVerdict, byte_limit}
-use Rattle.cert_check.specs.Standing.{StandsFor}
+use Rattle.tree_judge.specs.Standing.{StandsFor}
 use Rattle.cert_check.specs.Underway.{Follows, PassAll}
 
 -- ---- lines
@@ -69,49 +70,49 @@ wrong_given ps m n event.End members cause f fails is = absurd fails
 
 -- the text ceases to begin an answer's
 pub follows_spelling : (ps : List Point) (bytes : List ℕ) (byte n : ℕ) (events : List AnswerEvent) (s : SoFar) (reader : EventReader) (judge : Judge) →
-    PassAll ps (nothing_told ps) events s → StandsFor ps s judge → CeasesAt (hanan_grid_of ps).vertices bytes byte n events → Follows ps (bytes ++ byte ∷ []) reader judge (Some (NotAnswer n))
+    PassAll ps (nothing_told (hanan_grid_of ps)) events s → StandsFor (hanan_grid_of ps) s judge → CeasesAt (hanan_grid_of ps).vertices bytes byte n events → Follows ps (bytes ++ byte ∷ []) reader judge (Some (NotAnswer n))
 follows_spelling ps bytes byte n events s reader judge passes stands ceases rest =
-    let f : Finished = record { verdict = Refused (NotAnswer n); network = judge.edges } in
+    let f : Finished = record { verdict = Refused (NotAnswer n); network = network_of judge } in
     record {
       events = events;
       behind = Ceased n;
       read = subst (λ xs. StopsAt (hanan_grid_of ps).vertices xs n events) (sym (append_assoc bytes (byte ∷ []) rest)) (ceases.stops rest);
-      judged = Judges-last ps (nothing_told ps) s events (Ceased n) f passes (refl, stands.network);
+      judged = Judges-last ps (nothing_told (hanan_grid_of ps)) s events (Ceased n) f passes (refl, stands.network);
     }
 
 -- the byte ends no line that tells anything
 pub follows_quiet : (ps : List Point) (bytes : List ℕ) (byte n : ℕ) (members : List Bool) (events : List AnswerEvent) (s : SoFar) (reader : EventReader) (judge : Judge) →
-    PassAll ps (nothing_told ps) events s → StandsFor ps s judge → Reads (hanan_grid_of ps).vertices (bytes ++ byte ∷ []) (events ++ given n None members) reader →
+    PassAll ps (nothing_told (hanan_grid_of ps)) events s → StandsFor (hanan_grid_of ps) s judge → Reads (hanan_grid_of ps).vertices (bytes ++ byte ∷ []) (events ++ given n None members) reader →
     Follows ps (bytes ++ byte ∷ []) reader judge None
 follows_quiet ps bytes byte n members events s reader judge passes stands reads =
     (events, s, subst (λ xs. Reads (hanan_grid_of ps).vertices (bytes ++ byte ∷ []) xs reader) (append-nil events) reads, passes, stands)
 
 -- it ends a line that passes
 pub follows_passed : (ps : List Point) (bytes : List ℕ) (byte n : ℕ) (e : Event) (members : List Bool) (events : List AnswerEvent) (s s' : SoFar) (reader : EventReader) (judge : Judge) →
-    PassAll ps (nothing_told ps) events s → Passes ps s e (Some members) s' → StandsFor ps s' judge →
+    PassAll ps (nothing_told (hanan_grid_of ps)) events s → Passes ps s e (Some members) s' → StandsFor (hanan_grid_of ps) s' judge →
     Reads (hanan_grid_of ps).vertices (bytes ++ byte ∷ []) (events ++ given n (Some e) members) reader → Follows ps (bytes ++ byte ∷ []) reader judge None
 follows_passed ps bytes byte n e members events s s' reader judge before passes stands reads =
-    (events ++ given n (Some e) members, s', reads, PassAll-given ps (nothing_told ps) s s' events n e members before passes, stands)
+    (events ++ given n (Some e) members, s', reads, PassAll-given ps (nothing_told (hanan_grid_of ps)) s s' events n e members before passes, stands)
 
 -- it ends a line that is wrong
 pub follows_failed : (ps : List Point) (bytes : List ℕ) (byte n : ℕ) (e : Event) (members : List Bool) (events : List AnswerEvent) (s : SoFar) (reader : EventReader) (judge : Judge) (cause : Cause) →
-    PassAll ps (nothing_told ps) events s → Fails ps s n e (Some members) cause judge.edges →
+    PassAll ps (nothing_told (hanan_grid_of ps)) events s → Fails ps s n e (Some members) cause network_of judge →
     BeginsWith (hanan_grid_of ps).vertices (bytes ++ byte ∷ []) (events ++ given n (Some e) members) → Follows ps (bytes ++ byte ∷ []) reader judge (Some cause)
 follows_failed ps bytes byte n e members events s reader judge cause before fails begins rest =
-    let f : Finished = record { verdict = Refused cause; network = judge.edges } in
+    let f : Finished = record { verdict = Refused cause; network = network_of judge } in
     record {
       events = events ++ given n (Some e) members;
       behind = Further;
       read = record { front = bytes ++ byte ∷ []; back = rest; parts = refl; begins = begins };
-      judged = Judges-behind ps (nothing_told ps) s events (given n (Some e) members) Further f before (wrong_given ps s n e members cause f fails refl);
+      judged = Judges-behind ps (nothing_told (hanan_grid_of ps)) s events (given n (Some e) members) Further f before (wrong_given ps s n e members cause f fails refl);
     }
 
 -- it ends a line, which the judge judged
 pub follows_judged : (ps : List Point) (bytes : List ℕ) (byte n : ℕ) (e : Event) (members : List Bool) (events : List AnswerEvent) (s : SoFar) (reader : EventReader) (old new : Judge) (result : Option Cause) →
-    PassAll ps (nothing_told ps) events s → StandsFor ps s old → Reads (hanan_grid_of ps).vertices (bytes ++ byte ∷ []) (events ++ given n (Some e) members) reader →
+    PassAll ps (nothing_told (hanan_grid_of ps)) events s → StandsFor (hanan_grid_of ps) s old → Reads (hanan_grid_of ps).vertices (bytes ++ byte ∷ []) (events ++ given n (Some e) members) reader →
     BeginsWith (hanan_grid_of ps).vertices (bytes ++ byte ∷ []) (events ++ given n (Some e) members) →
-    IfNone result ((s : SoFar) → StandsFor ps s old → (s' : SoFar) × Passes ps s e (Some members) s' × StandsFor ps s' new) →
-    IfSome result (λ cause. (s : SoFar) → StandsFor ps s old → Fails ps s n e (Some members) cause new.edges) → Follows ps (bytes ++ byte ∷ []) reader new result
+    IfNone result ((s : SoFar) → StandsFor (hanan_grid_of ps) s old → (s' : SoFar) × Passes ps s e (Some members) s' × StandsFor (hanan_grid_of ps) s' new) →
+    IfSome result (λ cause. (s : SoFar) → StandsFor (hanan_grid_of ps) s old → Fails ps s n e (Some members) cause new.edges) → Follows ps (bytes ++ byte ∷ []) reader new result
 follows_judged ps bytes byte n e members events s reader old new None before stands reads begins passes fails =
     let (s', passed, behind) = passes s stands in
     follows_passed ps bytes byte n e members events s s' reader new before passed behind reads
@@ -124,7 +125,7 @@ follows_judged ps bytes byte n e members events s reader old new (Some cause) be
 follows_more : (ps : List Point) (bytes more : List ℕ) (reader : EventReader) (judge : Judge) (fault : Option Cause) → IsSome fault → Follows ps bytes reader judge fault → Follows ps (bytes ++ more) reader judge fault
 follows_more ps bytes more reader judge None some follows = absurd cc
 follows_more ps bytes more reader judge (Some cause) some follows =
-    λ rest. subst (λ xs. IsJudged ps xs (record { verdict = Refused cause; network = judge.edges })) (sym (append_assoc bytes more rest)) (follows (more ++ rest))
+    λ rest. subst (λ xs. IsJudged ps xs (record { verdict = Refused cause; network = network_of judge })) (sym (append_assoc bytes more rest)) (follows (more ++ rest))
 
 -- few bytes are all of them
 all_of_few : (bytes : List ℕ) → length bytes ≤ byte_limit → take byte_limit bytes ≡ bytes
@@ -163,31 +164,31 @@ follows_before ps bytes count reader judge fault is few follows =
 
 -- a wrong line is the verdict
 pub judged_refused : (ps : List Point) (bytes : List ℕ) (reader : EventReader) (judge : Judge) (cause : Cause) (f : Finished) → Follows ps bytes reader judge (Some cause) →
-    f.verdict ≡ Refused cause → f.network ≡ judge.edges → IsJudged ps bytes f
+    f.verdict ≡ Refused cause → f.network ≡ network_of judge → IsJudged ps bytes f
 judged_refused ps bytes reader judge cause f follows verdict network =
-    let same : record { verdict = Refused cause; network = judge.edges } ≡ f = λ i. record { verdict = sym verdict i; network = sym network i } in
-    subst (IsJudged ps bytes) same (subst (λ xs. IsJudged ps xs (record { verdict = Refused cause; network = judge.edges })) (append-nil bytes) (follows []))
+    let same : record { verdict = Refused cause; network = network_of judge } ≡ f = λ i. record { verdict = sym verdict i; network = sym network i } in
+    subst (IsJudged ps bytes) same (subst (λ xs. IsJudged ps xs (record { verdict = Refused cause; network = network_of judge })) (append-nil bytes) (follows []))
 
 -- the text ends
 pub judged_ended : (ps : List Point) (bytes : List ℕ) (reader : EventReader) (judge : Judge) (f : Finished) → Follows ps bytes reader judge None →
     ((events : List AnswerEvent) → Reads (hanan_grid_of ps).vertices bytes events reader → IsReadWhole (hanan_grid_of ps).vertices bytes events) →
-    ((s : SoFar) → StandsFor ps s judge → Judges ps s [] Ended f) → IsJudged ps bytes f
+    ((s : SoFar) → StandsFor (hanan_grid_of ps) s judge → Judges ps s [] Ended f) → IsJudged ps bytes f
 judged_ended ps bytes reader judge f (events, s, reads, passes, stands) whole ends = record {
   events = events;
   behind = Ended;
   read = whole events reads;
-  judged = Judges-last ps (nothing_told ps) s events Ended f passes (ends s stands);
+  judged = Judges-last ps (nothing_told (hanan_grid_of ps)) s events Ended f passes (ends s stands);
 }
 
 -- or ends too soon
 pub judged_unended : (ps : List Point) (bytes : List ℕ) (reader : EventReader) (judge : Judge) (n : ℕ) (f : Finished) → Follows ps bytes reader judge None →
     ((events : List AnswerEvent) → Reads (hanan_grid_of ps).vertices bytes events reader → StopsAt (hanan_grid_of ps).vertices bytes n events) →
-    f.verdict ≡ Refused (NotAnswer n) → f.network ≡ judge.edges → IsJudged ps bytes f
+    f.verdict ≡ Refused (NotAnswer n) → f.network ≡ network_of judge → IsJudged ps bytes f
 judged_unended ps bytes reader judge n f (events, s, reads, passes, stands) stops verdict network = record {
   events = events;
   behind = Ceased n;
   read = stops events reads;
-  judged = Judges-last ps (nothing_told ps) s events (Ceased n) f passes (verdict, network ∙ stands.network);
+  judged = Judges-last ps (nothing_told (hanan_grid_of ps)) s events (Ceased n) f passes (verdict, network ∙ stands.network);
 }
 
 -- the verdict on few enough bytes, and on too many
@@ -213,7 +214,7 @@ judges_short ps s (e ∷ es) behind f (inr (m, passes, judged)) is = judges_shor
 pub too_long_within : (ps : List Point) (bytes : List ℕ) (count : ℕ) (f : Finished) → count ≡ min (length bytes) (2 ^ 64 - 1) → count ≤ byte_limit → IsJudged ps (take byte_limit bytes) f →
     (f.verdict ≡ TooLong) ↔ (byte_limit < length bytes)
 too_long_within ps bytes count f is few judged = (
-  λ long. absurd (judges_short ps (nothing_told ps) judged.events judged.behind f judged.judged long),
+  λ long. absurd (judges_short ps (nothing_told (hanan_grid_of ps)) judged.events judged.behind f judged.judged long),
   λ many. absurd (omega (arith, is, few, many)),
 )
 

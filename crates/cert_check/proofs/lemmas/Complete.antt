@@ -17,14 +17,15 @@ use Rattle.cut_cert.specs.Value.{WrittenAnswer}
 use Rattle.cut_cert.specs.Events.{Told, events_of}
 use Rattle.cut_cert.specs.Answers.{named}
 use Rattle.cut_cert.specs.Spelling.{SpellsAnswer, OneReading}
-use Rattle.cert_check.specs.declared.verdict.Cause.TheVariants.{WrongBound, WrongStatus}
+use Rattle.tree_judge.specs.declared.cause.Cause.TheVariants.{WrongBound, WrongStatus}
 use Rattle.cert_check.specs.declared.verdict.Verdict.{Verdict}
 use Rattle.cert_check.specs.declared.verdict.Verdict.TheVariants.{Accepted, Refused}
 use Rattle.cert_check.specs.declared.verdict.Finished.{Finished}
 use Rattle.cert_check.specs.Ends.{IsStatus, EndsWith}
 use Rattle.cert_check.specs.Lines.{Behind, ReadsLines}
 use Rattle.cert_check.specs.Lines.Behind.{Ended, Ceased, Further}
-use Rattle.cert_check.specs.Judged.{SoFar, bound_found, decision_due, least_with, nothing_told, Judges}
+use Rattle.tree_judge.specs.Judged.{SoFar, bound_found, decision_due, least_with, nothing_told}
+use Rattle.cert_check.specs.Judged.{Judges}
 use Rattle.cert_check.specs.Verdicts.{IsJudged, IsVerdict, byte_limit}
 use Rattle.cert_check.specs.Accepted.{Accepts, IsAccepted, IsAccepting}
 use Rattle.cert_check.proofs.lemmas.ToldParts.{edges_told, events_of-told, proof_told, tree_told}
@@ -56,19 +57,19 @@ judged_behind ps s s' n (x ∷ xs) ys f (m, passes, runs) judged =
 
 -- behind the tree the end is accepted
 end_accepted : (ps : List Point) (bytes : List ℕ) (answer : WrittenAnswer) (network : List Bool) (tree : Tree SplitOn) (n : ℕ) (s : SoFar) (f : Finished)
-    → Accepts ps bytes answer network tree → s.head ≡ answer.head → IsFresh ps s → JudgesTold ps (tree_read ps s tree) n ((event.End, None) ∷ []) f → IsAccepting f.verdict
+    → Accepts ps bytes answer network tree → s.head ≡ answer.head → IsFresh ps s → JudgesTold ps (tree_read (hanan_grid_of ps) s tree) n ((event.End, None) ∷ []) f → IsAccepting f.verdict
 end_accepted ps bytes answer network tree n s f accepts head fresh judged =
     let g = hanan_grid_of ps in
-    let last = tree_read ps s tree in
+    let last = tree_read (hanan_grid_of ps) s tree in
     let (s', told, ends) = passed ps last n (event.End, None) [] f (λ cause fails. fails) judged in
     let here = subst (λ t. Judges ps t [] Ended f) told ends in
-    let said : last.head ≡ answer.head = tree_read-head ps s tree ∙ head in
+    let said : last.head ≡ answer.head = tree_read-head (hanan_grid_of ps) s tree ∙ head in
     let says = subst (λ h. EndsWith h (bound_found last) f.verdict) said here.0 in
-    let top : decision_due ps s ≡ nothing_decided g = ap (λ ds. get_or ds 0 (nothing_decided g)) fresh.decisions in
+    let top : decision_due (hanan_grid_of ps) s ≡ nothing_decided g = ap (λ ds. get_or ds 0 (nothing_decided g)) fresh.decisions in
     let value = ap (λ d. tree_value g d tree) top in
     let none : least_with last.head.length s.values ≡ last.head.length = ap (λ vs. least_with last.head.length vs) fresh.values in
     let length_is = ap (λ (h : AnswerHead). h.length) said in
-    let found : answer.head.bound ≡ bound_found last = omega (arith, accepts.bound, tree_read-least ps s tree last.head.length, value, none, length_is) in
+    let found : answer.head.bound ≡ bound_found last = omega (arith, accepts.bound, tree_read-least (hanan_grid_of ps) s tree last.head.length, value, none, length_is) in
     accepting_end answer.head (bound_found last) f.verdict found accepts.status says
 
 -- behind the edges the tree is accepted
@@ -79,14 +80,14 @@ proof_accepted ps bytes answer network tree n s f accepts head fresh judged =
     let rest = tree_told (named ps tree) ++ (event.End, None) ∷ [] in
     let (s', told, behind) = passed ps s n (event.Tree, None) rest f (λ cause fails. fails) judged in
     let here = subst (λ t. JudgesTold ps t (suc n) rest f) told behind in
-    let top : decision_due ps s ≡ nothing_decided g = ap (λ ds. get_or ds 0 (nothing_decided g)) fresh.decisions in
+    let top : decision_due (hanan_grid_of ps) s ≡ nothing_decided g = ap (λ ds. get_or ds 0 (nothing_decided g)) fresh.decisions in
     let runs = tree_passes ps s tree accepts.splits (subst (λ d. IsValidTree g d tree) (sym top) accepts.valid) (omega (arith, accepts.few, fresh.splits)) fresh.cuts in
-    let (m, ending) = judged_behind ps s (tree_read ps s tree) (suc n) (tree_told (named ps tree)) ((event.End, None) ∷ []) f runs here in
+    let (m, ending) = judged_behind ps s (tree_read (hanan_grid_of ps) s tree) (suc n) (tree_told (named ps tree)) ((event.End, None) ∷ []) f runs here in
     end_accepted ps bytes answer network tree m s f accepts head fresh ending
 
 -- what was told before the first edge
 abbrev with_head : List Point → WrittenAnswer → SoFar
-with_head ps answer = record (nothing_told ps) { head = answer.head }
+with_head ps answer = record (nothing_told (hanan_grid_of ps)) { head = answer.head }
 
 abbrev with_count : List Point → WrittenAnswer → SoFar
 with_count ps answer = record (with_head ps answer) { edges_due = length answer.edges }
@@ -121,12 +122,12 @@ edges_accepted ps bytes answer network tree n f accepts judged =
 
 -- the lines of an answer are accepted
 answer_accepted : (ps : List Point) (bytes : List ℕ) (answer : WrittenAnswer) (network : List Bool) (tree : Tree SplitOn) (f : Finished)
-    → Accepts ps bytes answer network tree → Judges ps (nothing_told ps) (events_of answer) Ended f → IsAccepting f.verdict
+    → Accepts ps bytes answer network tree → Judges ps (nothing_told (hanan_grid_of ps)) (events_of answer) Ended f → IsAccepting f.verdict
 answer_accepted ps bytes answer network tree f accepts of_events =
-    let judged = subst (λ es. Judges ps (nothing_told ps) es Ended f) (events_of-told answer) of_events in
+    let judged = subst (λ es. Judges ps (nothing_told (hanan_grid_of ps)) es Ended f) (events_of-told answer) of_events in
     let count : Told = (event.EdgeCount (length answer.edges), None) in
     let body = edges_told answer.edges ++ proof_told answer.tree in
-    let (s1, told1, after1) = passed ps (nothing_told ps) 6 (event.Head answer.head, None) (count ∷ body) f (λ cause fails. fails) judged in
+    let (s1, told1, after1) = passed ps (nothing_told (hanan_grid_of ps)) 6 (event.Head answer.head, None) (count ∷ body) f (λ cause fails. fails) judged in
     let here = subst (λ t. JudgesTold ps t 7 (count ∷ body) f) told1 after1 in
     let (s2, (told2, right), after2) = passed ps (with_head ps answer) 7 count body f
     (λ cause fails. front_right ps answer.head [] network 0 (with_count ps answer) cause (network_is ps bytes answer network tree accepts) (front_begins ps bytes answer network tree accepts) fails.0) here in
@@ -136,15 +137,15 @@ answer_accepted ps bytes answer network tree f accepts of_events =
 
 -- the verdict on the lines of bytes that spell an answer is that on all lines of the answer
 pub judged_whole : OneReading → (ps : List Point) (bytes : List ℕ) (answer : WrittenAnswer) (events : List AnswerEvent) (behind : Behind) (f : Finished)
-    → SpellsAnswer (hanan_grid_of ps).vertices bytes answer → ReadsLines (hanan_grid_of ps).vertices bytes events behind → Judges ps (nothing_told ps) events behind f →
-    Judges ps (nothing_told ps) (events_of answer) Ended f
+    → SpellsAnswer (hanan_grid_of ps).vertices bytes answer → ReadsLines (hanan_grid_of ps).vertices bytes events behind → Judges ps (nothing_told (hanan_grid_of ps)) events behind f →
+    Judges ps (nothing_told (hanan_grid_of ps)) (events_of answer) Ended f
 judged_whole one ps bytes answer events Ended f spells read judged =
     let same = one (hanan_grid_of ps).vertices bytes bytes [] [] read.answer answer read.spells spells refl in
-    subst (λ xs. Judges ps (nothing_told ps) xs Ended f) (read.told ∙ ap events_of same.1) judged
+    subst (λ xs. Judges ps (nothing_told (hanan_grid_of ps)) xs Ended f) (read.told ∙ ap events_of same.1) judged
 judged_whole one ps bytes answer events (Ceased n) f spells read judged = absurd (read.unspelled answer spells)
 judged_whole one ps bytes answer events Further f spells read judged =
     let longer = further_whole (hanan_grid_of ps).vertices bytes events (events_of answer) read (record { answer = answer; spells = spells; told = refl }) in
-    subst (λ xs. Judges ps (nothing_told ps) xs Ended f) (sym longer.1) (judged_further ps (nothing_told ps) events longer.0 Ended f judged)
+    subst (λ xs. Judges ps (nothing_told (hanan_grid_of ps)) xs Ended f) (sym longer.1) (judged_further ps (nothing_told (hanan_grid_of ps)) events longer.0 Ended f judged)
 
 -- the verdict on bytes that should be accepted accepts them
 complete_judged : OneReading → (ps : List Point) (bytes : List ℕ) (f : Finished) → IsJudged ps bytes f → IsAccepted ps bytes → IsAccepting f.verdict

@@ -16,12 +16,13 @@ use Rattle.cut_cert.specs.declared.head.AnswerHead.{AnswerHead}
 use Rattle.cut_cert.specs.declared.event.Event.TheVariants as event
 use Rattle.cut_cert.specs.Answers.{names_of}
 use Rattle.cut_cert.specs.Events.{Told}
-use Rattle.cert_check.specs.declared.verdict.Cause.{Cause}
-use Rattle.cert_check.specs.declared.verdict.Cause.TheVariants.{OffGrid, EdgeOrder, NotJoined, WrongLength}
+use Rattle.tree_judge.specs.declared.cause.Cause.{Cause}
+use Rattle.tree_judge.specs.declared.cause.Cause.TheVariants.{OffGrid, EdgeOrder, NotJoined, WrongLength}
 use Rattle.cert_check.specs.declared.verdict.Finished.{Finished}
-use Rattle.cert_check.specs.Edges.{FollowsEdges, EdgeFault}
-use Rattle.cert_check.specs.Networks.{IsMeasured, NetworkFault}
-use Rattle.cert_check.specs.Judged.{SoFar, with_edge, IsNetworkWrong, Fails}
+use Rattle.tree_judge.specs.Edges.{FollowsEdges, EdgeFault}
+use Rattle.tree_judge.specs.Networks.{IsMeasured, NetworkFault}
+use Rattle.tree_judge.specs.Judged.{SoFar, with_edge, IsNetworkWrong}
+use Rattle.cert_check.specs.Judged.{Fails}
 use Rattle.cert_check.proofs.lemmas.ToldParts.{edges_told}
 use Rattle.cert_check.proofs.lemmas.Fresh.{IsFresh, IsFresh-edge}
 use Rattle.cert_check.proofs.lemmas.LineSteps.{JudgesTold, passed}
@@ -98,7 +99,7 @@ front_whole head front rest k s is none = is.edges ∙ ap (λ flags. front ++ fl
 
 -- and has no fault
 pub front_right : (ps : List Point) (head : AnswerHead) (front rest : List Bool) (k : ℕ) (s : SoFar) (cause : Cause)
-    → IsNetworkOf ps head.length front rest → HasFront head front rest k s → IsNetworkWrong ps s cause → ⊥
+    → IsNetworkOf ps head.length front rest → HasFront head front rest k s → IsNetworkWrong (hanan_grid_of ps) s cause → ⊥
 front_right ps head front rest k s cause network is wrong =
     let whole = front_whole head front rest k s is wrong.0 in
     let measured = subst (IsMeasured (hanan_grid_of ps) head.length) (sym whole) network.measured in

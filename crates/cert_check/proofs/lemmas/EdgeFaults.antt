@@ -4,9 +4,9 @@ use Rattle.points_in.specs.declared.point.Point.{Point}
 use Rattle.hanan_grid.specs.declared.name.EdgeName.{EdgeName}
 use Rattle.hanan_grid.specs.Names.{NamesNoEdge}
 use Rattle.hanan_grid.specs.NamesLaws.{same_edge}
-use Rattle.cert_check.specs.declared.verdict.Cause.{Cause}
-use Rattle.cert_check.specs.declared.verdict.Cause.TheVariants.{OffGrid, EdgeOrder}
-use Rattle.cert_check.specs.Edges.{FollowsEdges, ComesLate, EdgeFault}
+use Rattle.tree_judge.specs.declared.cause.Cause.{Cause}
+use Rattle.tree_judge.specs.declared.cause.Cause.TheVariants.{OffGrid, EdgeOrder}
+use Rattle.tree_judge.specs.Edges.{FollowsEdges, ComesLate, EdgeFault}
 
 -- the two causes
 edge_causes : (ps : List Point) (network : List Bool) (name : EdgeName) (n : ℕ) (cause : Cause) → EdgeFault ps network name n cause →

@@ -8,9 +8,9 @@ use Rattle.hanan_grid.specs.declared.name.EdgeName.{EdgeName}
 use Rattle.hanan_grid.specs.Grid.{hanan_grid_of}
 use Rattle.hanan_grid.specs.Names.{name_of_edge}
 use Rattle.cut_cert.specs.Answers.{names_of}
-use Rattle.cert_check.specs.Edges.{FollowsEdges}
-use Rattle.cert_check.specs.Networks.{IsMeasured}
-use Rattle.cert_check.specs.Judged.{SoFar, nothing_told, IsNetworkRight}
+use Rattle.tree_judge.specs.Edges.{FollowsEdges}
+use Rattle.tree_judge.specs.Networks.{IsMeasured}
+use Rattle.tree_judge.specs.Judged.{SoFar, nothing_told, IsNetworkRight}
 use Rattle.cert_check.proofs.lemmas.Fresh.{IsFresh, IsFresh-edge}
 use Rattle.cert_check.proofs.lemmas.Runs.{Runs}
 use Rattle.cert_check.proofs.lemmas.ToldParts.{edges_told}
@@ -61,7 +61,7 @@ pub record HasNames (ps : List Point) (network : List Bool) (names : List EdgeNa
   pub told : names_of ps (members_of network) ≡ names
 
 -- before the first edge no name was told
-pub HasNames-none : (ps : List Point) → HasNames ps (nothing_told ps).network []
+pub HasNames-none : (ps : List Point) → HasNames ps (nothing_told (hanan_grid_of ps)).network []
 HasNames-none ps = record {
   size = length-replicate (length (hanan_grid_of ps).edges) false;
   told = ap (names_of ps) (members_of-empty (length (hanan_grid_of ps).edges));
@@ -84,7 +84,7 @@ pub record TellsNetwork (ps : List Point) (s s' : SoFar) (names : List EdgeName)
   pub measured : IsMeasured (hanan_grid_of ps) s'.head.length s'.network
 
 -- where as many edges as are due follow, and each passes, the network is as the head says behind the last
-pub TellsNetwork-from_runs : (ps : List Point) (s s' : SoFar) (before names : List EdgeName) → Runs ps s (edges_told names) s' → s.edges_due ≡ length names → IsNetworkRight ps s → HasNames ps s.network before → IsFresh ps s → TellsNetwork ps s s' (before ++ names)
+pub TellsNetwork-from_runs : (ps : List Point) (s s' : SoFar) (before names : List EdgeName) → Runs ps s (edges_told names) s' → s.edges_due ≡ length names → IsNetworkRight (hanan_grid_of ps) s → HasNames ps s.network before → IsFresh ps s → TellsNetwork ps s s' (before ++ names)
 TellsNetwork-from_runs ps s s' before [] runs due right has_names fresh = record {
   head = ap (λ x. x.head) runs;
   fresh = subst (IsFresh ps) (sym runs) fresh;

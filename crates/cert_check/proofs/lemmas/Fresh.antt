@@ -3,7 +3,7 @@ use Rattle.std.proofs.Common.{ℕ, ◌≡◌, List, [], ◌∷◌, ap, ◌∙◌
 use Rattle.points_in.specs.declared.point.Point.{Point}
 use Rattle.net_graph.specs.Decision.{nothing_decided}
 use Rattle.hanan_grid.specs.Grid.{hanan_grid_of}
-use Rattle.cert_check.specs.Judged.{SoFar, with_edge}
+use Rattle.tree_judge.specs.Judged.{SoFar, with_edge}
 
 -- nothing was told of the tree: its top is due
 pub record IsFresh (ps : List Point) (s : SoFar) : Type 0 where

@@ -3,10 +3,11 @@ use Rattle.std.proofs.Common.{ℕ, suc, List, ◌∷◌, inl, inr}
 use Rattle.points_in.specs.declared.point.Point.{Point}
 use Rattle.cut_cert.specs.Events.{Told}
 use Rattle.cert_check.proofs.lemmas.ToldParts.{numbered}
-use Rattle.cert_check.specs.declared.verdict.Cause.{Cause}
+use Rattle.tree_judge.specs.declared.cause.Cause.{Cause}
 use Rattle.cert_check.specs.declared.verdict.Finished.{Finished}
 use Rattle.cert_check.specs.Lines.Behind.{Ended}
-use Rattle.cert_check.specs.Judged.{SoFar, Passes, Fails, Judges}
+use Rattle.tree_judge.specs.Judged.{SoFar}
+use Rattle.cert_check.specs.Judged.{Passes, Fails, Judges}
 
 -- the next line and those behind it are judged behind what was told
 abbrev pub JudgesTold : List Point → SoFar → ℕ → List Told → Finished → Type 0

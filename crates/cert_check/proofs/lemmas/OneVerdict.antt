@@ -8,14 +8,15 @@ use Rattle.cut_cert.specs.declared.event.Event.{Event}
 use Rattle.cut_cert.specs.declared.event.Event.TheVariants as event
 use Rattle.cut_cert.specs.declared.event.AnswerEvent.{AnswerEvent}
 use Rattle.cut_cert.specs.Spelling.{OneReading}
-use Rattle.cert_check.specs.declared.verdict.Cause.{Cause}
-use Rattle.cert_check.specs.declared.verdict.Cause.TheVariants.{WrongBound, WrongStatus}
+use Rattle.tree_judge.specs.declared.cause.Cause.{Cause}
+use Rattle.tree_judge.specs.declared.cause.Cause.TheVariants.{WrongBound, WrongStatus}
 use Rattle.cert_check.specs.declared.verdict.Verdict.{Verdict}
 use Rattle.cert_check.specs.declared.verdict.Verdict.TheVariants.{Accepted, Refused, TooLong}
 use Rattle.cert_check.specs.declared.verdict.Finished.{Finished}
-use Rattle.cert_check.specs.Cuts.{cut_of}
+use Rattle.tree_judge.specs.Cuts.{cut_of}
 use Rattle.cert_check.specs.Ends.{IsStatus, EndsWith}
-use Rattle.cert_check.specs.Judged.{SoFar, with_edge, IsNetworkRight, IsNetworkWrong, Passes, Fails, Judges, bound_found, decision_due, with_split, nothing_told}
+use Rattle.tree_judge.specs.Judged.{SoFar, with_edge, IsNetworkRight, IsNetworkWrong, bound_found, decision_due, with_split, nothing_told}
+use Rattle.cert_check.specs.Judged.{Passes, Fails, Judges}
 use Rattle.cert_check.specs.VerdictLaw.{OneVerdict}
 use Rattle.cert_check.specs.Lines.{Behind}
 use Rattle.cert_check.specs.Lines.Behind.{Ended, Ceased, Further}
@@ -34,34 +35,34 @@ same_passed ps s m m' (event.Head h) members is is' = is ∙ sym is'
 same_passed ps s m m' (event.EdgeCount count) members passes passes' = passes.0 ∙ sym passes'.0
 same_passed ps s m m' (event.Edge name) members (e, follows, is, _) (e', follows', is', _) = is ∙ ap (with_edge s) (same_following ps s.network name e e' follows follows') ∙ sym is'
 same_passed ps s m m' event.Tree members is is' = is ∙ sym is'
-same_passed ps s m m' (event.Split name) members (on, may, is) (on', may', is') = is ∙ ap (with_split ps s) (same_split ps name on on' may.named may'.named) ∙ sym is'
+same_passed ps s m m' (event.Split name) members (on, may, is) (on', may', is') = is ∙ ap (with_split (hanan_grid_of ps) s) (same_split ps name on on' may.named may'.named) ∙ sym is'
 same_passed ps s m m' (event.Leaf count) members is is' = is ∙ sym is'
 same_passed ps s m m' (event.Cut weight) None passes passes' = absurd passes
 same_passed ps s m m' (event.Cut weight) (Some members) passes passes' = passes.1 ∙ sym passes'.1
 same_passed ps s m m' event.End members is is' = is ∙ sym is'
 
 -- edges that are right are not wrong
-right_not_wrong : {P : Type 0} (ps : List Point) (s : SoFar) (cause : Cause) → IsNetworkRight ps s → IsNetworkWrong ps s cause → P
+right_not_wrong : {P : Type 0} (ps : List Point) (s : SoFar) (cause : Cause) → IsNetworkRight (hanan_grid_of ps) s → IsNetworkWrong (hanan_grid_of ps) s cause → P
 right_not_wrong ps s cause right wrong = measured_without_fault (hanan_grid_of ps) s.head.length s.network cause (right wrong.0) wrong.1
 
 -- and are wrong for one cause
-same_wrong : (ps : List Point) (s : SoFar) (cause cause' : Cause) → IsNetworkWrong ps s cause → IsNetworkWrong ps s cause' → cause ≡ cause'
+same_wrong : (ps : List Point) (s : SoFar) (cause cause' : Cause) → IsNetworkWrong (hanan_grid_of ps) s cause → IsNetworkWrong (hanan_grid_of ps) s cause' → cause ≡ cause'
 same_wrong ps s cause cause' wrong wrong' = same_network_fault (hanan_grid_of ps) s.head.length s.network cause cause' wrong.1 wrong'.1
 
 -- a line that passes does not fail
 pub passes_not_fails : {P : Type 0} (ps : List Point) (s m : SoFar) (n : ℕ) (e : Event) (members : Option (List Bool)) (cause : Cause) (network : List Bool) → Passes ps s e members m → Fails ps s n e members cause network → P
 passes_not_fails ps s m n (event.Head h) members cause network passes fails = absurd fails
 passes_not_fails ps s m n (event.EdgeCount count) members cause network passes fails =
-    right_not_wrong ps (record s { edges_due = count }) cause (subst (IsNetworkRight ps) passes.0 passes.1) fails.0
+    right_not_wrong ps (record s { edges_due = count }) cause (subst (IsNetworkRight (hanan_grid_of ps)) passes.0 passes.1) fails.0
 passes_not_fails ps s m n (event.Edge name) members cause network (e, follows, is, right) (inl fails) = follows_without_fault ps s.network name n e cause follows fails.0
 passes_not_fails ps s m n (event.Edge name) members cause network (e, follows, is, right) (inr (e', follows', wrong, _)) =
     let told : m ≡ with_edge s e' = is ∙ ap (with_edge s) (same_following ps s.network name e e' follows follows') in
-    right_not_wrong ps (with_edge s e') cause (subst (IsNetworkRight ps) told right) wrong
+    right_not_wrong ps (with_edge s e') cause (subst (IsNetworkRight (hanan_grid_of ps)) told right) wrong
 passes_not_fails ps s m n event.Tree members cause network passes fails = absurd fails
-passes_not_fails ps s m n (event.Split name) members cause network (on, may, is) fails = may_without_fault ps (decision_due ps s) s.splits name on n cause may fails.0
+passes_not_fails ps s m n (event.Split name) members cause network (on, may, is) fails = may_without_fault ps (decision_due (hanan_grid_of ps) s) s.splits name on n cause may fails.0
 passes_not_fails ps s m n (event.Leaf count) members cause network passes fails = absurd fails
 passes_not_fails ps s m n (event.Cut weight) None cause network passes fails = absurd fails
-passes_not_fails ps s m n (event.Cut weight) (Some members) cause network passes fails = packs_without_fault (hanan_grid_of ps) (decision_due ps s) s.cuts (cut_of weight members) n cause passes.0 fails.0
+passes_not_fails ps s m n (event.Cut weight) (Some members) cause network passes fails = packs_without_fault (hanan_grid_of ps) (decision_due (hanan_grid_of ps) s) s.cuts (cut_of weight members) n cause passes.0 fails.0
 passes_not_fails ps s m n event.End members cause network passes fails = absurd fails
 
 -- the causes are one, and so are the edges that came before
@@ -75,14 +76,14 @@ same_failed_edge ps s n name members cause cause' network network' (inl fails) (
 same_failed_edge ps s n name members cause cause' network network' (inr (e, follows, _, _)) (inl fails') = follows_without_fault ps s.network name n e cause' follows fails'.0
 same_failed_edge ps s n name members cause cause' network network' (inr (e, follows, wrong, kept)) (inr (e', follows', wrong', kept')) =
     let same : with_edge s e ≡ with_edge s e' = ap (with_edge s) (same_following ps s.network name e e' follows follows') in
-    (same_wrong ps (with_edge s e') cause cause' (subst (λ x. IsNetworkWrong ps x cause) same wrong) wrong', kept ∙ ap (λ x. x.network) same ∙ sym kept')
+    (same_wrong ps (with_edge s e') cause cause' (subst (λ x. IsNetworkWrong (hanan_grid_of ps) x cause) same wrong) wrong', kept ∙ ap (λ x. x.network) same ∙ sym kept')
 
 -- and so does any line
 same_failed : (ps : List Point) (s : SoFar) (n : ℕ) (e : Event) (members : Option (List Bool)) (cause cause' : Cause) (network network' : List Bool) → Fails ps s n e members cause network → Fails ps s n e members cause' network' → IsSameFault cause network cause' network'
 same_failed ps s n (event.EdgeCount count) members cause cause' network network' fails fails' = (same_wrong ps (record s { edges_due = count }) cause cause' fails.0 fails'.0, fails.1 ∙ sym fails'.1)
 same_failed ps s n (event.Edge name) members cause cause' network network' fails fails' = same_failed_edge ps s n name members cause cause' network network' fails fails'
-same_failed ps s n (event.Split name) members cause cause' network network' fails fails' = (same_split_fault ps (decision_due ps s) s.splits name n cause cause' fails.0 fails'.0, fails.1 ∙ sym fails'.1)
-same_failed ps s n (event.Cut weight) (Some set) cause cause' network network' fails fails' = (same_cut_fault (hanan_grid_of ps) (decision_due ps s) s.cuts (cut_of weight set) n cause cause' fails.0 fails'.0, fails.1 ∙ sym fails'.1)
+same_failed ps s n (event.Split name) members cause cause' network network' fails fails' = (same_split_fault ps (decision_due (hanan_grid_of ps) s) s.splits name n cause cause' fails.0 fails'.0, fails.1 ∙ sym fails'.1)
+same_failed ps s n (event.Cut weight) (Some set) cause cause' network network' fails fails' = (same_cut_fault (hanan_grid_of ps) (decision_due (hanan_grid_of ps) s) s.cuts (cut_of weight set) n cause cause' fails.0 fails'.0, fails.1 ∙ sym fails'.1)
 same_failed ps s n e members cause cause' network network' fails fails' = absurd fails
 
 -- ---- the end
@@ -157,17 +158,17 @@ judged_further ps s (e ∷ es) more behind f (inl wrong) = inl wrong
 judged_further ps s (e ∷ es) more behind f (inr (m, passes, judged)) = inr (m, passes, judged_further ps m es more behind f judged)
 
 -- two verdicts on lines of the same bytes are one
-same_verdict : (ps : List Point) (es es' : List AnswerEvent) (behind behind' : Behind) (f f' : Finished) → SameReading es es' behind behind' → Judges ps (nothing_told ps) es behind f →
-    Judges ps (nothing_told ps) es' behind' f' → f ≡ f'
+same_verdict : (ps : List Point) (es es' : List AnswerEvent) (behind behind' : Behind) (f f' : Finished) → SameReading es es' behind behind' → Judges ps (nothing_told (hanan_grid_of ps)) es behind f →
+    Judges ps (nothing_told (hanan_grid_of ps)) es' behind' f' → f ≡ f'
 same_verdict ps es es' behind behind' f f' (inl same) judged judged' =
-    let here : Judges ps (nothing_told ps) es' behind' f = subst (λ b. Judges ps (nothing_told ps) es' b f) same.0 (subst (λ xs. Judges ps (nothing_told ps) xs behind f) same.1 judged) in
-    same_judged ps (nothing_told ps) es' behind' f f' here judged'
+    let here : Judges ps (nothing_told (hanan_grid_of ps)) es' behind' f = subst (λ b. Judges ps (nothing_told (hanan_grid_of ps)) es' b f) same.0 (subst (λ xs. Judges ps (nothing_told (hanan_grid_of ps)) xs behind f) same.1 judged) in
+    same_judged ps (nothing_told (hanan_grid_of ps)) es' behind' f f' here judged'
 same_verdict ps es es' behind behind' f f' (inr (inl (further, more, is))) judged judged' =
-    let longer = judged_further ps (nothing_told ps) es more behind' f (subst (λ b. Judges ps (nothing_told ps) es b f) further judged) in
-    same_judged ps (nothing_told ps) es' behind' f f' (subst (λ xs. Judges ps (nothing_told ps) xs behind' f) (sym is) longer) judged'
+    let longer = judged_further ps (nothing_told (hanan_grid_of ps)) es more behind' f (subst (λ b. Judges ps (nothing_told (hanan_grid_of ps)) es b f) further judged) in
+    same_judged ps (nothing_told (hanan_grid_of ps)) es' behind' f f' (subst (λ xs. Judges ps (nothing_told (hanan_grid_of ps)) xs behind' f) (sym is) longer) judged'
 same_verdict ps es es' behind behind' f f' (inr (inr (further, more, is))) judged judged' =
-    let longer = judged_further ps (nothing_told ps) es' more behind f' (subst (λ b. Judges ps (nothing_told ps) es' b f') further judged') in
-    same_judged ps (nothing_told ps) es behind f f' judged (subst (λ xs. Judges ps (nothing_told ps) xs behind f') (sym is) longer)
+    let longer = judged_further ps (nothing_told (hanan_grid_of ps)) es' more behind f' (subst (λ b. Judges ps (nothing_told (hanan_grid_of ps)) es' b f') further judged') in
+    same_judged ps (nothing_told (hanan_grid_of ps)) es behind f f' judged (subst (λ xs. Judges ps (nothing_told (hanan_grid_of ps)) xs behind f') (sym is) longer)
 
 -- the lines of bytes have one verdict, since bytes spell one answer at most
 pub one_judged : OneReading → (ps : List Point) (bytes : List ℕ) (f f' : Finished) → IsJudged ps bytes f → IsJudged ps bytes f' → f ≡ f'

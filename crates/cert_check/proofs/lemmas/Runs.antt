@@ -3,14 +3,15 @@ use Rattle.std.proofs.Common.{ℕ, suc, ◌≡◌, Bool, List, [], ◌∷◌, �
 use Rattle.points_in.specs.declared.point.Point.{Point}
 use Rattle.cut_cert.specs.Events.{Told}
 use Rattle.cert_check.proofs.lemmas.ToldParts.{numbered}
-use Rattle.cert_check.specs.declared.verdict.Cause.{Cause}
-use Rattle.cert_check.specs.declared.verdict.Cause.TheVariants.{NotAnswer}
+use Rattle.tree_judge.specs.declared.cause.Cause.{Cause}
+use Rattle.tree_judge.specs.declared.cause.Cause.TheVariants.{NotAnswer}
 use Rattle.cert_check.specs.declared.verdict.Verdict.TheVariants.{Accepted, Refused}
 use Rattle.cert_check.specs.declared.verdict.Finished.{Finished}
 use Rattle.cert_check.specs.Ends.{EndsWith}
 use Rattle.cert_check.specs.Lines.{Behind}
 use Rattle.cert_check.specs.Lines.Behind.{Ended, Ceased, Further}
-use Rattle.cert_check.specs.Judged.{SoFar, Passes, Judges, bound_found}
+use Rattle.tree_judge.specs.Judged.{SoFar, bound_found}
+use Rattle.cert_check.specs.Judged.{Passes, Judges}
 use Rattle.cut_cert.specs.declared.event.AnswerEvent.{AnswerEvent}
 
 -- each of these lines passes behind what was told, and this is told behind the last of them

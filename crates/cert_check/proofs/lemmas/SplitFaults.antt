@@ -14,8 +14,8 @@ use Rattle.cert_tree.specs.Decisions.{IsUndecidedSplit}
 use Rattle.cut_cert.specs.declared.split.SplitName.{SplitName}
 use Rattle.cut_cert.specs.declared.split.SplitName.TheVariants as name
 use Rattle.cut_cert.specs.Answers.{IsSplitOn, split_name}
-use Rattle.cert_check.specs.declared.verdict.Cause.{Cause}
-use Rattle.cert_check.specs.declared.verdict.Cause.TheVariants as cause
+use Rattle.tree_judge.specs.declared.cause.Cause.{Cause}
+use Rattle.tree_judge.specs.declared.cause.Cause.TheVariants as cause
 use Rattle.cert_check.specs.Splits.{IsNamedFault, IsNameOfSplit, IsTooDeep, MaySplit, MaySplitOn, SplitFault, SplitOnFault}
 
 -- ---- what a split is on

@@ -14,7 +14,7 @@ use Rattle.cut_cert.specs.declared.split.SplitName.{SplitName}
 use Rattle.cut_cert.specs.declared.version.Version.{Version}
 use Rattle.cut_cert.specs.Answers.{IsNodeOn, named, split_name}
 use Rattle.cert_check.specs.Splits.{MaySplit}
-use Rattle.cert_check.specs.Judged.{SoFar, decision_due, with_split}
+use Rattle.tree_judge.specs.Judged.{SoFar, decision_due, with_split}
 use Rattle.cert_check.proofs.lemmas.Runs.{Runs, Runs-append, Runs-join}
 use Rattle.cert_check.proofs.lemmas.ToldParts.{tree_told}
 use Rattle.cert_check.proofs.lemmas.LeafTold.{leaf_told, leaf_passes}
@@ -32,8 +32,8 @@ pub record TellsTree (ps : List Point) (s s' : SoFar) (told : Tree SplitName) : 
   pub tree : Tree SplitOn
   pub named_tree : told ≡ named ps tree
   pub splits : All (IsNodeOn (hanan_grid_of ps)) (nodes_of tree)
-  pub valid : IsValidTree (hanan_grid_of ps) (decision_due ps s) tree
-  pub read : s' ≡ tree_read ps s tree
+  pub valid : IsValidTree (hanan_grid_of ps) (decision_due (hanan_grid_of ps) s) tree
+  pub read : s' ≡ tree_read (hanan_grid_of ps) s tree
   pub few : s.splits ≤ 255 → s'.splits ≤ 255
 
 -- where the lines of a tree pass
@@ -52,36 +52,36 @@ TellsTree-from_runs ps v V s s' (Split name outside inside) (m, (on, may, is), r
     let g = hanan_grid_of ps in
     let parts = Runs-append ps m s' (tree_told outside) (tree_told inside) runs in
     let below = subst (λ x. Runs ps x (tree_told outside) parts.0) is parts.1 in
-    let first = TellsTree-from_runs ps v V (with_split ps s on) parts.0 outside below fits.1 are in
-    let mid = tree_read ps (with_split ps s on) first.tree in
+    let first = TellsTree-from_runs ps v V (with_split (hanan_grid_of ps) s on) parts.0 outside below fits.1 are in
+    let mid = tree_read (hanan_grid_of ps) (with_split (hanan_grid_of ps) s on) first.tree in
     let behind = subst (λ x. Runs ps x (tree_told inside) s') first.read parts.2 in
-    let second = TellsTree-from_runs ps v V mid s' inside behind fits.2 (tree_read-cuts ps (with_split ps s on) first.tree) in
+    let second = TellsTree-from_runs ps v V mid s' inside behind fits.2 (tree_read-cuts (hanan_grid_of ps) (with_split (hanan_grid_of ps) s on) first.tree) in
     let names = may.named.named in
     record {
       tree = Split on first.tree second.tree;
       named_tree = ap (λ n. Split n outside inside) (sym names) ∙ ap (λ t. Split (split_name ps on) t inside) first.named_tree ∙ ap (λ t. Split (split_name ps on) (named ps first.tree) t) second.named_tree;
       splits = All-cons (IsNodeOn g) (Some on) (nodes_of first.tree ++ nodes_of second.tree) may.named.on_grid
           (All-append (IsNodeOn g) (nodes_of first.tree) (nodes_of second.tree) first.splits second.splits);
-      valid = (may.may.undecided, first.valid, subst (λ d. IsValidTree g d second.tree) (tree_read-inside ps s on first.tree) second.valid);
+      valid = (may.may.undecided, first.valid, subst (λ d. IsValidTree g d second.tree) (tree_read-inside (hanan_grid_of ps) s on first.tree) second.valid);
       read = second.read;
       few = λ before. second.few (omega (arith, first.few (omega (arith, may.may.few)), ap (λ (x : SoFar). x.splits) first.read));
     }
 
 -- the lines of a valid tree pass
-pub tree_passes : (ps : List Point) (s : SoFar) (t : Tree SplitOn) → All (IsNodeOn (hanan_grid_of ps)) (nodes_of t) → IsValidTree (hanan_grid_of ps) (decision_due ps s) t →
-    s.splits + split_count t ≤ 255 → s.cuts ≡ [] → Runs ps s (tree_told (named ps t)) (tree_read ps s t)
+pub tree_passes : (ps : List Point) (s : SoFar) (t : Tree SplitOn) → All (IsNodeOn (hanan_grid_of ps)) (nodes_of t) → IsValidTree (hanan_grid_of ps) (decision_due (hanan_grid_of ps) s) t →
+    s.splits + split_count t ≤ 255 → s.cuts ≡ [] → Runs ps s (tree_told (named ps t)) (tree_read (hanan_grid_of ps) s t)
 tree_passes ps s (Leaf cuts) on valid few are = leaf_passes ps s cuts valid are
 tree_passes ps s (Split on outside inside) nodes valid few are =
     let g = hanan_grid_of ps in
     let behind = All-tail (IsNodeOn g) (Some on) (nodes_of outside ++ nodes_of inside) nodes in
     let here = All-head (IsNodeOn g) (Some on) (nodes_of outside ++ nodes_of inside) nodes in
-    let s1 = with_split ps s on in
-    let may : MaySplit ps (decision_due ps s) s.splits (split_name ps on) on = record {
+    let s1 = with_split (hanan_grid_of ps) s on in
+    let may : MaySplit ps (decision_due (hanan_grid_of ps) s) s.splits (split_name ps on) on = record {
       named = record { on_grid = here; named = refl };
       may = record { undecided = valid.0; few = omega arith };
     } in
-    let s2 = tree_read ps s1 outside in
+    let s2 = tree_read (hanan_grid_of ps) s1 outside in
     let first = tree_passes ps s1 outside (All-front (IsNodeOn g) (nodes_of outside) (nodes_of inside) behind) valid.1 (omega arith) are in
     let second = tree_passes ps s2 inside (All-back (IsNodeOn g) (nodes_of outside) (nodes_of inside) behind)
-    (subst (λ d. IsValidTree g d inside) (sym (tree_read-inside ps s on outside)) valid.2) (omega (arith, tree_read-splits ps s1 outside)) (tree_read-cuts ps s1 outside) in
-    (s1, (on, may, refl), Runs-join ps s1 s2 (tree_read ps s2 inside) (tree_told (named ps outside)) (tree_told (named ps inside)) first second)
+    (subst (λ d. IsValidTree g d inside) (sym (tree_read-inside (hanan_grid_of ps) s on outside)) valid.2) (omega (arith, tree_read-splits (hanan_grid_of ps) s1 outside)) (tree_read-cuts (hanan_grid_of ps) s1 outside) in
+    (s1, (on, may, refl), Runs-join ps s1 s2 (tree_read (hanan_grid_of ps) s2 inside) (tree_told (named ps outside)) (tree_told (named ps inside)) first second)

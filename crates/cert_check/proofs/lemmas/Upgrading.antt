@@ -19,7 +19,8 @@ use Rattle.cut_cert.specs.Events.{events_of}
 use Rattle.cut_cert.specs.Spelling.{OneReading, SpellsAnswer}
 use Rattle.cert_check.specs.declared.verdict.Finished.{Finished}
 use Rattle.cert_check.specs.Lines.Behind.{Ended}
-use Rattle.cert_check.specs.Judged.{Judges, nothing_told}
+use Rattle.tree_judge.specs.Judged.{nothing_told}
+use Rattle.cert_check.specs.Judged.{Judges}
 use Rattle.cert_check.specs.Verdicts.{IsJudged, IsVerdict, byte_limit}
 use Rattle.cert_check.proofs.lemmas.Complete.{judged_whole}
 
@@ -121,7 +122,7 @@ judged_as one ps bytes text a b f spells spells' same v = record {
   events = events_of b;
   behind = Ended;
   read = record { answer = b; spells = spells'; told = refl };
-  judged = subst (λ es. Judges ps (nothing_told ps) es Ended f) (sym same)
+  judged = subst (λ es. Judges ps (nothing_told (hanan_grid_of ps)) es Ended f) (sym same)
       (judged_whole one ps bytes a v.events v.behind f spells v.read v.judged);
 }
 

@@ -1,7 +1,7 @@
 use Rattle.std.proofs.Common.{take, ap, ◌∙◌, subst}
 use Rattle.hanan_grid.specs.Grid.{hanan_grid_of}
 use Rattle.cut_cert.specs.Reader.{line_due}
-use Rattle.cert_check.specs.declared.verdict.Cause.TheVariants.{NotAnswer}
+use Rattle.tree_judge.specs.declared.cause.Cause.TheVariants.{NotAnswer}
 use Rattle.cert_check.specs.declared.verdict.Verdict.TheVariants.{Refused}
 use Rattle.cert_check.specs.Verdicts.{byte_limit}
 use Rattle.cert_check.specs.Underway.{Follows}

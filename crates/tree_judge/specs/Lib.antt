@@ -1,0 +1,17 @@
+pub mod Steps
+pub mod Edges
+pub mod EdgesRead
+pub mod Networks
+pub mod Splits
+pub mod Cuts
+pub mod Path
+pub mod Listed
+pub mod Room
+pub mod Loads
+pub mod Borders
+pub mod Ways
+pub mod Ends
+pub mod Judged
+pub mod Standing
+pub mod CutLaws
+pub mod NetworkLaws
