@@ -11,7 +11,7 @@ use Rattle.tree_judge.specs.declared.judge.Judge.{Judge}
 use Rattle.tree_judge.specs.Judged.{SoFar, nothing_told}
 use Rattle.cert_check.specs.Judged.{Passes}
 use Rattle.cert_check.specs.Verdicts.{IsJudged}
-use Rattle.tree_judge.specs.Standing.{IsJudgeOn, StandsFor}
+use Rattle.tree_judge.specs.Standing.{IsJudgeOn, StandsFor, network_of}
 
 -- the reader stands for some bytes
 abbrev pub IsReading : ℕ → EventReader → Type 0

@@ -15,3 +15,8 @@ pub mod Judged
 pub mod Standing
 pub mod CutLaws
 pub mod NetworkLaws
+pub mod EdgeLaws
+pub mod SplitLaws
+pub mod StepLaws
+pub mod EndLaws
+pub mod StandingLaws
