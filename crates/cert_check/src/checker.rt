@@ -11,13 +11,14 @@ ghost use Rattle.cert_check.specs.Verdicts.{IsJudged, IsVerdict, byte_limit};
 ghost use Rattle.cert_check.specs.Underway.{IsUnderway};
 ghost use Rattle.cert_check.specs.UnderwayLaws.{IsUnderway-prop};
 
-use crate::judge::Judge;
+use crate::judging::{finished, judge_on, refused};
 use crate::law::{accepted_bound_holds, one_verdict};
 use crate::read::read_byte;
-use crate::verdict::{Cause, Finished, Verdict};
+use crate::verdict::{Finished, Verdict};
 use cut_cert::{EventReader, Row, one_reading};
 use hanan_grid::Grid;
 use net_graph::{EdgeSet, VertexSet};
+use tree_judge::{Cause, Judge};
 
 /// An answer has no more bytes than this.
 const BYTE_LIMIT: u64 = 4_294_967_295;
@@ -53,7 +54,7 @@ impl<'a> Checker<'a> {
         Checker {
             grid,
             reader: EventReader::begin(vertices, members),
-            judge: Judge::begin(grid, network, work),
+            judge: judge_on(grid, network, work),
             fault: None,
             fed: 0,
         }
@@ -173,12 +174,12 @@ impl<'a> Checker<'a> {
             → IsJudged ps (take byte_limit bytes) result }
     {
         if let Some(cause) = self.fault {
-            return self.judge.refused(cause);
+            return refused(self.judge, cause);
         }
         if self.reader.ended() {
-            return self.judge.finish();
+            return finished(self.judge);
         }
         let line = self.reader.line();
-        self.judge.refused(Cause::NotAnswer(line))
+        refused(self.judge, Cause::NotAnswer(line))
     }
 }

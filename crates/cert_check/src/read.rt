@@ -3,13 +3,13 @@
 ghost use Rattle.std.specs.Prelude.{◌≡◌, ◌+◌, ◌-◌, ◌^◌, ◌<◌, ℕ, List, [], ◌∷◌, ◌++◌, None, IfNone};
 ghost use Rattle.hanan_grid.specs.Grid.{hanan_grid_of};
 ghost use Rattle.cut_cert.specs.Reader.{bytes_fed};
-ghost use Rattle.cert_check.specs.Standing.{IsJudgeOn};
+ghost use Rattle.tree_judge.specs.Standing.{IsJudgeOn};
 ghost use Rattle.cert_check.specs.Underway.{Follows, IsReading};
 
-use crate::judge::Judge;
-use crate::verdict::Cause;
+use crate::judging::judge_line;
 use cut_cert::{EventReader, reads_beginnings};
 use hanan_grid::Grid;
+use tree_judge::{Cause, Judge};
 
 /// Reads one more byte, and judges the line that it ends. Gives why the answer is refused, if it is from here on.
 pub(crate) fn read_byte(
@@ -18,10 +18,10 @@ pub(crate) fn read_byte(
     judge: &mut Judge,
     byte: u8,
 ) -> Option<Cause>
-    requires sizes { IsJudgeOn grid.now judge.old }
+    requires sizes { IsJudgeOn (hanan_grid_of grid.now) judge.old }
     requires few { bytes_fed reader.old < 2 ^ 32 - 1 }
     requires reads { IsReading (hanan_grid_of grid.now).vertices reader.old }
-    ensures sizes { IsJudgeOn grid.now judge.new }
+    ensures sizes { IsJudgeOn (hanan_grid_of grid.now) judge.new }
     ensures fed { bytes_fed reader.new ≡ bytes_fed reader.old + 1 }
     ensures reads { IfNone result (IsReading (hanan_grid_of grid.now).vertices reader.new) }
     ensures follows { (bytes : List ℕ) → Follows grid.now bytes reader.old judge.old None
@@ -36,5 +36,5 @@ pub(crate) fn read_byte(
     let Some(event) = told else {
         return None;
     };
-    judge.judge(grid, line, &event, reader.members())
+    judge_line(grid, judge, line, &event, reader.members())
 }

@@ -20,3 +20,5 @@ pub mod SplitLaws
 pub mod StepLaws
 pub mod EndLaws
 pub mod StandingLaws
+pub mod TreeRead
+pub mod Fresh

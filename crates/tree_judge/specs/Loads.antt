@@ -1,5 +1,6 @@
 -- What is kept of a leaf's cuts, of which some were read.
-use Rattle.std.specs.Prelude.{ℕ, ◌≡◌, ◌≢◌, ◌-◌, ◌^◌, ◌<◌, ◌≤◌, Bool, List, [], ◌∷◌, ◌++◌, length, min, sum_by, slice_get, slice_index, Some, IfSome, ◌⊎◌}
+use Rattle.std.specs.Prelude.{ℕ, ◌≡◌, ◌≢◌, ◌-◌, ◌^◌, ◌<◌, ◌≤◌, Bool, List, [], ◌∷◌, ◌++◌, length, min, sum_by}
+use Rattle.std.specs.Prelude.{slice_get, slice_index, Some, IfSome, ◌⊎◌}
 use Rattle.net_graph.specs.declared.edge.Edge.{Edge}
 use Rattle.net_graph.specs.declared.state.EdgeState.{EdgeState}
 use Rattle.net_graph.specs.declared.packing.Cut.{Cut}

@@ -57,7 +57,8 @@ fn marks_from(g: &NetGraph, edge: u32, count: u32, members: &VertexSet) -> u64
 
 // Whether an arc of the edge enters the set.
 fn parts(members: &VertexSet, e: &Edge) -> bool
-    ensures { IsTrue result ↔ ((enters members.now e.now.a e.now.b ≡ true) ⊎ (enters members.now e.now.b e.now.a ≡ true)) }
+    ensures { IsTrue result ↔ ((enters members.now e.now.a e.now.b ≡ true)
+        ⊎ (enters members.now e.now.b e.now.a ≡ true)) }
 {
     enters(members, e.a, e.b) || enters(members, e.b, e.a)
 }

@@ -17,9 +17,8 @@ use number_row::Row;
 use std::marker::Model;
 
 /// A row of numbers in which an answer on a graph is checked. It has the load of each arc, the state of each edge, the
-/// list of the edges that are loaded, the state of each vertex, and the way of splits to the node that is read. A search
-/// may use the numbers of the list, which is then made anew: it has a number for each edge, and two for each vertex at
-/// least.
+/// list of the edges that are loaded, the state of each vertex, and the way of splits to the node that is read. The
+/// list has a number for each edge and at least two for each vertex: a search may use them, and it is then made anew.
 #[derive(Debug, Drop)]
 pub(crate) struct Room {
     row: Row,

@@ -24,7 +24,7 @@ use Rattle.cert_check.specs.Lines.Behind.{Ended, Ceased, Further}
 use Rattle.tree_judge.specs.Judged.{SoFar, bound_found, nothing_told}
 use Rattle.cert_check.specs.Judged.{Passes, Fails, Judges}
 use Rattle.cert_check.specs.Verdicts.{IsJudged, IsVerdict, byte_limit}
-use Rattle.tree_judge.specs.Standing.{StandsFor}
+use Rattle.tree_judge.specs.Standing.{StandsFor, network_of}
 use Rattle.cert_check.specs.Underway.{Follows, PassAll}
 
 -- ---- lines
@@ -57,14 +57,14 @@ PassAll-given ps s m s' es n event.End members before passes = PassAll-more ps s
 -- or is wrong
 wrong_given : (ps : List Point) (m : SoFar) (n : ℕ) (e : Event) (members : List Bool) (cause : Cause) (f : Finished) → Fails ps m n e (Some members) cause f.network → f.verdict ≡ Refused cause →
     Judges ps m (given n (Some e) members) Further f
-wrong_given ps m n (event.Head h) members cause f fails is = absurd fails
+wrong_given ps m n (event.Head h) members cause f fails is = inl (cause, fails, is)
 wrong_given ps m n (event.EdgeCount count) members cause f fails is = inl (cause, fails, is)
 wrong_given ps m n (event.Edge name) members cause f fails is = inl (cause, fails, is)
-wrong_given ps m n event.Tree members cause f fails is = absurd fails
+wrong_given ps m n event.Tree members cause f fails is = inl (cause, fails, is)
 wrong_given ps m n (event.Split name) members cause f fails is = inl (cause, fails, is)
-wrong_given ps m n (event.Leaf count) members cause f fails is = absurd fails
+wrong_given ps m n (event.Leaf count) members cause f fails is = inl (cause, fails, is)
 wrong_given ps m n (event.Cut weight) members cause f fails is = inl (cause, fails, is)
-wrong_given ps m n event.End members cause f fails is = absurd fails
+wrong_given ps m n event.End members cause f fails is = inl (cause, fails, is)
 
 -- ---- one more byte
 
@@ -96,7 +96,7 @@ follows_passed ps bytes byte n e members events s s' reader judge before passes 
 
 -- it ends a line that is wrong
 pub follows_failed : (ps : List Point) (bytes : List ℕ) (byte n : ℕ) (e : Event) (members : List Bool) (events : List AnswerEvent) (s : SoFar) (reader : EventReader) (judge : Judge) (cause : Cause) →
-    PassAll ps (nothing_told (hanan_grid_of ps)) events s → Fails ps s n e (Some members) cause network_of judge →
+    PassAll ps (nothing_told (hanan_grid_of ps)) events s → Fails ps s n e (Some members) cause (network_of judge) →
     BeginsWith (hanan_grid_of ps).vertices (bytes ++ byte ∷ []) (events ++ given n (Some e) members) → Follows ps (bytes ++ byte ∷ []) reader judge (Some cause)
 follows_failed ps bytes byte n e members events s reader judge cause before fails begins rest =
     let f : Finished = record { verdict = Refused cause; network = network_of judge } in
@@ -112,7 +112,7 @@ pub follows_judged : (ps : List Point) (bytes : List ℕ) (byte n : ℕ) (e : Ev
     PassAll ps (nothing_told (hanan_grid_of ps)) events s → StandsFor (hanan_grid_of ps) s old → Reads (hanan_grid_of ps).vertices (bytes ++ byte ∷ []) (events ++ given n (Some e) members) reader →
     BeginsWith (hanan_grid_of ps).vertices (bytes ++ byte ∷ []) (events ++ given n (Some e) members) →
     IfNone result ((s : SoFar) → StandsFor (hanan_grid_of ps) s old → (s' : SoFar) × Passes ps s e (Some members) s' × StandsFor (hanan_grid_of ps) s' new) →
-    IfSome result (λ cause. (s : SoFar) → StandsFor (hanan_grid_of ps) s old → Fails ps s n e (Some members) cause new.edges) → Follows ps (bytes ++ byte ∷ []) reader new result
+    IfSome result (λ cause. (s : SoFar) → StandsFor (hanan_grid_of ps) s old → Fails ps s n e (Some members) cause (network_of new)) → Follows ps (bytes ++ byte ∷ []) reader new result
 follows_judged ps bytes byte n e members events s reader old new None before stands reads begins passes fails =
     let (s', passed, behind) = passes s stands in
     follows_passed ps bytes byte n e members events s s' reader new before passed behind reads
@@ -204,7 +204,7 @@ verdict_beyond ps bytes count first f is many judged verdict network =
 
 -- the verdict on lines isn't that they are too many
 judges_short : (ps : List Point) (s : SoFar) (es : List AnswerEvent) (behind : Behind) (f : Finished) → Judges ps s es behind f → f.verdict ≡ TooLong → ⊥
-judges_short ps s [] Ended f judged is = subst (λ v. EndsWith s.head (bound_found s) v) is judged.0
+judges_short ps s [] Ended f judged is = subst (λ v. EndsWith s.claim (bound_found s) v) is judged.0
 judges_short ps s [] (Ceased n) f judged is = let no : Refused (NotAnswer n) ≡ TooLong = sym judged.0 ∙ is in cc
 judges_short ps s [] Further f judged is = judged
 judges_short ps s (e ∷ es) behind f (inl (cause, fails, refused)) is = let no : Refused cause ≡ TooLong = sym refused ∙ is in cc

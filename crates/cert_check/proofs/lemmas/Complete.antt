@@ -10,18 +10,20 @@ use Rattle.hanan_grid.specs.Names.{name_of_edge}
 use Rattle.cert_tree.specs.declared.split.SplitOn.{SplitOn}
 use Rattle.cert_tree.specs.Tree.{Tree}
 use Rattle.cert_tree.specs.TreeValue.{IsValidTree, tree_value}
-use Rattle.cut_cert.specs.declared.head.AnswerHead.{AnswerHead}
+use Rattle.tree_judge.specs.declared.claim.Claim.{Claim}
+use Rattle.tree_judge.specs.Ends.{IsRightEnd}
+use Rattle.tree_judge.specs.EndLaws.{right_without_fault}
+use Rattle.cert_check.specs.Resolved.{claim_of}
 use Rattle.cut_cert.specs.declared.event.Event.TheVariants as event
 use Rattle.cut_cert.specs.declared.event.AnswerEvent.{AnswerEvent}
 use Rattle.cut_cert.specs.Value.{WrittenAnswer}
 use Rattle.cut_cert.specs.Events.{Told, events_of}
 use Rattle.cut_cert.specs.Answers.{named}
 use Rattle.cut_cert.specs.Spelling.{SpellsAnswer, OneReading}
-use Rattle.tree_judge.specs.declared.cause.Cause.TheVariants.{WrongBound, WrongStatus}
 use Rattle.cert_check.specs.declared.verdict.Verdict.{Verdict}
-use Rattle.cert_check.specs.declared.verdict.Verdict.TheVariants.{Accepted, Refused}
+use Rattle.cert_check.specs.declared.verdict.Verdict.TheVariants.{Accepted, Refused, TooLong}
 use Rattle.cert_check.specs.declared.verdict.Finished.{Finished}
-use Rattle.cert_check.specs.Ends.{IsStatus, EndsWith}
+use Rattle.cert_check.specs.Ends.{EndsWith}
 use Rattle.cert_check.specs.Lines.{Behind, ReadsLines}
 use Rattle.cert_check.specs.Lines.Behind.{Ended, Ceased, Further}
 use Rattle.tree_judge.specs.Judged.{SoFar, bound_found, decision_due, least_with, nothing_told}
@@ -29,23 +31,22 @@ use Rattle.cert_check.specs.Judged.{Judges}
 use Rattle.cert_check.specs.Verdicts.{IsJudged, IsVerdict, byte_limit}
 use Rattle.cert_check.specs.Accepted.{Accepts, IsAccepted, IsAccepting}
 use Rattle.cert_check.proofs.lemmas.ToldParts.{edges_told, events_of-told, proof_told, tree_told}
-use Rattle.cert_check.proofs.lemmas.LineSteps.{JudgesTold, passed}
+use Rattle.cert_check.proofs.lemmas.LineSteps.{JudgesTold, never_fails, passed, step_fails}
 use Rattle.cert_check.proofs.lemmas.Runs.{Runs}
-use Rattle.cert_check.proofs.lemmas.Fresh.{IsFresh}
+use Rattle.tree_judge.specs.Fresh.{IsFresh}
 use Rattle.cert_check.proofs.lemmas.CompleteEdges.{IsNetworkOf, HasFront, front_right, edges_pass}
 use Rattle.cert_check.proofs.lemmas.SameLines.{further_whole}
-use Rattle.cert_check.proofs.lemmas.TreeRead.{tree_read, tree_read-head, tree_read-least}
+use Rattle.tree_judge.specs.TreeRead.{tree_read, tree_read-claim, tree_read-least}
 use Rattle.cert_check.proofs.lemmas.TreeTold.{tree_passes}
 use Rattle.cert_check.proofs.lemmas.OneVerdict.{judged_further, passes_not_fails, same_passed}
 
 -- ---- the lines
 
--- a head that says bound and status right is accepted
-accepting_end : (h : AnswerHead) (found : ℕ) (v : Verdict) → h.bound ≡ found → IsStatus h → EndsWith h found v → IsAccepting v
-accepting_end h found (Accepted length bound optimal) right status ends = tt
-accepting_end h found (Refused (WrongBound printed other)) right status ends = ends.2 (ends.0 ∙ right ∙ sym ends.1)
-accepting_end h found (Refused WrongStatus) right status ends = ends.1 status
-accepting_end h found v right status ends = absurd ends
+-- an answer that says bound and status right is accepted
+accepting_end : (c : Claim) (found : ℕ) (v : Verdict) → IsRightEnd c found → EndsWith c found v → IsAccepting v
+accepting_end c found (Accepted length bound optimal) right ends = tt
+accepting_end c found (Refused cause) right fault = right_without_fault c found cause right fault
+accepting_end c found TooLong right ends = absurd ends
 
 -- behind lines that pass the others are judged
 judged_behind : (ps : List Point) (s s' : SoFar) (n : ℕ) (xs ys : List Told) (f : Finished) → Runs ps s xs s' → JudgesTold ps s n (xs ++ ys) f → (m : ℕ) × JudgesTold ps s' m ys f
@@ -57,28 +58,28 @@ judged_behind ps s s' n (x ∷ xs) ys f (m, passes, runs) judged =
 
 -- behind the tree the end is accepted
 end_accepted : (ps : List Point) (bytes : List ℕ) (answer : WrittenAnswer) (network : List Bool) (tree : Tree SplitOn) (n : ℕ) (s : SoFar) (f : Finished)
-    → Accepts ps bytes answer network tree → s.head ≡ answer.head → IsFresh ps s → JudgesTold ps (tree_read (hanan_grid_of ps) s tree) n ((event.End, None) ∷ []) f → IsAccepting f.verdict
+    → Accepts ps bytes answer network tree → s.claim ≡ claim_of answer.head → IsFresh (hanan_grid_of ps) s → JudgesTold ps (tree_read (hanan_grid_of ps) s tree) n ((event.End, None) ∷ []) f → IsAccepting f.verdict
 end_accepted ps bytes answer network tree n s f accepts head fresh judged =
     let g = hanan_grid_of ps in
     let last = tree_read (hanan_grid_of ps) s tree in
-    let (s', told, ends) = passed ps last n (event.End, None) [] f (λ cause fails. fails) judged in
+    let (s', told, ends) = passed ps last n (event.End, None) [] f (λ cause. never_fails) judged in
     let here = subst (λ t. Judges ps t [] Ended f) told ends in
-    let said : last.head ≡ answer.head = tree_read-head (hanan_grid_of ps) s tree ∙ head in
+    let said : last.claim ≡ claim_of answer.head = tree_read-claim (hanan_grid_of ps) s tree ∙ head in
     let says = subst (λ h. EndsWith h (bound_found last) f.verdict) said here.0 in
     let top : decision_due (hanan_grid_of ps) s ≡ nothing_decided g = ap (λ ds. get_or ds 0 (nothing_decided g)) fresh.decisions in
     let value = ap (λ d. tree_value g d tree) top in
-    let none : least_with last.head.length s.values ≡ last.head.length = ap (λ vs. least_with last.head.length vs) fresh.values in
-    let length_is = ap (λ (h : AnswerHead). h.length) said in
-    let found : answer.head.bound ≡ bound_found last = omega (arith, accepts.bound, tree_read-least (hanan_grid_of ps) s tree last.head.length, value, none, length_is) in
-    accepting_end answer.head (bound_found last) f.verdict found accepts.status says
+    let none : least_with last.claim.length s.values ≡ last.claim.length = ap (λ vs. least_with last.claim.length vs) fresh.values in
+    let length_is = ap (λ (c : Claim). c.length) said in
+    let found : answer.head.bound ≡ bound_found last = omega (arith, accepts.bound, tree_read-least (hanan_grid_of ps) s tree last.claim.length, value, none, length_is) in
+    accepting_end (claim_of answer.head) (bound_found last) f.verdict (record { bound = found; status = accepts.status }) says
 
 -- behind the edges the tree is accepted
 proof_accepted : (ps : List Point) (bytes : List ℕ) (answer : WrittenAnswer) (network : List Bool) (tree : Tree SplitOn) (n : ℕ) (s : SoFar) (f : Finished)
-    → Accepts ps bytes answer network tree → s.head ≡ answer.head → IsFresh ps s → JudgesTold ps s n (proof_told (named ps tree)) f → IsAccepting f.verdict
+    → Accepts ps bytes answer network tree → s.claim ≡ claim_of answer.head → IsFresh (hanan_grid_of ps) s → JudgesTold ps s n (proof_told (named ps tree)) f → IsAccepting f.verdict
 proof_accepted ps bytes answer network tree n s f accepts head fresh judged =
     let g = hanan_grid_of ps in
     let rest = tree_told (named ps tree) ++ (event.End, None) ∷ [] in
-    let (s', told, behind) = passed ps s n (event.Tree, None) rest f (λ cause fails. fails) judged in
+    let (s', told, behind) = passed ps s n (event.Tree, None) rest f (λ cause. never_fails) judged in
     let here = subst (λ t. JudgesTold ps t (suc n) rest f) told behind in
     let top : decision_due (hanan_grid_of ps) s ≡ nothing_decided g = ap (λ ds. get_or ds 0 (nothing_decided g)) fresh.decisions in
     let runs = tree_passes ps s tree accepts.splits (subst (λ d. IsValidTree g d tree) (sym top) accepts.valid) (omega (arith, accepts.few, fresh.splits)) fresh.cuts in
@@ -87,14 +88,14 @@ proof_accepted ps bytes answer network tree n s f accepts head fresh judged =
 
 -- what was told before the first edge
 abbrev with_head : List Point → WrittenAnswer → SoFar
-with_head ps answer = record (nothing_told (hanan_grid_of ps)) { head = answer.head }
+with_head ps answer = record (nothing_told (hanan_grid_of ps)) { claim = claim_of answer.head }
 
 abbrev with_count : List Point → WrittenAnswer → SoFar
 with_count ps answer = record (with_head ps answer) { edges_due = length answer.edges }
 
 -- no flag of the network is told then
 front_begins : (ps : List Point) (bytes : List ℕ) (answer : WrittenAnswer) (network : List Bool) (tree : Tree SplitOn)
-    → Accepts ps bytes answer network tree → HasFront answer.head [] network 0 (with_count ps answer)
+    → Accepts ps bytes answer network tree → HasFront (claim_of answer.head) [] network 0 (with_count ps answer)
 front_begins ps bytes answer network tree accepts = record {
   place = refl;
   says = refl;
@@ -115,8 +116,8 @@ edges_accepted : (ps : List Point) (bytes : List ℕ) (answer : WrittenAnswer) (
     → Accepts ps bytes answer network tree → JudgesTold ps (with_count ps answer) n (edges_told answer.edges ++ proof_told answer.tree) f → IsAccepting f.verdict
 edges_accepted ps bytes answer network tree n f accepts judged =
     let named_edges = subst (λ edges. JudgesTold ps (with_count ps answer) n (edges_told edges ++ proof_told answer.tree) f) accepts.edges judged in
-    let begun : IsFresh ps (with_count ps answer) = record { decisions = refl; splits = refl; cuts = refl; values = refl } in
-    let (m, s, head, fresh, behind) = edges_pass ps answer.head [] network 0 n (with_count ps answer) (proof_told answer.tree) f
+    let begun : IsFresh (hanan_grid_of ps) (with_count ps answer) = record { decisions = refl; splits = refl; cuts = refl; values = refl } in
+    let (m, s, head, fresh, behind) = edges_pass ps (claim_of answer.head) [] network 0 n (with_count ps answer) (proof_told answer.tree) f
     (network_is ps bytes answer network tree accepts) (front_begins ps bytes answer network tree accepts) begun named_edges in
     proof_accepted ps bytes answer network tree m s f accepts head fresh (subst (λ t. JudgesTold ps s m (proof_told t) f) accepts.named_tree behind)
 
@@ -127,10 +128,10 @@ answer_accepted ps bytes answer network tree f accepts of_events =
     let judged = subst (λ es. Judges ps (nothing_told (hanan_grid_of ps)) es Ended f) (events_of-told answer) of_events in
     let count : Told = (event.EdgeCount (length answer.edges), None) in
     let body = edges_told answer.edges ++ proof_told answer.tree in
-    let (s1, told1, after1) = passed ps (nothing_told (hanan_grid_of ps)) 6 (event.Head answer.head, None) (count ∷ body) f (λ cause fails. fails) judged in
+    let (s1, told1, after1) = passed ps (nothing_told (hanan_grid_of ps)) 6 (event.Head answer.head, None) (count ∷ body) f (λ cause. never_fails) judged in
     let here = subst (λ t. JudgesTold ps t 7 (count ∷ body) f) told1 after1 in
     let (s2, (told2, right), after2) = passed ps (with_head ps answer) 7 count body f
-    (λ cause fails. front_right ps answer.head [] network 0 (with_count ps answer) cause (network_is ps bytes answer network tree accepts) (front_begins ps bytes answer network tree accepts) fails.0) here in
+    (λ cause fails. front_right ps (claim_of answer.head) [] network 0 (with_count ps answer) cause (network_is ps bytes answer network tree accepts) (front_begins ps bytes answer network tree accepts) (step_fails fails).0) here in
     edges_accepted ps bytes answer network tree 8 f accepts (subst (λ t. JudgesTold ps t 8 body f) told2 after2)
 
 -- ---- the bytes

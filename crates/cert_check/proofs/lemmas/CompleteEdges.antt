@@ -11,20 +11,22 @@ use Rattle.net_graph.specs.Members.{members_from}
 use Rattle.net_graph.specs.Network.{Reaches}
 use Rattle.hanan_grid.specs.Grid.{hanan_grid_of}
 use Rattle.hanan_grid.specs.Names.{name_of_edge}
-use Rattle.hanan_grid.specs.NamesLaws.{same_edge}
-use Rattle.cut_cert.specs.declared.head.AnswerHead.{AnswerHead}
 use Rattle.cut_cert.specs.declared.event.Event.TheVariants as event
 use Rattle.cut_cert.specs.Answers.{names_of}
 use Rattle.cut_cert.specs.Events.{Told}
 use Rattle.tree_judge.specs.declared.cause.Cause.{Cause}
-use Rattle.tree_judge.specs.declared.cause.Cause.TheVariants.{OffGrid, EdgeOrder, NotJoined, WrongLength}
+use Rattle.tree_judge.specs.declared.cause.Cause.TheVariants.{EdgeOrder, NotJoined, WrongLength}
+use Rattle.tree_judge.specs.declared.claim.Claim.{Claim}
+use Rattle.tree_judge.specs.declared.step.Step.TheVariants as step
 use Rattle.cert_check.specs.declared.verdict.Finished.{Finished}
-use Rattle.tree_judge.specs.Edges.{FollowsEdges, EdgeFault}
+use Rattle.tree_judge.specs.Edges.{EdgeFault}
 use Rattle.tree_judge.specs.Networks.{IsMeasured, NetworkFault}
 use Rattle.tree_judge.specs.Judged.{SoFar, with_edge, IsNetworkWrong}
 use Rattle.cert_check.specs.Judged.{Fails}
+use Rattle.cert_check.specs.Resolved.{IsNameOfEdge}
+use Rattle.cert_check.proofs.lemmas.Names.{resolved_without_fault, same_edge_named}
 use Rattle.cert_check.proofs.lemmas.ToldParts.{edges_told}
-use Rattle.cert_check.proofs.lemmas.Fresh.{IsFresh, IsFresh-edge}
+use Rattle.tree_judge.specs.Fresh.{IsFresh, IsFresh-edge}
 use Rattle.cert_check.proofs.lemmas.LineSteps.{JudgesTold, passed}
 
 -- ---- the network
@@ -52,9 +54,9 @@ no_members k (false ∷ set) none = ap (λ flags. false ∷ flags) (no_members (
 -- ---- the edges so far
 
 -- the edges that were told are those of the first flags, whose count is k, and those of the rest are due
-pub record HasFront (head : AnswerHead) (front rest : List Bool) (k : ℕ) (s : SoFar) : Type 0 where
+pub record HasFront (claim : Claim) (front rest : List Bool) (k : ℕ) (s : SoFar) : Type 0 where
   pub place : k ≡ length front
-  pub says : s.head ≡ head
+  pub says : s.claim ≡ claim
   pub due : s.edges_due ≡ length (members_from k rest)
   pub edges : s.network ≡ front ++ replicate (length rest) false
 
@@ -75,8 +77,8 @@ network_later ps printed front flag rest is = record {
 }
 
 -- a number that is none of the edges
-front_skips : (head : AnswerHead) (front rest : List Bool) (k : ℕ) (s : SoFar) → HasFront head front (false ∷ rest) k s → HasFront head (front ++ false ∷ []) rest (k + 1) s
-front_skips head front rest k s is = record {
+front_skips : (claim : Claim) (front rest : List Bool) (k : ℕ) (s : SoFar) → HasFront claim front (false ∷ rest) k s → HasFront claim (front ++ false ∷ []) rest (k + 1) s
+front_skips claim front rest k s is = record {
   place = omega (arith, is.place, length-append front (false ∷ []));
   says = is.says;
   due = is.due;
@@ -84,8 +86,8 @@ front_skips head front rest k s is = record {
 }
 
 -- one that is
-front_takes : (head : AnswerHead) (front rest : List Bool) (k : ℕ) (s : SoFar) → HasFront head front (true ∷ rest) k s → HasFront head (front ++ true ∷ []) rest (k + 1) (with_edge s k)
-front_takes head front rest k s is = record {
+front_takes : (claim : Claim) (front rest : List Bool) (k : ℕ) (s : SoFar) → HasFront claim front (true ∷ rest) k s → HasFront claim (front ++ true ∷ []) rest (k + 1) (with_edge s k)
+front_takes claim front rest k s is = record {
   place = omega (arith, is.place, length-append front (true ∷ []));
   says = is.says;
   due = omega (arith, is.due);
@@ -94,79 +96,92 @@ front_takes head front rest k s is = record {
 }
 
 -- where no edge is due the network is whole
-front_whole : (head : AnswerHead) (front rest : List Bool) (k : ℕ) (s : SoFar) → HasFront head front rest k s → s.edges_due ≡ 0 → s.network ≡ front ++ rest
-front_whole head front rest k s is none = is.edges ∙ ap (λ flags. front ++ flags) (no_members k rest (sym is.due ∙ none))
+front_whole : (claim : Claim) (front rest : List Bool) (k : ℕ) (s : SoFar) → HasFront claim front rest k s → s.edges_due ≡ 0 → s.network ≡ front ++ rest
+front_whole claim front rest k s is none = is.edges ∙ ap (λ flags. front ++ flags) (no_members k rest (sym is.due ∙ none))
 
 -- and has no fault
-pub front_right : (ps : List Point) (head : AnswerHead) (front rest : List Bool) (k : ℕ) (s : SoFar) (cause : Cause)
-    → IsNetworkOf ps head.length front rest → HasFront head front rest k s → IsNetworkWrong (hanan_grid_of ps) s cause → ⊥
-front_right ps head front rest k s cause network is wrong =
-    let whole = front_whole head front rest k s is wrong.0 in
-    let measured = subst (IsMeasured (hanan_grid_of ps) head.length) (sym whole) network.measured in
+pub front_right : (ps : List Point) (claim : Claim) (front rest : List Bool) (k : ℕ) (s : SoFar) (cause : Cause)
+    → IsNetworkOf ps claim.length front rest → HasFront claim front rest k s → IsNetworkWrong (hanan_grid_of ps) s cause → ⊥
+front_right ps claim front rest k s cause network is wrong =
+    let whole = front_whole claim front rest k s is wrong.0 in
+    let measured = subst (IsMeasured (hanan_grid_of ps) claim.length) (sym whole) network.measured in
     let said = subst (λ h. IsMeasured (hanan_grid_of ps) h.length s.network) (sym is.says) measured in
-    no_network_fault (hanan_grid_of ps) s.head.length s.network cause said wrong.1
+    no_network_fault (hanan_grid_of ps) s.claim.length s.network cause said wrong.1
 
 -- ---- the line of an edge
 
 -- no number from the first ones on was told
-none_behind : (head : AnswerHead) (front rest : List Bool) (k : ℕ) (s : SoFar) (m : ℕ) → HasFront head front rest k s → k ≤ m → has s.network m ≡ false
-none_behind head front rest k s m is behind =
+none_behind : (claim : Claim) (front rest : List Bool) (k : ℕ) (s : SoFar) (m : ℕ) → HasFront claim front rest k s → k ≤ m → has s.network m ≡ false
+none_behind claim front rest k s m is behind =
     ap (λ flags. has flags m) is.edges
     ∙ get_or-append_right front (replicate (length rest) false) k m false (sym is.place) behind
     ∙ has-none (length rest) (m - k)
 
 -- the next edge is one of the grid
-next_inside : (ps : List Point) (head : AnswerHead) (front : List Bool) (flag : Bool) (rest : List Bool) (k : ℕ) (s : SoFar)
-    → IsNetworkOf ps head.length front (flag ∷ rest) → HasFront head front (flag ∷ rest) k s → k < length (hanan_grid_of ps).edges
-next_inside ps head front flag rest k s network is = omega (arith, network.size, is.place, length-append front (flag ∷ rest))
+next_inside : (ps : List Point) (claim : Claim) (front : List Bool) (flag : Bool) (rest : List Bool) (k : ℕ) (s : SoFar)
+    → IsNetworkOf ps claim.length front (flag ∷ rest) → HasFront claim front (flag ∷ rest) k s → k < length (hanan_grid_of ps).edges
+next_inside ps claim front flag rest k s network is = omega (arith, network.size, is.place, length-append front (flag ∷ rest))
 
--- its name is no fault
-no_edge_fault : (ps : List Point) (head : AnswerHead) (front rest : List Bool) (k n : ℕ) (s : SoFar) (cause : Cause)
-    → k < length (hanan_grid_of ps).edges → HasFront head front rest k s → EdgeFault ps s.network (name_of_edge ps k) n cause → ⊥
-no_edge_fault ps head front rest k n s (OffGrid line) inside is fault = fault.1 k inside refl
-no_edge_fault ps head front rest k n s (EdgeOrder line) inside is fault =
+-- so its name is its
+named_inside : (ps : List Point) (k : ℕ) → k < length (hanan_grid_of ps).edges → IsNameOfEdge ps (name_of_edge ps k) k
+named_inside ps k inside = record { inside = inside; named = refl }
+
+-- and that of no other edge
+followed : (ps : List Point) (k e : ℕ) → k < length (hanan_grid_of ps).edges → IsNameOfEdge ps (name_of_edge ps k) e → e ≡ k
+followed ps k e inside named = same_edge_named ps (name_of_edge ps k) e k named (named_inside ps k inside)
+
+-- it doesn't come late
+no_edge_fault : (claim : Claim) (front rest : List Bool) (k n : ℕ) (s : SoFar) (cause : Cause)
+    → HasFront claim front rest k s → EdgeFault s.network k n cause → ⊥
+no_edge_fault claim front rest k n s (EdgeOrder line) is fault =
     let late = fault.1 in
-    let same = same_edge ps late.edge k late.inside inside late.named in
-    false≢true (sym (none_behind head front rest k s late.other is (omega (arith, late.order))) ∙ late.held)
-no_edge_fault ps head front rest k n s cause inside is fault = fault
-
--- the edge that follows is that of the name
-followed : (ps : List Point) (network : List Bool) (k e : ℕ) → k < length (hanan_grid_of ps).edges → FollowsEdges ps network (name_of_edge ps k) e → e ≡ k
-followed ps network k e inside follows = same_edge ps e k follows.inside inside follows.named
+    false≢true (sym (none_behind claim front rest k s late.other is late.order) ∙ late.held)
+no_edge_fault claim front rest k n s cause is fault = fault
 
 -- its line does not fail
-edge_right : (ps : List Point) (head : AnswerHead) (front rest : List Bool) (k n : ℕ) (s : SoFar) (f : Finished) (cause : Cause)
-    → IsNetworkOf ps head.length front (true ∷ rest) → HasFront head front (true ∷ rest) k s
+edge_right : (ps : List Point) (claim : Claim) (front rest : List Bool) (k n : ℕ) (s : SoFar) (f : Finished) (cause : Cause)
+    → IsNetworkOf ps claim.length front (true ∷ rest) → HasFront claim front (true ∷ rest) k s
     → Fails ps s n (event.Edge (name_of_edge ps k)) None cause f.network → ⊥
-edge_right ps head front rest k n s f cause network is fails =
-    let inside = next_inside ps head front true rest k s network is in
+edge_right ps claim front rest k n s f cause network is fails =
+    let inside = next_inside ps claim front true rest k s network is in
     elim fails [
-      | inl (fault, same) ↦ no_edge_fault ps head front (true ∷ rest) k n s cause inside is fault
-      | inr (e, follows, wrong, same) ↦
-          let right = subst (λ x. HasFront head (front ++ true ∷ []) rest (k + 1) (with_edge s x)) (sym (followed ps s.network k e inside follows)) (front_takes head front rest k s is) in
-          front_right ps head (front ++ true ∷ []) rest (k + 1) (with_edge s e) cause (network_later ps head.length front true rest network) right wrong
+      | inl off ↦
+          resolved_without_fault ps n (event.Edge (name_of_edge ps k)) cause (λ x. x ≡ step.Edge k)
+          (k, named_inside ps k inside, refl) off.0
+      | inr (e, named, failed) ↦
+          let here = followed ps k e inside named in
+          elim failed [
+            | inl (fault, same) ↦
+                no_edge_fault claim front (true ∷ rest) k n s cause is
+                (subst (λ x. EdgeFault s.network x n cause) here fault)
+            | inr (follows, wrong, same) ↦
+                front_right ps claim (front ++ true ∷ []) rest (k + 1) (with_edge s e) cause
+                (network_later ps claim.length front true rest network)
+                (subst (λ x. HasFront claim (front ++ true ∷ []) rest (k + 1) (with_edge s x)) (sym here)
+                (front_takes claim front rest k s is)) wrong
+          ]
     ]
 
 -- ---- all of them
 
 -- behind the edge that followed, the flags are told up to it
-front_follows : (ps : List Point) (head : AnswerHead) (front rest : List Bool) (k e : ℕ) (s s' : SoFar) → k < length (hanan_grid_of ps).edges
-    → HasFront head front (true ∷ rest) k s → FollowsEdges ps s.network (name_of_edge ps k) e → s' ≡ with_edge s e → HasFront head (front ++ true ∷ []) rest (k + 1) s'
-front_follows ps head front rest k e s s' inside is follows told =
-    let next = told ∙ ap (with_edge s) (followed ps s.network k e inside follows) in
-    subst (HasFront head (front ++ true ∷ []) rest (k + 1)) (sym next) (front_takes head front rest k s is)
+front_follows : (ps : List Point) (claim : Claim) (front rest : List Bool) (k e : ℕ) (s s' : SoFar) → k < length (hanan_grid_of ps).edges
+    → HasFront claim front (true ∷ rest) k s → IsNameOfEdge ps (name_of_edge ps k) e → s' ≡ with_edge s e → HasFront claim (front ++ true ∷ []) rest (k + 1) s'
+front_follows ps claim front rest k e s s' inside is named told =
+    let next = told ∙ ap (with_edge s) (followed ps k e inside named) in
+    subst (HasFront claim (front ++ true ∷ []) rest (k + 1)) (sym next) (front_takes claim front rest k s is)
 
 -- the lines of the edges pass, and tell nothing of the tree
-pub edges_pass : (ps : List Point) (head : AnswerHead) (front rest : List Bool) (k n : ℕ) (s : SoFar) (ts : List Told) (f : Finished)
-    → IsNetworkOf ps head.length front rest → HasFront head front rest k s → IsFresh ps s
+pub edges_pass : (ps : List Point) (claim : Claim) (front rest : List Bool) (k n : ℕ) (s : SoFar) (ts : List Told) (f : Finished)
+    → IsNetworkOf ps claim.length front rest → HasFront claim front rest k s → IsFresh (hanan_grid_of ps) s
     → JudgesTold ps s n (edges_told (names_of ps (members_from k rest)) ++ ts) f
-    → (m : ℕ) × (s' : SoFar) × (s'.head ≡ head) × IsFresh ps s' × JudgesTold ps s' m ts f
-edges_pass ps head front [] k n s ts f network is fresh judged = (n, s, is.says, fresh, judged)
-edges_pass ps head front (false ∷ rest) k n s ts f network is fresh judged =
-    edges_pass ps head (front ++ false ∷ []) rest (k + 1) n s ts f (network_later ps head.length front false rest network) (front_skips head front rest k s is) fresh judged
-edges_pass ps head front (true ∷ rest) k n s ts f network is fresh judged =
-    let inside = next_inside ps head front true rest k s network is in
-    let (s', (e, follows, told, right), behind) = passed ps s n (event.Edge (name_of_edge ps k), None) (edges_told (names_of ps (members_from (k + 1) rest)) ++ ts) f
-    (λ cause. edge_right ps head front rest k n s f cause network is) judged in
-    edges_pass ps head (front ++ true ∷ []) rest (k + 1) (suc n) s' ts f (network_later ps head.length front true rest network)
-    (front_follows ps head front rest k e s s' inside is follows told) (IsFresh-edge ps e s s' fresh told) behind
+    → (m : ℕ) × (s' : SoFar) × (s'.claim ≡ claim) × IsFresh (hanan_grid_of ps) s' × JudgesTold ps s' m ts f
+edges_pass ps claim front [] k n s ts f network is fresh judged = (n, s, is.says, fresh, judged)
+edges_pass ps claim front (false ∷ rest) k n s ts f network is fresh judged =
+    edges_pass ps claim (front ++ false ∷ []) rest (k + 1) n s ts f (network_later ps claim.length front false rest network) (front_skips claim front rest k s is) fresh judged
+edges_pass ps claim front (true ∷ rest) k n s ts f network is fresh judged =
+    let inside = next_inside ps claim front true rest k s network is in
+    let (s', (e, named, (follows, told, right)), behind) = passed ps s n (event.Edge (name_of_edge ps k), None) (edges_told (names_of ps (members_from (k + 1) rest)) ++ ts) f
+    (λ cause. edge_right ps claim front rest k n s f cause network is) judged in
+    edges_pass ps claim (front ++ true ∷ []) rest (k + 1) (suc n) s' ts f (network_later ps claim.length front true rest network)
+    (front_follows ps claim front rest k e s s' inside is named told) (IsFresh-edge (hanan_grid_of ps) e s s' fresh told) behind

@@ -9,9 +9,10 @@ use Rattle.hanan_grid.specs.Grid.{hanan_grid_of}
 use Rattle.hanan_grid.specs.Names.{name_of_edge}
 use Rattle.cut_cert.specs.Answers.{names_of}
 use Rattle.tree_judge.specs.Edges.{FollowsEdges}
+use Rattle.cert_check.specs.Resolved.{IsNameOfEdge}
 use Rattle.tree_judge.specs.Networks.{IsMeasured}
 use Rattle.tree_judge.specs.Judged.{SoFar, nothing_told, IsNetworkRight}
-use Rattle.cert_check.proofs.lemmas.Fresh.{IsFresh, IsFresh-edge}
+use Rattle.tree_judge.specs.Fresh.{IsFresh, IsFresh-edge}
 use Rattle.cert_check.proofs.lemmas.Runs.{Runs}
 use Rattle.cert_check.proofs.lemmas.ToldParts.{edges_told}
 
@@ -68,36 +69,36 @@ HasNames-none ps = record {
 }
 
 -- one more name
-HasNames-more : (ps : List Point) (network : List Bool) (names : List EdgeName) (name : EdgeName) (e : ℕ) → HasNames ps network names → FollowsEdges ps network name e → HasNames ps (set network e true) (names ++ name ∷ [])
-HasNames-more ps network names name e has_names follows =
+HasNames-more : (ps : List Point) (network : List Bool) (names : List EdgeName) (name : EdgeName) (e : ℕ) → HasNames ps network names → IsNameOfEdge ps name e → FollowsEdges (hanan_grid_of ps) network e → HasNames ps (set network e true) (names ++ name ∷ [])
+HasNames-more ps network names name e has_names named follows =
     let numbers : members_of (set network e true) ≡ members_of network ++ e ∷ [] = members_of-above network e (omega (arith, has_names.size, follows.inside)) follows.above in
     record {
       size = length-set network e true ∙ has_names.size;
-      told = ap (names_of ps) numbers ∙ map-append (name_of_edge ps) (members_of network) (e ∷ []) ∙ ap (λ ns. ns ++ name_of_edge ps e ∷ []) has_names.told ∙ ap (λ n. names ++ n ∷ []) follows.named;
+      told = ap (names_of ps) numbers ∙ map-append (name_of_edge ps) (members_of network) (e ∷ []) ∙ ap (λ ns. ns ++ name_of_edge ps e ∷ []) has_names.told ∙ ap (λ n. names ++ n ∷ []) named.named;
     }
 
--- what stands behind the last edge: the same head, nothing of the tree, and a network with all these names that is as the head says
+-- what stands behind the last edge: the same claim, nothing of the tree, and a network with all these names that is as is claimed
 pub record TellsNetwork (ps : List Point) (s s' : SoFar) (names : List EdgeName) : Type 0 where
-  pub head : s'.head ≡ s.head
-  pub fresh : IsFresh ps s'
+  pub claim : s'.claim ≡ s.claim
+  pub fresh : IsFresh (hanan_grid_of ps) s'
   pub network : HasNames ps s'.network names
-  pub measured : IsMeasured (hanan_grid_of ps) s'.head.length s'.network
+  pub measured : IsMeasured (hanan_grid_of ps) s'.claim.length s'.network
 
--- where as many edges as are due follow, and each passes, the network is as the head says behind the last
-pub TellsNetwork-from_runs : (ps : List Point) (s s' : SoFar) (before names : List EdgeName) → Runs ps s (edges_told names) s' → s.edges_due ≡ length names → IsNetworkRight (hanan_grid_of ps) s → HasNames ps s.network before → IsFresh ps s → TellsNetwork ps s s' (before ++ names)
+-- where as many edges as are due follow, and each passes, the network is as is claimed behind the last
+pub TellsNetwork-from_runs : (ps : List Point) (s s' : SoFar) (before names : List EdgeName) → Runs ps s (edges_told names) s' → s.edges_due ≡ length names → IsNetworkRight (hanan_grid_of ps) s → HasNames ps s.network before → IsFresh (hanan_grid_of ps) s → TellsNetwork ps s s' (before ++ names)
 TellsNetwork-from_runs ps s s' before [] runs due right has_names fresh = record {
-  head = ap (λ x. x.head) runs;
-  fresh = subst (IsFresh ps) (sym runs) fresh;
+  claim = ap (λ x. x.claim) runs;
+  fresh = subst (IsFresh (hanan_grid_of ps)) (sym runs) fresh;
   network = subst (λ x. HasNames ps x.network (before ++ [])) (sym runs) (rw append-nil has_names);
-  measured = subst (λ x. IsMeasured (hanan_grid_of ps) x.head.length x.network) (sym runs) (right due);
+  measured = subst (λ x. IsMeasured (hanan_grid_of ps) x.claim.length x.network) (sym runs) (right due);
 }
-TellsNetwork-from_runs ps s s' before (name ∷ names) (m, (e, follows, is, right), runs) due _ has_names fresh =
+TellsNetwork-from_runs ps s s' before (name ∷ names) (m, (e, named, (follows, is, right)), runs) due _ has_names fresh =
     let network_is : m.network ≡ set s.network e true = ap (λ x. x.network) is in
     let due_is : m.edges_due ≡ s.edges_due - 1 = ap (λ x. x.edges_due) is in
-    let more : HasNames ps m.network (before ++ name ∷ []) = rw network_is (HasNames-more ps s.network before name e has_names follows) in
-    let rest = TellsNetwork-from_runs ps m s' (before ++ name ∷ []) names runs (omega arith) right more (IsFresh-edge ps e s m fresh is) in
+    let more : HasNames ps m.network (before ++ name ∷ []) = rw network_is (HasNames-more ps s.network before name e has_names named follows) in
+    let rest = TellsNetwork-from_runs ps m s' (before ++ name ∷ []) names runs (omega arith) right more (IsFresh-edge (hanan_grid_of ps) e s m fresh is) in
     record {
-      head = rest.head ∙ ap (λ x. x.head) is;
+      claim = rest.claim ∙ ap (λ x. x.claim) is;
       fresh = rest.fresh;
       network = rw append_assoc at rest.network;
       measured = rest.measured;

@@ -19,7 +19,7 @@ use Rattle.cut_cert.specs.Events.{cut_told}
 use Rattle.tree_judge.specs.Cuts.{PacksCut}
 use Rattle.tree_judge.specs.Judged.{SoFar, decision_due, with_cut, with_cuts_due}
 use Rattle.cert_check.proofs.lemmas.Runs.{Runs}
-use Rattle.cert_check.proofs.lemmas.TreeRead.{leaf_read}
+use Rattle.tree_judge.specs.TreeRead.{leaf_read}
 
 -- a cut of a feasible packing
 abbrev IsPacked : Graph → Decided → Cut → Type 0

@@ -35,7 +35,7 @@ Runs-join ps s m s' (x ∷ xs) ys (n, passes, runs) second = (n, passes, Runs-jo
 pub record AcceptsBehind (ps : List Point) (s : SoFar) (ts : List Told) (length bound : ℕ) (optimal : Bool) (network : List Bool) : Type 0 where
   pub last : SoFar
   pub runs : Runs ps s ts last
-  pub ends : EndsWith last.head (bound_found last) (Accepted length bound optimal)
+  pub ends : EndsWith last.claim (bound_found last) (Accepted length bound optimal)
   pub network_is : network ≡ last.network
 
 -- no verdict both accepts and refuses
@@ -47,7 +47,7 @@ pub AcceptsBehind-judged : (ps : List Point) (s : SoFar) (n : ℕ) (ts : List To
 AcceptsBehind-judged ps s n [] f length bound optimal judged is = record {
   last = s;
   runs = refl;
-  ends = subst (EndsWith s.head (bound_found s)) is judged.0;
+  ends = subst (EndsWith s.claim (bound_found s)) is judged.0;
   network_is = judged.1;
 }
 AcceptsBehind-judged ps s n (t ∷ ts) f length bound optimal (inl (cause, fails, refused)) is = accepts_not f length bound optimal cause is refused

@@ -12,6 +12,7 @@ use Rattle.cert_check.specs.declared.verdict.Verdict.TheVariants.{Accepted, TooL
 use Rattle.cert_check.specs.declared.verdict.Finished.{Finished}
 use Rattle.tree_judge.specs.Networks.{IsMeasured}
 use Rattle.cert_check.specs.Ends.{EndsWith}
+use Rattle.cert_check.specs.Resolved.{claim_of}
 use Rattle.cert_check.specs.Lines.{ReadsLines}
 use Rattle.cert_check.specs.Lines.Behind.{Ended}
 use Rattle.tree_judge.specs.Judged.{SoFar, bound_found, decision_due, least_with, nothing_told}
@@ -19,38 +20,38 @@ use Rattle.cert_check.specs.Judged.{Judges}
 use Rattle.cert_check.specs.Verdicts.{IsJudged, IsVerdict}
 use Rattle.cert_check.specs.Accepted.{Accepts, AcceptsAs}
 use Rattle.cert_check.proofs.lemmas.Runs.{Runs, Runs-append, AcceptsBehind, AcceptsBehind-judged, whole_where_accepted}
-use Rattle.cert_check.proofs.lemmas.Fresh.{IsFresh}
+use Rattle.tree_judge.specs.Fresh.{IsFresh}
 use Rattle.cert_check.proofs.lemmas.EdgesTold.{HasNames, HasNames-none, TellsNetwork, TellsNetwork-from_runs}
 use Rattle.cert_check.proofs.lemmas.ToldParts.{answer_told, edges_told, events_of-told, numbered, tree_told}
-use Rattle.cert_check.proofs.lemmas.TreeRead.{tree_read-head, tree_read-least, tree_read-network, tree_read-splits}
+use Rattle.tree_judge.specs.TreeRead.{tree_read-claim, tree_read-least, tree_read-network, tree_read-splits}
 use Rattle.cert_check.proofs.lemmas.TreeTold.{TellsTree, TellsTree-from_runs}
 
 -- what stands behind an answer's lines: its head, a network with its names that is as the head says, and a valid tree
 record TellsAnswer (ps : List Point) (s : SoFar) (a : WrittenAnswer) : Type 0 where
   before : SoFar
-  fresh : IsFresh ps before
+  fresh : IsFresh (hanan_grid_of ps) before
   tells : TellsTree ps before s a.tree
-  head : s.head ≡ a.head
+  claim : s.claim ≡ claim_of a.head
   network : HasNames ps s.network a.edges
   measured : IsMeasured (hanan_grid_of ps) a.head.length s.network
 
 -- where the lines of an answer's tree and its last line pass behind its edges
-TellsAnswer-from_tree : (ps : List Point) (V : ℕ) (begun edged s : SoFar) (a : WrittenAnswer) → begun.head ≡ a.head → TellsNetwork ps begun edged a.edges
+TellsAnswer-from_tree : (ps : List Point) (V : ℕ) (begun edged s : SoFar) (a : WrittenAnswer) → begun.claim ≡ claim_of a.head → TellsNetwork ps begun edged a.edges
     → Runs ps edged ((event.Tree, None) ∷ (tree_told a.tree ++ (event.End, None) ∷ [])) s → FitsTree a.version V a.tree → TellsAnswer ps s a
 TellsAnswer-from_tree ps V begun edged s a head_is network (m, is, runs) fits =
     let parts = Runs-append ps m s (tree_told a.tree) ((event.End, None) ∷ []) runs in
     let here = subst (λ x. Runs ps x (tree_told a.tree) parts.0) is parts.1 in
     let last : s ≡ parts.0 = parts.2.2 ∙ parts.2.1 in
     let tells = TellsTree-from_runs ps a.version V edged s a.tree (subst (λ x. Runs ps edged (tree_told a.tree) x) (sym last) here) fits network.fresh.cuts in
-    let head : edged.head ≡ a.head = network.head ∙ head_is in
+    let claim : edged.claim ≡ claim_of a.head = network.claim ∙ head_is in
     let network_is : s.network ≡ edged.network = ap (λ x. x.network) tells.read ∙ tree_read-network (hanan_grid_of ps) edged tells.tree in
     record {
       before = edged;
       fresh = network.fresh;
       tells = tells;
-      head = ap (λ x. x.head) tells.read ∙ tree_read-head (hanan_grid_of ps) edged tells.tree ∙ head;
+      claim = ap (λ x. x.claim) tells.read ∙ tree_read-claim (hanan_grid_of ps) edged tells.tree ∙ claim;
       network = rw network_is network.network;
-      measured = subst (λ h. IsMeasured (hanan_grid_of ps) h.length s.network) head (rw network_is network.measured);
+      measured = subst (λ h. IsMeasured (hanan_grid_of ps) h.length s.network) claim (rw network_is network.measured);
     }
 
 -- where the lines of an answer all pass
@@ -59,10 +60,10 @@ TellsAnswer-from_runs ps V s a (headed, headed_is, (begun, (begun_is, right), ru
     let parts = Runs-append ps begun s (edges_told a.edges) ((event.Tree, None) ∷ (tree_told a.tree ++ (event.End, None) ∷ [])) runs in
     let empty : begun.network ≡ (nothing_told (hanan_grid_of ps)).network = ap (λ x. x.network) begun_is ∙ ap (λ x. x.network) headed_is in
     let counted : SoFar → SoFar = λ x. record x { edges_due = length a.edges } in
-    let whole : begun ≡ record (nothing_told (hanan_grid_of ps)) { head = a.head; edges_due = length a.edges } = begun_is ∙ ap counted headed_is in
-    let fresh = subst (IsFresh ps) (sym whole) (record { decisions = refl; splits = refl; cuts = refl; values = refl }) in
+    let whole : begun ≡ record (nothing_told (hanan_grid_of ps)) { claim = claim_of a.head; edges_due = length a.edges } = begun_is ∙ ap counted headed_is in
+    let fresh = subst (IsFresh (hanan_grid_of ps)) (sym whole) (record { decisions = refl; splits = refl; cuts = refl; values = refl }) in
     let network = TellsNetwork-from_runs ps begun parts.0 [] a.edges parts.1 (ap (λ x. x.edges_due) begun_is) right (rw empty (HasNames-none ps)) fresh in
-    TellsAnswer-from_tree ps V begun parts.0 s a (ap (λ x. x.head) begun_is ∙ ap (λ x. x.head) headed_is) network parts.2 fits
+    TellsAnswer-from_tree ps V begun parts.0 s a (ap (λ x. x.claim) begun_is ∙ ap (λ x. x.claim) headed_is) network parts.2 fits
 
 -- what was found of the bound is the lesser of the tree's value and the length
 found_of_tree : (ps : List Point) (s : SoFar) (a : WrittenAnswer) (tells : TellsAnswer ps s a) →
@@ -70,12 +71,12 @@ found_of_tree : (ps : List Point) (s : SoFar) (a : WrittenAnswer) (tells : Tells
 found_of_tree ps s a tells =
     let g = hanan_grid_of ps in
     let t = tells.tells.tree in
-    let read = ap (λ (x : SoFar). least_with s.head.length x.values) tells.tells.read in
+    let read = ap (λ (x : SoFar). least_with s.claim.length x.values) tells.tells.read in
     let top : decision_due (hanan_grid_of ps) tells.before ≡ nothing_decided g = ap (λ ds. get_or ds 0 (nothing_decided g)) tells.fresh.decisions in
     let value = ap (λ d. tree_value g d t) top in
-    let none : least_with s.head.length tells.before.values ≡ s.head.length = ap (λ vs. least_with s.head.length vs) tells.fresh.values in
-    let length_is = ap (λ h. h.length) tells.head in
-    omega (arith, read, tree_read-least (hanan_grid_of ps) tells.before t s.head.length, value, none, length_is)
+    let none : least_with s.claim.length tells.before.values ≡ s.claim.length = ap (λ vs. least_with s.claim.length vs) tells.fresh.values in
+    let length_is = ap (λ h. h.length) tells.claim in
+    omega (arith, read, tree_read-least (hanan_grid_of ps) tells.before t s.claim.length, value, none, length_is)
 
 -- an answer whose lines all pass, and behind which the verdict accepts, is accepted
 Accepts-from_lines : (ps : List Point) (bytes : List ℕ) (a : WrittenAnswer) (network : List Bool) (length bound : ℕ) (optimal : Bool) → SpellsAnswer (hanan_grid_of ps).vertices bytes a
@@ -85,7 +86,7 @@ Accepts-from_lines ps bytes a network length bound optimal spells behind =
     let g = hanan_grid_of ps in
     let tells = TellsAnswer-from_runs ps g.vertices s a behind.runs spells.fits.tree in
     let t = tells.tells.tree in
-    let ends : EndsWith a.head (bound_found s) (Accepted length bound optimal) = subst (λ h. EndsWith h (bound_found s) (Accepted length bound optimal)) tells.head behind.ends in
+    let ends : EndsWith (claim_of a.head) (bound_found s) (Accepted length bound optimal) = subst (λ h. EndsWith h (bound_found s) (Accepted length bound optimal)) tells.claim behind.ends in
     let top : decision_due (hanan_grid_of ps) tells.before ≡ nothing_decided g = ap (λ ds. get_or ds 0 (nothing_decided g)) tells.fresh.decisions in
     let before : tells.before.splits ≤ 255 = omega (arith, tells.fresh.splits) in
     let accepts : Accepts ps bytes a s.network t = record {
@@ -98,10 +99,10 @@ Accepts-from_lines ps bytes a network length bound optimal spells behind =
       splits = tells.tells.splits;
       few = omega (arith, tells.tells.few before, ap (λ (x : SoFar). x.splits) tells.tells.read, tree_read-splits (hanan_grid_of ps) tells.before t);
       valid = subst (λ d. IsValidTree g d t) top tells.tells.valid;
-      bound = ends.0 ∙ found_of_tree ps s a tells;
-      status = ends.1;
+      bound = ends.0.bound ∙ found_of_tree ps s a tells;
+      status = ends.0.status;
     } in
-    (a, t, rw behind.network_is accepts, ends.2, ends.3, ends.4)
+    (a, t, rw behind.network_is accepts, ends.1, ends.2, ends.3)
 
 -- what a verdict accepts is accepted
 pub AcceptsAs-from_judged : (ps : List Point) (bytes : List ℕ) (f : Finished) (length bound : ℕ) (optimal : Bool) → IsJudged ps bytes f → f.verdict ≡ Accepted length bound optimal → AcceptsAs ps bytes f.network length bound optimal

@@ -13,12 +13,12 @@ use Rattle.cut_cert.specs.Spelling.{FitsTree}
 use Rattle.cut_cert.specs.declared.split.SplitName.{SplitName}
 use Rattle.cut_cert.specs.declared.version.Version.{Version}
 use Rattle.cut_cert.specs.Answers.{IsNodeOn, named, split_name}
-use Rattle.cert_check.specs.Splits.{MaySplit}
+use Rattle.tree_judge.specs.Splits.{MaySplitOn}
 use Rattle.tree_judge.specs.Judged.{SoFar, decision_due, with_split}
 use Rattle.cert_check.proofs.lemmas.Runs.{Runs, Runs-append, Runs-join}
 use Rattle.cert_check.proofs.lemmas.ToldParts.{tree_told}
 use Rattle.cert_check.proofs.lemmas.LeafTold.{leaf_told, leaf_passes}
-use Rattle.cert_check.proofs.lemmas.TreeRead.{tree_read, tree_read-cuts, tree_read-inside, tree_read-splits}
+use Rattle.tree_judge.specs.TreeRead.{tree_read, tree_read-cuts, tree_read-inside, tree_read-splits}
 
 -- what holds of each of a list holds of its front and of its back
 All-front : {X : Type 0} (P : X → Type 0) (xs ys : List X) → All P (xs ++ ys) → All P xs
@@ -48,7 +48,7 @@ TellsTree-from_runs ps v V s s' (Leaf cuts) runs fits are =
       read = leaf.0;
       few = λ before. omega (arith, before, ap (λ (x : SoFar). x.splits) leaf.0);
     }
-TellsTree-from_runs ps v V s s' (Split name outside inside) (m, (on, may, is), runs) fits are =
+TellsTree-from_runs ps v V s s' (Split name outside inside) (m, (on, names, (may, is)), runs) fits are =
     let g = hanan_grid_of ps in
     let parts = Runs-append ps m s' (tree_told outside) (tree_told inside) runs in
     let below = subst (λ x. Runs ps x (tree_told outside) parts.0) is parts.1 in
@@ -56,15 +56,14 @@ TellsTree-from_runs ps v V s s' (Split name outside inside) (m, (on, may, is), r
     let mid = tree_read (hanan_grid_of ps) (with_split (hanan_grid_of ps) s on) first.tree in
     let behind = subst (λ x. Runs ps x (tree_told inside) s') first.read parts.2 in
     let second = TellsTree-from_runs ps v V mid s' inside behind fits.2 (tree_read-cuts (hanan_grid_of ps) (with_split (hanan_grid_of ps) s on) first.tree) in
-    let names = may.named.named in
     record {
       tree = Split on first.tree second.tree;
-      named_tree = ap (λ n. Split n outside inside) (sym names) ∙ ap (λ t. Split (split_name ps on) t inside) first.named_tree ∙ ap (λ t. Split (split_name ps on) (named ps first.tree) t) second.named_tree;
-      splits = All-cons (IsNodeOn g) (Some on) (nodes_of first.tree ++ nodes_of second.tree) may.named.on_grid
+      named_tree = ap (λ n. Split n outside inside) (sym names.named) ∙ ap (λ t. Split (split_name ps on) t inside) first.named_tree ∙ ap (λ t. Split (split_name ps on) (named ps first.tree) t) second.named_tree;
+      splits = All-cons (IsNodeOn g) (Some on) (nodes_of first.tree ++ nodes_of second.tree) names.on_grid
           (All-append (IsNodeOn g) (nodes_of first.tree) (nodes_of second.tree) first.splits second.splits);
-      valid = (may.may.undecided, first.valid, subst (λ d. IsValidTree g d second.tree) (tree_read-inside (hanan_grid_of ps) s on first.tree) second.valid);
+      valid = (may.undecided, first.valid, subst (λ d. IsValidTree g d second.tree) (tree_read-inside (hanan_grid_of ps) s on first.tree) second.valid);
       read = second.read;
-      few = λ before. second.few (omega (arith, first.few (omega (arith, may.may.few)), ap (λ (x : SoFar). x.splits) first.read));
+      few = λ before. second.few (omega (arith, first.few (omega (arith, may.few)), ap (λ (x : SoFar). x.splits) first.read));
     }
 
 -- the lines of a valid tree pass
@@ -76,12 +75,9 @@ tree_passes ps s (Split on outside inside) nodes valid few are =
     let behind = All-tail (IsNodeOn g) (Some on) (nodes_of outside ++ nodes_of inside) nodes in
     let here = All-head (IsNodeOn g) (Some on) (nodes_of outside ++ nodes_of inside) nodes in
     let s1 = with_split (hanan_grid_of ps) s on in
-    let may : MaySplit ps (decision_due (hanan_grid_of ps) s) s.splits (split_name ps on) on = record {
-      named = record { on_grid = here; named = refl };
-      may = record { undecided = valid.0; few = omega arith };
-    } in
+    let may : MaySplitOn g (decision_due g s) s.splits on = record { undecided = valid.0; few = omega arith } in
     let s2 = tree_read (hanan_grid_of ps) s1 outside in
     let first = tree_passes ps s1 outside (All-front (IsNodeOn g) (nodes_of outside) (nodes_of inside) behind) valid.1 (omega arith) are in
     let second = tree_passes ps s2 inside (All-back (IsNodeOn g) (nodes_of outside) (nodes_of inside) behind)
     (subst (λ d. IsValidTree g d inside) (sym (tree_read-inside (hanan_grid_of ps) s on outside)) valid.2) (omega (arith, tree_read-splits (hanan_grid_of ps) s1 outside)) (tree_read-cuts (hanan_grid_of ps) s1 outside) in
-    (s1, (on, may, refl), Runs-join ps s1 s2 (tree_read (hanan_grid_of ps) s2 inside) (tree_told (named ps outside)) (tree_told (named ps inside)) first second)
+    (s1, (on, record { on_grid = here; named = refl }, (may, refl)), Runs-join ps s1 s2 (tree_read (hanan_grid_of ps) s2 inside) (tree_told (named ps outside)) (tree_told (named ps inside)) first second)

@@ -30,14 +30,14 @@ returns-in_default-clause-follows c bytes (events, s, reads, passes, stands) =
     (c.in-Ok.ensures.reads V bytes events reads) in
     follows_quiet c.args.grid.now bytes c.args.byte (line_due c.args.reader.now) (set_read c.feed.new.self) events s c.feed.new.self c.args.judge.now passes stands next
 
-pub judge-requires-clause-members : goal.judge-requires-clause-members
-judge-requires-clause-members c =
+pub judge_line-requires-clause-members : goal.judge_line-requires-clause-members
+judge_line-requires-clause-members c =
     let V = (hanan_grid_of c.args.grid.now).vertices in
     ∥∥₁_elim c.requires.reads (ℕ_set (length c.members.result.now) V) (λ r. ap length c.members.ensures ∙ (c.in-Ok.ensures.reads V r.0 r.1 r.2).vertices)
 
 pub returns-clause-reads : goal.returns-clause-reads
 returns-clause-reads c =
-    IfNone-always c.judge.result
+    IfNone-always c.judge_line.result
     (∥∥₁_map c.requires.reads
     (λ r. (r.0 ++ c.args.byte ∷ [], r.1 ++ given (line_due c.args.reader.now) c.in-Ok.told (set_read c.feed.new.self), c.in-Ok.ensures.reads (hanan_grid_of c.args.grid.now).vertices r.0 r.1 r.2)))
 
@@ -47,6 +47,6 @@ returns-clause-follows c bytes (events, s, reads, passes, stands) =
     let next = rw c.in-Some.is at (c.in-Ok.ensures.reads V bytes events reads) in
     let lined = subst (λ n. Reads V (bytes ++ c.args.byte ∷ []) (events ++ given n (Some c.in-Some.event) (set_read c.feed.new.self)) c.feed.new.self) (sym c.line-line.ensures.line) next in
     let told = subst (λ m. Reads V (bytes ++ c.args.byte ∷ []) (events ++ given c.line-line.result (Some c.in-Some.event) m) c.feed.new.self) (sym c.members.ensures) lined in
-    follows_judged c.args.grid.now bytes c.args.byte c.line-line.result c.in-Some.event c.members.result.now events s c.feed.new.self c.args.judge.now c.judge.new.self c.judge.result
+    follows_judged c.args.grid.now bytes c.args.byte c.line-line.result c.in-Some.event c.members.result.now events s c.feed.new.self c.args.judge.now c.judge_line.new.judge c.judge_line.result
     passes stands told (c.reads_beginnings.ensures V (bytes ++ c.args.byte ∷ []) (events ++ given c.line-line.result (Some c.in-Some.event) c.members.result.now) c.feed.new.self told)
-    c.judge.ensures.passes c.judge.ensures.fault
+    c.judge_line.ensures.passes c.judge_line.ensures.fault

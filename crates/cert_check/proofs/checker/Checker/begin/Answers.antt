@@ -11,7 +11,7 @@ invariant_of-result c =
     let reads = subst (λ v. Reads v [] [] c.begin.result) vertices c.begin.ensures in
     record {
       underway = record {
-        sizes = c.begin-2.ensures.sizes;
+        sizes = c.judge_on.ensures.sizes;
         few = omega (arith, reads.count);
         reads = merely ([], [], reads);
       };

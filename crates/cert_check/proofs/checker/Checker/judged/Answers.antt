@@ -17,9 +17,9 @@ returns-in-Some c ps bytes stands =
 pub returns-then-ended : goal.returns-then-ended
 returns-then-ended c ps bytes stands =
     let old = c.args.self in
-    judged_ended ps (take byte_limit bytes) old.reader old.judge c.finish.result
+    judged_ended ps (take byte_limit bytes) old.reader old.judge c.finished.result
     (subst (Follows ps (take byte_limit bytes) old.reader old.judge) c.in_default.is stands.follows)
-    (c.if-ended.ensures.reads (hanan_grid_of ps).vertices (take byte_limit bytes)) (c.finish.ensures ps)
+    (c.if-ended.ensures.reads (hanan_grid_of ps).vertices (take byte_limit bytes)) (c.finished.ensures ps)
 
 pub returns : goal.returns
 returns c ps bytes stands =
