@@ -4,15 +4,12 @@ pub mod Names
 pub mod Steps
 pub mod ToldParts
 pub mod Runs
+pub mod StepsTold
 pub mod LineSteps
-pub mod LeafTold
-pub mod TreeTold
-pub mod EdgesTold
 pub mod Sound
 pub mod BoundLemmas
 pub mod SameLines
 pub mod OneVerdict
-pub mod CompleteEdges
 pub mod Complete
 pub mod Upgrading
 pub mod Bytes

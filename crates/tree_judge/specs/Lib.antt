@@ -22,3 +22,11 @@ pub mod EndLaws
 pub mod StandingLaws
 pub mod TreeRead
 pub mod Fresh
+pub mod Runs
+pub mod RunLaws
+pub mod MemberLaws
+pub mod EdgeRunLaws
+pub mod LeafLaws
+pub mod TreeLaws
+pub mod Answers
+pub mod AnswerLaws

@@ -1,5 +1,5 @@
 -- Judging one line after another.
-use Rattle.std.proofs.Common.{ℕ, suc, List, ◌∷◌, ◌⊎◌, inl, inr}
+use Rattle.std.proofs.Common.{ℕ, suc, List, ◌∷◌, inl, inr}
 use Rattle.points_in.specs.declared.point.Point.{Point}
 use Rattle.cut_cert.specs.Events.{Told}
 use Rattle.cert_check.proofs.lemmas.ToldParts.{numbered}
@@ -21,13 +21,3 @@ passed ps s n t ts f never judged = elim judged [
   | inl (cause, fails, is) ↦ absurd (never cause fails)
   | inr rest ↦ rest
 ]
-
--- an event whose name or step cannot be wrong does not fail
-pub never_fails : {A : Type 0} → (⊥ × A) ⊎ ⊥ → ⊥
-never_fails (inl off) = off.0
-never_fails (inr wrong) = wrong
-
--- an event whose name cannot be wrong fails by its step
-pub step_fails : {A B : Type 0} → (⊥ × A) ⊎ B → B
-step_fails (inl off) = absurd off.0
-step_fails (inr wrong) = wrong
