@@ -1,5 +1,5 @@
 -- The steps of an answer all pass exactly where what it says of its network and its tree is sound, and they tell its bound.
-use Rattle.std.proofs.Common.{ℕ, ◌≡◌, ◌+◌, ◌≤◌, Bool, List, [], ◌∷◌, ◌++◌, length, get_or, None, refl, sym, ap, ◌∙◌}
+use Rattle.std.proofs.Common.{ℕ, ◌≡◌, ◌≤◌, Bool, List, [], ◌∷◌, ◌++◌, length, get_or, None, refl, sym, ap, ◌∙◌}
 use Rattle.std.proofs.Common.{replicate, false, subst, arith}
 use Rattle.net_graph.specs.Graph.{Graph}
 use Rattle.net_graph.specs.Decision.{nothing_decided}
@@ -14,9 +14,9 @@ use Rattle.tree_judge.specs.EdgeRunLaws.{HasNumbers-none, TellsNetwork, TellsNet
 use Rattle.tree_judge.specs.Fresh.{IsFresh}
 use Rattle.tree_judge.specs.Judged.{SoFar, bound_found, decision_due, least_with, nothing_told}
 use Rattle.tree_judge.specs.Networks.{IsMeasured}
-use Rattle.tree_judge.specs.Runs.{HasWeights, Runs, StepTold, edge_steps, tree_steps}
+use Rattle.tree_judge.specs.Runs.{HasWeights, Runs, edge_steps, tree_steps}
 use Rattle.tree_judge.specs.RunLaws.{Runs-append, Runs-join}
-use Rattle.tree_judge.specs.TreeLaws.{IsTreeRead, tree_passes, tree_valid}
+use Rattle.tree_judge.specs.TreeLaws.{tree_passes, tree_valid}
 use Rattle.tree_judge.specs.TreeRead.{tree_read, tree_read-claim, tree_read-least, tree_read-network, tree_read-splits}
 
 -- what stands behind the steps of an answer: its claim, its edges, what they say, and the bound that was found

@@ -1,5 +1,5 @@
 -- What was told before the first step of a tree.
-use Rattle.std.proofs.Common.{ℕ, ◌≡◌, List, [], ◌∷◌, ap, ◌∙◌}
+use Rattle.std.proofs.Common.{ℕ, ◌≡◌, [], ◌∷◌, ap, ◌∙◌}
 use Rattle.net_graph.specs.Decision.{nothing_decided}
 use Rattle.net_graph.specs.Graph.{Graph}
 use Rattle.tree_judge.specs.Judged.{SoFar, with_edge}

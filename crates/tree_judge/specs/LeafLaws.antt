@@ -56,7 +56,7 @@ cuts_told g s s' before c [] (m, (packs, is), runs) fits are due feasible =
     let packed : PacksCut g (decision_due g s) before c = subst
     (λ xs. PacksCut g (decision_due g s) xs c) are packs in (
       runs ∙ is ∙ ap (with_cuts_due g (record s { cuts = s.cuts ++ c ∷ [] })) none ∙ ap
-      (λ xs. leaf_read g s (xs ++ c ∷ [])) are,
+          (λ xs. leaf_read g s (xs ++ c ∷ [])) are,
       feasible_more g (decision_due g s) before c feasible first packed,
     )
 cuts_told g s s' before c (c' ∷ cuts) (m, (packs, is), runs) fits are due feasible =
@@ -73,7 +73,7 @@ cuts_told g s s' before c (c' ∷ cuts) (m, (packs, is), runs) fits are due feas
     let joined = append_assoc before (c ∷ []) (c' ∷ cuts) in (
       rest.0 ∙ ap (λ x. leaf_read g x ((before ++ c ∷ []) ++ c' ∷ cuts)) next ∙ ap (leaf_read g s) joined,
       subst (IsFeasible g (decision_due g s)) joined
-      (subst (λ d. IsFeasible g d ((before ++ c ∷ []) ++ c' ∷ cuts)) same rest.1),
+          (subst (λ d. IsFeasible g d ((before ++ c ∷ []) ++ c' ∷ cuts)) same rest.1),
     )
 
 -- a leaf whose steps all pass
@@ -99,8 +99,14 @@ load-front : (done : List Cut) (c : Cut) (due : List Cut) (u v : ℕ) →
     load (done ++ c ∷ []) u v ≤ load (done ++ c ∷ due) u v
 load-front done c due u v =
     let amount : Cut → ℕ = λ c. if enters c.members u v then c.weight else 0 in
-    omega (arith, sum_by-append amount done (c ∷ []), sum_by-append amount done
-    (c ∷ due), sum_by-cons amount c [], sum_by-cons amount c due)
+    omega (
+      arith,
+      sum_by-append amount done (c ∷ []),
+      sum_by-append amount done
+          (c ∷ due),
+      sum_by-cons amount c [],
+      sum_by-cons amount c due,
+    )
 
 -- a lesser load is within the room too
 within_lesser : (state : EdgeState) (e : Edge) (less more : ℕ) → less ≤ more → IsWithinRoom state e more →
@@ -117,9 +123,9 @@ member_packs g d done c due feasible = record {
       subst (λ (x : Cut). IsCut g d x.members) (get_or_at done c due c (length done) refl) is.1;
   room = λ n e state at decided. (
     within_lesser state e (load (done ++ c ∷ []) e.a e.b) (load (done ++ c ∷ due) e.a e.b)
-    (load-front done c due e.a e.b) (feasible.room n e state at decided).0,
+        (load-front done c due e.a e.b) (feasible.room n e state at decided).0,
     within_lesser state e (load (done ++ c ∷ []) e.b e.a) (load (done ++ c ∷ due) e.b e.a)
-    (load-front done c due e.b e.a) (feasible.room n e state at decided).1,
+        (load-front done c due e.b e.a) (feasible.room n e state at decided).1,
   );
 }
 
@@ -146,9 +152,12 @@ cuts_pass g s done c (c' ∷ due) feasible are count =
     cuts_pass g m (done ++ c ∷ []) c' due (subst (IsFeasible g (decision_due g s)) (sym joined) feasible)
     (ap (λ xs. xs ++ c ∷ []) are) refl in
     let ending : Runs g m (map cut_step (c' ∷ due)) (leaf_read g s (done ++ c ∷ c' ∷ due)) =
-    subst (λ xs. Runs g m (map cut_step (c' ∷ due)) (leaf_read g s xs)) joined rest in
-    (with_cut g s c, (packs, refl), subst (λ x. Runs g x (map cut_step (c' ∷ due))
-    (leaf_read g s (done ++ c ∷ c' ∷ due))) (sym next) ending)
+    subst (λ xs. Runs g m (map cut_step (c' ∷ due)) (leaf_read g s xs)) joined rest in (
+      with_cut g s c,
+      (packs, refl),
+      subst (λ x. Runs g x (map cut_step (c' ∷ due))
+          (leaf_read g s (done ++ c ∷ c' ∷ due))) (sym next) ending,
+    )
 
 -- the steps of a leaf pass
 pub leaf_passes : (g : Graph) (s : SoFar) (cuts : List Cut) → IsFeasible g (decision_due g s) cuts → s.cuts ≡ [] →

@@ -1,5 +1,5 @@
 -- Steps that pass, one after another, in two parts.
-use Rattle.std.proofs.Common.{◌≡◌, List, [], ◌∷◌, ◌++◌, refl, subst}
+use Rattle.std.proofs.Common.{List, [], ◌∷◌, ◌++◌, refl, subst}
 use Rattle.net_graph.specs.Graph.{Graph}
 use Rattle.tree_judge.specs.Judged.{SoFar}
 use Rattle.tree_judge.specs.Runs.{Runs, StepTold}

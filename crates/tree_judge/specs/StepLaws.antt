@@ -1,5 +1,5 @@
 -- A step passes or fails, in one way.
-use Rattle.std.proofs.Common.{ℕ, ◌≡◌, Bool, List, Some, None, inl, inr, sym, ap, ◌∙◌, subst}
+use Rattle.std.proofs.Common.{ℕ, ◌≡◌, Bool, List, Some, None, inl, inr, sym, ◌∙◌, subst}
 use Rattle.std.specs.Prelude.{Option}
 use Rattle.net_graph.specs.Graph.{Graph}
 use Rattle.tree_judge.specs.declared.cause.Cause.{Cause}

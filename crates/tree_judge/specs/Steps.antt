@@ -1,5 +1,5 @@
 -- Which steps speak of a graph's edges and vertices alone.
-use Rattle.std.specs.Prelude.{ℕ, ◌<◌, length}
+use Rattle.std.specs.Prelude.{◌<◌, length}
 use Rattle.net_graph.specs.Graph.{Graph}
 use Rattle.cert_tree.specs.declared.split.SplitOn.{SplitOn}
 use Rattle.cert_tree.specs.declared.split.SplitOn.TheVariants as split

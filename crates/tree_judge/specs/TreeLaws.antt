@@ -1,5 +1,5 @@
 -- What the steps of a tree tell: a valid tree where they all pass, and they pass where it is one.
-use Rattle.std.proofs.Common.{ℕ, ◌≡◌, ◌+◌, ◌≤◌, [], refl, ap, sym, subst, arith}
+use Rattle.std.proofs.Common.{◌≡◌, ◌+◌, ◌≤◌, [], refl, ap, sym, subst, arith}
 use Rattle.net_graph.specs.Graph.{Graph}
 use Rattle.cert_tree.specs.declared.split.SplitOn.{SplitOn}
 use Rattle.cert_tree.specs.Tree.{Tree}

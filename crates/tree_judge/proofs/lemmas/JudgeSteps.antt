@@ -4,7 +4,7 @@ use Rattle.std.specs.Prelude.{Option, None, IfSome, IfNone, slice_set}
 use Rattle.net_graph.specs.declared.packing.Cut.{Cut}
 use Rattle.net_graph.specs.declared.state.EdgeState.TheVariants.{Outside}
 use Rattle.net_graph.specs.Graph.{Graph}
-use Rattle.net_graph.specs.Decision.{Decided, nothing_decided, states_of}
+use Rattle.net_graph.specs.Decision.{nothing_decided, states_of}
 use Rattle.cert_tree.specs.declared.split.SplitOn.{SplitOn}
 use Rattle.cert_tree.specs.declared.split.SplitOn.TheVariants as split
 use Rattle.cert_tree.specs.Decisions.{IsUndecidedSplit, outside_of, inside_of}

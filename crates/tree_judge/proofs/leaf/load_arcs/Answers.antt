@@ -1,6 +1,5 @@
 use Rattle.std.proofs.Common.{◌≡◌, ◌≤◌, length, refl, subst, sym, arith}
 use Rattle.tree_judge.specs.Cuts.{cut_of}
-use Rattle.tree_judge.specs.Loads.{LoadsBelow}
 use Rattle.tree_judge.proofs.lemmas.Leaves.{CutFault-way, IsCut-way, IsLeafOf-below, LoadsBelow-none, SameWay-then}
 use Rattle.tree_judge.proofs.leaf.load_arcs.Goals as goal
 
