@@ -1,6 +1,6 @@
 -- What is kept of an answer that is read is a fact with one proof at most.
 use Rattle.std.specs.Prelude.{ℕ, List, Option, Some, None, IfNone}
-use Rattle.std.specs.Coded.{Coded-set, codes, le_prop, Unit-prop}
+use Rattle.std.specs.Coded.{le_prop, Unit-prop}
 use Rattle.std.proofs.Math.Logic.{∥∥₁_prop}
 use Rattle.points_in.specs.declared.point.Point.{Point}
 use Rattle.cut_cert.specs.declared.reader.EventReader.{EventReader}

@@ -1,5 +1,5 @@
 -- The names of an answer's lines: each is that of one edge or vertex of the grid, or of nothing.
-use Rattle.std.proofs.Common.{ℕ, ◌≡◌, ◌<◌, List, length, refl, sym, ap, ◌∙◌, subst}
+use Rattle.std.proofs.Common.{ℕ, ◌≡◌, ◌<◌, List, refl, sym, ap, ◌∙◌, subst}
 use Rattle.points_in.specs.declared.point.Point.{Point}
 use Rattle.hanan_grid.specs.declared.name.EdgeName.{EdgeName}
 use Rattle.hanan_grid.specs.Grid.{xs_of, ys_of, hanan_grid_of, vertex_of}

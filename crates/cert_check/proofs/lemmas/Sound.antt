@@ -1,7 +1,6 @@
 -- A verdict that accepts is right: what the answer says of its network and its tree holds.
 use Rattle.std.proofs.Common.{ℕ, ◌≡◌, Bool, List, inl, inr, sym, ap, ◌∙◌, subst}
 use Rattle.points_in.specs.declared.point.Point.{Point}
-use Rattle.net_graph.specs.Members.{members_of}
 use Rattle.hanan_grid.specs.Grid.{hanan_grid_of}
 use Rattle.cut_cert.specs.Value.{WrittenAnswer}
 use Rattle.cut_cert.specs.Answers.{names_of}
