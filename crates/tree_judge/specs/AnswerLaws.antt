@@ -9,7 +9,7 @@ use Rattle.cert_tree.specs.Tree.{Tree}
 use Rattle.cert_tree.specs.TreeValue.{IsValidTree, tree_value}
 use Rattle.tree_judge.specs.declared.claim.Claim.{Claim}
 use Rattle.tree_judge.specs.declared.step.Step.TheVariants as step
-use Rattle.tree_judge.specs.Answers.{IsSound, answer_steps, bound_of}
+use Rattle.tree_judge.specs.Answers.{IsSound, TellsAnswer, answer_steps, bound_of}
 use Rattle.tree_judge.specs.EdgeRunLaws.{HasNumbers-none, TellsNetwork, TellsNetwork-from_runs, network_passes}
 use Rattle.tree_judge.specs.Fresh.{IsFresh}
 use Rattle.tree_judge.specs.Judged.{SoFar, bound_found, decision_due, least_with, nothing_told}
@@ -18,13 +18,6 @@ use Rattle.tree_judge.specs.Runs.{HasWeights, Runs, edge_steps, tree_steps}
 use Rattle.tree_judge.specs.RunLaws.{Runs-append, Runs-join}
 use Rattle.tree_judge.specs.TreeLaws.{tree_passes, tree_valid}
 use Rattle.tree_judge.specs.TreeRead.{tree_read, tree_read-claim, tree_read-least, tree_read-network, tree_read-splits}
-
--- what stands behind the steps of an answer: its claim, its edges, what they say, and the bound that was found
-pub record TellsAnswer (g : Graph) (claim : Claim) (edges : List ℕ) (tree : Tree SplitOn) (s : SoFar) : Type 0 where
-  pub says : s.claim ≡ claim
-  pub edges_are : members_of s.network ≡ edges
-  pub sound : IsSound g claim s.network tree
-  pub found : bound_found s ≡ bound_of g tree claim.length
 
 -- the tree is read where nothing is decided
 top_due : (g : Graph) (s : SoFar) → IsFresh g s → decision_due g s ≡ nothing_decided g

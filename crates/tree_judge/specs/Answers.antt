@@ -1,6 +1,7 @@
 -- The steps that tell an answer, and when what it says of its network and its tree is right.
 use Rattle.std.specs.Prelude.{ℕ, ◌≡◌, ◌≤◌, min, Bool, List, [], ◌∷◌, ◌++◌, length, None}
 use Rattle.net_graph.specs.Graph.{Graph}
+use Rattle.net_graph.specs.Members.{members_of}
 use Rattle.net_graph.specs.Network.{IsNetwork, length_of}
 use Rattle.net_graph.specs.Decision.{nothing_decided}
 use Rattle.cert_tree.specs.declared.split.SplitOn.{SplitOn}
@@ -9,6 +10,7 @@ use Rattle.cert_tree.specs.Preorder.{split_count}
 use Rattle.cert_tree.specs.TreeValue.{IsValidTree, tree_value}
 use Rattle.tree_judge.specs.declared.claim.Claim.{Claim}
 use Rattle.tree_judge.specs.declared.step.Step.TheVariants as step
+use Rattle.tree_judge.specs.Judged.{SoFar, bound_found}
 use Rattle.tree_judge.specs.Runs.{StepTold, edge_steps, tree_steps}
 
 -- what is claimed, the edges by their numbers, and the tree
@@ -29,3 +31,10 @@ pub record IsSound (g : Graph) (claim : Claim) (network : List Bool) (tree : Tre
 -- the lesser one of a tree's value and a length
 abbrev pub bound_of : Graph → Tree SplitOn → ℕ → ℕ
 bound_of g tree length = min (tree_value g (nothing_decided g) tree) length
+
+-- what stands behind the steps of an answer: its claim, its edges, what they say, and the bound that was found
+pub record TellsAnswer (g : Graph) (claim : Claim) (edges : List ℕ) (tree : Tree SplitOn) (s : SoFar) : Type 0 where
+  pub says : s.claim ≡ claim
+  pub edges_are : members_of s.network ≡ edges
+  pub sound : IsSound g claim s.network tree
+  pub found : bound_found s ≡ bound_of g tree claim.length

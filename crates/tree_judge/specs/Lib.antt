@@ -30,3 +30,4 @@ pub mod LeafLaws
 pub mod TreeLaws
 pub mod Answers
 pub mod AnswerLaws
+pub mod AnswerLaw

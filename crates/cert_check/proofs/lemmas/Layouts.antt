@@ -42,12 +42,3 @@ few_edges_of_grid ps =
     let across = mul-le rows (columns - 1) rows columns (omega arith) (omega arith) in
     let up = mul-le (rows - 1) columns rows columns (omega arith) (omega arith) in
     omega (arith, length-edges_of_lines (xs_of ps) (ys_of ps), across, up)
-
--- all strips have all edges
-pub all_strips : (g : Graph) (l : Layout) (place : ℕ) → IsLaidOut g l → 2 * l.rows - 1 ≤ place →
-    length g.edges ≤ edges_before l place
-all_strips g l place laid all =
-    let rows : min place l.rows ≡ l.rows = min-eq_right (omega (arith, laid.some_rows)) in
-    let above = mul-le (l.rows - 1) l.columns (place - l.rows) l.columns (omega (arith, laid.some_rows))
-    (omega arith) in
-    rw rows (omega (arith, laid.edges, above))

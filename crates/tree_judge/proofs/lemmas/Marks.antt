@@ -7,7 +7,7 @@ use Rattle.std.proofs.lemmas.Option.{same_Some}
 use Rattle.net_graph.specs.declared.edge.Edge.{Edge}
 use Rattle.net_graph.specs.Graph.{Graph}
 use Rattle.net_graph.specs.Packing.{enters}
-use Rattle.std.proofs.lemmas.Nat.{pow-add, pow_pos}
+use Rattle.std.proofs.lemmas.Nat.{pow-add}
 use Rattle.net_graph.specs.MarkLaws.{bit_at-shr, next_mark-below, marks_behind-below, bit_at-behind}
 use Rattle.tree_judge.specs.Borders.{IsWhole, MarksParted}
 
@@ -52,14 +52,6 @@ whole_behind g members marks n end is none k from below =
     (is.others (k - n) (omega arith) (ap (λ m. bit_at m (k - n)) none ∙ bit_at-zero (k - n)))
 
 -- ---- marks made from the last edge to the first
-
--- no edge is marked yet
-pub marks_none : (g : Graph) (members : List Bool) (end : ℕ) → MarksParted g members 0 end end
-marks_none g members end = record {
-  within = omega arith;
-  below = pow_pos (end - end);
-  others = λ i low none. absurd (omega (arith, low));
-}
 
 -- one edge more, whose bit is set unless it is whole
 pub marks_more : (g : Graph) (members : List Bool) (marks bit n end : ℕ) → bit ≤ 1 →
