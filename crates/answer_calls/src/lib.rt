@@ -4,8 +4,8 @@
 
 mod described;
 mod judging;
-mod number_row;
 mod reading;
+mod row;
 mod writing;
 
 use row_tables::{Call, Fault, run_table};
@@ -18,7 +18,7 @@ pub fn answer(alloc: Global, call: &Call, answer: &mut String) -> Result<(), Fau
         "read" => reading::read(alloc, call, answer),
         "write" => writing::write(alloc, call, answer),
         "judge" => judging::judge(alloc, call, answer),
-        "number_row" => number_row::number_row(alloc, call, answer),
+        "number_row" => row::number_row(alloc, call, answer),
         "table" => table(alloc, call, answer),
         _ => Err(Fault::UnknownSubject),
     }

@@ -1,6 +1,7 @@
 -- The lines that bytes tell of an answer, and how the bytes go on behind them.
 use Rattle.std.specs.Prelude.{ℕ, ◌≡◌, List, ◌++◌}
 use Rattle.cut_cert.specs.declared.event.AnswerEvent.{AnswerEvent}
+use Rattle.cut_cert.specs.declared.form.Form.{Form}
 use Rattle.cut_cert.specs.Reading.{IsReadWhole, StopsAt}
 use Rattle.cut_cert.specs.Reader.{BeginsWith}
 
@@ -11,14 +12,14 @@ pub data Behind : Type 0 where
   Further : Behind
 
 -- a front of the bytes begins an answer, and these are the events of its lines, in each answer that begins with it
-pub record TellsFront (V : ℕ) (bytes : List ℕ) (events : List AnswerEvent) : Type 0 where
+pub record TellsFront (F : Form) (bytes : List ℕ) (events : List AnswerEvent) : Type 0 where
   pub front : List ℕ
   pub back : List ℕ
   pub parts : bytes ≡ front ++ back
-  pub begins : BeginsWith V front events
+  pub begins : BeginsWith F front events
 
 -- the bytes tell these events, and go on so behind them
-abbrev pub ReadsLines : ℕ → List ℕ → List AnswerEvent → Behind → Type 0
-ReadsLines V bytes events Behind.Ended = IsReadWhole V bytes events
-ReadsLines V bytes events (Behind.Ceased n) = StopsAt V bytes n events
-ReadsLines V bytes events Behind.Further = TellsFront V bytes events
+abbrev pub ReadsLines : Form → List ℕ → List AnswerEvent → Behind → Type 0
+ReadsLines F bytes events Behind.Ended = IsReadWhole F bytes events
+ReadsLines F bytes events (Behind.Ceased n) = StopsAt F bytes n events
+ReadsLines F bytes events Behind.Further = TellsFront F bytes events

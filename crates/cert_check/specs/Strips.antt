@@ -1,9 +1,7 @@
 -- How the edges of a grid are numbered: in strips of edges that join successive vertices to those a step further on.
-use Rattle.std.specs.Prelude.{ℕ, ◌≡◌, ◌+◌, ◌-◌, ◌*◌, ◌^◌, ◌<◌, ◌≤◌, min, Bool, false, List, length, slice_get, Some}
-use Rattle.std.specs.Int.{bit_at}
+use Rattle.std.specs.Prelude.{ℕ, ◌≡◌, ◌+◌, ◌-◌, ◌*◌, ◌<◌, ◌≤◌, min, length, slice_get, Some}
 use Rattle.net_graph.specs.declared.edge.Edge.{Edge}
 use Rattle.net_graph.specs.Graph.{Graph}
-use Rattle.net_graph.specs.Packing.{enters}
 use Rattle.cert_check.specs.declared.border.Layout.{Layout}
 use Rattle.cert_check.specs.declared.border.Strip.{Strip}
 
@@ -36,14 +34,3 @@ pub record IsStrip (g : Graph) (s : Strip) : Type 0 where
   pub vertices : s.vertex + s.step + s.count ≤ g.vertices
   pub edges : s.edge + s.count ≤ length g.edges
   pub ends : (i : ℕ) → i < s.count → HasEnds g (s.edge + i) (s.vertex + i) (s.vertex + s.step + i)
-
--- neither arc of the edge enters the set
-abbrev pub IsWhole : Graph → List Bool → ℕ → Type 0
-IsWhole g members n = (e : Edge) → slice_get g.edges n ≡ Some e →
-    (enters members e.a e.b ≡ false) × (enters members e.b e.a ≡ false)
-
--- of the edges from n on, up to one, those whose bits are 0 are whole, and the bits behind those edges' are 0
-pub record MarksParted (g : Graph) (members : List Bool) (marks n end : ℕ) : Type 0 where
-  pub within : n ≤ end
-  pub below : marks < 2 ^ (end - n)
-  pub others : (i : ℕ) → n + i < end → bit_at marks i ≡ 0 → IsWhole g members (n + i)

@@ -2,6 +2,7 @@
 use Rattle.std.specs.Prelude.{ℕ, ◌^◌, ◌≤◌, ◌↔◌, List, length}
 use Rattle.points_in.specs.declared.point.Point.{Point}
 use Rattle.hanan_grid.specs.Grid.{hanan_grid_of}
+use Rattle.cut_cert.specs.declared.form.Form.TheVariants as form
 use Rattle.cut_cert.specs.Value.{WrittenAnswer, upgraded}
 use Rattle.cut_cert.specs.Text.{answer_text}
 use Rattle.cut_cert.specs.Spelling.{SpellsAnswer}
@@ -12,5 +13,5 @@ use Rattle.cert_check.specs.Verdicts.{IsVerdict}
 -- with the same line where it names one, whatever the terminals are.
 abbrev pub UpgradingKeepsVerdict : Type 0
 UpgradingKeepsVerdict = (ps : List Point) (bytes : List ℕ) (a : WrittenAnswer) (f : Finished) →
-    SpellsAnswer (hanan_grid_of ps).vertices bytes a → length bytes ≤ 2 ^ 28 →
+    SpellsAnswer (form.OnGrid (hanan_grid_of ps).vertices) bytes a → length bytes ≤ 2 ^ 28 →
     IsVerdict ps bytes f ↔ IsVerdict ps (answer_text (upgraded a)) f

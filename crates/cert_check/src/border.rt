@@ -8,13 +8,39 @@ ghost use Rattle.hanan_grid.specs.Grid.{hanan_grid_of};
 ghost use Rattle.cert_check.specs.Strips.{IsLaidOut, IsStrip, edges_before};
 
 use hanan_grid::Grid;
-use net_graph::VertexSet;
+use net_graph::{NetGraph, VertexSet};
+use tree_judge::{Border, Run};
 
 /// How many columns and rows a grid has, which tells how its vertices and edges are numbered.
 #[derive(Clone, Copy, Debug, PartialEq, Eq)]
 pub(crate) struct Layout {
     pub columns: u32,
     pub rows: u32,
+}
+
+impl Border for Layout {
+    ghost use Rattle.std.specs.Prelude.{◌-◌, ◌*◌};
+    ghost use Rattle.cert_check.specs.Strips.{IsLaidOut, edges_before};
+
+    ghost is_of = { λ g layout. IsLaidOut g layout };
+
+    ghost count = { λ g layout. 2 * layout.rows - 1 };
+
+    ghost before = { λ g layout place. edges_before layout place };
+
+    fn runs(&self, _g: &NetGraph) -> u32 {
+        2 * self.rows - 1
+    }
+
+    fn run(&self, g: &NetGraph, place: u32, members: &VertexSet) -> Run {
+        // Few vertices, so their numbers are within 32 bits.
+        prove!(g.vertex_count() <= 2500);
+        let strip = strip_at(*self, place);
+        Run {
+            edge: strip.edge,
+            marks: parted_in(members, strip),
+        }
+    }
 }
 
 /// Edges of successive numbers, which join successive vertices to those that are a step further on.

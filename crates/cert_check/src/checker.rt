@@ -6,18 +6,20 @@ ghost use Rattle.points_in.specs.declared.point.Point.{Point};
 ghost use Rattle.net_graph.specs.Network.{IsLowerBound};
 ghost use Rattle.hanan_grid.specs.Grid.{hanan_grid_of};
 ghost use Rattle.cert_check.specs.declared.verdict.Finished.{Finished};
+ghost use Rattle.cert_check.specs.Named.{on_grid};
 ghost use Rattle.cert_check.specs.Accepted.{AcceptsAs, IsAccepted, IsAccepting};
 ghost use Rattle.cert_check.specs.Verdicts.{IsJudged, IsVerdict, byte_limit};
 ghost use Rattle.cert_check.specs.Underway.{IsUnderway};
 ghost use Rattle.cert_check.specs.UnderwayLaws.{IsUnderway-prop};
 
-use crate::judge::Judge;
+use crate::judging::{finished, judge_on, refused};
 use crate::law::{accepted_bound_holds, one_verdict};
 use crate::read::read_byte;
-use crate::verdict::{Cause, Finished, Verdict};
+use crate::verdict::{Finished, Verdict};
 use cut_cert::{EventReader, Row, one_reading};
 use hanan_grid::Grid;
 use net_graph::{EdgeSet, VertexSet};
+use tree_judge::{Cause, Judge};
 
 /// An answer has no more bytes than this.
 const BYTE_LIMIT: u64 = 4_294_967_295;
@@ -33,7 +35,7 @@ pub struct Checker<'a> {
     fault: Option<Cause>,
     /// How many bytes were fed, or 2^64-1 where it is more.
     fed: u64,
-    ghost underway: { IsUnderway grid.now reader judge fault fed } by { IsUnderway-prop grid.now reader judge fault fed },
+    ghost underway: { IsUnderway (on_grid grid.now) reader judge fault fed } by { IsUnderway-prop (on_grid grid.now) reader judge fault fed },
 }
 
 impl<'a> Checker<'a> {
@@ -53,7 +55,7 @@ impl<'a> Checker<'a> {
         Checker {
             grid,
             reader: EventReader::begin(vertices, members),
-            judge: Judge::begin(grid, network, work),
+            judge: judge_on(grid, network, work),
             fault: None,
             fed: 0,
         }
@@ -170,15 +172,15 @@ impl<'a> Checker<'a> {
     // The verdict on as many bytes as an answer may have.
     fn judged(self) -> Finished
         ensures { (ps : List Point) (bytes : List ℕ) → StandsForBytes ps bytes self.entry
-            → IsJudged ps (take byte_limit bytes) result }
+            → IsJudged (on_grid ps) (take byte_limit bytes) result }
     {
         if let Some(cause) = self.fault {
-            return self.judge.refused(cause);
+            return refused(self.judge, cause);
         }
         if self.reader.ended() {
-            return self.judge.finish();
+            return finished(self.judge);
         }
         let line = self.reader.line();
-        self.judge.refused(Cause::NotAnswer(line))
+        refused(self.judge, Cause::NotAnswer(line))
     }
 }

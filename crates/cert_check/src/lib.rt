@@ -3,23 +3,15 @@
 
 mod border;
 mod checker;
-mod code;
-mod decided;
-mod edges;
-mod end;
-mod judge;
+mod judging;
 mod law;
-mod leaf;
-mod listed;
-mod network;
 mod read;
-mod room;
-mod turn;
+mod step;
 mod verdict;
-mod way;
 mod workroom;
 
 pub use checker::Checker;
 pub use law::{accepted_bound_holds, one_verdict, upgrading_keeps_verdict};
-pub use verdict::{Cause, Finished, Verdict};
+pub use tree_judge::Cause;
+pub use verdict::{Finished, Verdict};
 pub use workroom::Workroom;

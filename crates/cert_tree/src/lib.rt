@@ -11,3 +11,4 @@ mod way;
 pub use laws::tree_bounds_every_network;
 pub use split::SplitOn;
 pub use tree::CertTree;
+pub use way::Turn;

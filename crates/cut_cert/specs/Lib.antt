@@ -17,4 +17,3 @@ pub mod Given
 pub mod ScanStates
 pub mod Scanning
 pub mod Reader
-pub mod RowLending

@@ -6,7 +6,7 @@ use Rattle.net_graph.specs.Network.{IsLowerBound, IsShortest}
 use Rattle.cert_tree.specs.declared.split.SplitOn.{SplitOn}
 use Rattle.cert_tree.specs.Tree.{Tree}
 use Rattle.cut_cert.specs.Value.{WrittenAnswer}
-use Rattle.cert_check.specs.declared.verdict.Cause.{Cause}
+use Rattle.tree_judge.specs.declared.cause.Cause.{Cause}
 use Rattle.cert_check.specs.declared.verdict.Finished.{Finished}
 use Rattle.cert_check.specs.declared.verdict.Verdict.TheVariants as verdict
 use Rattle.cert_check.specs.Accepted.{Accepts}

@@ -19,7 +19,7 @@ use Rattle.frame.specs.Leaves.{LeavesFiles}
 use Rattle.frame.specs.FaultTexts.{input_fault_text, input_fault_status, points_fault_text, points_fault_status}
 use Rattle.frame.specs.Taking.{IsWholeInput, IsInputFault}
 use Rattle.frame.specs.Points.{FileLists, IsPointsFault, grid_of_points}
-use Rattle.cert_check.specs.declared.verdict.Cause.TheVariants.{NotAnswer}
+use Rattle.tree_judge.specs.declared.cause.Cause.TheVariants.{NotAnswer}
 use Rattle.cert_check.specs.declared.verdict.Finished.{Finished}
 use Rattle.cert_check.specs.Verdicts.{IsVerdict}
 use Rattle.verdict_line.specs.Verdicts.{refusal}

@@ -9,12 +9,14 @@ use Rattle.cert_tree.specs.declared.split.SplitOn.{SplitOn}
 use Rattle.cert_tree.specs.Tree.{Tree}
 use Rattle.cert_tree.specs.TreeValue.{TreesBoundNetworks, tree_value}
 use Rattle.cut_cert.specs.Value.{WrittenAnswer}
-use Rattle.cert_check.specs.Accepted.{Accepts, AcceptsAs, AcceptedBoundHolds}
+use Rattle.cert_check.specs.Named.{Named, on_grid}
+use Rattle.cert_check.specs.Accepted.{AcceptsIn, AcceptsAs, AcceptedBoundHolds}
 
 -- the bound of an accepted answer is at most its tree's value, and so at most the length of any network
-bound_below : TreesBoundNetworks → (ps : List Point) (bytes : List ℕ) (answer : WrittenAnswer) (network : List Bool) (tree : Tree SplitOn) → Accepts ps bytes answer network tree → IsLowerBound (hanan_grid_of ps) answer.head.bound
-bound_below lifting ps bytes answer network tree accepts other joins =
-    let g = hanan_grid_of ps in
+bound_below : TreesBoundNetworks → (N : Named) (bytes : List ℕ) (answer : WrittenAnswer) (network : List Bool)
+    (tree : Tree SplitOn) → AcceptsIn N bytes answer network tree → IsLowerBound N.graph answer.head.bound
+bound_below lifting N bytes answer network tree accepts other joins =
+    let g = N.graph in
     let below : tree_value g (nothing_decided g) tree ≤ length_of g other =
     lifting g (nothing_decided g) tree (IsDecisionFor-nothing g) accepts.valid other (Agrees-nothing g other) joins in
     omega (arith, below, accepts.bound)
@@ -22,11 +24,18 @@ bound_below lifting ps bytes answer network tree accepts other joins =
 -- the law, by lifting
 pub accepted_bound_holds_lem : TreesBoundNetworks → AcceptedBoundHolds
 accepted_bound_holds_lem lifting ps bytes answer network tree accepts other joins =
-    let below = bound_below lifting ps bytes answer network tree accepts other joins in
-    (below, λ optimal. let same : answer.head.bound ≡ answer.head.length = eqb-true answer.head.bound answer.head.length (sym accepts.status ∙ optimal) in omega (arith, below, same))
+    let below = bound_below lifting (on_grid ps) bytes answer network tree accepts other joins in (
+      below,
+      λ optimal.
+          let same : answer.head.bound ≡ answer.head.length =
+          eqb-true answer.head.bound answer.head.length (sym accepts.status ∙ optimal) in
+          omega (arith, below, same),
+    )
 
 -- so for the bound that an accepting verdict says
-pub accepted_bound_below : AcceptedBoundHolds → (ps : List Point) (bytes : List ℕ) (network : List Bool) (printed bound : ℕ) (optimal : Bool) → AcceptsAs ps bytes network printed bound optimal → IsLowerBound (hanan_grid_of ps) bound
+pub accepted_bound_below : AcceptedBoundHolds → (ps : List Point) (bytes : List ℕ) (network : List Bool)
+    (printed bound : ℕ) (optimal : Bool) → AcceptsAs ps bytes network printed bound optimal →
+    IsLowerBound (hanan_grid_of ps) bound
 accepted_bound_below law ps bytes network printed bound optimal (answer, tree, accepts, _, told, _) other joins =
     let below = (law ps bytes answer network tree accepts other joins).0 in
     omega (arith, below, told)

@@ -1,156 +1,108 @@
 -- An answer that should be accepted is accepted.
-use Rattle.std.proofs.Common.{ℕ, suc, ◌≡◌, ◌≤◌, Bool, List, [], ◌∷◌, ◌++◌, length, get_or, None, inl, inr, refl, sym, ap, ◌∙◌, subst, arith}
-use Rattle.std.specs.Prelude.{false, replicate}
-use Rattle.std.proofs.lemmas.List.{length-map}
-use Rattle.points_in.specs.declared.point.Point.{Point}
-use Rattle.net_graph.specs.Decision.{nothing_decided}
-use Rattle.net_graph.specs.Members.{members_of}
-use Rattle.hanan_grid.specs.Grid.{hanan_grid_of}
-use Rattle.hanan_grid.specs.Names.{name_of_edge}
+use Rattle.std.proofs.Common.{ℕ, suc, ◌≤◌, Bool, List, [], ◌∷◌, ◌++◌, length, inl, inr, refl, sym, ap, ◌∙◌}
+use Rattle.std.proofs.Common.{subst, arith}
+use Rattle.std.proofs.lemmas.List.{append-nil}
 use Rattle.cert_tree.specs.declared.split.SplitOn.{SplitOn}
 use Rattle.cert_tree.specs.Tree.{Tree}
-use Rattle.cert_tree.specs.TreeValue.{IsValidTree, tree_value}
-use Rattle.cut_cert.specs.declared.head.AnswerHead.{AnswerHead}
-use Rattle.cut_cert.specs.declared.event.Event.TheVariants as event
+use Rattle.net_graph.specs.Members.{members_of}
 use Rattle.cut_cert.specs.declared.event.AnswerEvent.{AnswerEvent}
+use Rattle.cut_cert.specs.Forms.{silent_lines}
 use Rattle.cut_cert.specs.Value.{WrittenAnswer}
 use Rattle.cut_cert.specs.Events.{Told, events_of}
-use Rattle.cut_cert.specs.Answers.{named}
 use Rattle.cut_cert.specs.Spelling.{SpellsAnswer, OneReading}
-use Rattle.cert_check.specs.declared.verdict.Cause.TheVariants.{WrongBound, WrongStatus}
+use Rattle.tree_judge.specs.declared.claim.Claim.{Claim}
+use Rattle.tree_judge.specs.AnswerLaws.{answer_passes}
+use Rattle.tree_judge.specs.Ends.{IsRightEnd}
+use Rattle.tree_judge.specs.EndLaws.{right_without_fault}
+use Rattle.tree_judge.specs.Judged.{SoFar, bound_found, nothing_told}
+use Rattle.cert_check.specs.Named.{IsNamed, Named}
 use Rattle.cert_check.specs.declared.verdict.Verdict.{Verdict}
-use Rattle.cert_check.specs.declared.verdict.Verdict.TheVariants.{Accepted, Refused}
+use Rattle.cert_check.specs.declared.verdict.Verdict.TheVariants.{Accepted, Refused, TooLong}
 use Rattle.cert_check.specs.declared.verdict.Finished.{Finished}
-use Rattle.cert_check.specs.Ends.{IsStatus, EndsWith}
+use Rattle.cert_check.specs.Ends.{EndsWith}
 use Rattle.cert_check.specs.Lines.{Behind, ReadsLines}
 use Rattle.cert_check.specs.Lines.Behind.{Ended, Ceased, Further}
-use Rattle.cert_check.specs.Judged.{SoFar, bound_found, decision_due, least_with, nothing_told, Judges}
-use Rattle.cert_check.specs.Verdicts.{IsJudged, IsVerdict, byte_limit}
-use Rattle.cert_check.specs.Accepted.{Accepts, IsAccepted, IsAccepting}
-use Rattle.cert_check.proofs.lemmas.ToldParts.{edges_told, events_of-told, proof_told, tree_told}
+use Rattle.cert_check.specs.Judged.{Judges}
+use Rattle.cert_check.specs.Resolved.{claim_of}
+use Rattle.cert_check.specs.Verdicts.{IsJudged, IsVerdictIn, byte_limit}
+use Rattle.cert_check.specs.Accepted.{AcceptsIn, IsAcceptedIn, IsAccepting}
+use Rattle.cert_check.proofs.lemmas.ToldParts.{answer_told, events_of-told}
 use Rattle.cert_check.proofs.lemmas.LineSteps.{JudgesTold, passed}
 use Rattle.cert_check.proofs.lemmas.Runs.{Runs}
-use Rattle.cert_check.proofs.lemmas.Fresh.{IsFresh}
-use Rattle.cert_check.proofs.lemmas.CompleteEdges.{IsNetworkOf, HasFront, front_right, edges_pass}
 use Rattle.cert_check.proofs.lemmas.SameLines.{further_whole}
-use Rattle.cert_check.proofs.lemmas.TreeRead.{tree_read, tree_read-head, tree_read-least}
-use Rattle.cert_check.proofs.lemmas.TreeTold.{tree_passes}
+use Rattle.cert_check.proofs.lemmas.StepsTold.{answer_named}
 use Rattle.cert_check.proofs.lemmas.OneVerdict.{judged_further, passes_not_fails, same_passed}
 
 -- ---- the lines
 
--- a head that says bound and status right is accepted
-accepting_end : (h : AnswerHead) (found : ℕ) (v : Verdict) → h.bound ≡ found → IsStatus h → EndsWith h found v → IsAccepting v
-accepting_end h found (Accepted length bound optimal) right status ends = tt
-accepting_end h found (Refused (WrongBound printed other)) right status ends = ends.2 (ends.0 ∙ right ∙ sym ends.1)
-accepting_end h found (Refused WrongStatus) right status ends = ends.1 status
-accepting_end h found v right status ends = absurd ends
+-- an answer that says bound and status right is accepted
+accepting_end : (c : Claim) (found : ℕ) (v : Verdict) → IsRightEnd c found → EndsWith c found v → IsAccepting v
+accepting_end c found (Accepted length bound optimal) right ends = tt
+accepting_end c found (Refused cause) right fault = right_without_fault c found cause right fault
+accepting_end c found TooLong right ends = absurd ends
 
 -- behind lines that pass the others are judged
-judged_behind : (ps : List Point) (s s' : SoFar) (n : ℕ) (xs ys : List Told) (f : Finished) → Runs ps s xs s' → JudgesTold ps s n (xs ++ ys) f → (m : ℕ) × JudgesTold ps s' m ys f
-judged_behind ps s s' n [] ys f runs judged = (n, subst (λ x. JudgesTold ps x n ys f) (sym runs) judged)
-judged_behind ps s s' n (x ∷ xs) ys f (m, passes, runs) judged =
-    let (m', passes', behind) = passed ps s n x (xs ++ ys) f (λ cause fails. passes_not_fails ps s m n x.0 x.1 cause f.network passes fails) judged in
-    let same = same_passed ps s m' m x.0 x.1 passes' passes in
-    judged_behind ps m s' (suc n) xs ys f runs (subst (λ z. JudgesTold ps z (suc n) (xs ++ ys) f) same behind)
-
--- behind the tree the end is accepted
-end_accepted : (ps : List Point) (bytes : List ℕ) (answer : WrittenAnswer) (network : List Bool) (tree : Tree SplitOn) (n : ℕ) (s : SoFar) (f : Finished)
-    → Accepts ps bytes answer network tree → s.head ≡ answer.head → IsFresh ps s → JudgesTold ps (tree_read ps s tree) n ((event.End, None) ∷ []) f → IsAccepting f.verdict
-end_accepted ps bytes answer network tree n s f accepts head fresh judged =
-    let g = hanan_grid_of ps in
-    let last = tree_read ps s tree in
-    let (s', told, ends) = passed ps last n (event.End, None) [] f (λ cause fails. fails) judged in
-    let here = subst (λ t. Judges ps t [] Ended f) told ends in
-    let said : last.head ≡ answer.head = tree_read-head ps s tree ∙ head in
-    let says = subst (λ h. EndsWith h (bound_found last) f.verdict) said here.0 in
-    let top : decision_due ps s ≡ nothing_decided g = ap (λ ds. get_or ds 0 (nothing_decided g)) fresh.decisions in
-    let value = ap (λ d. tree_value g d tree) top in
-    let none : least_with last.head.length s.values ≡ last.head.length = ap (λ vs. least_with last.head.length vs) fresh.values in
-    let length_is = ap (λ (h : AnswerHead). h.length) said in
-    let found : answer.head.bound ≡ bound_found last = omega (arith, accepts.bound, tree_read-least ps s tree last.head.length, value, none, length_is) in
-    accepting_end answer.head (bound_found last) f.verdict found accepts.status says
-
--- behind the edges the tree is accepted
-proof_accepted : (ps : List Point) (bytes : List ℕ) (answer : WrittenAnswer) (network : List Bool) (tree : Tree SplitOn) (n : ℕ) (s : SoFar) (f : Finished)
-    → Accepts ps bytes answer network tree → s.head ≡ answer.head → IsFresh ps s → JudgesTold ps s n (proof_told (named ps tree)) f → IsAccepting f.verdict
-proof_accepted ps bytes answer network tree n s f accepts head fresh judged =
-    let g = hanan_grid_of ps in
-    let rest = tree_told (named ps tree) ++ (event.End, None) ∷ [] in
-    let (s', told, behind) = passed ps s n (event.Tree, None) rest f (λ cause fails. fails) judged in
-    let here = subst (λ t. JudgesTold ps t (suc n) rest f) told behind in
-    let top : decision_due ps s ≡ nothing_decided g = ap (λ ds. get_or ds 0 (nothing_decided g)) fresh.decisions in
-    let runs = tree_passes ps s tree accepts.splits (subst (λ d. IsValidTree g d tree) (sym top) accepts.valid) (omega (arith, accepts.few, fresh.splits)) fresh.cuts in
-    let (m, ending) = judged_behind ps s (tree_read ps s tree) (suc n) (tree_told (named ps tree)) ((event.End, None) ∷ []) f runs here in
-    end_accepted ps bytes answer network tree m s f accepts head fresh ending
-
--- what was told before the first edge
-abbrev with_head : List Point → WrittenAnswer → SoFar
-with_head ps answer = record (nothing_told ps) { head = answer.head }
-
-abbrev with_count : List Point → WrittenAnswer → SoFar
-with_count ps answer = record (with_head ps answer) { edges_due = length answer.edges }
-
--- no flag of the network is told then
-front_begins : (ps : List Point) (bytes : List ℕ) (answer : WrittenAnswer) (network : List Bool) (tree : Tree SplitOn)
-    → Accepts ps bytes answer network tree → HasFront answer.head [] network 0 (with_count ps answer)
-front_begins ps bytes answer network tree accepts = record {
-  place = refl;
-  says = refl;
-  due = ap length accepts.edges ∙ length-map (members_of network) (name_of_edge ps);
-  edges = ap (λ n. replicate n false) (sym accepts.size);
-}
-
--- the network is the grid's, with the printed length
-network_is : (ps : List Point) (bytes : List ℕ) (answer : WrittenAnswer) (network : List Bool) (tree : Tree SplitOn)
-    → Accepts ps bytes answer network tree → IsNetworkOf ps answer.head.length [] network
-network_is ps bytes answer network tree accepts = record {
-  size = accepts.size;
-  measured = record { joins = accepts.joins; told = accepts.plain_length };
-}
-
--- behind the count of the edges the lines are accepted
-edges_accepted : (ps : List Point) (bytes : List ℕ) (answer : WrittenAnswer) (network : List Bool) (tree : Tree SplitOn) (n : ℕ) (f : Finished)
-    → Accepts ps bytes answer network tree → JudgesTold ps (with_count ps answer) n (edges_told answer.edges ++ proof_told answer.tree) f → IsAccepting f.verdict
-edges_accepted ps bytes answer network tree n f accepts judged =
-    let named_edges = subst (λ edges. JudgesTold ps (with_count ps answer) n (edges_told edges ++ proof_told answer.tree) f) accepts.edges judged in
-    let begun : IsFresh ps (with_count ps answer) = record { decisions = refl; splits = refl; cuts = refl; values = refl } in
-    let (m, s, head, fresh, behind) = edges_pass ps answer.head [] network 0 n (with_count ps answer) (proof_told answer.tree) f
-    (network_is ps bytes answer network tree accepts) (front_begins ps bytes answer network tree accepts) begun named_edges in
-    proof_accepted ps bytes answer network tree m s f accepts head fresh (subst (λ t. JudgesTold ps s m (proof_told t) f) accepts.named_tree behind)
+judged_behind : (N : Named) → IsNamed N → (s s' : SoFar) (n : ℕ) (xs ys : List Told) (f : Finished) → Runs N s xs s' →
+    JudgesTold N s n (xs ++ ys) f → (m : ℕ) × JudgesTold N s' m ys f
+judged_behind N names s s' n [] ys f runs judged = (n, subst (λ x. JudgesTold N x n ys f) (sym runs) judged)
+judged_behind N names s s' n (x ∷ xs) ys f (m, passes, runs) judged =
+    let (m', passes', behind) = passed N s n x (xs ++ ys) f
+    (λ cause fails. passes_not_fails N names s m n x.0 x.1 cause f.network passes fails) judged in
+    let same = same_passed N names s m' m x.0 x.1 passes' passes in
+    judged_behind N names m s' (suc n) xs ys f runs (subst (λ z. JudgesTold N z (suc n) (xs ++ ys) f) same behind)
 
 -- the lines of an answer are accepted
-answer_accepted : (ps : List Point) (bytes : List ℕ) (answer : WrittenAnswer) (network : List Bool) (tree : Tree SplitOn) (f : Finished)
-    → Accepts ps bytes answer network tree → Judges ps (nothing_told ps) (events_of answer) Ended f → IsAccepting f.verdict
-answer_accepted ps bytes answer network tree f accepts of_events =
-    let judged = subst (λ es. Judges ps (nothing_told ps) es Ended f) (events_of-told answer) of_events in
-    let count : Told = (event.EdgeCount (length answer.edges), None) in
-    let body = edges_told answer.edges ++ proof_told answer.tree in
-    let (s1, told1, after1) = passed ps (nothing_told ps) 6 (event.Head answer.head, None) (count ∷ body) f (λ cause fails. fails) judged in
-    let here = subst (λ t. JudgesTold ps t 7 (count ∷ body) f) told1 after1 in
-    let (s2, (told2, right), after2) = passed ps (with_head ps answer) 7 count body f
-    (λ cause fails. front_right ps answer.head [] network 0 (with_count ps answer) cause (network_is ps bytes answer network tree accepts) (front_begins ps bytes answer network tree accepts) fails.0) here in
-    edges_accepted ps bytes answer network tree 8 f accepts (subst (λ t. JudgesTold ps t 8 body f) told2 after2)
+answer_accepted : (N : Named) → IsNamed N → (bytes : List ℕ) (answer : WrittenAnswer) (network : List Bool)
+    (tree : Tree SplitOn) (f : Finished) → AcceptsIn N bytes answer network tree →
+    Judges N (nothing_told N.graph) (events_of answer) Ended f → IsAccepting f.verdict
+answer_accepted N names bytes answer network tree f accepts of_events =
+    let g = N.graph in
+    let claim = claim_of answer.head in
+    let passes = answer_passes g claim network tree (record {
+      size = accepts.size;
+      joins = accepts.joins;
+      plain_length = accepts.plain_length;
+      few = accepts.few;
+      valid = accepts.valid;
+    }) in
+    let last = passes.last in
+    let runs = answer_named N (nothing_told g) last answer (members_of network) tree accepts.edges accepts.named_tree
+    accepts.splits passes.runs in
+    let judged : JudgesTold N (nothing_told g) (suc (silent_lines N.form)) (answer_told answer ++ []) f =
+    subst (λ xs. JudgesTold N (nothing_told g) (suc (silent_lines N.form)) xs f) (sym (append-nil (answer_told answer)))
+    (subst (λ es. Judges N (nothing_told g) es Ended f) (events_of-told N.form answer accepts.spells.fits) of_events) in
+    let (m, ends) = judged_behind N names (nothing_told g) last (suc (silent_lines N.form)) (answer_told answer) [] f runs judged in
+    accepting_end claim (bound_found last) f.verdict
+    (record { bound = accepts.bound ∙ sym passes.found; status = accepts.status })
+    (subst (λ c. EndsWith c (bound_found last) f.verdict) passes.says ends.0)
 
 -- ---- the bytes
 
 -- the verdict on the lines of bytes that spell an answer is that on all lines of the answer
-pub judged_whole : OneReading → (ps : List Point) (bytes : List ℕ) (answer : WrittenAnswer) (events : List AnswerEvent) (behind : Behind) (f : Finished)
-    → SpellsAnswer (hanan_grid_of ps).vertices bytes answer → ReadsLines (hanan_grid_of ps).vertices bytes events behind → Judges ps (nothing_told ps) events behind f →
-    Judges ps (nothing_told ps) (events_of answer) Ended f
-judged_whole one ps bytes answer events Ended f spells read judged =
-    let same = one (hanan_grid_of ps).vertices bytes bytes [] [] read.answer answer read.spells spells refl in
-    subst (λ xs. Judges ps (nothing_told ps) xs Ended f) (read.told ∙ ap events_of same.1) judged
-judged_whole one ps bytes answer events (Ceased n) f spells read judged = absurd (read.unspelled answer spells)
-judged_whole one ps bytes answer events Further f spells read judged =
-    let longer = further_whole (hanan_grid_of ps).vertices bytes events (events_of answer) read (record { answer = answer; spells = spells; told = refl }) in
-    subst (λ xs. Judges ps (nothing_told ps) xs Ended f) (sym longer.1) (judged_further ps (nothing_told ps) events longer.0 Ended f judged)
+pub judged_whole : OneReading →
+    (N : Named) (bytes : List ℕ) (answer : WrittenAnswer) (events : List AnswerEvent) (behind : Behind)
+    (f : Finished)
+    → SpellsAnswer N.form bytes answer → ReadsLines
+    N.form bytes events behind → Judges N (nothing_told N.graph) events behind f →
+    Judges N (nothing_told N.graph) (events_of answer) Ended f
+judged_whole one N bytes answer events Ended f spells read judged =
+    let same = one N.form bytes bytes [] [] read.answer answer read.spells spells refl in
+    subst (λ xs. Judges N (nothing_told N.graph) xs Ended f) (read.told ∙ ap events_of same.1) judged
+judged_whole one N bytes answer events (Ceased n) f spells read judged = absurd (read.unspelled answer spells)
+judged_whole one N bytes answer events Further f spells read judged =
+    let longer = further_whole N.form bytes events (events_of answer) read
+    (record { answer = answer; spells = spells; told = refl }) in
+    subst (λ xs. Judges N (nothing_told N.graph) xs Ended f) (sym longer.1)
+    (judged_further N (nothing_told N.graph) events longer.0 Ended f judged)
 
 -- the verdict on bytes that should be accepted accepts them
-complete_judged : OneReading → (ps : List Point) (bytes : List ℕ) (f : Finished) → IsJudged ps bytes f → IsAccepted ps bytes → IsAccepting f.verdict
-complete_judged one ps bytes f verdict (answer, network, tree, accepts) =
-    answer_accepted ps bytes answer network tree f accepts (judged_whole one ps bytes answer verdict.events verdict.behind f accepts.spells verdict.read verdict.judged)
+complete_judged : OneReading → (N : Named) → IsNamed N → (bytes : List ℕ) (f : Finished) → IsJudged N bytes f →
+    IsAcceptedIn N bytes → IsAccepting f.verdict
+complete_judged one N names bytes f verdict (answer, network, tree, accepts) =
+    answer_accepted N names bytes answer network tree f accepts
+    (judged_whole one N bytes answer verdict.events verdict.behind f accepts.spells verdict.read verdict.judged)
 
-pub complete : OneReading → (ps : List Point) (bytes : List ℕ) (f : Finished) → IsVerdict ps bytes f → length bytes ≤ byte_limit → IsAccepted ps bytes → IsAccepting f.verdict
-complete one ps bytes f (inl verdict) few accepted = complete_judged one ps bytes f verdict.judged accepted
-complete one ps bytes f (inr verdict) few accepted = absurd (omega (arith, verdict.many, few))
+pub complete : OneReading → (N : Named) → IsNamed N → (bytes : List ℕ) (f : Finished) → IsVerdictIn N bytes f →
+    length bytes ≤ byte_limit → IsAcceptedIn N bytes → IsAccepting f.verdict
+complete one N names bytes f (inl verdict) few accepted = complete_judged one N names bytes f verdict.judged accepted
+complete one N names bytes f (inr verdict) few accepted = absurd (omega (arith, verdict.many, few))

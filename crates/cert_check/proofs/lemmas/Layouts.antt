@@ -1,15 +1,12 @@
 -- How the edges of a grid are numbered.
-use Rattle.std.proofs.Common.{ℕ, ◌≡◌, ◌-◌, ◌*◌, ◌<◌, ◌≤◌, List, length, min, refl, sym, ap, ◌∙◌, arith}
-use Rattle.std.proofs.Math.Nat.{min-eq_right}
+use Rattle.std.proofs.Common.{◌≡◌, ◌-◌, ◌*◌, ◌<◌, ◌≤◌, List, length, refl, sym, ap, ◌∙◌, arith}
 use Rattle.std.proofs.lemmas.Nat.{mul-le}
 use Rattle.std.proofs.lemmas.Option.{same_Some}
 use Rattle.points_in.specs.declared.point.Point.{Point}
 use Rattle.net_graph.specs.declared.edge.Edge.{Edge}
-use Rattle.net_graph.specs.Graph.{Graph}
 use Rattle.hanan_grid.specs.Grid.{xs_of, ys_of, horizontal, vertical, hanan_grid_of}
 use Rattle.hanan_grid.specs.GridLaws.{length-edges_of_lines, slice_get-horizontal, slice_get-vertical}
-use Rattle.cert_check.specs.declared.border.Layout.{Layout}
-use Rattle.cert_check.specs.Strips.{IsLaidOut, edges_before}
+use Rattle.cert_check.specs.Strips.{IsLaidOut}
 
 -- by row and then by column, the horizontal ones first
 pub grid_laid_out : (ps : List Point) → 0 < length (xs_of ps) → length (xs_of ps) ≤ 50 → 0 < length (ys_of ps) →
@@ -42,12 +39,3 @@ few_edges_of_grid ps =
     let across = mul-le rows (columns - 1) rows columns (omega arith) (omega arith) in
     let up = mul-le (rows - 1) columns rows columns (omega arith) (omega arith) in
     omega (arith, length-edges_of_lines (xs_of ps) (ys_of ps), across, up)
-
--- all strips have all edges
-pub all_strips : (g : Graph) (l : Layout) (place : ℕ) → IsLaidOut g l → 2 * l.rows - 1 ≤ place →
-    length g.edges ≤ edges_before l place
-all_strips g l place laid all =
-    let rows : min place l.rows ≡ l.rows = min-eq_right (omega (arith, laid.some_rows)) in
-    let above = mul-le (l.rows - 1) l.columns (place - l.rows) l.columns (omega (arith, laid.some_rows))
-    (omega arith) in
-    rw rows (omega (arith, laid.edges, above))

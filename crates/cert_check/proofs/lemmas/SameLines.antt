@@ -3,6 +3,8 @@ use Rattle.std.proofs.Common.{ℕ, zero, suc, ◌≡◌, ◌<◌, ◌≤◌, Lis
 use Rattle.std.proofs.lemmas.Bool.{cases_lt}
 use Rattle.std.proofs.lemmas.List.{take-append-drop}
 use Rattle.cut_cert.specs.declared.event.AnswerEvent.{AnswerEvent}
+use Rattle.cut_cert.specs.declared.form.Form.{Form}
+use Rattle.cut_cert.specs.Forms.{silent_lines}
 use Rattle.cut_cert.specs.Value.{WrittenAnswer}
 use Rattle.cut_cert.specs.Spelling.{SpellsAnswer, OneReading}
 use Rattle.cut_cert.specs.Events.{events_of}
@@ -23,44 +25,44 @@ fronts (x ∷ xs) (y ∷ ys) us vs same =
     ]
 
 -- bytes cease to begin an answer in no later line than another front's
-stops_no_later : (V : ℕ) (bytes : List ℕ) (n n' : ℕ) (es es' : List AnswerEvent) → StopsAt V bytes n es → StopsAt V bytes n' es' → n ≤ n'
-stops_no_later V bytes n n' es es' stops stops' =
+stops_no_later : (F : Form) (bytes : List ℕ) (n n' : ℕ) (es es' : List AnswerEvent) → StopsAt F bytes n es → StopsAt F bytes n' es' → n ≤ n'
+stops_no_later F bytes n n' es es' stops stops' =
     let sooner : line_feeds stops.front < n' = stops'.last stops.front stops.back stops.parts stops.begins in
     omega (arith, sooner, stops.line)
 
 -- the events before a line are those of each answer which begins with a longer front
-told_by_longer : (V : ℕ) (bytes : List ℕ) (n : ℕ) (es es' : List AnswerEvent) (stops : StopsAt V bytes n es) (stops' : StopsAt V bytes n es') (more : List ℕ) → stops'.front ≡ stops.front ++ more → es ≡ es'
-told_by_longer V bytes n es es' stops stops' more is =
+told_by_longer : (F : Form) (bytes : List ℕ) (n : ℕ) (es es' : List AnswerEvent) (stops : StopsAt F bytes n es) (stops' : StopsAt F bytes n es') (more : List ℕ) → stops'.front ≡ stops.front ++ more → es ≡ es'
+told_by_longer F bytes n es es' stops stops' more is =
     let rest = stops'.begins.rest in
     let answer = stops'.begins.answer in
-    let spells : SpellsAnswer V (stops.front ++ (more ++ rest)) answer = subst (λ xs. SpellsAnswer V xs answer) (ap (λ xs. xs ++ rest) is ∙ append_assoc stops.front more rest) stops'.begins.spells in
+    let spells : SpellsAnswer F (stops.front ++ (more ++ rest)) answer = subst (λ xs. SpellsAnswer F xs answer) (ap (λ xs. xs ++ rest) is ∙ append_assoc stops.front more rest) stops'.begins.spells in
     stops.told (more ++ rest) answer spells ∙ sym (stops'.told rest answer stops'.begins.spells)
 
 -- the line and the events before it
-same_stop_at : (V : ℕ) (bytes : List ℕ) (n : ℕ) (es es' : List AnswerEvent) → StopsAt V bytes n es → StopsAt V bytes n es' → es ≡ es'
-same_stop_at V bytes n es es' stops stops' =
+same_stop_at : (F : Form) (bytes : List ℕ) (n : ℕ) (es es' : List AnswerEvent) → StopsAt F bytes n es → StopsAt F bytes n es' → es ≡ es'
+same_stop_at F bytes n es es' stops stops' =
     elim (fronts stops.front stops'.front stops.back stops'.back (sym stops.parts ∙ stops'.parts)) [
-      | inl (more, is) ↦ told_by_longer V bytes n es es' stops stops' more is
-      | inr (more, is) ↦ sym (told_by_longer V bytes n es' es stops' stops more is)
+      | inl (more, is) ↦ told_by_longer F bytes n es es' stops stops' more is
+      | inr (more, is) ↦ sym (told_by_longer F bytes n es' es stops' stops more is)
     ]
 
-same_stop : (V : ℕ) (bytes : List ℕ) (n n' : ℕ) (es es' : List AnswerEvent) → StopsAt V bytes n es → StopsAt V bytes n' es' → (n ≡ n') × (es ≡ es')
-same_stop V bytes n n' es es' stops stops' =
-    let same : n ≡ n' = omega (arith, stops_no_later V bytes n n' es es' stops stops', stops_no_later V bytes n' n es' es stops' stops) in
-    (same, same_stop_at V bytes n' es es' (subst (λ k. StopsAt V bytes k es) same stops) stops')
+same_stop : (F : Form) (bytes : List ℕ) (n n' : ℕ) (es es' : List AnswerEvent) → StopsAt F bytes n es → StopsAt F bytes n' es' → (n ≡ n') × (es ≡ es')
+same_stop F bytes n n' es es' stops stops' =
+    let same : n ≡ n' = omega (arith, stops_no_later F bytes n n' es es' stops stops', stops_no_later F bytes n' n es' es stops' stops) in
+    (same, same_stop_at F bytes n' es es' (subst (λ k. StopsAt F bytes k es) same stops) stops')
 
 -- ---- fronts of the bytes
 
 -- the first events of each answer that begins with a front of the bytes
-record TellsFirst (V : ℕ) (bytes : List ℕ) (events : List AnswerEvent) (count : ℕ) : Type 0 where
+record TellsFirst (F : Form) (bytes : List ℕ) (events : List AnswerEvent) (count : ℕ) : Type 0 where
   front : List ℕ
   back : List ℕ
   parts : bytes ≡ front ++ back
-  begins : BeginsAnswer V front
-  told : (rest : List ℕ) (answer : WrittenAnswer) → SpellsAnswer V (front ++ rest) answer → events ≡ take count (events_of answer)
+  begins : BeginsAnswer F front
+  told : (rest : List ℕ) (answer : WrittenAnswer) → SpellsAnswer F (front ++ rest) answer → events ≡ take count (events_of answer)
 
-first_of_front : (V : ℕ) (bytes : List ℕ) (events : List AnswerEvent) (tells : TellsFront V bytes events) → TellsFirst V bytes events (line_feeds tells.front - 5)
-first_of_front V bytes events tells = record {
+first_of_front : (F : Form) (bytes : List ℕ) (events : List AnswerEvent) (tells : TellsFront F bytes events) → TellsFirst F bytes events (line_feeds tells.front - silent_lines F)
+first_of_front F bytes events tells = record {
   front = tells.front;
   back = tells.back;
   parts = tells.parts;
@@ -68,8 +70,8 @@ first_of_front V bytes events tells = record {
   told = tells.begins.told;
 }
 
-first_of_stop : (V : ℕ) (bytes : List ℕ) (n : ℕ) (events : List AnswerEvent) → StopsAt V bytes n events → TellsFirst V bytes events (n - 6)
-first_of_stop V bytes n events stops = record {
+first_of_stop : (F : Form) (bytes : List ℕ) (n : ℕ) (events : List AnswerEvent) → StopsAt F bytes n events → TellsFirst F bytes events (n - suc (silent_lines F))
+first_of_stop F bytes n events stops = record {
   front = stops.front;
   back = stops.back;
   parts = stops.parts;
@@ -78,21 +80,21 @@ first_of_stop V bytes n events stops = record {
 }
 
 -- one answer begins with both of two fronts
-both_first : (V : ℕ) (bytes : List ℕ) (es es' : List AnswerEvent) (k k' : ℕ) → TellsFirst V bytes es k → TellsFirst V bytes es' k' →
+both_first : (F : Form) (bytes : List ℕ) (es es' : List AnswerEvent) (k k' : ℕ) → TellsFirst F bytes es k → TellsFirst F bytes es' k' →
     (all : List AnswerEvent) × (es ≡ take k all) × (es' ≡ take k' all)
-both_first V bytes es es' k k' first first' =
+both_first F bytes es es' k k' first first' =
     elim (fronts first.front first'.front first.back first'.back (sym first.parts ∙ first'.parts)) [
       | inl (more, is) ↦
           let rest = first'.begins.rest in
           let answer = first'.begins.answer in
-          let spells : SpellsAnswer V (first.front ++ (more ++ rest)) answer =
-          subst (λ xs. SpellsAnswer V xs answer) (ap (λ xs. xs ++ rest) is ∙ append_assoc first.front more rest) first'.begins.spells in
+          let spells : SpellsAnswer F (first.front ++ (more ++ rest)) answer =
+          subst (λ xs. SpellsAnswer F xs answer) (ap (λ xs. xs ++ rest) is ∙ append_assoc first.front more rest) first'.begins.spells in
           (events_of answer, first.told (more ++ rest) answer spells, first'.told rest answer first'.begins.spells)
       | inr (more, is) ↦
           let rest = first.begins.rest in
           let answer = first.begins.answer in
-          let spells : SpellsAnswer V (first'.front ++ (more ++ rest)) answer =
-          subst (λ xs. SpellsAnswer V xs answer) (ap (λ xs. xs ++ rest) is ∙ append_assoc first'.front more rest) first.begins.spells in
+          let spells : SpellsAnswer F (first'.front ++ (more ++ rest)) answer =
+          subst (λ xs. SpellsAnswer F xs answer) (ap (λ xs. xs ++ rest) is ∙ append_assoc first'.front more rest) first.begins.spells in
           (events_of answer, first.told rest answer first.begins.spells, first'.told (more ++ rest) answer spells)
     ]
 
@@ -116,39 +118,39 @@ SameReading es es' behind behind' =
     ⊎ (((behind ≡ Further) × (more : List AnswerEvent) × (es' ≡ es ++ more)) ⊎ ((behind' ≡ Further) × (more : List AnswerEvent) × (es ≡ es' ++ more)))
 
 -- a front that lets the bytes go on has no more lines than whole bytes
-pub further_whole : (V : ℕ) (bytes : List ℕ) (es es' : List AnswerEvent) → TellsFront V bytes es → ReadsLines V bytes es' Ended → (more : List AnswerEvent) × (es' ≡ es ++ more)
-further_whole V bytes es es' tells whole =
-    let k = line_feeds tells.front - 5 in
-    let spells : SpellsAnswer V (tells.front ++ tells.back) whole.answer = subst (λ xs. SpellsAnswer V xs whole.answer) tells.parts whole.spells in
+pub further_whole : (F : Form) (bytes : List ℕ) (es es' : List AnswerEvent) → TellsFront F bytes es → ReadsLines F bytes es' Ended → (more : List AnswerEvent) × (es' ≡ es ++ more)
+further_whole F bytes es es' tells whole =
+    let k = line_feeds tells.front - silent_lines F in
+    let spells : SpellsAnswer F (tells.front ++ tells.back) whole.answer = subst (λ xs. SpellsAnswer F xs whole.answer) tells.parts whole.spells in
     let is = tells.begins.told tells.back whole.answer spells in
     (drop k es', sym (ap (λ xs. xs ++ drop k es') (is ∙ ap (take k) (sym whole.told)) ∙ take-append-drop k es'))
 
 -- .. nor than bytes that cease to begin an answer
-further_stop : (V : ℕ) (bytes : List ℕ) (n : ℕ) (es es' : List AnswerEvent) → TellsFront V bytes es → StopsAt V bytes n es' → (more : List AnswerEvent) × (es' ≡ es ++ more)
-further_stop V bytes n es es' tells stops =
+further_stop : (F : Form) (bytes : List ℕ) (n : ℕ) (es es' : List AnswerEvent) → TellsFront F bytes es → StopsAt F bytes n es' → (more : List AnswerEvent) × (es' ≡ es ++ more)
+further_stop F bytes n es es' tells stops =
     let before : line_feeds tells.front < n = stops.last tells.front tells.back tells.parts tells.begins.begins in
-    let both = both_first V bytes es es' (line_feeds tells.front - 5) (n - 6) (first_of_front V bytes es tells) (first_of_stop V bytes n es' stops) in
-    fewer_first both.0 es es' (line_feeds tells.front - 5) (n - 6) (omega arith) both.1 both.2
+    let both = both_first F bytes es es' (line_feeds tells.front - silent_lines F) (n - suc (silent_lines F)) (first_of_front F bytes es tells) (first_of_stop F bytes n es' stops) in
+    fewer_first both.0 es es' (line_feeds tells.front - silent_lines F) (n - suc (silent_lines F)) (omega arith) both.1 both.2
 
 -- bytes have one reading, but for how far it goes
-pub same_lines : OneReading → (V : ℕ) (bytes : List ℕ) (es es' : List AnswerEvent) (behind behind' : Behind) → ReadsLines V bytes es behind → ReadsLines V bytes es' behind' →
+pub same_lines : OneReading → (F : Form) (bytes : List ℕ) (es es' : List AnswerEvent) (behind behind' : Behind) → ReadsLines F bytes es behind → ReadsLines F bytes es' behind' →
     SameReading es es' behind behind'
-same_lines once V bytes es es' Ended Ended read read' =
-    let same = once V bytes bytes [] [] read.answer read'.answer read.spells read'.spells refl in
+same_lines once F bytes es es' Ended Ended read read' =
+    let same = once F bytes bytes [] [] read.answer read'.answer read.spells read'.spells refl in
     inl (refl, read.told ∙ ap events_of same.1 ∙ sym read'.told)
-same_lines once V bytes es es' Ended (Ceased n') read stops' = absurd (stops'.unspelled read.answer read.spells)
-same_lines once V bytes es es' Ended Further read tells' = let longer = further_whole V bytes es' es tells' read in inr (inr (refl, longer.0, longer.1))
-same_lines once V bytes es es' (Ceased n) Ended stops read' = absurd (stops.unspelled read'.answer read'.spells)
-same_lines once V bytes es es' (Ceased n) (Ceased n') stops stops' =
-    let same = same_stop V bytes n n' es es' stops stops' in
+same_lines once F bytes es es' Ended (Ceased n') read stops' = absurd (stops'.unspelled read.answer read.spells)
+same_lines once F bytes es es' Ended Further read tells' = let longer = further_whole F bytes es' es tells' read in inr (inr (refl, longer.0, longer.1))
+same_lines once F bytes es es' (Ceased n) Ended stops read' = absurd (stops.unspelled read'.answer read'.spells)
+same_lines once F bytes es es' (Ceased n) (Ceased n') stops stops' =
+    let same = same_stop F bytes n n' es es' stops stops' in
     inl (ap Ceased same.0, same.1)
-same_lines once V bytes es es' (Ceased n) Further stops tells' = let longer = further_stop V bytes n es' es tells' stops in inr (inr (refl, longer.0, longer.1))
-same_lines once V bytes es es' Further Ended tells read' = let longer = further_whole V bytes es es' tells read' in inr (inl (refl, longer.0, longer.1))
-same_lines once V bytes es es' Further (Ceased n') tells stops' = let longer = further_stop V bytes n' es es' tells stops' in inr (inl (refl, longer.0, longer.1))
-same_lines once V bytes es es' Further Further tells tells' =
-    let k = line_feeds tells.front - 5 in
-    let k' = line_feeds tells'.front - 5 in
-    let both = both_first V bytes es es' k k' (first_of_front V bytes es tells) (first_of_front V bytes es' tells') in
+same_lines once F bytes es es' (Ceased n) Further stops tells' = let longer = further_stop F bytes n es' es tells' stops in inr (inr (refl, longer.0, longer.1))
+same_lines once F bytes es es' Further Ended tells read' = let longer = further_whole F bytes es es' tells read' in inr (inl (refl, longer.0, longer.1))
+same_lines once F bytes es es' Further (Ceased n') tells stops' = let longer = further_stop F bytes n' es es' tells stops' in inr (inl (refl, longer.0, longer.1))
+same_lines once F bytes es es' Further Further tells tells' =
+    let k = line_feeds tells.front - silent_lines F in
+    let k' = line_feeds tells'.front - silent_lines F in
+    let both = both_first F bytes es es' k k' (first_of_front F bytes es tells) (first_of_front F bytes es' tells') in
     elim (cases_lt k k') [
       | inl less ↦ let longer = fewer_first both.0 es es' k k' (omega arith) both.1 both.2 in inr (inl (refl, longer.0, longer.1))
       | inr more ↦ let longer = fewer_first both.0 es' es k' k more both.2 both.1 in inr (inr (refl, longer.0, longer.1))

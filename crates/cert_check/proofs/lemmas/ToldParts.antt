@@ -1,9 +1,13 @@
 -- What the lines of an answer tell, one after another.
-use Rattle.std.proofs.Common.{ℕ, suc, ◌≡◌, List, [], ◌∷◌, ◌++◌, length, map, Some, None, refl, ap, ◌∙◌}
+use Rattle.std.proofs.Common.{ℕ, suc, ◌≡◌, List, [], ◌∷◌, ◌++◌, length, map, Some, None, refl, sym, ap, ◌∙◌}
 use Rattle.net_graph.specs.declared.packing.Cut.{Cut}
-use Rattle.hanan_grid.specs.declared.name.EdgeName.{EdgeName}
+use Rattle.cut_cert.specs.declared.label.EdgeLabel.{EdgeLabel}
 use Rattle.cert_tree.specs.Tree.{Tree}
 use Rattle.cert_tree.specs.Tree.Tree.{Leaf, Split}
+use Rattle.cut_cert.specs.declared.form.Form.{Form}
+use Rattle.cut_cert.specs.declared.form.Form.TheVariants as form
+use Rattle.cut_cert.specs.Forms.{IsVersionOf, silent_lines}
+use Rattle.cut_cert.specs.Spelling.{FitsAnswer, FitsNote}
 use Rattle.cut_cert.specs.declared.head.AnswerHead.{AnswerHead}
 use Rattle.cut_cert.specs.declared.split.SplitName.{SplitName}
 use Rattle.cut_cert.specs.declared.split.SplitName.TheVariants as name
@@ -14,11 +18,11 @@ use Rattle.cut_cert.specs.declared.event.AnswerEvent.{AnswerEvent}
 use Rattle.cut_cert.specs.AnswerLine.{Line}
 use Rattle.cut_cert.specs.LineKinds as line
 use Rattle.cut_cert.specs.Value.{WrittenAnswer}
-use Rattle.cut_cert.specs.Lines.{body_lines, proof_lines, split_line, tree_lines}
-use Rattle.cut_cert.specs.Events.{Told, cut_told, event_at, events_from, events_of, head_with, line_told}
+use Rattle.cut_cert.specs.Lines.{body_lines, head_lines, proof_lines, split_line, tree_lines}
+use Rattle.cut_cert.specs.Events.{Told, cut_told, event_at, events_from, events_of, head_with, line_told, no_head}
 
 -- what the lines of the edges tell
-abbrev pub edges_told : List EdgeName → List Told
+abbrev pub edges_told : List EdgeLabel → List Told
 edges_told edges = map (λ e. (event.Edge e, None)) edges
 
 -- what the lines of a tree tell
@@ -75,7 +79,7 @@ cuts_tell : (h : AnswerHead) (cuts : List Cut) → EachTells h (map line.Cut cut
 cuts_tell h [] = tt
 cuts_tell h (c ∷ cuts) = (refl, refl, cuts_tell h cuts)
 
-edges_tell : (h : AnswerHead) (edges : List EdgeName) → EachTells h (map line.Edge edges) (edges_told edges)
+edges_tell : (h : AnswerHead) (edges : List EdgeLabel) → EachTells h (map line.Edge edges) (edges_told edges)
 edges_tell h [] = tt
 edges_tell h (e ∷ edges) = (refl, refl, edges_tell h edges)
 
@@ -85,6 +89,7 @@ split_tells : (h : AnswerHead) (v : Version) (on : SplitName) (ls : List Line) (
 split_tells h v (name.Vertex p) ls ts rest = (refl, refl, rest)
 split_tells h version.One (name.Edge e) ls ts rest = (refl, refl, rest)
 split_tells h version.Two (name.Edge e) ls ts rest = (refl, refl, rest)
+split_tells h version.Graph (name.Edge e) ls ts rest = (refl, refl, rest)
 
 tree_tells : (h : AnswerHead) (v : Version) (t : Tree SplitName) → EachTells h (tree_lines v t) (tree_told t)
 tree_tells h v (Leaf cuts) = (refl, refl, cuts_tell h cuts)
@@ -113,8 +118,25 @@ body_tells h a = (
       (proof_told a.tree) (edges_tell h a.edges) (proof_tells h a.version a.tree),
 )
 
--- the events of an answer: its head ends with line 6
-pub events_of-told : (a : WrittenAnswer) → events_of a ≡ numbered 6 (answer_told a)
-events_of-told a =
-    ap (λ es. record { line = 6; event = event.Head a.head; members = None } ∷ es)
-    (events_from-each a.head 7 (body_lines a) (body_told a) (body_tells a.head a))
+-- the lines of a head, before lines of which each tells something, tell the head
+head_told : (F : Form) (v : Version) (h : AnswerHead) (ls : List Line) (ts : List Told) → IsVersionOf F v →
+    FitsNote F h → ((k : AnswerHead) (n : ℕ) → events_from k n ls ≡ numbered n ts) →
+    events_from no_head 1 (head_lines v h ++ ls) ≡ numbered (suc (silent_lines F)) ((event.Head h, None) ∷ ts)
+head_told (form.OnGrid V) version.One h ls ts of note rest =
+    ap (λ es. record { line = 6; event = event.Head h; members = None } ∷ es) (rest h 7)
+head_told (form.OnGrid V) version.Two h ls ts of note rest =
+    ap (λ es. record { line = 6; event = event.Head h; members = None } ∷ es) (rest h 7)
+head_told (form.OnGrid V) version.Graph h ls ts of note rest = absurd of
+head_told (form.OfGraph E V) version.One h ls ts of note rest = absurd of
+head_told (form.OfGraph E V) version.Two h ls ts of note rest = absurd of
+head_told (form.OfGraph E V) version.Graph h ls ts of note rest =
+    ap (λ c. record { line = 5; event = event.Head (record h { concat = c }); members = None }
+    ∷ events_from (record h { concat = c }) 6 ls) (sym note)
+    ∙ ap (λ es. record { line = 5; event = event.Head h; members = None } ∷ es) (rest h 6)
+
+-- the events of an answer that fits its form
+pub events_of-told : (F : Form) (a : WrittenAnswer) → FitsAnswer F a →
+    events_of a ≡ numbered (suc (silent_lines F)) (answer_told a)
+events_of-told F a fits =
+    head_told F a.version a.head (body_lines a) (body_told a) fits.version fits.note
+    (λ k n. events_from-each k n (body_lines a) (body_told a) (body_tells k a))

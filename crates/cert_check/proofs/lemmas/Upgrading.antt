@@ -5,6 +5,8 @@ use Rattle.points_in.specs.declared.point.Point.{Point}
 use Rattle.hanan_grid.specs.Grid.{hanan_grid_of}
 use Rattle.cert_tree.specs.Tree.{Tree}
 use Rattle.cert_tree.specs.Tree.Tree.{Leaf, Split}
+use Rattle.cut_cert.specs.declared.form.Form.TheVariants as form
+use Rattle.cut_cert.specs.Forms.{IsVersionOf}
 use Rattle.cut_cert.specs.declared.split.SplitName.{SplitName}
 use Rattle.cut_cert.specs.declared.split.SplitName.TheVariants as name
 use Rattle.cut_cert.specs.declared.version.Version.{Version}
@@ -12,15 +14,17 @@ use Rattle.cut_cert.specs.declared.version.Version.TheVariants as version
 use Rattle.cut_cert.specs.AnswerLine.{Line}
 use Rattle.cut_cert.specs.LineKinds as line
 use Rattle.cut_cert.specs.Value.{WrittenAnswer, upgraded}
-use Rattle.cut_cert.specs.Words.{name_words}
+use Rattle.cut_cert.specs.Words.{edge_words}
 use Rattle.cut_cert.specs.Lines.{answer_lines, body_lines, head_lines, line_text, lines_text, network_lines, proof_lines, split_line, tree_lines}
 use Rattle.cut_cert.specs.Text.{answer_text}
 use Rattle.cut_cert.specs.Events.{events_of}
 use Rattle.cut_cert.specs.Spelling.{OneReading, SpellsAnswer}
+use Rattle.cert_check.specs.Named.{Named, on_grid}
 use Rattle.cert_check.specs.declared.verdict.Finished.{Finished}
 use Rattle.cert_check.specs.Lines.Behind.{Ended}
-use Rattle.cert_check.specs.Judged.{Judges, nothing_told}
-use Rattle.cert_check.specs.Verdicts.{IsJudged, IsVerdict, byte_limit}
+use Rattle.tree_judge.specs.Judged.{nothing_told}
+use Rattle.cert_check.specs.Judged.{Judges}
+use Rattle.cert_check.specs.Verdicts.{IsJudged, IsVerdict, IsVerdictIn, byte_limit}
 use Rattle.cert_check.proofs.lemmas.Complete.{judged_whole}
 
 -- ---- its text is not much longer
@@ -51,12 +55,13 @@ split_line-2 v (name.Vertex p) = omega arith
 split_line-2 version.One (name.Edge e) =
     omega (
       arith,
-      length-append (codes "split edge " ++ name_words e) (10 ∷ []),
-      length-append (codes "split edge ") (name_words e),
-      length-append (codes "split " ++ name_words e) (10 ∷ []),
-      length-append (codes "split ") (name_words e),
+      length-append (codes "split edge " ++ edge_words e) (10 ∷ []),
+      length-append (codes "split edge ") (edge_words e),
+      length-append (codes "split " ++ edge_words e) (10 ∷ []),
+      length-append (codes "split ") (edge_words e),
     )
 split_line-2 version.Two (name.Edge e) = omega arith
+split_line-2 version.Graph (name.Edge e) = omega arith
 
 tree_lines-2 : (v : Version) (t : Tree SplitName) → bytes_in (tree_lines version.Two t) ≤ 6 * bytes_in (tree_lines v t)
 tree_lines-2 v (Leaf cuts) = omega arith
@@ -84,66 +89,76 @@ proof_lines-2 v t =
       tree_lines-2 v t,
     )
 
--- a title has as many bytes in each version
-head_lines-2 : (v : Version) (a : WrittenAnswer) → bytes_in (head_lines version.Two a.head) ≡ bytes_in (head_lines v a.head)
+-- a title has as many bytes in each version of the texts on a grid
+head_lines-2 : (v : Version) (a : WrittenAnswer) (V : ℕ) → IsVersionOf (form.OnGrid V) v →
+    bytes_in (head_lines version.Two a.head) ≡ bytes_in (head_lines v a.head)
 unfolding bytes_in
-head_lines-2 version.One a = refl
-head_lines-2 version.Two a = refl
+head_lines-2 version.One a V is = refl
+head_lines-2 version.Two a V is = refl
+head_lines-2 version.Graph a V is = absurd is
 
-few_bytes-2 : (a : WrittenAnswer) → bytes_in (answer_lines (upgraded a)) ≤ 6 * bytes_in (answer_lines a)
-few_bytes-2 a =
+few_bytes-2 : (a : WrittenAnswer) (V : ℕ) → IsVersionOf (form.OnGrid V) a.version →
+    bytes_in (answer_lines (upgraded a)) ≤ 6 * bytes_in (answer_lines a)
+few_bytes-2 a V is =
     omega (
       arith,
       bytes_in-append (head_lines version.Two a.head) (body_lines (upgraded a)),
       bytes_in-append (network_lines a.edges) (proof_lines version.Two a.tree),
       bytes_in-append (head_lines a.version a.head) (body_lines a),
       bytes_in-append (network_lines a.edges) (proof_lines a.version a.tree),
-      head_lines-2 a.version a,
+      head_lines-2 a.version a V is,
       proof_lines-2 a.version a.tree,
     )
 
-pub answer_text-2 : (a : WrittenAnswer) → length (answer_text (upgraded a)) ≤ 6 * length (answer_text a)
+pub answer_text-2 : (a : WrittenAnswer) (V : ℕ) → IsVersionOf (form.OnGrid V) a.version →
+    length (answer_text (upgraded a)) ≤ 6 * length (answer_text a)
 unfolding bytes_in
-answer_text-2 a = few_bytes-2 a
+answer_text-2 a V is = few_bytes-2 a V is
 
 -- ---- its verdict
 
 -- an answer that has a text has one in version 2, and its lines tell the same
 pub record IsAlike : Type 0 where
-  pub spells : (V : ℕ) (bytes : List ℕ) (a : WrittenAnswer) → SpellsAnswer V bytes a → SpellsAnswer V (answer_text (upgraded a)) (upgraded a)
-  pub told : (a : WrittenAnswer) → events_of (upgraded a) ≡ events_of a
+  pub spells : (V : ℕ) (bytes : List ℕ) (a : WrittenAnswer) → SpellsAnswer (form.OnGrid V) bytes a →
+      SpellsAnswer (form.OnGrid V) (answer_text (upgraded a)) (upgraded a)
+  pub told : (V : ℕ) (bytes : List ℕ) (a : WrittenAnswer) → SpellsAnswer (form.OnGrid V) bytes a →
+      events_of (upgraded a) ≡ events_of a
 
 -- bytes that spell an answer are judged as another text whose lines tell the same
-judged_as : OneReading → (ps : List Point) (bytes text : List ℕ) (a b : WrittenAnswer) (f : Finished) →
-    SpellsAnswer (hanan_grid_of ps).vertices bytes a → SpellsAnswer (hanan_grid_of ps).vertices text b →
-    events_of b ≡ events_of a → IsJudged ps bytes f → IsJudged ps text f
-judged_as one ps bytes text a b f spells spells' same v = record {
+judged_as : OneReading → (N : Named) (bytes text : List ℕ) (a b : WrittenAnswer) (f : Finished) →
+    SpellsAnswer N.form bytes a → SpellsAnswer N.form text b →
+    events_of b ≡ events_of a → IsJudged N bytes f → IsJudged N text f
+judged_as one N bytes text a b f spells spells' same v = record {
   events = events_of b;
   behind = Ended;
   read = record { answer = b; spells = spells'; told = refl };
-  judged = subst (λ es. Judges ps (nothing_told ps) es Ended f) (sym same)
-      (judged_whole one ps bytes a v.events v.behind f spells v.read v.judged);
+  judged = subst (λ es. Judges N (nothing_told N.graph) es Ended f) (sym same)
+      (judged_whole one N bytes a v.events v.behind f spells v.read v.judged);
 }
 
 -- so few of them have one verdict
-pub verdict_as : OneReading → (ps : List Point) (bytes text : List ℕ) (a b : WrittenAnswer) (f : Finished) →
-    SpellsAnswer (hanan_grid_of ps).vertices bytes a → SpellsAnswer (hanan_grid_of ps).vertices text b →
-    events_of b ≡ events_of a → length bytes ≤ byte_limit → length text ≤ byte_limit → IsVerdict ps bytes f →
-    IsVerdict ps text f
-verdict_as one ps bytes text a b f spells spells' same few few' (inl v) =
-    inl (record { few = few'; judged = judged_as one ps bytes text a b f spells spells' same v.judged })
-verdict_as one ps bytes text a b f spells spells' same few few' (inr v) = absurd (omega (arith, v.many, few))
+pub verdict_as : OneReading → (N : Named) (bytes text : List ℕ) (a b : WrittenAnswer) (f : Finished) →
+    SpellsAnswer N.form bytes a → SpellsAnswer N.form text b →
+    events_of b ≡ events_of a → length bytes ≤ byte_limit → length text ≤ byte_limit → IsVerdictIn N bytes f →
+    IsVerdictIn N text f
+verdict_as one N bytes text a b f spells spells' same few few' (inl v) =
+    inl (record { few = few'; judged = judged_as one N bytes text a b f spells spells' same v.judged })
+verdict_as one N bytes text a b f spells spells' same few few' (inr v) = absurd (omega (arith, v.many, few))
 
 pub upgraded_verdict : OneReading → IsAlike → (ps : List Point) (bytes : List ℕ) (a : WrittenAnswer) (f : Finished) →
-    SpellsAnswer (hanan_grid_of ps).vertices bytes a → length bytes ≤ 2 ^ 28 →
+    SpellsAnswer (form.OnGrid (hanan_grid_of ps).vertices) bytes a → length bytes ≤ 2 ^ 28 →
     (IsVerdict ps bytes f → IsVerdict ps (answer_text (upgraded a)) f)
     × (IsVerdict ps (answer_text (upgraded a)) f → IsVerdict ps bytes f)
 upgraded_verdict one alike ps bytes a f spells few =
+    let N = on_grid ps in
+    let V = (hanan_grid_of ps).vertices in
     let text = answer_text (upgraded a) in
-    let spells' = alike.spells (hanan_grid_of ps).vertices bytes a spells in
-    let size : length text ≤ 6 * length bytes = omega (arith, answer_text-2 a, ap length spells.spelled) in
+    let spells' = alike.spells V bytes a spells in
+    let told = alike.told V bytes a spells in
+    let size : length text ≤ 6 * length bytes =
+    omega (arith, answer_text-2 a V spells.fits.version, ap length spells.spelled) in
     let few_bytes : length bytes ≤ byte_limit = omega (arith, few) in
     let few_text : length text ≤ byte_limit = omega (arith, few, size) in (
-      verdict_as one ps bytes text a (upgraded a) f spells spells' (alike.told a) few_bytes few_text,
-      verdict_as one ps text bytes (upgraded a) a f spells' spells (sym (alike.told a)) few_text few_bytes,
+      verdict_as one N bytes text a (upgraded a) f spells spells' told few_bytes few_text,
+      verdict_as one N text bytes (upgraded a) a f spells' spells (sym told) few_text few_bytes,
     )

@@ -2,8 +2,8 @@ use Rattle.std.proofs.Common.{ℕ, zero, suc, ◌≡◌, ◌+◌, ◌≤◌, Lis
 use Rattle.std.specs.Prelude.{Option, Some, IfNone}
 use Rattle.std.proofs.lemmas.List.{length-take-le}
 use Rattle.std.proofs.Math.Logic.{∥∥₁_map}
-use Rattle.hanan_grid.specs.Grid.{hanan_grid_of}
 use Rattle.cut_cert.specs.Reader.{Reads}
+use Rattle.cert_check.specs.Named.{on_grid}
 use Rattle.cert_check.specs.Verdicts.{byte_limit}
 use Rattle.cert_check.specs.Underway.{Follows}
 use Rattle.cert_check.proofs.lemmas.Bytes.{follows_read, follows_before}
@@ -24,13 +24,13 @@ none_map (Some x) f p = tt
 pub invariant_of-self : goal.invariant_of-self
 invariant_of-self c =
     let old = c.args.self.now in
-    let V = (hanan_grid_of old.grid.now).vertices in
+    let F = (on_grid old.grid.now).form in
     let taken = c.feed_digits-taken.ensures in
     record {
       underway = record {
         sizes = old.underway.sizes;
         few = omega (arith, old.underway.few, taken.fed);
-        reads = none_map old.fault (λ known. ∥∥₁_map known (λ r. (_, r.1, taken.reads V r.0 r.1 r.2)))
+        reads = none_map old.fault (λ known. ∥∥₁_map known (λ r. (_, r.1, taken.reads F r.0 r.1 r.2)))
             old.underway.reads;
       };
     }
@@ -48,16 +48,16 @@ returns-clause-feeds c ps bytes stands =
     let few : old.fed + taken ≤ byte_limit = omega (arith, within, c.min-room.ensures, c.requires.room) in
     let count : length digits ≡ taken = length-take-le taken piece (omega (arith, within, c.min-room.ensures)) in
     let (events, s, reads, passes, judged) =
-    subst (Follows ps bytes old.reader old.judge) c.requires.right
-    (follows_before ps bytes old.fed old.reader old.judge old.fault stands.fed c.requires.room stands.follows) in
-    let V = (hanan_grid_of ps).vertices in
-    let read = subst (λ xs. Reads V (bytes ++ xs) events new) (take_of_take taken room piece within)
-    (c.feed_digits-taken.ensures.reads V bytes events reads) in
-    let after = subst (Follows ps (bytes ++ digits) new old.judge) (sym c.requires.right)
+    subst (Follows (on_grid ps) bytes old.reader old.judge) c.requires.right
+    (follows_before (on_grid ps) bytes old.fed old.reader old.judge old.fault stands.fed c.requires.room stands.follows) in
+    let F = (on_grid ps).form in
+    let read = subst (λ xs. Reads F (bytes ++ xs) events new) (take_of_take taken room piece within)
+    (c.feed_digits-taken.ensures.reads F bytes events reads) in
+    let after = subst (Follows (on_grid ps) (bytes ++ digits) new old.judge) (sym c.requires.right)
     (events, s, read, passes, judged) in
     record {
       grid = stands.grid;
       fed = omega (arith, stands.fed, few, count, length-append bytes digits);
-      follows = follows_read ps bytes digits old.fed new old.judge old.fault stands.fed (omega (arith, count, few))
+      follows = follows_read (on_grid ps) bytes digits old.fed new old.judge old.fault stands.fed (omega (arith, count, few))
           after;
     }

@@ -1,5 +1,6 @@
 use Rattle.std.proofs.Common.{◌≡◌, ◌++◌, length, length-append, take, sym, ap, ◌∙◌, subst, arith}
 use Rattle.std.proofs.lemmas.List.{append-nil, take_all, take_more}
+use Rattle.cert_check.specs.Named.{on_grid}
 use Rattle.cert_check.specs.Checking.{StandsForBytes}
 use Rattle.cert_check.proofs.lemmas.Bytes.{follows_settled}
 use Rattle.cert_check.proofs.checker.Checker.feed_some.Goals as goal
@@ -12,7 +13,7 @@ returns-then-is_settled-clause-feeds c ps bytes stands =
     record {
       grid = stands.grid;
       fed = omega (arith, c.saturating_add-self.ensures, stands.fed, length-append bytes more, count);
-      follows = follows_settled ps bytes more old.fed old.reader old.judge old.fault stands.fed
+      follows = follows_settled (on_grid ps) bytes more old.fed old.reader old.judge old.fault stands.fed
           (c.is_settled.ensures.0 c.if-is_settled.true) stands.follows;
     }
 

@@ -1,0 +1,28 @@
+-- What an answer's text is about: a graph, how its edges and vertices are labelled, and the form of the text.
+use Rattle.std.specs.Prelude.{ℕ, ◌≡◌, ◌<◌, List, length}
+use Rattle.points_in.specs.declared.point.Point.{Point}
+use Rattle.net_graph.specs.Graph.{Graph}
+use Rattle.hanan_grid.specs.Grid.{hanan_grid_of}
+use Rattle.cut_cert.specs.declared.form.Form.{Form}
+use Rattle.cut_cert.specs.declared.form.Form.TheVariants as form
+use Rattle.cut_cert.specs.Answers.{Labels, grid_labels}
+
+pub record Named : Type 0 where
+  pub form : Form
+  pub graph : Graph
+  pub labels : Labels
+
+-- the grid of these terminals
+abbrev pub on_grid : List Point → Named
+on_grid ps = record {
+  form = form.OnGrid (hanan_grid_of ps).vertices;
+  graph = hanan_grid_of ps;
+  labels = grid_labels ps;
+}
+
+-- a label is that of one edge at most, or of one vertex at most
+pub record IsNamed (N : Named) : Type 0 where
+  pub edge : (e e' : ℕ) → e < length N.graph.edges → e' < length N.graph.edges →
+      N.labels.edge e ≡ N.labels.edge e' → e ≡ e'
+  pub vertex : (v v' : ℕ) → v < N.graph.vertices → v' < N.graph.vertices →
+      N.labels.vertex v ≡ N.labels.vertex v' → v ≡ v'

@@ -1,0 +1,13 @@
+pub mod Tables
+pub mod Rooms
+pub mod Pigeons
+pub mod Listed
+pub mod Turns
+pub mod Marks
+pub mod Loading
+pub mod Idle
+pub mod Leaves
+pub mod WaySteps
+pub mod WayTurns
+pub mod Values
+pub mod JudgeSteps

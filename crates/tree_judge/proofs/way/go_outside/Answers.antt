@@ -1,0 +1,13 @@
+use Rattle.std.proofs.Common.{false}
+use Rattle.tree_judge.proofs.lemmas.WaySteps.{StandsOnWay-down, undecided_has_state}
+use Rattle.tree_judge.proofs.way.go_outside.Goals as goal
+
+pub go_down-requires-clause-state : goal.go_down-requires-clause-state
+go_down-requires-clause-state c =
+    undecided_has_state c.args._g.now c.args.room.now.decided c.args.room.now c.args.on c.requires.way.rows
+    c.requires.undecided
+
+pub returns-clause-way : goal.returns-clause-way
+returns-clause-way c =
+    StandsOnWay-down c.args._g.now (record { on = c.args.on; inside = false }) c.args.room.now c.go_down.new.room
+    c.requires.way c.requires.undecided c.go_down.ensures
