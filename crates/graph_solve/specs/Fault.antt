@@ -6,7 +6,8 @@ use Rattle.net_graph.specs.Fault.{IsFirst}
 use Rattle.net_graph.specs.Network.{IsNetwork, IsFirstApart}
 use Rattle.graph_solve.specs.Task.{terminals_of, graph_of_stp, total_of_stp, all_edges}
 use Rattle.graph_solve.specs.declared.fault.TaskFault.{TaskFault}
-use Rattle.graph_solve.specs.declared.fault.TaskFault.TheVariants.{TooManyNodes, TooManyEdges, TooManyTerminals, NoTerminals, ZeroLength, TooLong, Apart, Memory}
+use Rattle.graph_solve.specs.declared.fault.TaskFault.TheVariants.{TooManyNodes, TooManyEdges, TooManyTerminals}
+use Rattle.graph_solve.specs.declared.fault.TaskFault.TheVariants.{NoTerminals, ZeroLength, TooLong, Apart, Memory}
 
 -- at most 2,500 nodes, 4,900 edges and 255 distinct terminals
 pub record IsSmall (file : StpValue) : Type 0 where
@@ -49,5 +50,6 @@ IsFirstFault file TooManyTerminals =
 IsFirstFault file NoTerminals = IsSmall file × (file.terminals ≡ [])
 IsFirstFault file (ZeroLength number) = HasTerminal file × IsFirstWithoutLength file number
 IsFirstFault file (TooLong total) = HasLengths file × (total ≡ total_of_stp file) × (2 ^ 63 ≤ total)
-IsFirstFault file (Apart node) = HasLengths file × (total_of_stp file < 2 ^ 63) × IsFirstApartNode (graph_of_stp file) node
+IsFirstFault file (Apart node) =
+    HasLengths file × (total_of_stp file < 2 ^ 63) × IsFirstApartNode (graph_of_stp file) node
 IsFirstFault file (Memory error) = Unit {0}

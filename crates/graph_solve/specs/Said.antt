@@ -1,7 +1,8 @@
 -- What is said of the faults of a file as a Steiner problem, and which of them pass a limit.
 use Rattle.std.specs.Prelude.{ℕ, Bool, true, false, List, ◌++◌, codes, decimal}
 use Rattle.graph_solve.specs.declared.fault.TaskFault.{TaskFault}
-use Rattle.graph_solve.specs.declared.fault.TaskFault.TheVariants.{TooManyNodes, TooManyEdges, TooManyTerminals, NoTerminals, ZeroLength, TooLong, Apart, Memory}
+use Rattle.graph_solve.specs.declared.fault.TaskFault.TheVariants.{TooManyNodes, TooManyEdges, TooManyTerminals}
+use Rattle.graph_solve.specs.declared.fault.TaskFault.TheVariants.{NoTerminals, ZeroLength, TooLong, Apart, Memory}
 
 -- what is said of a number
 abbrev pub number_text : List ℕ → ℕ → List ℕ → List ℕ

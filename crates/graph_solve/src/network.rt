@@ -15,7 +15,7 @@ use std::alloc::{AllocError, Global};
 const STARTS: u32 = 16;
 
 // In how many descents of local search the shortest of them is made shorter at most.
-const DESCENTS: u32 = 100;
+const DESCENTS: u32 = 20;
 
 /// A network, no longer than all edges together: the shortest of those that grow from several vertices along shortest
 /// paths, made shorter by local search. The same graph gives the same network. An `Err` is want of memory.

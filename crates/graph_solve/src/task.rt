@@ -129,8 +129,8 @@ fn sound_graph(
     }
 }
 
-// The node of the first terminal that all edges together don't join to the first one: none where they join all. An `Err`
-// is want of memory.
+// The node of the first terminal that all edges together don't join to the first one: none where they join all. An
+// `Err` is want of memory.
 fn first_apart_node(alloc: Global, g: &NetGraph) -> Result<Option<u32>, AllocError>
     requires { length g.now.terminals ≤ 255 }
     ensures none { IfOk result (λ node. IfNone node (IsNetwork g.now (all_edges g.now))) }
