@@ -12,9 +12,9 @@ use std::alloc::{AllocError, Global};
 use std::mem::swap;
 
 /// A network that grows from a start by a shortest path to the nearest terminal outside, until all are in (Takahashi
-/// and Matsuyama 1980), and then is a least spanning tree of its vertices without dead ends: the shortest one of at most
-/// so many starts, half of them terminals. That this is a network is not promised. The same arguments give the same
-/// edges. An `Err` is want of memory.
+/// and Matsuyama 1980), and then is a least spanning tree of its vertices without dead ends: the shortest one of at
+/// most so many starts, half of them terminals. That this is a network is not promised. The same arguments give the
+/// same edges. An `Err` is want of memory.
 pub fn propose_network(alloc: Global, g: &NetGraph, starts: u32) -> Result<EdgeSet, AllocError>
     ensures { IfOk result (λ found. length found ≡ length g.now.edges) }
 {

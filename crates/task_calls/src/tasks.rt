@@ -12,8 +12,8 @@ use std::alloc::Global;
 use stp_format::{StpFile, read_stp};
 use text_calls::given::said_of;
 
-/// The fault of the STP file under `file` as a Steiner problem; or its graph, as rows describe graphs. The file may stand in
-/// several pieces, one behind the other.
+/// The fault of the STP file under `file` as a Steiner problem; or its graph, as rows describe graphs. The file may
+/// stand in several pieces, one behind the other.
 pub(crate) fn graph(alloc: Global, call: &Call, answer: &mut String) -> Result<(), Fault> {
     let file = given_file(alloc, call)?;
     match graph_of(alloc, &file) {

@@ -1,9 +1,9 @@
 -- One more number at the end of a list whose repeats are left out, and marks of the numbers that were listed.
-use Rattle.std.specs.Prelude.{ℕ, ◌≡◌, ◌<◌, ◌≤◌, ◌+◌, Bool, true, false, cond, IsTrue, Some, slice_get, map, ◌==◌, ◌||◌, not, List, [], ◌∷◌, ◌++◌, length, filter, replicate, slice_set}
+use Rattle.std.specs.Prelude.{ℕ, ◌≡◌, ◌<◌, ◌+◌, Bool, true, false, cond, IsTrue, Some, slice_get, map, ◌==◌, ◌||◌, not, List, [], ◌∷◌, ◌++◌, length, filter, slice_set}
 use Rattle.std.specs.List.{list_any}
 use Rattle.std.proofs.Common.{get_or, take, arith, refl, ap, sym, ◌∙◌, subst, inl, inr, ⊎_elim}
-use Rattle.std.proofs.lemmas.Bool.{cases_Bool, cases_lt, cases_eq, eqb-true, eq-eqb, ne_eqb}
-use Rattle.std.proofs.lemmas.List.{append-nil, length-replicate, get_or-replicate, get_or_past, get_or-set_same, get_or-set_other, map_more}
+use Rattle.std.proofs.lemmas.Bool.{cases_Bool, cases_eq, eqb-true, eq-eqb, ne_eqb}
+use Rattle.std.proofs.lemmas.List.{append-nil, get_or-set_same, get_or-set_other, map_more}
 use Rattle.std.proofs.lemmas.List.Elements.{filter-append}
 use Rattle.std.proofs.lemmas.List.Folds.{list_any-append}
 use Rattle.std.proofs.lemmas.Option.{slice_get_within, get_or_from_slice_get}
@@ -51,16 +51,6 @@ without_repeats-push (a ∷ ns) n = rw (without_repeats-push ns n) (elim (cases_
 pub record AreListed (numbers : List ℕ) (marks : List Bool) (list : List ℕ) : Type 0 where
   pub once : list ≡ without_repeats numbers
   pub marked : (v : ℕ) → has marks v ≡ holds v list
-
--- nothing is listed and nothing is marked
-pub AreListed-none : (size : ℕ) → AreListed [] (replicate size false) []
-AreListed-none size = record {
-  once = refl;
-  marked = λ v. ⊎_elim
-      (λ (within : v < size). get_or-replicate size v false false within)
-      (λ (past : size ≤ v). get_or_past (replicate size false) v false (rw length-replicate past))
-      (cases_lt v size);
-}
 
 -- a number that is marked stands in the list
 pub AreListed-repeat : (numbers : List ℕ) (marks : List Bool) (list : List ℕ) (v : ℕ) → AreListed numbers marks list →
