@@ -63,6 +63,7 @@ fn make(alloc: Global, call: &Call, answer: &mut String) -> Result<(), Fault> {
         "tree" => tree_calls::answer(alloc, call, answer),
         "text" => text_calls::answer(alloc, call, answer),
         "answer" => answer_calls::answer(alloc, call, answer),
+        "task" => task_calls::answer(alloc, call, answer),
         _ => Err(Fault::UnknownSubject),
     }
 }

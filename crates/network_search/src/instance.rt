@@ -37,6 +37,17 @@ impl<'a> Instance<'a> {
         at(self.terminals, vertex, false)
     }
 
+    /// How many vertices are terminals.
+    pub fn distinct_terminals(self) -> u32 {
+        let mut count = 0u32;
+        for is_terminal in self.terminals {
+            if *is_terminal {
+                count = count.saturating_add(1);
+            }
+        }
+        count
+    }
+
     /// The arcs that lead from a vertex.
     pub fn arcs_from(self, vertex: u32) -> &'a [Arc] {
         if vertex < self.graph.vertex_count() {

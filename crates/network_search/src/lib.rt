@@ -1,4 +1,4 @@
-//! Shorter networks by local search. It proposes: what it finds is judged by `network_judge`.
+//! Networks along shortest paths, and shorter ones by local search. It proposes: who calls it judges what it finds.
 #![tactic(auto)]
 
 mod access;
@@ -10,8 +10,11 @@ mod key_path;
 mod key_tree;
 mod key_vertices;
 mod local_search;
+mod path_network;
+mod path_search;
 mod shortening;
 mod shortest_paths;
 mod subgraph;
 
+pub use path_network::propose_network;
 pub use shortening::{propose_cleaned, propose_shorter};

@@ -34,7 +34,7 @@ pub(crate) fn shown(bytes: &[u8]) -> Result<&str, Fault> {
 }
 
 /// What is said of a fault of a text. An `Err` may be want of memory, its own or that of the reader.
-pub(crate) fn said_of<F: FormatFault + Drop>(alloc: Global, fault: F) -> Result<String, Fault> {
+pub fn said_of<F: FormatFault + Drop>(alloc: Global, fault: F) -> Result<String, Fault> {
     let fault = fault.of_text()?;
     let mut sink = MemSink::with_room(alloc, ROOM, ROOM, Vec::new(alloc))?;
     let mut block = Block::new();

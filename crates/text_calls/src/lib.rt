@@ -3,7 +3,7 @@
 #![tactic(auto)]
 
 mod cuts;
-mod given;
+pub mod given;
 mod lines;
 mod pieces;
 mod sources;

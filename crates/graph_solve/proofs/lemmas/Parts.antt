@@ -1,0 +1,98 @@
+-- What is said of the edges of a file is said of those of its graph, and back.
+use Rattle.std.specs.Prelude.{ℕ, ◌≡◌, ◌+◌, ◌<◌, ◌≤◌, List, [], ◌∷◌, ◌++◌, length, get_or, take, map, sum_by, slice_get, Some, All, option_map}
+use Rattle.std.proofs.Common.{ap, sym, ◌∙◌, subst, refl, arith}
+use Rattle.std.proofs.lemmas.List.{length-map, get_or-map, map_more}
+use Rattle.std.proofs.lemmas.List.Sums.{sum_by-cons}
+use Rattle.std.proofs.lemmas.Option.{slice_get-map, slice_get_within, slice_get-get_or, get_or_from_slice_get, same_Some}
+use Rattle.stp_format.specs.declared.edge.StpEdge.{StpEdge}
+use Rattle.stp_format.specs.Value.{StpValue}
+use Rattle.net_graph.specs.declared.edge.Edge.{Edge}
+use Rattle.net_graph.specs.Fault.{IsFirst}
+use Rattle.graph_solve.specs.Task.{vertex_of, edge_of, without_repeats, total_of_stp}
+use Rattle.graph_solve.specs.Fault.{HasTerminal, HasLengths, IsFirstWithoutLength}
+
+-- the sum of the lengths
+pub sum-edges : (edges : List StpEdge) → sum_by (λ (e : Edge). e.length) (map edge_of edges) ≡
+    sum_by (λ (e : StpEdge). e.length) edges
+sum-edges [] = refl
+sum-edges (e ∷ edges) =
+    omega (
+      arith,
+      sum-edges edges,
+      sum_by-cons (λ (x : Edge). x.length) (edge_of e) (map edge_of edges),
+      sum_by-cons (λ (x : StpEdge). x.length) e edges,
+    )
+
+-- each edge has a length
+pub lengths-edges : (edges : List StpEdge) → All (λ (e : Edge). 0 < e.length) (map edge_of edges) →
+    All (λ (e : StpEdge). 0 < e.length) edges
+lengths-edges edges each k e within =
+    let there : k < length (map edge_of edges) = omega (arith, within, length-map edges edge_of) in
+    let same = get_or-map edge_of edges k e (edge_of e) within in
+    let P : Edge → Type 0 = λ x. 0 < x.length in
+    subst P same (each k (edge_of e) there)
+
+-- some edge
+nowhere : StpEdge
+nowhere = record { i = 0; j = 0; length = 0 }
+
+-- the first edge without a length
+pub IsFirst-edges : (edges : List StpEdge) (place : ℕ) → IsFirst (λ (e : Edge). e.length ≡ 0) (map edge_of edges) place →
+    IsFirst (λ (e : StpEdge). e.length ≡ 0) edges place
+IsFirst-edges edges place first =
+    let low = slice_get_within (map edge_of edges) place first.here.0 first.here.1 in
+    let within : place < length edges = omega (arith, low, length-map edges edge_of) in
+    let e : StpEdge = get_or edges place nowhere in
+    let at : slice_get edges place ≡ Some e = slice_get-get_or edges place nowhere within in
+    let there : slice_get (map edge_of edges) place ≡ Some (edge_of e) =
+    slice_get-map edge_of edges place ∙ ap (option_map edge_of) at in
+    let same : first.here.0 ≡ edge_of e = same_Some first.here.0 (edge_of e) (sym first.here.1 ∙ there) in
+    record {
+      here = (e, at, ap (λ (x : Edge). x.length) (sym same) ∙ first.here.2);
+      before = λ k x earlier is none. first.before k (edge_of x) earlier
+          (slice_get-map edge_of edges k ∙ ap (option_map edge_of) is) none;
+    }
+
+-- a file with a terminal has one that is left
+pub terminals-left : (terminals : List ℕ) → 0 < length terminals → without_repeats (map vertex_of terminals) ≡ [] → ⊥
+terminals-left [] some none = omega arith
+terminals-left (t ∷ terminals) some none = cc
+
+-- no number is the first of what none of them is
+pub IsFirst-none : (bound : ℕ) (ns : List ℕ) (place : ℕ) → All (λ n. n < bound) ns →
+    IsFirst (λ n. bound ≤ n) ns place → ⊥
+IsFirst-none bound ns place each first =
+    let below = each place 0 (slice_get_within ns place first.here.0 first.here.1) in
+    let is = get_or_from_slice_get ns place first.here.0 0 first.here.1 in
+    let above = first.here.2 in
+    omega (arith, below, is, above)
+
+-- the lengths of a file whose graph's edges have lengths
+pub HasLengths-from_edges : (file : StpValue) (edges : List Edge) → HasTerminal file → edges ≡ map edge_of file.edges →
+    All (λ e. 0 < e.length) edges → HasLengths file
+HasLengths-from_edges file edges terminal same each = record {
+  terminal = terminal;
+  lengths = lengths-edges file.edges (subst (All (λ (e : Edge). 0 < e.length)) same each);
+}
+
+-- the total of a file whose graph has these edges
+pub total-edges : (file : StpValue) (edges : List Edge) → edges ≡ map edge_of file.edges →
+    sum_by (λ (e : Edge). e.length) edges ≡ total_of_stp file
+total-edges file edges same = ap (sum_by (λ (e : Edge). e.length)) same ∙ sum-edges file.edges
+
+-- the first edge of a file without a length
+pub IsFirstWithoutLength-from_edges : (file : StpValue) (edges : List Edge) (place : ℕ) →
+    edges ≡ map edge_of file.edges → IsFirst (λ e. e.length ≡ 0) edges place → IsFirstWithoutLength file (place + 1)
+IsFirstWithoutLength-from_edges file edges place same first =
+    (place, refl, IsFirst-edges file.edges place (subst (λ es. IsFirst (λ (e : Edge). e.length ≡ 0) es place) same first))
+
+-- one more edge of a file
+pub edges_more : (edges : List StpEdge) (done : List Edge) (n : ℕ) (e : StpEdge) (next : Edge) →
+    slice_get edges n ≡ Some e → done ≡ map edge_of (take n edges) → next ≡ edge_of e →
+    done ++ next ∷ [] ≡ map edge_of (take (n + 1) edges)
+edges_more edges done n e next at so_far is =
+    let here : get_or edges n e ≡ e = get_or_from_slice_get edges n e e at in
+    let within = slice_get_within edges n e at in
+    ap (λ es. es ++ next ∷ []) so_far
+    ∙ ap (λ x. map edge_of (take n edges) ++ x ∷ []) (is ∙ ap edge_of (sym here))
+    ∙ sym (map_more edge_of edges n e within)
