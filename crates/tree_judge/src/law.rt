@@ -8,16 +8,14 @@ use cert_tree::tree_bounds_every_network;
 /// nothing, and its caller knows the fact from there on.
 pub fn one_judging()
     ensures { OneJudging }
-{
-}
+{}
 
 /// The steps of an answer all pass exactly where what it says of its network and its tree is sound, and the bound that
 /// is found behind them is the lesser one of the tree's value and the length. A law: the call does nothing, and its
 /// caller knows the fact from there on.
 pub fn steps_tell_answers()
     ensures { StepsTellAnswers }
-{
-}
+{}
 
 /// No network of a graph is shorter than the lesser one of a sound tree's value and a length. A law: the call does
 /// nothing, and its caller knows the fact from there on.
