@@ -44,7 +44,8 @@ pub(crate) fn judge_line(
     requires members { length members.now ≡ (hanan_grid_of grid.now).vertices }
     ensures sizes { IsJudgeOn (hanan_grid_of grid.now) judge.new }
     ensures passes { IfNone result ((s : SoFar) → StandsFor (hanan_grid_of grid.now) s judge.old → (s' : SoFar)
-        × Passes (on_grid grid.now) s event.now (Some members.now) s' × StandsFor (hanan_grid_of grid.now) s' judge.new) }
+        × Passes (on_grid grid.now) s event.now (Some members.now) s'
+        × StandsFor (hanan_grid_of grid.now) s' judge.new) }
     ensures fault { IfSome result (λ cause. (s : SoFar) → StandsFor (hanan_grid_of grid.now) s judge.old
         → Fails (on_grid grid.now) s line event.now (Some members.now) cause (network_of judge.new)) }
 {

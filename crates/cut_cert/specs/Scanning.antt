@@ -32,7 +32,8 @@ use Rattle.cut_cert.specs.Events.{head_with, line_told, event_at}
 use Rattle.cut_cert.specs.Given.{given}
 use Rattle.cut_cert.specs.declared.head.AnswerHead.{AnswerHead}
 use Rattle.cut_cert.specs.declared.event.Event.{Event}
-pub use Rattle.cut_cert.specs.ScanStates.{word_bytes, edge_scan, vertex_scan, behind_word, closed_line, least_of, limit_of, IsInField, first_scan, IsOpen, IsFork}
+pub use Rattle.cut_cert.specs.ScanStates.{word_bytes, edge_scan, vertex_scan, behind_word, closed_line, least_of}
+pub use Rattle.cut_cert.specs.ScanStates.{limit_of, IsInField, first_scan, IsOpen, IsFork}
 
 -- a number with its sign
 abbrev pub signed : Bool → ℕ → ℤ

@@ -94,8 +94,8 @@ fn steps<F: Rule, G: Rule>(
     Ok(writeln!(answer, "bound {}", search.finish().bound)?)
 }
 
-// Takes so many steps, and tells what comes of each. A step that is refused is taken once more, as the refusal leaves the
-// search as it was: `bench/allocations` refuses each of its allocations and looks whether the same tree comes.
+// Takes so many steps, and tells what comes of each. A step that is refused is taken once more, as the refusal leaves
+// the search as it was: `bench/allocations` refuses each of its allocations and looks whether the same tree comes.
 fn take_steps<F: Rule, G: Rule>(
     search: &mut Search<F, G>,
     count: u8,

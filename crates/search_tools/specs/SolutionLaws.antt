@@ -78,8 +78,8 @@ permitted_answer options ps trees s is spells =
       accepted =
           accepted_solution options.openings note.total ps s.answer.network s.answer.tree note
           (subst (λ (h : List Point). SpellsAnswer (form.OnGrid (hanan_grid_of h).vertices) text written) is.grid
-          (subst (λ (w : WrittenAnswer). SpellsAnswer (form.OnGrid (hanan_grid_of s.grid).vertices) (answer_text w) w) told
-          spells))
+          (subst (λ (w : WrittenAnswer).
+          SpellsAnswer (form.OnGrid (hanan_grid_of s.grid).vertices) (answer_text w) w) told spells))
           is.searched fits.nodes fits.few;
       searched = is.searched;
       concat = is.concat;

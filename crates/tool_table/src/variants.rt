@@ -4,8 +4,8 @@ use crate::outcome::{Outcome, outcome_on, shelf_files};
 use crate::row::{Row, Variants, Variation, Varied};
 use std::alloc::{AllocError, Global};
 
-/// Runs a row with each of the texts that come of one, adds a line to the report for each that ends otherwise than it may,
-/// or one that says `ok` and how many texts there were, and tells whether all ended as they may.
+/// Runs a row with each of the texts that come of one, adds a line to the report for each that ends otherwise than it
+/// may, or one that says `ok` and how many texts there were, and tells whether all ended as they may.
 pub fn tell_variants(
     alloc: Global,
     row: &Row,
@@ -87,8 +87,8 @@ fn outcome_with(
     }
 }
 
-/// Whether a run ended as it may: with one of the statuses, and with a text on `out` alone where it is a result, and with
-/// one line on `err` alone where it is a refusal.
+/// Whether a run ended as it may: with one of the statuses, and with a text on `out` alone where it is a result, and
+/// with one line on `err` alone where it is a refusal.
 fn may_come(came: &Outcome, statuses: &[u64]) -> bool {
     let is_result = matches!(came.status, 0 | 1 | 3);
     let is_told = if is_result {

@@ -1,4 +1,5 @@
--- The steps of an answer all pass exactly where what it says of its network and its tree is sound, and they tell its bound.
+-- The steps of an answer all pass exactly where what it says of its network and its tree is sound, and they tell its
+-- bound.
 use Rattle.std.proofs.Common.{ℕ, ◌≡◌, ◌≤◌, Bool, List, [], ◌∷◌, ◌++◌, length, get_or, None, refl, sym, ap, ◌∙◌}
 use Rattle.std.proofs.Common.{replicate, false, subst, arith}
 use Rattle.net_graph.specs.Graph.{Graph}
