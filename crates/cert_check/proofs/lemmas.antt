@@ -2,6 +2,7 @@ pub mod WordBits
 pub mod Layouts
 pub mod Names
 pub mod GridNames
+pub mod SubjectNames
 pub mod Steps
 pub mod ToldParts
 pub mod Runs

@@ -5,7 +5,9 @@ use Rattle.net_graph.specs.Graph.{Graph}
 use Rattle.hanan_grid.specs.Grid.{hanan_grid_of}
 use Rattle.cut_cert.specs.declared.form.Form.{Form}
 use Rattle.cut_cert.specs.declared.form.Form.TheVariants as form
-use Rattle.cut_cert.specs.Answers.{Labels, grid_labels}
+use Rattle.cut_cert.specs.Answers.{Labels, grid_labels, number_labels}
+use Rattle.cert_check.specs.declared.subject.Subject.{Subject}
+use Rattle.cert_check.specs.declared.subject.Subject.TheVariants as subject
 
 pub record Named : Type 0 where
   pub form : Form
@@ -19,6 +21,15 @@ on_grid ps = record {
   graph = hanan_grid_of ps;
   labels = grid_labels ps;
 }
+
+-- a graph
+abbrev pub in_graph : Graph → Named
+in_graph g = record { form = form.OfGraph (length g.edges) g.vertices; graph = g; labels = number_labels }
+
+-- what a subject is
+abbrev pub named_of : Subject → Named
+named_of (subject.OnGrid grid) = on_grid grid.now
+named_of (subject.InGraph g) = in_graph g.now
 
 -- a label is that of one edge at most, or of one vertex at most
 pub record IsNamed (N : Named) : Type 0 where

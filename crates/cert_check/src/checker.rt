@@ -1,61 +1,91 @@
 //! The checker of an answer that is fed in pieces.
 
-ghost use Rattle.std.specs.Prelude.{ℕ, ◌≡◌, ◌+◌, ◌-◌, ◌*◌, ◌^◌, ◌<◌, ◌≤◌, ◌↔◌, ◌⊎◌, Bool, false, IsTrue, List, [], ◌∷◌};
+ghost use Rattle.std.specs.Prelude.{ℕ, ◌≡◌, ◌+◌, ◌-◌, ◌^◌, ◌<◌, ◌≤◌, ◌↔◌, ◌⊎◌, Bool, false, IsTrue, List, [], ◌∷◌};
 ghost use Rattle.std.specs.Prelude.{◌++◌, length, replicate, take, IsSome, None};
-ghost use Rattle.points_in.specs.declared.point.Point.{Point};
 ghost use Rattle.net_graph.specs.Network.{IsLowerBound};
+ghost use Rattle.cut_cert.specs.Reader.{Reads};
 ghost use Rattle.hanan_grid.specs.Grid.{hanan_grid_of};
+ghost use Rattle.tree_judge.specs.Room.{row_length};
 ghost use Rattle.cert_check.specs.declared.verdict.Finished.{Finished};
-ghost use Rattle.cert_check.specs.Named.{on_grid};
-ghost use Rattle.cert_check.specs.Accepted.{AcceptsAs, IsAccepted, IsAccepting};
-ghost use Rattle.cert_check.specs.Verdicts.{IsJudged, IsVerdict, byte_limit};
+ghost use Rattle.cert_check.specs.Named.{Named, in_graph, named_of};
+ghost use Rattle.cert_check.specs.Accepted.{AcceptsAsIn, IsAcceptedIn, IsAccepting};
+ghost use Rattle.cert_check.specs.Verdicts.{IsJudged, IsVerdictIn, byte_limit};
 ghost use Rattle.cert_check.specs.Underway.{IsUnderway};
 ghost use Rattle.cert_check.specs.UnderwayLaws.{IsUnderway-prop};
 
 use crate::judging::{finished, judge_on, refused};
-use crate::law::{accepted_bound_holds, one_verdict};
 use crate::read::read_byte;
+use crate::subject::Subject;
 use crate::verdict::{Finished, Verdict};
+use cert_tree::tree_bounds_every_network;
 use cut_cert::{EventReader, Row, one_reading};
 use hanan_grid::Grid;
-use net_graph::{EdgeSet, VertexSet};
+use net_graph::{EdgeSet, NetGraph, VertexSet};
 use tree_judge::{Cause, Judge};
 
 /// An answer has no more bytes than this.
 const BYTE_LIMIT: u64 = 4_294_967_295;
 
-/// A checker of an answer for the points of a grid. It is fed the answer in pieces, keeps no bytes and takes no memory:
+/// A checker of an answer, for the points of a grid or in a graph. It is fed the answer in pieces, keeps no bytes and takes no memory:
 /// it works in the room that it is handed. The first wrong line decides, whatever follows it.
 #[derive(Drop)]
 pub struct Checker<'a> {
-    grid: &'a Grid,
+    subject: Subject<'a>,
     reader: EventReader,
     judge: Judge,
     /// Why the answer is refused, once a line was wrong.
     fault: Option<Cause>,
     /// How many bytes were fed, or 2^64-1 where it is more.
     fed: u64,
-    ghost underway: { IsUnderway (on_grid grid.now) reader judge fault fed } by { IsUnderway-prop (on_grid grid.now) reader judge fault fed },
+    ghost underway: { IsUnderway (named_of subject) reader judge fault fed } by { IsUnderway-prop (named_of subject) reader judge fault fed },
 }
 
 impl<'a> Checker<'a> {
-    ghost use Rattle.cert_check.specs.Checking.{StandsForBytes};
+    ghost use Rattle.cert_check.specs.Checking.{StandsForBytes, StandsForBytesIn};
 
-    /// A checker that was fed no byte. The room that it is handed: an empty set of the grid's E edges for the network,
-    /// an empty set of its V vertices for the cut that is read, and a row of 3 E + 3 V + 512 numbers, whatever they
-    /// are. A `Workroom` has these.
+    /// A checker of an answer for the points of a grid that was fed no byte. The room that it is handed: an empty set of
+    /// the grid's E edges for the network, an empty set of its V vertices for the cut that is read, and a row of
+    /// 3 E + max(E, 2 V) + V + 512 numbers, whatever they are. A `Workroom` has these.
     pub fn begin(grid: &'a Grid, network: EdgeSet, members: VertexSet, work: Row) -> Checker<'a>
         requires network { network ≡ replicate (length (hanan_grid_of grid.now).edges) false }
         requires members { members ≡ replicate (hanan_grid_of grid.now).vertices false }
-        requires work { length work ≡ 3 * length (hanan_grid_of grid.now).edges
-            + 3 * (hanan_grid_of grid.now).vertices + 512 }
+        requires work { length work ≡ row_length (length (hanan_grid_of grid.now).edges)
+            (hanan_grid_of grid.now).vertices }
         ensures { StandsForBytes grid.now [] result }
     {
-        let vertices = grid.graph().vertex_count();
+        let terminals = grid.points().len();
+        prove!(terminals <= 50);
+        let reader = EventReader::begin(grid.graph().vertex_count(), members);
+        Checker::over(Subject::OnGrid(grid), reader, network, work)
+    }
+
+    /// A checker of an answer in a graph with at most 255 terminals that was fed no byte, with such room as
+    /// `Workroom::in_graph` has.
+    pub fn in_graph(g: &'a NetGraph, network: EdgeSet, members: VertexSet, work: Row) -> Checker<'a>
+        requires some { 0 < g.now.vertices }
+        requires terminals { length g.now.terminals ≤ 255 }
+        requires network { network ≡ replicate (length g.now.edges) false }
+        requires members { members ≡ replicate g.now.vertices false }
+        requires work { length work ≡ row_length (length g.now.edges) g.now.vertices }
+        ensures { StandsForBytesIn (in_graph g.now) [] result }
+    {
+        let reader = EventReader::of_graph(g.edge_count(), g.vertex_count(), members);
+        Checker::over(Subject::InGraph(g), reader, network, work)
+    }
+
+    // A checker that was fed no byte, with a reader that was fed none.
+    fn over(subject: Subject<'a>, reader: EventReader, network: EdgeSet, work: Row) -> Checker<'a>
+        requires reads { Reads (named_of subject).form [] [] reader }
+        requires terminals { length (named_of subject).graph.terminals ≤ 255 }
+        requires network { network ≡ replicate (length (named_of subject).graph.edges) false }
+        requires work { length work ≡ row_length (length (named_of subject).graph.edges)
+            (named_of subject).graph.vertices }
+        ensures { StandsForBytesIn (named_of subject.entry) [] result }
+    {
         Checker {
-            grid,
-            reader: EventReader::begin(vertices, members),
-            judge: judge_on(grid, network, work),
+            subject,
+            reader,
+            judge: judge_on(subject, network, work),
             fault: None,
             fed: 0,
         }
@@ -63,8 +93,8 @@ impl<'a> Checker<'a> {
 
     /// Takes the next bytes of the answer.
     pub fn feed(&mut self, piece: &[u8])
-        ensures { (ps : List Point) (bytes : List ℕ) → StandsForBytes ps bytes self.old
-            → StandsForBytes ps (bytes ++ piece.now) self.new }
+        ensures { (N : Named) (bytes : List ℕ) → StandsForBytesIn N bytes self.old
+            → StandsForBytesIn N (bytes ++ piece.now) self.new }
     {
         let mut rest = piece;
         while !rest.is_empty() {
@@ -79,8 +109,8 @@ impl<'a> Checker<'a> {
         requires { 0 < length piece.now }
         ensures some { 0 < result }
         ensures few { result ≤ length piece.now }
-        ensures feeds { (ps : List Point) (bytes : List ℕ) → StandsForBytes ps bytes self.old
-            → StandsForBytes ps (bytes ++ take result piece.now) self.new }
+        ensures feeds { (N : Named) (bytes : List ℕ) → StandsForBytesIn N bytes self.old
+            → StandsForBytesIn N (bytes ++ take result piece.now) self.new }
     {
         if self.is_settled() {
             self.fed = self.fed.saturating_add(piece.len() as u64);
@@ -99,8 +129,8 @@ impl<'a> Checker<'a> {
         requires right { self.old.fault ≡ None }
         requires room { self.old.fed < byte_limit }
         ensures few { result ≤ length piece.now }
-        ensures feeds { (ps : List Point) (bytes : List ℕ) → StandsForBytes ps bytes self.old
-            → StandsForBytes ps (bytes ++ take result piece.now) self.new }
+        ensures feeds { (N : Named) (bytes : List ℕ) → StandsForBytesIn N bytes self.old
+            → StandsForBytesIn N (bytes ++ take result piece.now) self.new }
         ensures still { (result ≡ 0) → (self.new.fault ≡ None) × (self.new.fed < byte_limit) }
     {
         let room = piece.len().min((BYTE_LIMIT - self.fed) as usize);
@@ -113,10 +143,10 @@ impl<'a> Checker<'a> {
     fn feed_byte(&mut self, byte: u8)
         requires right { self.old.fault ≡ None }
         requires room { self.old.fed < byte_limit }
-        ensures { (ps : List Point) (bytes : List ℕ) → StandsForBytes ps bytes self.old
-            → StandsForBytes ps (bytes ++ byte ∷ []) self.new }
+        ensures { (N : Named) (bytes : List ℕ) → StandsForBytesIn N bytes self.old
+            → StandsForBytesIn N (bytes ++ byte ∷ []) self.new }
     {
-        self.fault = read_byte(self.grid, &mut self.reader, &mut self.judge, byte);
+        self.fault = read_byte(self.subject, &mut self.reader, &mut self.judge, byte);
         self.fed += 1;
     }
 
@@ -130,32 +160,31 @@ impl<'a> Checker<'a> {
     /// The verdict on the bytes that were fed, and the edges whose lines came before the first wrong one. More than
     /// 2^32-1 bytes are too many, whatever they are.
     pub fn finish(self) -> Finished
-        ensures verdict { (ps : List Point) (bytes : List ℕ) → StandsForBytes ps bytes self.entry
-            → IsVerdict ps bytes result }
-        ensures only { (ps : List Point) (bytes : List ℕ) → StandsForBytes ps bytes self.entry
-            → (f : Finished) → IsVerdict ps bytes f → f ≡ result }
-        ensures accepted { (ps : List Point) (bytes : List ℕ) → StandsForBytes ps bytes self.entry
+        ensures verdict { (N : Named) (bytes : List ℕ) → StandsForBytesIn N bytes self.entry
+            → IsVerdictIn N bytes result }
+        ensures only { (N : Named) (bytes : List ℕ) → StandsForBytesIn N bytes self.entry
+            → (f : Finished) → IsVerdictIn N bytes f → f ≡ result }
+        ensures accepted { (N : Named) (bytes : List ℕ) → StandsForBytesIn N bytes self.entry
             → (length bound : ℕ) (optimal : Bool) → result.verdict ≡ Verdict.Accepted length bound optimal
-            → AcceptsAs ps bytes result.network length bound optimal }
-        ensures complete { (ps : List Point) (bytes : List ℕ) → StandsForBytes ps bytes self.entry
-            → length bytes ≤ byte_limit → IsAccepted ps bytes → IsAccepting result.verdict }
-        ensures bound { (ps : List Point) (bytes : List ℕ) → StandsForBytes ps bytes self.entry
+            → AcceptsAsIn N bytes result.network length bound optimal }
+        ensures complete { (N : Named) (bytes : List ℕ) → StandsForBytesIn N bytes self.entry
+            → length bytes ≤ byte_limit → IsAcceptedIn N bytes → IsAccepting result.verdict }
+        ensures bound { (N : Named) (bytes : List ℕ) → StandsForBytesIn N bytes self.entry
             → (length bound : ℕ) (optimal : Bool) → result.verdict ≡ Verdict.Accepted length bound optimal
-            → IsLowerBound (hanan_grid_of ps) bound }
-        ensures too_long { (ps : List Point) (bytes : List ℕ) → StandsForBytes ps bytes self.entry
+            → IsLowerBound N.graph bound }
+        ensures too_long { (N : Named) (bytes : List ℕ) → StandsForBytesIn N bytes self.entry
             → (result.verdict ≡ Verdict.TooLong) ↔ (byte_limit < length bytes) }
     {
         one_reading();
-        one_verdict();
-        accepted_bound_holds();
+        tree_bounds_every_network();
         self.verdict()
     }
 
     // The same, of which no more is said.
     fn verdict(self) -> Finished
-        ensures verdict { (ps : List Point) (bytes : List ℕ) → StandsForBytes ps bytes self.entry
-            → IsVerdict ps bytes result }
-        ensures too_long { (ps : List Point) (bytes : List ℕ) → StandsForBytes ps bytes self.entry
+        ensures verdict { (N : Named) (bytes : List ℕ) → StandsForBytesIn N bytes self.entry
+            → IsVerdictIn N bytes result }
+        ensures too_long { (N : Named) (bytes : List ℕ) → StandsForBytesIn N bytes self.entry
             → (result.verdict ≡ Verdict.TooLong) ↔ (byte_limit < length bytes) }
     {
         let fed = self.fed;
@@ -171,8 +200,8 @@ impl<'a> Checker<'a> {
 
     // The verdict on as many bytes as an answer may have.
     fn judged(self) -> Finished
-        ensures { (ps : List Point) (bytes : List ℕ) → StandsForBytes ps bytes self.entry
-            → IsJudged (on_grid ps) (take byte_limit bytes) result }
+        ensures { (N : Named) (bytes : List ℕ) → StandsForBytesIn N bytes self.entry
+            → IsJudged N (take byte_limit bytes) result }
     {
         if let Some(cause) = self.fault {
             return refused(self.judge, cause);

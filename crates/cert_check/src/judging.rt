@@ -1,57 +1,81 @@
-//! The judge of an answer for the points of a grid.
+//! The judge of an answer.
 
-ghost use Rattle.std.specs.Prelude.{ℕ, ◌≡◌, ◌+◌, ◌*◌, List, [], Some, IfSome, IfNone, false, length, replicate};
-ghost use Rattle.hanan_grid.specs.Grid.{hanan_grid_of};
+ghost use Rattle.std.specs.Prelude.{ℕ, ◌≡◌, ◌≤◌, List, [], Some, IfSome, IfNone, false, length, replicate};
 ghost use Rattle.tree_judge.specs.declared.claim.Claim.{Claim};
 ghost use Rattle.tree_judge.specs.Ends as judged;
 ghost use Rattle.tree_judge.specs.Judged.{SoFar, nothing_told};
+ghost use Rattle.tree_judge.specs.Judged as steps;
+ghost use Rattle.tree_judge.specs.Room.{row_length};
 ghost use Rattle.tree_judge.specs.Standing.{IsJudgeOn, StandsFor, network_of};
-ghost use Rattle.cert_check.specs.Named.{Named, on_grid};
+ghost use Rattle.tree_judge.specs.Steps.{IsStepIn};
+ghost use Rattle.cert_check.specs.Named.{Named, named_of};
 ghost use Rattle.cert_check.specs.Ends.{EndsWith};
 ghost use Rattle.cert_check.specs.Lines.Behind.{Ended};
 ghost use Rattle.cert_check.specs.Judged.{Passes, Fails, Judges};
 
 use crate::border::layout_of;
 use crate::step::step_told;
+use crate::subject::Subject;
 use crate::verdict::{Finished, Verdict};
 use cut_cert::{Event, Row};
-use hanan_grid::Grid;
 use net_graph::{EdgeSet, VertexSet};
-use tree_judge::{Cause, Claim, Judge};
+use tree_judge::{AnyBorder, Cause, Claim, Judge, Step};
 
 /// A judge before the first line.
-pub(crate) fn judge_on(grid: &Grid, network: EdgeSet, work: Row) -> Judge
-    requires network { network ≡ replicate (length (hanan_grid_of grid.now).edges) false }
-    requires work { length work ≡ 3 * length (hanan_grid_of grid.now).edges
-        + 3 * (hanan_grid_of grid.now).vertices + 512 }
-    ensures sizes { IsJudgeOn (hanan_grid_of grid.now) result }
-    ensures nothing { StandsFor (hanan_grid_of grid.now) (nothing_told (hanan_grid_of grid.now)) result }
+pub(crate) fn judge_on(subject: Subject, network: EdgeSet, work: Row) -> Judge
+    requires network { network ≡ replicate (length (named_of subject).graph.edges) false }
+    requires terminals { length (named_of subject).graph.terminals ≤ 255 }
+    requires work { length work ≡ row_length (length (named_of subject).graph.edges) (named_of subject).graph.vertices }
+    ensures sizes { IsJudgeOn (named_of subject.entry).graph result }
+    ensures nothing { StandsFor (named_of subject.entry).graph (nothing_told (named_of subject.entry).graph) result }
 {
-    let terminals = grid.points().len();
-    prove!(terminals <= 50);
-    Judge::begin(grid.graph(), network, work)
+    Judge::begin(subject.graph(), network, work)
 }
 
 /// Judges the next line, of which the members are those of a cut. Gives why it is wrong, if it is.
 pub(crate) fn judge_line(
-    grid: &Grid,
+    subject: Subject,
     judge: &mut Judge,
     line: u64,
     event: &Event,
     members: &VertexSet,
 ) -> Option<Cause>
-    requires sizes { IsJudgeOn (hanan_grid_of grid.now) judge.old }
-    requires members { length members.now ≡ (hanan_grid_of grid.now).vertices }
-    ensures sizes { IsJudgeOn (hanan_grid_of grid.now) judge.new }
-    ensures passes { IfNone result ((s : SoFar) → StandsFor (hanan_grid_of grid.now) s judge.old → (s' : SoFar)
-        × Passes (on_grid grid.now) s event.now (Some members.now) s'
-        × StandsFor (hanan_grid_of grid.now) s' judge.new) }
-    ensures fault { IfSome result (λ cause. (s : SoFar) → StandsFor (hanan_grid_of grid.now) s judge.old
-        → Fails (on_grid grid.now) s line event.now (Some members.now) cause (network_of judge.new)) }
+    requires sizes { IsJudgeOn (named_of subject).graph judge.old }
+    requires members { length members.now ≡ (named_of subject).graph.vertices }
+    ensures sizes { IsJudgeOn (named_of subject.entry).graph judge.new }
+    ensures passes { IfNone result ((s : SoFar) → StandsFor (named_of subject.entry).graph s judge.old → (s' : SoFar)
+        × Passes (named_of subject.entry) s event.now (Some members.now) s'
+        × StandsFor (named_of subject.entry).graph s' judge.new) }
+    ensures fault { IfSome result (λ cause. (s : SoFar) → StandsFor (named_of subject.entry).graph s judge.old
+        → Fails (named_of subject.entry) s line event.now (Some members.now) cause (network_of judge.new)) }
 {
-    match step_told(grid, line, event) {
-        Ok(step) => judge.judge(grid.graph(), &layout_of(grid), line, step, members),
+    match step_told(subject, line, event) {
+        Ok(step) => judge_step(subject, judge, line, step, members),
         Err(cause) => Some(cause),
+    }
+}
+
+// Judges the next step, which a line told.
+fn judge_step(
+    subject: Subject,
+    judge: &mut Judge,
+    line: u64,
+    step: Step,
+    members: &VertexSet,
+) -> Option<Cause>
+    requires sizes { IsJudgeOn (named_of subject).graph judge.old }
+    requires inside { IsStepIn (named_of subject).graph step }
+    requires members { length members.now ≡ (named_of subject).graph.vertices }
+    ensures sizes { IsJudgeOn (named_of subject.entry).graph judge.new }
+    ensures passes { IfNone result ((s : SoFar) → StandsFor (named_of subject.entry).graph s judge.old → (s' : SoFar)
+        × steps.Passes (named_of subject.entry).graph s step (Some members.now) s'
+        × StandsFor (named_of subject.entry).graph s' judge.new) }
+    ensures fault { IfSome result (λ cause. (s : SoFar) → StandsFor (named_of subject.entry).graph s judge.old
+        → steps.Fails (named_of subject.entry).graph s line step (Some members.now) cause (network_of judge.new)) }
+{
+    match subject {
+        Subject::OnGrid(grid) => judge.judge(grid.graph(), &layout_of(grid), line, step, members),
+        Subject::InGraph(g) => judge.judge(g, &AnyBorder, line, step, members),
     }
 }
 

@@ -7,6 +7,7 @@ mod judging;
 mod law;
 mod read;
 mod step;
+mod subject;
 mod verdict;
 mod workroom;
 

@@ -1,21 +1,22 @@
 //! The room in which a checker works.
 
-ghost use Rattle.std.specs.Prelude.{◌≡◌, ◌*◌, ◌+◌, false, length, replicate, IfOk};
+ghost use Rattle.std.specs.Prelude.{◌≡◌, false, length, replicate, IfOk};
 ghost use Rattle.hanan_grid.specs.Grid.{hanan_grid_of};
+ghost use Rattle.tree_judge.specs.Room.{row_length};
 
 use cut_cert::Row;
 use hanan_grid::Grid;
-use net_graph::{EdgeSet, VertexSet};
+use net_graph::{EdgeSet, NetGraph, VertexSet};
 use std::alloc::{AllocError, Global};
 
 /// What a checker of an answer works in, which is handed to it whole.
 #[derive(Debug, Drop)]
 pub struct Workroom {
-    /// A set of the grid's edges, for the network.
+    /// A set of the graph's edges, for the network.
     pub network: EdgeSet,
-    /// A set of the grid's vertices, for the cut that is read.
+    /// A set of the graph's vertices, for the cut that is read.
     pub members: VertexSet,
-    /// A row of three numbers for each edge, three for each vertex and 512 more.
+    /// A row of 3 E + max(E, 2 V) + V + 512 numbers for E edges and V vertices.
     pub work: Row,
 }
 
@@ -25,15 +26,24 @@ impl Workroom {
         ensures network { IfOk result (λ room.
             room.network ≡ replicate (length (hanan_grid_of grid.now).edges) false) }
         ensures members { IfOk result (λ room. room.members ≡ replicate (hanan_grid_of grid.now).vertices false) }
-        ensures work { IfOk result (λ room. length room.work ≡ 3 * length (hanan_grid_of grid.now).edges
-            + 3 * (hanan_grid_of grid.now).vertices + 512) }
+        ensures work { IfOk result (λ room. length room.work ≡ row_length (length (hanan_grid_of grid.now).edges)
+            (hanan_grid_of grid.now).vertices) }
     {
-        let edges = grid.graph().edge_count();
-        let vertices = grid.graph().vertex_count();
+        Workroom::in_graph(alloc, grid.graph())
+    }
+
+    /// The room for a checker in a graph, with empty sets. An `Err` is want of memory.
+    pub fn in_graph(alloc: Global, g: &NetGraph) -> Result<Workroom, AllocError>
+        ensures network { IfOk result (λ room. room.network ≡ replicate (length g.now.edges) false) }
+        ensures members { IfOk result (λ room. room.members ≡ replicate g.now.vertices false) }
+        ensures work { IfOk result (λ room. length room.work ≡ row_length (length g.now.edges) g.now.vertices) }
+    {
+        let edges = g.edge_count();
+        let vertices = g.vertex_count();
         Ok(Workroom {
             network: EdgeSet::empty(alloc, edges)?,
             members: VertexSet::empty(alloc, vertices)?,
-            work: Row::zeros(alloc, 3 * edges + 3 * vertices + 512)?,
+            work: Row::zeros(alloc, 3 * edges + edges.max(2 * vertices) + vertices + 512)?,
         })
     }
 }

@@ -1,16 +1,14 @@
 -- No network is shorter than the bound of an accepted answer.
 use Rattle.std.proofs.Common.{ℕ, ◌≡◌, ◌≤◌, Bool, List, sym, ◌∙◌, arith, eqb-true}
-use Rattle.points_in.specs.declared.point.Point.{Point}
 use Rattle.net_graph.specs.Network.{IsLowerBound, length_of}
 use Rattle.net_graph.specs.Decision.{nothing_decided}
 use Rattle.net_graph.specs.DecisionLaws.{IsDecisionFor-nothing, Agrees-nothing}
-use Rattle.hanan_grid.specs.Grid.{hanan_grid_of}
 use Rattle.cert_tree.specs.declared.split.SplitOn.{SplitOn}
 use Rattle.cert_tree.specs.Tree.{Tree}
 use Rattle.cert_tree.specs.TreeValue.{TreesBoundNetworks, tree_value}
 use Rattle.cut_cert.specs.Value.{WrittenAnswer}
 use Rattle.cert_check.specs.Named.{Named, on_grid}
-use Rattle.cert_check.specs.Accepted.{AcceptsIn, AcceptsAs, AcceptedBoundHolds}
+use Rattle.cert_check.specs.Accepted.{AcceptsIn, AcceptsAsIn, AcceptedBoundHolds}
 
 -- the bound of an accepted answer is at most its tree's value, and so at most the length of any network
 bound_below : TreesBoundNetworks → (N : Named) (bytes : List ℕ) (answer : WrittenAnswer) (network : List Bool)
@@ -33,9 +31,9 @@ accepted_bound_holds_lem lifting ps bytes answer network tree accepts other join
     )
 
 -- so for the bound that an accepting verdict says
-pub accepted_bound_below : AcceptedBoundHolds → (ps : List Point) (bytes : List ℕ) (network : List Bool)
-    (printed bound : ℕ) (optimal : Bool) → AcceptsAs ps bytes network printed bound optimal →
-    IsLowerBound (hanan_grid_of ps) bound
-accepted_bound_below law ps bytes network printed bound optimal (answer, tree, accepts, _, told, _) other joins =
-    let below = (law ps bytes answer network tree accepts other joins).0 in
+pub accepted_bound_below : TreesBoundNetworks → (N : Named) (bytes : List ℕ) (network : List Bool)
+    (printed bound : ℕ) (optimal : Bool) → AcceptsAsIn N bytes network printed bound optimal →
+    IsLowerBound N.graph bound
+accepted_bound_below lifting N bytes network printed bound optimal (answer, tree, accepts, _, told, _) other joins =
+    let below = bound_below lifting N bytes answer network tree accepts other joins in
     omega (arith, below, told)

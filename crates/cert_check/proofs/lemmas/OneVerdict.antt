@@ -115,7 +115,7 @@ one_judged once N names bytes f f' v v' =
     same_verdict N names v.events v'.events v.behind v'.behind f f' (same_lines once N.form bytes v.events v'.events v.behind v'.behind v.read v'.read) v.judged v'.judged
 
 -- bytes are few enough or too many
-one_verdict_in : OneReading → (N : Named) → IsNamed N → (bytes : List ℕ) (f f' : Finished) → IsVerdictIn N bytes f →
+pub one_verdict_in : OneReading → (N : Named) → IsNamed N → (bytes : List ℕ) (f f' : Finished) → IsVerdictIn N bytes f →
     IsVerdictIn N bytes f' → f ≡ f'
 one_verdict_in once N names bytes f f' (inl v) (inl v') = one_judged once N names bytes f f' v.judged v'.judged
 one_verdict_in once N names bytes f f' (inl v) (inr v') = absurd (omega (arith, v.few, v'.many))

@@ -2,7 +2,7 @@ use Rattle.std.proofs.Common.{ℕ, ◌≡◌, ◌-◌, true, List, [], ◌∷◌
 use Rattle.std.specs.Prelude.{◌==◌}
 use Rattle.std.proofs.lemmas.Bool.Decides.{nat_tests}
 use Rattle.std.proofs.lemmas.List.{append-nil, take-append-drop, take_rest}
-use Rattle.cert_check.specs.Checking.{StandsForBytes}
+use Rattle.cert_check.specs.Checking.{StandsForBytesIn}
 use Rattle.cert_check.proofs.checker.Checker.feed.Goals as goal
 
 -- after n more bytes the parts are still the whole
@@ -16,7 +16,7 @@ pub loop-rest-init : goal.loop-rest-init
 loop-rest-init c = (
   [],
   refl,
-  (λ ps bytes stands. subst (λ xs. StandsForBytes ps xs c.args.self.now) (sym (append-nil bytes)) stands),
+  (λ N bytes stands. subst (λ xs. StandsForBytesIn N xs c.args.self.now) (sym (append-nil bytes)) stands),
 )
 
 pub loop-rest-preserved : goal.loop-rest-preserved
@@ -28,8 +28,8 @@ loop-rest-preserved c =
     let feeds = c.feed_some-taken.ensures.feeds in (
       front ++ take n rest,
       parts ∙ moved_on front rest n,
-      (λ ps bytes before. subst (λ xs. StandsForBytes ps xs new) (append_assoc bytes front (take n rest))
-          (feeds ps (bytes ++ front) (stands ps bytes before))),
+      (λ N bytes before. subst (λ xs. StandsForBytesIn N xs new) (append_assoc bytes front (take n rest))
+          (feeds N (bytes ++ front) (stands N bytes before))),
     )
 
 -- a list without length is empty
@@ -38,10 +38,10 @@ empty_of [] none = refl
 empty_of (x ∷ xs) none = absurd (omega arith)
 
 pub returns : goal.returns
-returns c ps bytes before =
+returns c N bytes before =
     let (front, parts, stands) = c.loop-rest.invariant in
     let rest = c.loop-rest.rest.now in
     let test : (length rest == 0) ≡ true = sym c.is_empty.ensures ∙ c.loop-rest-test.false in
     let none : length rest ≡ 0 = grind (arith, nat_tests) in
     let whole = parts ∙ ap (λ xs. front ++ xs) (empty_of rest none) ∙ append-nil front in
-    subst (λ xs. StandsForBytes ps (bytes ++ xs) c.loop-rest.self) (sym whole) (stands ps bytes before)
+    subst (λ xs. StandsForBytesIn N (bytes ++ xs) c.loop-rest.self) (sym whole) (stands N bytes before)

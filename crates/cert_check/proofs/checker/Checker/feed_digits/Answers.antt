@@ -3,7 +3,7 @@ use Rattle.std.specs.Prelude.{Option, Some, IfNone}
 use Rattle.std.proofs.lemmas.List.{length-take-le}
 use Rattle.std.proofs.Math.Logic.{∥∥₁_map}
 use Rattle.cut_cert.specs.Reader.{Reads}
-use Rattle.cert_check.specs.Named.{on_grid}
+use Rattle.cert_check.specs.Named.{named_of}
 use Rattle.cert_check.specs.Verdicts.{byte_limit}
 use Rattle.cert_check.specs.Underway.{Follows}
 use Rattle.cert_check.proofs.lemmas.Bytes.{follows_read, follows_before}
@@ -24,7 +24,7 @@ none_map (Some x) f p = tt
 pub invariant_of-self : goal.invariant_of-self
 invariant_of-self c =
     let old = c.args.self.now in
-    let F = (on_grid old.grid.now).form in
+    let F = (named_of old.subject).form in
     let taken = c.feed_digits-taken.ensures in
     record {
       underway = record {
@@ -36,7 +36,7 @@ invariant_of-self c =
     }
 
 pub returns-clause-feeds : goal.returns-clause-feeds
-returns-clause-feeds c ps bytes stands =
+returns-clause-feeds c N bytes stands =
     let old = c.args.self.now in
     let piece = c.args.piece.now in
     let room = c.min-room.result in
@@ -48,16 +48,16 @@ returns-clause-feeds c ps bytes stands =
     let few : old.fed + taken ≤ byte_limit = omega (arith, within, c.min-room.ensures, c.requires.room) in
     let count : length digits ≡ taken = length-take-le taken piece (omega (arith, within, c.min-room.ensures)) in
     let (events, s, reads, passes, judged) =
-    subst (Follows (on_grid ps) bytes old.reader old.judge) c.requires.right
-    (follows_before (on_grid ps) bytes old.fed old.reader old.judge old.fault stands.fed c.requires.room stands.follows) in
-    let F = (on_grid ps).form in
+    subst (Follows N bytes old.reader old.judge) c.requires.right
+    (follows_before N bytes old.fed old.reader old.judge old.fault stands.fed c.requires.room stands.follows) in
+    let F = N.form in
     let read = subst (λ xs. Reads F (bytes ++ xs) events new) (take_of_take taken room piece within)
     (c.feed_digits-taken.ensures.reads F bytes events reads) in
-    let after = subst (Follows (on_grid ps) (bytes ++ digits) new old.judge) (sym c.requires.right)
+    let after = subst (Follows N (bytes ++ digits) new old.judge) (sym c.requires.right)
     (events, s, read, passes, judged) in
     record {
-      grid = stands.grid;
+      subject = stands.subject;
       fed = omega (arith, stands.fed, few, count, length-append bytes digits);
-      follows = follows_read (on_grid ps) bytes digits old.fed new old.judge old.fault stands.fed (omega (arith, count, few))
+      follows = follows_read N bytes digits old.fed new old.judge old.fault stands.fed (omega (arith, count, few))
           after;
     }

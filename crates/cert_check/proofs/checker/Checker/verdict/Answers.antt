@@ -1,25 +1,24 @@
 use Rattle.std.proofs.Common.{refl}
 use Rattle.cert_check.specs.declared.verdict.Finished.{Finished}
 use Rattle.cert_check.specs.declared.verdict.Verdict.TheVariants.{TooLong}
-use Rattle.cert_check.specs.Named.{on_grid}
 use Rattle.cert_check.proofs.lemmas.Bytes.{verdict_within, verdict_beyond, too_long_within, too_long_beyond}
 use Rattle.cert_check.proofs.checker.Checker.verdict.Goals as goal
 
 pub returns-then-fed-gt-BYTE_LIMIT-clause-verdict :
     goal.returns-then-fed-gt-BYTE_LIMIT-clause-verdict
-returns-then-fed-gt-BYTE_LIMIT-clause-verdict c ps bytes stands =
-    verdict_beyond (on_grid ps) bytes c.args.self.fed c.judged-judged.result _ stands.fed c.if-fed-gt-BYTE_LIMIT.true (c.judged-judged.ensures ps bytes stands) refl refl
+returns-then-fed-gt-BYTE_LIMIT-clause-verdict c N bytes stands =
+    verdict_beyond N bytes c.args.self.fed c.judged-judged.result _ stands.fed c.if-fed-gt-BYTE_LIMIT.true (c.judged-judged.ensures N bytes stands) refl refl
 
 pub returns-then-fed-gt-BYTE_LIMIT-clause-too_long :
     goal.returns-then-fed-gt-BYTE_LIMIT-clause-too_long
-returns-then-fed-gt-BYTE_LIMIT-clause-too_long c ps bytes stands =
+returns-then-fed-gt-BYTE_LIMIT-clause-too_long c N bytes stands =
     let f : Finished = record { verdict = TooLong; network = c.judged-judged.result.network } in
     too_long_beyond bytes c.args.self.fed f stands.fed c.if-fed-gt-BYTE_LIMIT.true refl
 
 pub returns-clause-verdict : goal.returns-clause-verdict
-returns-clause-verdict c ps bytes stands =
-    verdict_within (on_grid ps) bytes c.args.self.fed c.judged-judged.result stands.fed c.if-fed-gt-BYTE_LIMIT.false (c.judged-judged.ensures ps bytes stands)
+returns-clause-verdict c N bytes stands =
+    verdict_within N bytes c.args.self.fed c.judged-judged.result stands.fed c.if-fed-gt-BYTE_LIMIT.false (c.judged-judged.ensures N bytes stands)
 
 pub returns-clause-too_long : goal.returns-clause-too_long
-returns-clause-too_long c ps bytes stands =
-    too_long_within (on_grid ps) bytes c.args.self.fed c.judged-judged.result stands.fed c.if-fed-gt-BYTE_LIMIT.false (c.judged-judged.ensures ps bytes stands)
+returns-clause-too_long c N bytes stands =
+    too_long_within N bytes c.args.self.fed c.judged-judged.result stands.fed c.if-fed-gt-BYTE_LIMIT.false (c.judged-judged.ensures N bytes stands)

@@ -3,7 +3,7 @@ use Rattle.std.specs.Prelude.{IfNone}
 use Rattle.cert_check.specs.Named.{on_grid}
 use Rattle.cert_check.specs.Resolved.{LabelsNoVertex}
 use Rattle.cert_check.proofs.lemmas.GridNames.{vertex_unlabelled}
-use Rattle.cert_check.proofs.step.vertex_labelled.Goals as goal
+use Rattle.cert_check.proofs.subject.vertex_of_grid.Goals as goal
 
 pub returns-in-At-clause-none : goal.returns-in-At-clause-none
 returns-in-At-clause-none c =

@@ -3,7 +3,7 @@ use Rattle.std.specs.Prelude.{IfNone}
 use Rattle.cert_check.specs.Named.{on_grid}
 use Rattle.cert_check.specs.Resolved.{LabelsNoEdge}
 use Rattle.cert_check.proofs.lemmas.GridNames.{edge_unlabelled}
-use Rattle.cert_check.proofs.step.edge_labelled.Goals as goal
+use Rattle.cert_check.proofs.subject.edge_of_grid.Goals as goal
 
 pub returns-in-Ends-clause-none : goal.returns-in-Ends-clause-none
 returns-in-Ends-clause-none c =
