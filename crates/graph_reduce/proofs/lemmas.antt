@@ -1,0 +1,4 @@
+pub mod Choices
+pub mod Lengths
+pub mod Walks
+pub mod Terminals

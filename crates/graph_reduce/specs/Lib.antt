@@ -1,0 +1,5 @@
+pub mod State
+pub mod Rules
+pub mod Step
+pub mod Reduction
+pub mod Lifting
