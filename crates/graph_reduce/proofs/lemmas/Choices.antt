@@ -15,6 +15,20 @@ put_same F n flag = ap (λ b. if b then flag else F n) (eq-eqb n n refl)
 pub put_other : (F : ℕ → Bool) (n : ℕ) (flag : Bool) (k : ℕ) → (k ≡ n → ⊥) → put F n flag k ≡ F k
 put_other F n flag k apart = ap (λ b. if b then flag else F k) (ne_eqb k n apart)
 
+-- what is chosen where one place was taken out is another, and was chosen before
+pub put_out : (F : ℕ → Bool) (n k : ℕ) → put F n false k ≡ true → (k ≡ n → ⊥) × (F k ≡ true)
+put_out F n k chosen = elim (cases_eq k n) [
+  | inl here ↦ (let none : put F n false k ≡ false = ap (put F n false) here ∙ put_same F n false in cc)
+  | inr apart ↦ (apart, sym (put_other F n false k apart) ∙ chosen)
+]
+
+-- what was chosen is so where one more place is put in
+pub put_in : (F : ℕ → Bool) (n k : ℕ) → F k ≡ true → put F n true k ≡ true
+put_in F n k chosen = elim (cases_eq k n) [
+  | inl here ↦ (ap (put F n true) here ∙ put_same F n true)
+  | inr apart ↦ (put_other F n true k apart ∙ chosen)
+]
+
 -- what is found in a list in which one entry was written was written there, or found there before
 pub set_cases : {A : Type 0} (xs : List A) (n k : ℕ) (x y : A) → slice_get (slice_set xs n x) k ≡ Some y →
     ((k ≡ n) × (x ≡ y)) ⊎ ((k ≡ n → ⊥) × (slice_get xs k ≡ Some y))

@@ -1,30 +1,31 @@
 -- Walks over chosen edges of a state, and walks that follow other walks.
-use Rattle.std.specs.Prelude.{ℕ, ◌≡◌, ◌⊎◌, Bool, true}
+use Rattle.std.specs.Prelude.{ℕ, ◌≡◌, ◌⊎◌, Bool, true, List, slice_get, Option, Some}
 use Rattle.std.proofs.Common.{inl, inr, ⊎_elim}
 use Rattle.net_graph.specs.Network.{HasEnds}
 use Rattle.net_graph.specs.Search.{Leads}
 use Rattle.net_graph.specs.SearchLaws.{Leads-start, Leads-more, Leads-keeps, Leads-trans, Leads-back}
-use Rattle.graph_reduce.specs.State.{Bundle, State, HasEdge, IsTerminal}
+use Rattle.graph_reduce.specs.State.{Bundle, State}
+use Rattle.graph_reduce.proofs.lemmas.Terminals.{In}
 
 -- a chosen place holds an edge with these ends
-pub record Joins (s : State) (F : ℕ → Bool) (v w : ℕ) : Type 0 where
+pub record Joins (edges : List (Option Bundle)) (F : ℕ → Bool) (v w : ℕ) : Type 0 where
   pub place : ℕ
   pub x : Bundle
   pub chosen : F place ≡ true
-  pub at : HasEdge s place x
+  pub at : slice_get edges place ≡ Some (Some x)
   pub ends : HasEnds x.edge v w
 
 -- every two terminals are joined by walks over chosen edges
 abbrev pub IsNet : State → (ℕ → Bool) → Type 0
-IsNet s F = (v w : ℕ) → IsTerminal s v → IsTerminal s w → Leads (Joins s F) v w
+IsNet s F = (v w : ℕ) → In s.terminals v → In s.terminals w → Leads (Joins s.edges F) v w
 
 -- an edge joins its ends both ways
-pub HasEnds-back : (s : Bundle) (v w : ℕ) → HasEnds s.edge v w → HasEnds s.edge w v
-HasEnds-back s v w ends = ⊎_elim (λ (along : (s.edge.a ≡ v) × (s.edge.b ≡ w)). inr along)
-    (λ (against : (s.edge.a ≡ w) × (s.edge.b ≡ v)). inl against) ends
+pub HasEnds-back : (x : Bundle) (v w : ℕ) → HasEnds x.edge v w → HasEnds x.edge w v
+HasEnds-back x v w ends = ⊎_elim (λ (along : (x.edge.a ≡ v) × (x.edge.b ≡ w)). inr along)
+    (λ (against : (x.edge.a ≡ w) × (x.edge.b ≡ v)). inl against) ends
 
-pub Joins-back : (s : State) (F : ℕ → Bool) (v w : ℕ) → Joins s F v w → Joins s F w v
-Joins-back s F v w j = record {
+pub Joins-back : (edges : List (Option Bundle)) (F : ℕ → Bool) (v w : ℕ) → Joins edges F v w → Joins edges F w v
+Joins-back edges F v w j = record {
   place = j.place;
   x = j.x;
   chosen = j.chosen;
@@ -32,8 +33,10 @@ Joins-back s F v w j = record {
   ends = HasEnds-back j.x v w j.ends;
 }
 
-pub walk_back : (s : State) (F : ℕ → Bool) (v w : ℕ) → Leads (Joins s F) v w → Leads (Joins s F) w v
-walk_back s F v w led = Leads-back (Joins s F) (Joins s F) (Joins-back s F) v w led
+-- .. and so does a walk
+pub walk_back : (edges : List (Option Bundle)) (F : ℕ → Bool) (v w : ℕ) → Leads (Joins edges F) v w →
+    Leads (Joins edges F) w v
+walk_back edges F v w led = Leads-back (Joins edges F) (Joins edges F) (Joins-back edges F) v w led
 
 -- one step is a walk
 pub Leads-one : (Step : ℕ → ℕ → Type 0) (v w : ℕ) → Step v w → Leads Step v w
