@@ -4,4 +4,7 @@ pub mod Walks
 pub mod Terminals
 pub mod Unions
 pub mod Keeping
+pub mod Ends
 pub mod Drops
+pub mod Parallels
+pub mod Forcing

@@ -14,11 +14,8 @@ use Rattle.graph_reduce.proofs.lemmas.Choices.{put, put_same, put_other, put_in}
 use Rattle.graph_reduce.proofs.lemmas.Lengths.{part, part_none, length_in, length_in-set, length_in-choice, length_in-none, length_in-nothing}
 use Rattle.graph_reduce.proofs.lemmas.Terminals.{In, In-from_Contains, Contains-from_In}
 use Rattle.graph_reduce.proofs.lemmas.Walks.{Joins, IsNet, HasEnds-back, Leads-one, Leads-mapped}
+use Rattle.graph_reduce.proofs.lemmas.Ends.{same_edge, seen_at, seen_other, seen_ends}
 use Rattle.graph_reduce.proofs.lemmas.Keeping.{Carries, Lifts, value_of, Widened, Narrowed, Keeps, dropped, Keeps-dropped, still_joins, short_by_drop}
-
--- an edge that is found at one place is one edge
-pub same_edge : (s : State) (n : ℕ) (x y : Bundle) → HasEdge s n x → HasEdge s n y → x ≡ y
-same_edge s n x y first second = same_Some x y (same_Some (Some x) (Some y) (sym first ∙ second))
 
 -- ---- the edges where there is one terminal
 
@@ -102,22 +99,6 @@ Keeps-lone_node v old new drops = subst (Keeps old) (sym drops.becomes) (record 
 
 -- ---- a node with one edge
 
--- a node that is dropped, seen at the other end of its edge
-abbrev pub seen_at : ℕ → ℕ → ℕ → ℕ
-seen_at v other u = if u == v then other else u
-
-pub seen_same : (v other u : ℕ) → u ≡ v → seen_at v other u ≡ other
-seen_same v other u is = ap (λ b. if b then other else u) (eq-eqb u v is)
-
-pub seen_other : (v other u : ℕ) → (u ≡ v → ⊥) → seen_at v other u ≡ u
-seen_other v other u apart = ap (λ b. if b then other else u) (ne_eqb u v apart)
-
-pub seen_end : (v other : ℕ) → seen_at v other other ≡ other
-seen_end v other = elim (cases_eq other v) [
-  | inl is ↦ seen_same v other other is
-  | inr apart ↦ seen_other v other other apart
-]
-
 -- a step along the edge of such a node leads nowhere, and any other stays
 pub step_past_leaf : (s : State) (v place : ℕ) (x : Bundle) (other : ℕ) → HasOneEdge s v place x other →
     (F : ℕ → Bool) (u w : ℕ) → Joins s.edges F u w →
@@ -141,32 +122,9 @@ step_past_leaf s v place x other edge F u w j = elim (cases_eq j.place place) [
     w_end is = ⊎_elim (λ (along : (j.x.edge.a ≡ u) × (j.x.edge.b ≡ w)). inr (along.1 ∙ is))
         (λ (against : (j.x.edge.a ≡ w) × (j.x.edge.b ≡ u)). inl (against.0 ∙ is)) j.ends
 
-    at_end : (z : ℕ) → (z ≡ v) ⊎ (z ≡ other) → seen_at v other z ≡ other
-    at_end z (inl is) = seen_same v other z is
-    at_end z (inr is) = ap (seen_at v other) is ∙ seen_end v other
-
-    is_end : (z : ℕ) → j.place ≡ place → (j.x.edge.a ≡ z) ⊎ (j.x.edge.b ≡ z) → (z ≡ v) ⊎ (z ≡ other)
-    is_end z here has =
-        let same : j.x ≡ x = same_edge s place j.x x (subst (λ n. HasEdge s n j.x) here j.at) edge.at in
-        let at : (x.edge.a ≡ z) ⊎ (x.edge.b ≡ z) = subst (λ y. (y.edge.a ≡ z) ⊎ (y.edge.b ≡ z)) same has in
-        ends_of edge.ends at
-      where
-        ends_of : HasEnds x.edge v other → (x.edge.a ≡ z) ⊎ (x.edge.b ≡ z) → (z ≡ v) ⊎ (z ≡ other)
-        ends_of (inl ends) (inl is) = inl (sym is ∙ ends.0)
-        ends_of (inl ends) (inr is) = inr (sym is ∙ ends.1)
-        ends_of (inr ends) (inl is) = inr (sym is ∙ ends.0)
-        ends_of (inr ends) (inr is) = inl (sym is ∙ ends.1)
-
     both : j.place ≡ place → seen_at v other u ≡ seen_at v other w
-    both here = at_end u (is_end u here u_has) ∙ sym (at_end w (is_end w here w_has))
-      where
-        u_has : (j.x.edge.a ≡ u) ⊎ (j.x.edge.b ≡ u)
-        u_has = ⊎_elim (λ (along : (j.x.edge.a ≡ u) × (j.x.edge.b ≡ w)). inl along.0)
-            (λ (against : (j.x.edge.a ≡ w) × (j.x.edge.b ≡ u)). inr against.1) j.ends
-
-        w_has : (j.x.edge.a ≡ w) ⊎ (j.x.edge.b ≡ w)
-        w_has = ⊎_elim (λ (along : (j.x.edge.a ≡ u) × (j.x.edge.b ≡ w)). inr along.1)
-            (λ (against : (j.x.edge.a ≡ w) × (j.x.edge.b ≡ u)). inl against.0) j.ends
+    both here = seen_ends x v other u w edge.ends (subst (λ y. HasEnds y.edge u w) (same_edge s place j.x x
+        (subst (λ n. HasEdge s n j.x) here j.at) edge.at) j.ends)
 
 pub Keeps-leaf : (v : ℕ) (old new : State) → DropsLeaf v old new → Keeps old new
 Keeps-leaf v old new drops = subst (Keeps old) (sym drops.becomes)
