@@ -8,3 +8,4 @@ pub mod Ends
 pub mod Drops
 pub mod Parallels
 pub mod Forcing
+pub mod Joining
