@@ -9,3 +9,9 @@ pub mod Drops
 pub mod Parallels
 pub mod Forcing
 pub mod Joining
+pub mod Soundness
+pub mod Steps
+pub mod Beginning
+pub mod Ending
+pub mod Renumbering
+pub mod LiftingLaw

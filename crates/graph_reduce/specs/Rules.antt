@@ -1,7 +1,6 @@
 -- The rules of reduction (the tests of degree and of parallel edges; after Beasley 1984, and Duin and Volgenant 1989).
-use Rattle.std.specs.Prelude.{ℕ, ◌≡◌, ◌⊎◌, ◌+◌, ◌==◌, ◌<◌, nat_lt, List, true, false, map, replicate, length, slice_set, Some, None, if◌then◌else◌}
+use Rattle.std.specs.Prelude.{ℕ, ◌≡◌, ◌⊎◌, ◌+◌, ◌==◌, ◌<◌, nat_lt, List, false, map, replicate, length, slice_set, Some, None, if◌then◌else◌}
 use Rattle.std.specs.List.{list_any}
-use Rattle.net_graph.specs.declared.edge.Edge.{Edge}
 use Rattle.net_graph.specs.Network.{HasEnds}
 use Rattle.graph_reduce.specs.State.{Bundle, State, HasEdge, HasNode, IsTerminal, EndsIn, HasOneEdge, union, without}
 

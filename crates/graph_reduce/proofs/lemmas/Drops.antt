@@ -1,21 +1,19 @@
 -- The rules that drop edges and nodes keep what joins the terminals.
-use Rattle.std.specs.Prelude.{ℕ, zero, ◌≡◌, ◌+◌, ◌≤◌, ◌<◌, ◌⊎◌, ◌==◌, nat_lt, Bool, true, false, List, [], ◌∷◌, length, slice_get, slice_set, Option, Some, None, Contains, if◌then◌else◌}
-use Rattle.std.proofs.Common.{refl, sym, ap, ◌∙◌, inl, inr, ⊎_elim, subst, arith}
-use Rattle.std.proofs.lemmas.Bool.{cases_eq, cases_Bool, eq-eqb, ne_eqb, ltb-true, ltb-false}
-use Rattle.std.proofs.lemmas.Option.{same_Some}
-use Rattle.net_graph.specs.EntryLaws.{slice_get-set_other, slice_get-replicate}
+use Rattle.std.specs.Prelude.{ℕ, ◌≡◌, ◌⊎◌, Bool, true, false, List, [], ◌∷◌, length, slice_set, Option, Some, None}
+use Rattle.std.proofs.Common.{refl, sym, ◌∙◌, inl, inr, ⊎_elim, subst, arith}
+use Rattle.std.proofs.lemmas.Bool.{cases_eq}
+use Rattle.net_graph.specs.EntryLaws.{slice_get-replicate}
 use Rattle.net_graph.specs.Flags.{has}
 use Rattle.net_graph.specs.Network.{HasEnds}
 use Rattle.net_graph.specs.Search.{Leads}
-use Rattle.net_graph.specs.SearchLaws.{Leads-start, Leads-weaker}
-use Rattle.graph_reduce.specs.State.{Bundle, State, HasEdge, EndsIn, HasOneEdge}
-use Rattle.graph_reduce.specs.Rules.{DropsAllEdges, DropsLoop, DropsParallel, DropsLoneNode, DropsLeaf, without_edge, without_edges, without_node}
-use Rattle.graph_reduce.proofs.lemmas.Choices.{put, put_same, put_other, put_in}
-use Rattle.graph_reduce.proofs.lemmas.Lengths.{part, part_none, length_in, length_in-set, length_in-choice, length_in-none, length_in-nothing}
-use Rattle.graph_reduce.proofs.lemmas.Terminals.{In, In-from_Contains, Contains-from_In}
-use Rattle.graph_reduce.proofs.lemmas.Walks.{Joins, IsNet, HasEnds-back, Leads-one, Leads-mapped}
+use Rattle.net_graph.specs.SearchLaws.{Leads-start}
+use Rattle.graph_reduce.specs.State.{Bundle, State, HasEdge, HasOneEdge}
+use Rattle.graph_reduce.specs.Rules.{DropsAllEdges, DropsLoop, DropsLoneNode, DropsLeaf, without_edges}
+use Rattle.graph_reduce.proofs.lemmas.Lengths.{length_in-none, length_in-nothing}
+use Rattle.graph_reduce.proofs.lemmas.Terminals.{In, Contains-from_In}
+use Rattle.graph_reduce.proofs.lemmas.Walks.{Joins, IsNet, Leads-one, Leads-mapped}
 use Rattle.graph_reduce.proofs.lemmas.Ends.{same_edge, seen_at, seen_other, seen_ends}
-use Rattle.graph_reduce.proofs.lemmas.Keeping.{Carries, Lifts, value_of, Widened, Narrowed, Keeps, dropped, Keeps-dropped, still_joins, short_by_drop}
+use Rattle.graph_reduce.proofs.lemmas.Keeping.{Carries, Widened, Narrowed, Keeps, dropped, Keeps-dropped, still_joins, short_by_drop}
 
 -- ---- the edges where there is one terminal
 

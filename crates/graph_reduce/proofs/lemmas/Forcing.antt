@@ -1,19 +1,18 @@
 -- The rule that forces the one edge of a terminal keeps what joins the terminals.
-use Rattle.std.specs.Prelude.{ℕ, ◌≡◌, ◌+◌, ◌≤◌, ◌⊎◌, Bool, true, false, List, length, slice_get, slice_set, Option, Some, None}
+use Rattle.std.specs.Prelude.{ℕ, ◌≡◌, ◌+◌, ◌⊎◌, Bool, true, false, length, slice_set, Some, None}
 use Rattle.std.proofs.Common.{refl, sym, ap, ◌∙◌, inl, inr, ⊎_elim, subst, arith}
 use Rattle.std.proofs.lemmas.Bool.{cases_eq}
 use Rattle.net_graph.specs.EntryLaws.{slice_get-set_other}
 use Rattle.net_graph.specs.Flags.{has}
-use Rattle.net_graph.specs.Network.{HasEnds}
 use Rattle.net_graph.specs.Search.{Leads}
-use Rattle.net_graph.specs.SearchLaws.{Leads-start, Leads-keeps, Leads-trans, Leads-weaker}
-use Rattle.graph_reduce.specs.State.{Bundle, State, HasEdge, union}
+use Rattle.net_graph.specs.SearchLaws.{Leads-keeps, Leads-trans, Leads-weaker}
+use Rattle.graph_reduce.specs.State.{State, HasEdge, union}
 use Rattle.graph_reduce.specs.Rules.{ForcesEdge, moved}
 use Rattle.graph_reduce.proofs.lemmas.Choices.{put, put_same, put_other, put_in}
 use Rattle.graph_reduce.proofs.lemmas.Drops.{step_past_leaf}
 use Rattle.graph_reduce.proofs.lemmas.Ends.{same_edge, seen_at, seen_same, seen_other}
-use Rattle.graph_reduce.proofs.lemmas.Keeping.{Carries, Lifts, value_of, Widened, Narrowed, Keeps, found_before}
-use Rattle.graph_reduce.proofs.lemmas.Lengths.{part, part_none, length_in, length_in-set}
+use Rattle.graph_reduce.proofs.lemmas.Keeping.{Carries, Lifts, Widened, Narrowed, Keeps, found_before}
+use Rattle.graph_reduce.proofs.lemmas.Lengths.{part, part_none, length_in-set}
 use Rattle.graph_reduce.proofs.lemmas.Terminals.{In, In-from_Contains, AreDistinct, In-moved, In-moved_from, In-moved_to, another}
 use Rattle.graph_reduce.proofs.lemmas.Unions.{union_cases, union_left, union_right}
 use Rattle.graph_reduce.proofs.lemmas.Walks.{Joins, IsNet, HasEnds-back, walk_back, Leads-one, Leads-mapped}
@@ -26,7 +25,7 @@ module _ (v : ℕ) (old new : State) (forces : ForcesEdge v old new) (distinct :
     edges = slice_set old.edges forces.place None;
     terminals = moved old.terminals v forces.other;
     forced = union old.forced forces.x.originals;
-    offset = old.offset + forces.x.edge.length
+    offset = old.offset + forces.x.edge.length;
   }
 
   is_in : In old.terminals v
@@ -74,12 +73,12 @@ module _ (v : ℕ) (old new : State) (forces : ForcesEdge v old new) (distinct :
           (subst (λ n. HasEdge old n c.x) here c.at) forces.edge.at in
           inl (union_right old.forced forces.x.originals e (subst (λ x. has x.originals e ≡ true) same c.original)))
       | inr apart ↦ inr (record {
-          place = c.place;
-          x = c.x;
-          chosen = sym (put_other G forces.place true c.place apart) ∙ c.chosen;
-          at = slice_get-set_other old.edges forces.place c.place None apart ∙ c.at;
-          original = c.original;
-        })
+        place = c.place;
+        x = c.x;
+        chosen = sym (put_other G forces.place true c.place apart) ∙ c.chosen;
+        at = slice_get-set_other old.edges forces.place c.place None apart ∙ c.at;
+        original = c.original;
+      })
     ]
 
     into : (e : ℕ) → Lifts old F e → Lifts after G e

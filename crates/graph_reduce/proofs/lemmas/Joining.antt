@@ -1,19 +1,19 @@
 -- The rule that joins the two edges of a node keeps what joins the terminals.
 use Rattle.std.specs.Prelude.{ℕ, ◌≡◌, ◌+◌, ◌≤◌, ◌⊎◌, ◌&&◌, Bool, true, false, List, slice_get, slice_set, Option, Some, None, if◌then◌else◌}
 use Rattle.std.proofs.Common.{refl, sym, ap, ◌∙◌, inl, inr, ⊎_elim, subst, arith}
-use Rattle.std.proofs.lemmas.Bool.{cases_eq, cases_Bool, and_from, and_parts}
+use Rattle.std.proofs.lemmas.Bool.{cases_eq, cases_Bool, and_from}
 use Rattle.std.proofs.lemmas.Option.{same_Some, slice_get_within}
 use Rattle.net_graph.specs.EntryLaws.{slice_get-set_same, slice_get-set_other}
 use Rattle.net_graph.specs.Flags.{has}
 use Rattle.net_graph.specs.Network.{HasEnds}
 use Rattle.net_graph.specs.Search.{Leads}
-use Rattle.net_graph.specs.SearchLaws.{Leads-start, Leads-trans, Leads-weaker, Leads-more}
-use Rattle.graph_reduce.specs.State.{Bundle, State, HasEdge, EndsIn, union}
+use Rattle.net_graph.specs.SearchLaws.{Leads-start, Leads-more}
+use Rattle.graph_reduce.specs.State.{Bundle, State, HasEdge, EndsIn}
 use Rattle.graph_reduce.specs.Rules.{JoinsEdges, joined}
-use Rattle.graph_reduce.proofs.lemmas.Choices.{put, put_same, put_other, put_in, set_cases}
+use Rattle.graph_reduce.proofs.lemmas.Choices.{put, put_same, put_other, set_cases}
 use Rattle.graph_reduce.proofs.lemmas.Ends.{same_edge, seen_at, seen_same, seen_other, seen_ends, ends_are}
-use Rattle.graph_reduce.proofs.lemmas.Keeping.{Carries, Lifts, value_of, Widened, Narrowed, Keeps, found_before}
-use Rattle.graph_reduce.proofs.lemmas.Lengths.{part, part_none, length_at, length_in, length_in-set}
+use Rattle.graph_reduce.proofs.lemmas.Keeping.{Carries, Widened, Narrowed, Keeps, found_before}
+use Rattle.graph_reduce.proofs.lemmas.Lengths.{part, part_none, length_in-set}
 use Rattle.graph_reduce.proofs.lemmas.Terminals.{In, Contains-from_In}
 use Rattle.graph_reduce.proofs.lemmas.Unions.{union_cases, union_left, union_right}
 use Rattle.graph_reduce.proofs.lemmas.Walks.{Joins, IsNet, HasEnds-back, Joins-back, walk_back, Leads-one, Leads-mapped}
@@ -33,13 +33,13 @@ part_joined-le x y u w false true = omega arith
 part_joined-le x y u w false false = omega arith
 
 module _ (v : ℕ) (old new : State) (joins : JoinsEdges v old new) (no_loop : joins.w ≡ v → ⊥) where
-  abbrev one : Bundle
+  abbrev pub one : Bundle
   one = joined joins.x joins.y joins.u joins.w
 
-  abbrev mid : List (Option Bundle)
+  abbrev pub mid : List (Option Bundle)
   mid = slice_set old.edges joins.earlier (Some one)
 
-  abbrev left : List (Option Bundle)
+  abbrev pub left : List (Option Bundle)
   left = slice_set mid joins.later None
 
   abbrev after : State
@@ -59,7 +59,7 @@ module _ (v : ℕ) (old new : State) (joins : JoinsEdges v old new) (no_loop : j
   later_at = slice_get-set_other old.edges joins.earlier joins.later (Some one) (λ e. apart (sym e)) ∙ joins.later_at
 
   -- an edge that is left is the joined one, or was there before at another place
-  found : (k : ℕ) (z : Bundle) → slice_get left k ≡ Some (Some z) →
+  pub found : (k : ℕ) (z : Bundle) → slice_get left k ≡ Some (Some z) →
       ((k ≡ joins.earlier) × (one ≡ z)) ⊎
       ((k ≡ joins.earlier → ⊥) × (k ≡ joins.later → ⊥) × (slice_get old.edges k ≡ Some (Some z)))
   found k z at =
@@ -149,12 +149,12 @@ module _ (v : ℕ) (old new : State) (joins : JoinsEdges v old new) (no_loop : j
             by_joined e (sym F_later ∙ subst (λ n. F n ≡ true) here c.chosen)
             (union_right joins.x.originals joins.y.originals e (subst (λ x. has x.originals e ≡ true) same c.original)))
         | inr not_later ↦ (record {
-            place = c.place;
-            x = c.x;
-            chosen = sym (put_other G joins.later (G joins.earlier) c.place not_later) ∙ c.chosen;
-            at = still c.place c.x not_earlier not_later c.at;
-            original = c.original;
-          })
+          place = c.place;
+          x = c.x;
+          chosen = sym (put_other G joins.later (G joins.earlier) c.place not_later) ∙ c.chosen;
+          at = still c.place c.x not_earlier not_later c.at;
+          original = c.original;
+        })
       ]
     ]
 

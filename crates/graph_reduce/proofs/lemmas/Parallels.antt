@@ -1,17 +1,16 @@
 -- The rule that drops one of two parallel edges keeps what joins the terminals.
-use Rattle.std.specs.Prelude.{ℕ, ◌≡◌, ◌≤◌, ◌⊎◌, nat_lt, Bool, true, false, List, slice_set, Option, Some, None, if◌then◌else◌}
+use Rattle.std.specs.Prelude.{ℕ, ◌≡◌, ◌≤◌, nat_lt, Bool, true, false, List, slice_set, Option, Some, None, if◌then◌else◌}
 use Rattle.std.proofs.Common.{refl, sym, ap, ◌∙◌, inl, inr, ⊎_elim, subst, arith}
 use Rattle.std.proofs.lemmas.Bool.{cases_eq, cases_Bool, ltb-true, ltb-false, both_ways}
 use Rattle.net_graph.specs.EntryLaws.{slice_get-set_other}
 use Rattle.net_graph.specs.Network.{HasEnds}
-use Rattle.net_graph.specs.Search.{Leads}
 use Rattle.net_graph.specs.SearchLaws.{Leads-weaker}
 use Rattle.graph_reduce.specs.State.{Bundle, State, HasEdge}
 use Rattle.graph_reduce.specs.Rules.{DropsParallel, without_edge}
 use Rattle.graph_reduce.proofs.lemmas.Choices.{put, put_same, put_other, put_in}
 use Rattle.graph_reduce.proofs.lemmas.Ends.{same_edge}
-use Rattle.graph_reduce.proofs.lemmas.Keeping.{value_of, Narrowed, Keeps, dropped, Keeps-dropped, still_joins, short_by_drop}
-use Rattle.graph_reduce.proofs.lemmas.Lengths.{part, part_none, length_in, length_in-set, length_in-choice}
+use Rattle.graph_reduce.proofs.lemmas.Keeping.{Narrowed, Keeps, dropped, Keeps-dropped, still_joins, short_by_drop}
+use Rattle.graph_reduce.proofs.lemmas.Lengths.{part, part_none, length_in-set, length_in-choice}
 use Rattle.graph_reduce.proofs.lemmas.Walks.{Joins, IsNet}
 
 -- an edge beside one that has its ends, and is no longer, can be dropped

@@ -1,8 +1,8 @@
 -- Lists of terminals: without repeats, without one, and with one in another's place.
-use Rattle.std.specs.Prelude.{ℕ, zero, suc, ◌≡◌, ◌<◌, ◌==◌, ◌⊎◌, ◌||◌, Bool, true, false, not, List, [], ◌∷◌, length, map, filter, slice_index_or, Contains, if◌then◌else◌}
+use Rattle.std.specs.Prelude.{ℕ, zero, suc, ◌≡◌, ◌==◌, ◌⊎◌, Bool, true, false, not, List, [], ◌∷◌, length, map, Contains, if◌then◌else◌}
 use Rattle.std.specs.List.{list_any}
 use Rattle.std.proofs.Common.{refl, sym, ap, ◌∙◌, inl, inr, ⊎_elim, subst, arith}
-use Rattle.std.proofs.lemmas.Bool.{eqb-true, eqb-false, eq-eqb, ne_eqb, cases_Bool, cases_eq, or_cases, or_left, or_right, both_ways}
+use Rattle.std.proofs.lemmas.Bool.{eqb-true, eqb-false, eq-eqb, cases_eq, or_cases, or_left, or_right, both_ways}
 use Rattle.graph_reduce.specs.State.{without, distinct_of}
 use Rattle.graph_reduce.specs.Rules.{moved}
 

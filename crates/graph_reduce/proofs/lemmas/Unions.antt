@@ -1,6 +1,6 @@
 -- What is in a union of sets of numbers.
-use Rattle.std.specs.Prelude.{ℕ, zero, suc, ◌≡◌, ◌⊎◌, ◌||◌, ◌↔◌, Bool, true, false, List, [], ◌∷◌}
-use Rattle.std.proofs.Common.{refl, inl, inr, ⊎_elim, sym, ◌∙◌}
+use Rattle.std.specs.Prelude.{ℕ, zero, suc, ◌≡◌, ◌⊎◌, ◌||◌, Bool, true, false, List, [], ◌∷◌}
+use Rattle.std.proofs.Common.{refl, sym, ◌∙◌}
 use Rattle.std.proofs.lemmas.Bool.{or_cases, or_left, or_right}
 use Rattle.net_graph.specs.Flags.{has}
 use Rattle.graph_reduce.specs.State.{union}

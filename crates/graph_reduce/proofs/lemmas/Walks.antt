@@ -1,5 +1,5 @@
 -- Walks over chosen edges of a state, and walks that follow other walks.
-use Rattle.std.specs.Prelude.{ℕ, ◌≡◌, ◌⊎◌, Bool, true, List, slice_get, Option, Some}
+use Rattle.std.specs.Prelude.{ℕ, ◌≡◌, Bool, true, List, slice_get, Option, Some}
 use Rattle.std.proofs.Common.{inl, inr, ⊎_elim}
 use Rattle.net_graph.specs.Network.{HasEnds}
 use Rattle.net_graph.specs.Search.{Leads}
