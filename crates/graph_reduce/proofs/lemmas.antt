@@ -8,6 +8,8 @@ pub mod Ends
 pub mod Drops
 pub mod Parallels
 pub mod Forcing
+pub mod JoinedPlaces
+pub mod JoinedWidens
 pub mod Joining
 pub mod Soundness
 pub mod Steps

@@ -11,7 +11,7 @@ use Rattle.net_graph.specs.Graph.{Graph, IsGraph, HasEndsBelow}
 use Rattle.net_graph.specs.Network.{HasEnds}
 use Rattle.graph_reduce.specs.State.{Bundle, State, HasEdge, HasNode, bundles_from, start_of}
 use Rattle.graph_reduce.specs.Rules.{DropsAllEdges, DropsLoop, DropsParallel, DropsLoneNode, DropsLeaf, JoinsEdges, ForcesEdge, without_edge}
-use Rattle.graph_reduce.proofs.lemmas.Joining.{one, found}
+use Rattle.graph_reduce.proofs.lemmas.JoinedPlaces.{one, found}
 use Rattle.graph_reduce.proofs.lemmas.Keeping.{found_before}
 use Rattle.graph_reduce.proofs.lemmas.Terminals.{In, In-from_Contains, Contains-from_In, AreDistinct, AreDistinct-distinct_of, In-distinct_of, In-moved, AreDistinct-moved}
 
@@ -124,7 +124,7 @@ IsSound-joined v old new sound joins u_apart w_apart = subst IsSound (sym joins.
   terminals = λ t is. left_from old.nodes v t
       (apart_from old v t (λ h. joins.free (Contains-from_In old.terminals v h)) is) (sound.terminals t is);
   ends = λ n x at. ⊎_elim
-      (λ (p : (n ≡ joins.earlier) × (one v old new joins w_apart ≡ x)). subst Left p.1 (
+      (λ (p : (n ≡ joins.earlier) × (one v old new joins ≡ x)). subst Left p.1 (
         left_from old.nodes v joins.u u_apart
             (other_left old joins.earlier joins.x v joins.u sound joins.earlier_at joins.earlier_ends),
         left_from old.nodes v joins.w w_apart
@@ -135,7 +135,7 @@ IsSound-joined v old new sound joins u_apart w_apart = subst IsSound (sym joins.
         left_from old.nodes v x.edge.a (λ is. ⊎_elim p.0 p.1 (joins.only n (x, p.2, inl is))) both.0,
         left_from old.nodes v x.edge.b (λ is. ⊎_elim p.0 p.1 (joins.only n (x, p.2, inr is))) both.1,
       ))
-      (found v old new joins w_apart n x at);
+      (found v old new joins n x at);
 })
   where
     Left : Bundle → Type 0
