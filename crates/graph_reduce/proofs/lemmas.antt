@@ -12,8 +12,10 @@ pub mod JoinedPlaces
 pub mod JoinedWidens
 pub mod Joining
 pub mod Soundness
-pub mod Steps
 pub mod Beginning
+pub mod Fits
+pub mod Steps
 pub mod Ending
 pub mod Renumbering
 pub mod LiftingLaw
+pub mod FitLaw

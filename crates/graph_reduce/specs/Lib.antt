@@ -3,3 +3,4 @@ pub mod Rules
 pub mod Step
 pub mod Reduction
 pub mod Lifting
+pub mod Fitness

@@ -1,5 +1,6 @@
-//! The law of lifting. The function does nothing: it is there for its clause.
+//! The laws of reductions. The functions do nothing: they are there for their clauses.
 
+ghost use Rattle.graph_reduce.specs.Fitness.{ReductionsFit};
 ghost use Rattle.graph_reduce.specs.Lifting.{LiftingKeepsLength};
 
 /// Of the reduction of a graph: each network of the reduced graph lifts to a network of the graph that is longer by
@@ -8,4 +9,10 @@ ghost use Rattle.graph_reduce.specs.Lifting.{LiftingKeepsLength};
 /// there on.
 pub fn lifting_keeps_length()
     ensures { LiftingKeepsLength }
+{}
+
+/// The reduction of a graph is a graph again, each of whose edges stands for edges of the graph that no other stands for
+/// and that are not forced; its offset is at most the sum of the graph's lengths. A law: the call does nothing.
+pub fn reductions_fit()
+    ensures { ReductionsFit }
 {}

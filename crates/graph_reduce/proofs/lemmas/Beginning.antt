@@ -44,7 +44,7 @@ single_has size n below = has-slice_get (slice_set (replicate size false) n true
     (slice_get-set_same (replicate size false) n true (omega (arith, length-replicate size false)))
 
 -- .. and no other is
-single_is : (size n e : ℕ) → has (slice_set (replicate size false) n true) e ≡ true → e ≡ n
+pub single_is : (size n e : ℕ) → has (slice_set (replicate size false) n true) e ≡ true → e ≡ n
 single_is size n e is = elim (cases_eq e n) [
   | inl here ↦ here
   | inr apart ↦

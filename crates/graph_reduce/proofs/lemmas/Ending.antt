@@ -14,7 +14,7 @@ use Rattle.graph_reduce.proofs.lemmas.Unions.{union_cases, union_left, union_rig
 -- ---- numbers of nodes
 
 -- a number of the set stands where its new number says
-member_at : (n : ℕ) (flags : List Bool) (v : ℕ) → slice_get flags v ≡ Some true →
+pub member_at : (n : ℕ) (flags : List Bool) (v : ℕ) → slice_get flags v ≡ Some true →
     slice_get (members_from n flags) (number_among flags v) ≡ Some (n + v)
 member_at n [] v is = absurd cc
 member_at n (true ∷ flags) zero is = ap Some (omega arith)

@@ -19,7 +19,7 @@ use Rattle.graph_reduce.proofs.lemmas.Terminals.{In, In-from_Contains, Contains-
 use Rattle.graph_reduce.proofs.lemmas.Walks.{Joins, IsNet, Leads-one, Leads-mapped}
 
 -- what is found in a mapped list is the image of what stands there
-mapped_at : {A B : Type 0} (f : A → B) (xs : List A) (k : ℕ) (y : B) → slice_get (map f xs) k ≡ Some y →
+pub mapped_at : {A B : Type 0} (f : A → B) (xs : List A) (k : ℕ) (y : B) → slice_get (map f xs) k ≡ Some y →
     (x : A) × (slice_get xs k ≡ Some x) × (f x ≡ y)
 mapped_at f [] k y at = absurd cc
 mapped_at f (x ∷ xs) zero y at = (x, refl, same_Some (f x) y at)

@@ -1,7 +1,7 @@
 -- What holds of every state of a reduction: no terminal is listed twice, and terminals and ends of edges are nodes that
 -- are left.
 use Rattle.std.specs.Prelude.{ℕ, zero, suc, ◌≡◌, ◌+◌, ◌<◌, Bool, true, false, List, [], ◌∷◌, length, replicate, slice_get, slice_set, Some, None, All}
-use Rattle.std.proofs.Common.{sym, ap, ◌∙◌, inl, inr, ⊎_elim, subst, arith}
+use Rattle.std.proofs.Common.{refl, sym, ap, ◌∙◌, inl, inr, ⊎_elim, subst, arith}
 use Rattle.std.proofs.lemmas.List.{get_or-replicate, length-replicate}
 use Rattle.std.proofs.lemmas.List.Elements.{All-contains}
 use Rattle.std.proofs.lemmas.Option.{same_Some, slice_get-get_or, slice_get_within}
@@ -11,6 +11,8 @@ use Rattle.net_graph.specs.Graph.{Graph, IsGraph, HasEndsBelow}
 use Rattle.net_graph.specs.Network.{HasEnds}
 use Rattle.graph_reduce.specs.State.{Bundle, State, HasEdge, HasNode, bundles_from, start_of}
 use Rattle.graph_reduce.specs.Rules.{DropsAllEdges, DropsLoop, DropsParallel, DropsLoneNode, DropsLeaf, JoinsEdges, ForcesEdge, without_edge}
+use Rattle.graph_reduce.specs.Step.{Applies}
+use Rattle.graph_reduce.specs.Step.Rule.{Loop}
 use Rattle.graph_reduce.proofs.lemmas.JoinedPlaces.{one, found}
 use Rattle.graph_reduce.proofs.lemmas.Keeping.{found_before}
 use Rattle.graph_reduce.proofs.lemmas.Terminals.{In, In-from_Contains, Contains-from_In, AreDistinct, AreDistinct-distinct_of, In-distinct_of, In-moved, AreDistinct-moved}
@@ -54,6 +56,15 @@ IsSound-start g graph = record {
       (bundle_at (length g.edges) 0 g.edges n x at).0 in
       (all_left g.vertices x.edge.a below.a, all_left g.vertices x.edge.b below.b);
 }
+
+-- where no loop can be dropped, the other end of an edge is another node
+pub no_loop : (s : State) (n : ℕ) (x : Bundle) (v u : ℕ) → ((place : ℕ) → ¬ Applies s Loop place) → HasEdge s n x →
+    HasEnds x.edge v u → u ≡ v → ⊥
+no_loop s n x v u none at ends is =
+    let same : x.edge.a ≡ x.edge.b =
+    ⊎_elim (λ (along : (x.edge.a ≡ v) × (x.edge.b ≡ u)). along.0 ∙ sym is ∙ sym along.1)
+    (λ (against : (x.edge.a ≡ u) × (x.edge.b ≡ v)). against.0 ∙ is ∙ sym against.1) ends in
+    none n (without_edge s n, record { loop = x; at = at; is_loop = same; becomes = refl })
 
 -- ---- the rules
 

@@ -1,30 +1,22 @@
 -- Each step of a reduction keeps what joins the terminals, and so do all of them.
 use Rattle.std.specs.Prelude.{ℕ, zero, suc, ◌≡◌, length}
-use Rattle.std.proofs.Common.{refl, sym, ◌∙◌, inl, inr, ⊎_elim, subst, arith}
-use Rattle.net_graph.specs.Network.{HasEnds}
-use Rattle.graph_reduce.specs.State.{Bundle, State, HasEdge}
-use Rattle.graph_reduce.specs.Rules.{without_edge, without_edges}
+use Rattle.std.proofs.Common.{refl, inl, inr, subst, arith}
+use Rattle.net_graph.specs.Graph.{Graph}
+use Rattle.graph_reduce.specs.State.{State}
+use Rattle.graph_reduce.specs.Rules.{without_edges}
 use Rattle.graph_reduce.specs.Step.{Rule, Takes, Applies, IsBefore, IsStep, AreSteps}
 use Rattle.graph_reduce.specs.Step.Rule.{OneTerminal, Loop, Parallel, Leaf, Passed, TerminalLeaf}
 use Rattle.graph_reduce.proofs.lemmas.Drops.{Keeps-all_edges, Keeps-loop, Keeps-lone_node, Keeps-leaf}
+use Rattle.graph_reduce.proofs.lemmas.Fits.{Fits, Fits-step}
 use Rattle.graph_reduce.proofs.lemmas.Forcing.{Keeps-forced}
 use Rattle.graph_reduce.proofs.lemmas.Joining.{Keeps-joined}
 use Rattle.graph_reduce.proofs.lemmas.Keeping.{Keeps, Keeps-same, Keeps-then}
 use Rattle.graph_reduce.proofs.lemmas.Parallels.{Keeps-parallel}
-use Rattle.graph_reduce.proofs.lemmas.Soundness.{IsSound, IsSound-all_edges, IsSound-loop, IsSound-parallel, IsSound-lone_node, IsSound-leaf, IsSound-joined, IsSound-forced}
+use Rattle.graph_reduce.proofs.lemmas.Soundness.{IsSound, no_loop, IsSound-all_edges, IsSound-loop, IsSound-parallel, IsSound-lone_node, IsSound-leaf, IsSound-joined, IsSound-forced}
 
 -- no earlier rule applies
-abbrev NoneBefore : State → Rule → ℕ → Type 0
+abbrev pub NoneBefore : State → Rule → ℕ → Type 0
 NoneBefore s rule at = (earlier : Rule) (there : ℕ) → IsBefore earlier there rule at → ¬ Applies s earlier there
-
--- where no loop can be dropped, the other end of an edge is another node
-no_loop : (s : State) (n : ℕ) (x : Bundle) (v u : ℕ) → ((place : ℕ) → ¬ Applies s Loop place) → HasEdge s n x →
-    HasEnds x.edge v u → u ≡ v → ⊥
-no_loop s n x v u none at ends is =
-    let same : x.edge.a ≡ x.edge.b =
-    ⊎_elim (λ (along : (x.edge.a ≡ v) × (x.edge.b ≡ u)). along.0 ∙ sym is ∙ sym along.1)
-    (λ (against : (x.edge.a ≡ u) × (x.edge.b ≡ v)). against.0 ∙ is ∙ sym against.1) ends in
-    none n (without_edge s n, record { loop = x; at = at; is_loop = same; becomes = refl })
 
 step_keeps : (old new : State) → IsSound old → IsStep old new → Keeps old new × IsSound new
 step_keeps old new sound step = by_rule step.rule step.at step.takes step.first
@@ -53,3 +45,12 @@ steps_keep (suc n) old new sound (mid, steps, step) =
     let first = steps_keep n old mid sound steps in
     let last = step_keeps mid new first.1 step in
     (Keeps-then old mid new first.0 last.0, last.1)
+
+-- .. and what holds of sizes and lengths
+step_fits : (g : Graph) (old new : State) → Fits g old → IsStep old new → Fits g new
+step_fits g old new fits step = Fits-step g step.rule step.at old new fits step.takes
+    (λ later place. step.first Loop place (inl later))
+
+pub steps_fit : (g : Graph) (n : ℕ) (old new : State) → Fits g old → AreSteps n old new → Fits g new
+steps_fit g zero old new fits is = subst (Fits g) is fits
+steps_fit g (suc n) old new fits (mid, steps, step) = step_fits g mid new (steps_fit g n old mid fits steps) step
