@@ -19,3 +19,4 @@ pub mod Ending
 pub mod Renumbering
 pub mod LiftingLaw
 pub mod FitLaw
+pub mod Sizes

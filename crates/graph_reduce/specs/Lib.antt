@@ -4,3 +4,4 @@ pub mod Step
 pub mod Reduction
 pub mod Lifting
 pub mod Fitness
+pub mod Ending

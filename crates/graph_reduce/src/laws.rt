@@ -1,5 +1,6 @@
 //! The laws of reductions. The functions do nothing: they are there for their clauses.
 
+ghost use Rattle.graph_reduce.specs.Ending.{ReductionsEnd};
 ghost use Rattle.graph_reduce.specs.Fitness.{ReductionsFit};
 ghost use Rattle.graph_reduce.specs.Lifting.{LiftingKeepsLength};
 
@@ -15,4 +16,10 @@ pub fn lifting_keeps_length()
 /// and that are not forced; its offset is at most the sum of the graph's lengths. A law: the call does nothing.
 pub fn reductions_fit()
     ensures { ReductionsFit }
+{}
+
+/// No more steps lead from a graph than it has vertices and edges, so that each reduction ends. A law: the call does
+/// nothing.
+pub fn reductions_end()
+    ensures { ReductionsEnd }
 {}

@@ -3,4 +3,4 @@
 
 mod laws;
 
-pub use laws::{lifting_keeps_length, reductions_fit};
+pub use laws::{lifting_keeps_length, reductions_end, reductions_fit};
