@@ -12,9 +12,10 @@ pub record IsFitFor (g : Graph) (r : Reduction) : Type 0 where
   pub edges : length r.originals ≡ length r.graph.edges
   pub sizes : (k : ℕ) (set : List Bool) → slice_get r.originals k ≡ Some set → length set ≡ length g.edges
   pub forced : length r.forced ≡ length g.edges
-  pub apart : (j k e : ℕ) (one two : List Bool) → slice_get r.originals j ≡ Some one → slice_get r.originals k ≡ Some two →
-      has one e ≡ true → has two e ≡ true → j ≡ k
-  pub unforced : (k e : ℕ) (set : List Bool) → slice_get r.originals k ≡ Some set → has set e ≡ true → ¬ (has r.forced e ≡ true)
+  pub apart : (j k e : ℕ) (one two : List Bool) → slice_get r.originals j ≡ Some one →
+      slice_get r.originals k ≡ Some two → has one e ≡ true → has two e ≡ true → j ≡ k
+  pub unforced : (k e : ℕ) (set : List Bool) → slice_get r.originals k ≡ Some set → has set e ≡ true →
+      ¬ (has r.forced e ≡ true)
   pub offset : r.offset ≤ total_of g
 
 -- the reduction of a graph fits it
