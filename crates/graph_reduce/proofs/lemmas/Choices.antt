@@ -1,0 +1,45 @@
+-- Sets of places as tests, and how one place is put in or taken out.
+use Rattle.std.specs.Prelude.{ℕ, ◌≡◌, ◌==◌, Bool, true, false, List, slice_get, slice_set, Some, if◌then◌else◌, ◌⊎◌}
+use Rattle.std.proofs.Common.{refl, sym, ap, ◌∙◌, inl, inr, subst, arith, length-set}
+use Rattle.std.proofs.lemmas.Bool.{cases_eq, eq-eqb, ne_eqb}
+use Rattle.std.proofs.lemmas.Option.{slice_get_within, same_Some}
+use Rattle.net_graph.specs.EntryLaws.{slice_get-set_same, slice_get-set_other}
+
+-- the same set but for one number
+abbrev pub put : (ℕ → Bool) → ℕ → Bool → ℕ → Bool
+put F n flag k = if k == n then flag else F k
+
+pub put_same : (F : ℕ → Bool) (n : ℕ) (flag : Bool) → put F n flag n ≡ flag
+put_same F n flag = ap (λ b. if b then flag else F n) (eq-eqb n n refl)
+
+pub put_other : (F : ℕ → Bool) (n : ℕ) (flag : Bool) (k : ℕ) → (k ≡ n → ⊥) → put F n flag k ≡ F k
+put_other F n flag k apart = ap (λ b. if b then flag else F k) (ne_eqb k n apart)
+
+-- what is chosen where one place was taken out is another, and was chosen before
+pub put_out : (F : ℕ → Bool) (n k : ℕ) → put F n false k ≡ true → (k ≡ n → ⊥) × (F k ≡ true)
+put_out F n k chosen = elim (cases_eq k n) [
+  | inl here ↦ (let none : put F n false k ≡ false = ap (put F n false) here ∙ put_same F n false in cc)
+  | inr apart ↦ (apart, sym (put_other F n false k apart) ∙ chosen)
+]
+
+-- what was chosen is so where one more place is put in
+pub put_in : (F : ℕ → Bool) (n k : ℕ) → F k ≡ true → put F n true k ≡ true
+put_in F n k chosen = elim (cases_eq k n) [
+  | inl here ↦ (ap (put F n true) here ∙ put_same F n true)
+  | inr apart ↦ (put_other F n true k apart ∙ chosen)
+]
+
+-- what is found in a list in which one entry was written was written there, or found there before
+pub set_cases : {A : Type 0} (xs : List A) (n k : ℕ) (x y : A) → slice_get (slice_set xs n x) k ≡ Some y →
+    ((k ≡ n) × (x ≡ y)) ⊎ ((k ≡ n → ⊥) × (slice_get xs k ≡ Some y))
+set_cases xs n k x y found = elim (cases_eq k n) [
+  | inl here ↦ inl (here, same_Some x y (sym (at_n here) ∙ found_n here))
+  | inr apart ↦ inr (apart, sym (slice_get-set_other xs n k x apart) ∙ found)
+]
+  where
+    found_n : k ≡ n → slice_get (slice_set xs n x) n ≡ Some y
+    found_n here = subst (λ j. slice_get (slice_set xs n x) j ≡ Some y) here found
+
+    at_n : k ≡ n → slice_get (slice_set xs n x) n ≡ Some x
+    at_n here = slice_get-set_same xs n x
+        (let within = slice_get_within (slice_set xs n x) n y (found_n here) in omega (arith, within, length-set xs n x))

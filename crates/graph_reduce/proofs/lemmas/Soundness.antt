@@ -1,0 +1,171 @@
+-- What holds of every state of a reduction: no terminal is listed twice, and terminals and ends of edges are nodes that
+-- are left.
+use Rattle.std.specs.Prelude.{ℕ, zero, suc, ◌≡◌, ◌+◌, ◌<◌, Bool, true, false, List, [], ◌∷◌, length, replicate, slice_get, slice_set, Some, None, All}
+use Rattle.std.proofs.Common.{refl, sym, ap, ◌∙◌, inl, inr, ⊎_elim, subst, arith}
+use Rattle.std.proofs.lemmas.List.{get_or-replicate, length-replicate}
+use Rattle.std.proofs.lemmas.List.Elements.{All-contains}
+use Rattle.std.proofs.lemmas.Option.{same_Some, slice_get-get_or, slice_get_within}
+use Rattle.net_graph.specs.declared.edge.Edge.{Edge}
+use Rattle.net_graph.specs.EntryLaws.{slice_get-set_other, slice_get-replicate}
+use Rattle.net_graph.specs.Graph.{Graph, IsGraph, HasEndsBelow}
+use Rattle.net_graph.specs.Network.{HasEnds}
+use Rattle.graph_reduce.specs.State.{Bundle, State, HasEdge, HasNode, bundles_from, start_of}
+use Rattle.graph_reduce.specs.Rules.{DropsAllEdges, DropsLoop, DropsParallel, DropsLoneNode, DropsLeaf, JoinsEdges, ForcesEdge, without_edge}
+use Rattle.graph_reduce.specs.Step.{Applies}
+use Rattle.graph_reduce.specs.Step.Rule.{Loop}
+use Rattle.graph_reduce.proofs.lemmas.JoinedPlaces.{one, found}
+use Rattle.graph_reduce.proofs.lemmas.Keeping.{found_before}
+use Rattle.graph_reduce.proofs.lemmas.Terminals.{In, In-from_Contains, Contains-from_In, AreDistinct, AreDistinct-distinct_of, In-distinct_of, In-moved, AreDistinct-moved}
+
+pub record IsSound (s : State) : Type 0 where
+  pub distinct : AreDistinct s.terminals
+  pub terminals : (t : ℕ) → In s.terminals t → HasNode s t
+  pub ends : (n : ℕ) (x : Bundle) → HasEdge s n x → HasNode s x.edge.a × HasNode s x.edge.b
+
+-- an edge of the list, as the first state has it
+pub bundle_at : (size n : ℕ) (es : List Edge) (k : ℕ) (x : Bundle) → slice_get (bundles_from size n es) k ≡ Some (Some x) →
+    (slice_get es k ≡ Some x.edge) × (x.originals ≡ slice_set (replicate size false) (n + k) true)
+bundle_at size n [] k x at = absurd cc
+bundle_at size n (e ∷ es) zero x at =
+    let is : record { edge = e; originals = slice_set (replicate size false) n true } ≡ x =
+    same_Some _ x (same_Some _ (Some x) at) in (
+      ap (λ y. Some y.edge) is,
+      ap (λ y. y.originals) (sym is) ∙ ap (λ m. slice_set (replicate size false) m true) (omega arith),
+    )
+bundle_at size n (e ∷ es) (suc k) x at =
+    let rest = bundle_at size (n + 1) es k x at in
+    (rest.0, rest.1 ∙ ap (λ m. slice_set (replicate size false) m true) (omega arith))
+
+-- both ends of an edge of the list are below the bound
+ends_below : (es : List Edge) (vertices k : ℕ) (e : Edge) → All (HasEndsBelow vertices) es → slice_get es k ≡ Some e →
+    HasEndsBelow vertices e
+ends_below es vertices k e all at =
+    let within = slice_get_within es k e at in
+    subst (HasEndsBelow vertices) (same_Some _ e (sym (slice_get-get_or es k e within) ∙ at)) (all k e within)
+
+all_left : (size v : ℕ) → v < size → slice_get (replicate size true) v ≡ Some true
+all_left size v below = slice_get-get_or (replicate size true) v true (omega (arith, length-replicate size true))
+    ∙ ap Some (get_or-replicate size v true true below)
+
+pub IsSound-start : (g : Graph) → IsGraph g → IsSound (start_of g)
+IsSound-start g graph = record {
+  distinct = AreDistinct-distinct_of g.terminals;
+  terminals = λ t is. all_left g.vertices t (All-contains (λ v. v < g.vertices) g.terminals t graph.terminals
+      (Contains-from_In g.terminals t (In-distinct_of g.terminals t is)));
+  ends = λ n x at. let below = ends_below g.edges g.vertices n x.edge graph.ends
+      (bundle_at (length g.edges) 0 g.edges n x at).0 in
+      (all_left g.vertices x.edge.a below.a, all_left g.vertices x.edge.b below.b);
+}
+
+-- where no loop can be dropped, the other end of an edge is another node
+pub no_loop : (s : State) (n : ℕ) (x : Bundle) (v u : ℕ) → ((place : ℕ) → ¬ Applies s Loop place) → HasEdge s n x →
+    HasEnds x.edge v u → u ≡ v → ⊥
+no_loop s n x v u none at ends is =
+    let same : x.edge.a ≡ x.edge.b =
+    ⊎_elim (λ (along : (x.edge.a ≡ v) × (x.edge.b ≡ u)). along.0 ∙ sym is ∙ sym along.1)
+    (λ (against : (x.edge.a ≡ u) × (x.edge.b ≡ v)). against.0 ∙ is ∙ sym against.1) ends in
+    none n (without_edge s n, record { loop = x; at = at; is_loop = same; becomes = refl })
+
+-- ---- the rules
+
+-- a node that isn't dropped is left
+left_from : (nodes : List Bool) (v u : ℕ) → (u ≡ v → ⊥) → slice_get nodes u ≡ Some true →
+    slice_get (slice_set nodes v false) u ≡ Some true
+left_from nodes v u apart has = slice_get-set_other nodes v u false apart ∙ has
+
+pub IsSound-all_edges : (old new : State) → IsSound old → DropsAllEdges old new → IsSound new
+IsSound-all_edges old new sound drops = subst IsSound (sym drops.becomes) (record {
+  distinct = sound.distinct;
+  terminals = sound.terminals;
+  ends = λ n x at. let none : None ≡ Some x = slice_get-replicate _ n None (Some x) at in cc;
+})
+
+-- the same nodes, without an edge
+less : (s : State) (place : ℕ) → IsSound s → IsSound (without_edge s place)
+less s place sound = record {
+  distinct = sound.distinct;
+  terminals = sound.terminals;
+  ends = λ n x at. sound.ends n x (found_before s.edges place n x at).1;
+}
+
+pub IsSound-loop : (place : ℕ) (old new : State) → IsSound old → DropsLoop place old new → IsSound new
+IsSound-loop place old new sound drops = subst IsSound (sym drops.becomes) (less old place sound)
+
+pub IsSound-parallel : (place : ℕ) (old new : State) → IsSound old → DropsParallel place old new → IsSound new
+IsSound-parallel place old new sound drops = subst IsSound (sym drops.becomes) (less old _ sound)
+
+-- a terminal is not the node
+apart_from : (s : State) (v t : ℕ) → ¬ (In s.terminals v) → In s.terminals t → t ≡ v → ⊥
+apart_from s v t free is here = free (subst (In s.terminals) here is)
+
+pub IsSound-lone_node : (v : ℕ) (old new : State) → IsSound old → DropsLoneNode v old new → IsSound new
+IsSound-lone_node v old new sound drops = subst IsSound (sym drops.becomes) (record {
+  distinct = sound.distinct;
+  terminals = λ t is. left_from old.nodes v t
+      (apart_from old v t (λ h. drops.free (Contains-from_In old.terminals v h)) is) (sound.terminals t is);
+  ends = λ n x at. let both = sound.ends n x at in (
+    left_from old.nodes v x.edge.a (λ is. drops.none n (x, at, inl is)) both.0,
+    left_from old.nodes v x.edge.b (λ is. drops.none n (x, at, inr is)) both.1,
+  );
+})
+
+pub IsSound-leaf : (v : ℕ) (old new : State) → IsSound old → DropsLeaf v old new → IsSound new
+IsSound-leaf v old new sound drops = subst IsSound (sym drops.becomes) (record {
+  distinct = sound.distinct;
+  terminals = λ t is. left_from old.nodes v t
+      (apart_from old v t (λ h. drops.free (Contains-from_In old.terminals v h)) is) (sound.terminals t is);
+  ends = λ n x at. let before = found_before old.edges drops.place n x at in
+      let both = sound.ends n x before.1 in (
+        left_from old.nodes v x.edge.a (λ is. before.0 (drops.edge.only n (x, before.1, inl is))) both.0,
+        left_from old.nodes v x.edge.b (λ is. before.0 (drops.edge.only n (x, before.1, inr is))) both.1,
+      );
+})
+
+-- the other end of an edge is left
+other_left : (s : State) (n : ℕ) (x : Bundle) (v u : ℕ) → IsSound s → HasEdge s n x → HasEnds x.edge v u → HasNode s u
+other_left s n x v u sound at ends =
+    let both = sound.ends n x at in
+    ⊎_elim (λ (along : (x.edge.a ≡ v) × (x.edge.b ≡ u)). subst (HasNode s) along.1 both.1)
+    (λ (against : (x.edge.a ≡ u) × (x.edge.b ≡ v)). subst (HasNode s) against.0 both.0) ends
+
+pub IsSound-joined : (v : ℕ) (old new : State) → IsSound old → (joins : JoinsEdges v old new) → (joins.u ≡ v → ⊥) →
+    (joins.w ≡ v → ⊥) → IsSound new
+IsSound-joined v old new sound joins u_apart w_apart = subst IsSound (sym joins.becomes) (record {
+  distinct = sound.distinct;
+  terminals = λ t is. left_from old.nodes v t
+      (apart_from old v t (λ h. joins.free (Contains-from_In old.terminals v h)) is) (sound.terminals t is);
+  ends = λ n x at. ⊎_elim
+      (λ (p : (n ≡ joins.earlier) × (one v old new joins ≡ x)). subst Left p.1 (
+        left_from old.nodes v joins.u u_apart
+            (other_left old joins.earlier joins.x v joins.u sound joins.earlier_at joins.earlier_ends),
+        left_from old.nodes v joins.w w_apart
+            (other_left old joins.later joins.y v joins.w sound joins.later_at joins.later_ends),
+      ))
+      (λ (p : (n ≡ joins.earlier → ⊥) × (n ≡ joins.later → ⊥) × (slice_get old.edges n ≡ Some (Some x))).
+      let both = sound.ends n x p.2 in (
+        left_from old.nodes v x.edge.a (λ is. ⊎_elim p.0 p.1 (joins.only n (x, p.2, inl is))) both.0,
+        left_from old.nodes v x.edge.b (λ is. ⊎_elim p.0 p.1 (joins.only n (x, p.2, inr is))) both.1,
+      ))
+      (found v old new joins n x at);
+})
+  where
+    Left : Bundle → Type 0
+    Left x = (slice_get (slice_set old.nodes v false) x.edge.a ≡ Some true)
+        × (slice_get (slice_set old.nodes v false) x.edge.b ≡ Some true)
+
+pub IsSound-forced : (v : ℕ) (old new : State) → IsSound old → (forces : ForcesEdge v old new) →
+    (forces.other ≡ v → ⊥) → IsSound new
+IsSound-forced v old new sound forces apart = subst IsSound (sym forces.becomes) (record {
+  distinct = AreDistinct-moved old.terminals v forces.other sound.distinct;
+  terminals = λ t is. ⊎_elim (λ (here : t ≡ forces.other).
+      subst (λ u. slice_get (slice_set old.nodes v false) u ≡ Some true) (sym here)
+      (left_from old.nodes v forces.other apart
+      (other_left old forces.place forces.x v forces.other sound forces.edge.at forces.edge.ends)))
+      (λ (p : In old.terminals t × (t ≡ v → ⊥)). left_from old.nodes v t p.1 (sound.terminals t p.0))
+      (In-moved old.terminals v forces.other t (In-from_Contains old.terminals v forces.terminal) is);
+  ends = λ n x at. let before = found_before old.edges forces.place n x at in
+      let both = sound.ends n x before.1 in (
+        left_from old.nodes v x.edge.a (λ is. before.0 (forces.edge.only n (x, before.1, inl is))) both.0,
+        left_from old.nodes v x.edge.b (λ is. before.0 (forces.edge.only n (x, before.1, inr is))) both.1,
+      );
+})

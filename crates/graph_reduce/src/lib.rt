@@ -1,0 +1,6 @@
+//! Reductions of Steiner problems in graphs: smaller graphs whose networks lift.
+#![tactic(auto)]
+
+mod laws;
+
+pub use laws::{lifting_keeps_length, reductions_end, reductions_fit};
