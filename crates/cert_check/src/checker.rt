@@ -26,8 +26,8 @@ use tree_judge::{Cause, Judge};
 /// An answer has no more bytes than this.
 const BYTE_LIMIT: u64 = 4_294_967_295;
 
-/// A checker of an answer, for the points of a grid or in a graph. It is fed the answer in pieces, keeps no bytes and takes no memory:
-/// it works in the room that it is handed. The first wrong line decides, whatever follows it.
+/// A checker of an answer, for the points of a grid or in a graph. It is fed the answer in pieces, keeps no bytes and
+/// takes no memory: it works in the room that it is handed. The first wrong line decides, whatever follows it.
 #[derive(Drop)]
 pub struct Checker<'a> {
     subject: Subject<'a>,
@@ -43,8 +43,8 @@ pub struct Checker<'a> {
 impl<'a> Checker<'a> {
     ghost use Rattle.cert_check.specs.Checking.{StandsForBytes, StandsForBytesIn};
 
-    /// A checker of an answer for the points of a grid that was fed no byte. The room that it is handed: an empty set of
-    /// the grid's E edges for the network, an empty set of its V vertices for the cut that is read, and a row of
+    /// A checker of an answer for the points of a grid that was fed no byte. The room that it is handed: an empty set
+    /// of the grid's E edges for the network, an empty set of its V vertices for the cut that is read, and a row of
     /// 3 E + max(E, 2 V) + V + 512 numbers, whatever they are. A `Workroom` has these.
     pub fn begin(grid: &'a Grid, network: EdgeSet, members: VertexSet, work: Row) -> Checker<'a>
         requires network { network ≡ replicate (length (hanan_grid_of grid.now).edges) false }

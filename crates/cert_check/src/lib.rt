@@ -1,4 +1,4 @@
-//! The checker of answers: it judges points and bytes alone, and rests on nothing that proposes or bounds.
+//! The checker of answers: it judges bytes by points or a graph alone, and rests on nothing that proposes or bounds.
 #![tactic(auto)]
 
 mod border;

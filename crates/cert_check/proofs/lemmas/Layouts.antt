@@ -1,6 +1,5 @@
 -- How the edges of a grid are numbered.
-use Rattle.std.proofs.Common.{◌≡◌, ◌-◌, ◌*◌, ◌<◌, ◌≤◌, List, length, refl, sym, ap, ◌∙◌, arith}
-use Rattle.std.proofs.lemmas.Nat.{mul-le}
+use Rattle.std.proofs.Common.{◌≡◌, ◌<◌, ◌≤◌, List, length, refl, sym, ap, ◌∙◌, arith}
 use Rattle.std.proofs.lemmas.Option.{same_Some}
 use Rattle.points_in.specs.declared.point.Point.{Point}
 use Rattle.net_graph.specs.declared.edge.Edge.{Edge}
@@ -30,12 +29,3 @@ grid_laid_out ps some_columns few_columns some_rows few_rows = record {
       (sym (slice_get-vertical (xs_of ps) (ys_of ps) row column above below) ∙ at) in
       (sym (ap (λ (x : Edge). x.a) is), sym (ap (λ (x : Edge). x.b) is) ∙ omega arith);
 }
-
--- each crossing is the lower end of at most two edges
-pub few_edges_of_grid : (ps : List Point) → length (hanan_grid_of ps).edges ≤ 2 * (hanan_grid_of ps).vertices
-few_edges_of_grid ps =
-    let columns = length (xs_of ps) in
-    let rows = length (ys_of ps) in
-    let across = mul-le rows (columns - 1) rows columns (omega arith) (omega arith) in
-    let up = mul-le (rows - 1) columns rows columns (omega arith) (omega arith) in
-    omega (arith, length-edges_of_lines (xs_of ps) (ys_of ps), across, up)
