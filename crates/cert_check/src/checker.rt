@@ -62,7 +62,6 @@ impl<'a> Checker<'a> {
     /// A checker of an answer in a graph with at most 255 terminals that was fed no byte, with such room as
     /// `Workroom::in_graph` has.
     pub fn in_graph(g: &'a NetGraph, network: EdgeSet, members: VertexSet, work: Row) -> Checker<'a>
-        requires some { 0 < g.now.vertices }
         requires terminals { length g.now.terminals ≤ 255 }
         requires network { network ≡ replicate (length g.now.edges) false }
         requires members { members ≡ replicate g.now.vertices false }

@@ -1,3 +1,4 @@
 pub mod Repeats
 pub mod Parts
 pub mod Joined
+pub mod GraphVerdicts

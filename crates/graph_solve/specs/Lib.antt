@@ -1,3 +1,4 @@
 pub mod Task
 pub mod Fault
 pub mod Said
+pub mod Accepted

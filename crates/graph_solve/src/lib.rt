@@ -1,11 +1,16 @@
-//! Steiner problems in the graphs of STP files: the graph of a file, and a first network of it.
+//! Steiner problems in the graphs of STP files: the graph of a file, a first network of it, and the
+//! checker of an answer.
 #![tactic(auto)]
 
+mod check;
 mod every_edge;
 mod fault;
 mod network;
 mod task;
+mod verdict;
 
+pub use check::check_graph;
 pub use fault::TaskFault;
 pub use network::first_network;
 pub use task::graph_of;
+pub use verdict::GraphVerdict;

@@ -9,6 +9,7 @@ use std::alloc::Global;
 /// Makes the call of a row, and writes what comes of it.
 pub fn answer(alloc: Global, call: &Call, answer: &mut String) -> Result<(), Fault> {
     match call.kind() {
+        "check" => tasks::check(alloc, call, answer),
         "graph" => tasks::graph(alloc, call, answer),
         "network" => tasks::network(alloc, call, answer),
         _ => Err(Fault::UnknownSubject),

@@ -1,11 +1,12 @@
-//! The graph of an STP file, and a first network.
+//! The graph of an STP file, a first network, and the checker of answers.
 
+ghost use Rattle.std.specs.Prelude.{◌≤◌, length};
 ghost use Rattle.net_graph.specs.Network.{IsNetwork};
 ghost use Rattle.graph_solve.specs.Task.{all_edges};
 
 use format_fault::FormatFault;
 use graph_calls::told::tell_edges;
-use graph_solve::{TaskFault, first_network, graph_of};
+use graph_solve::{TaskFault, check_graph, first_network, graph_of};
 use net_graph::{NetGraph, length};
 use row_tables::{Call, Fault};
 use std::alloc::Global;
@@ -27,6 +28,15 @@ pub(crate) fn network(alloc: Global, call: &Call, answer: &mut String) -> Result
     let file = given_file(alloc, call)?;
     match graph_of(alloc, &file) {
         Ok(g) => tell_network(alloc, &g, answer),
+        Err(fault) => tell_fault(alloc, fault, answer),
+    }
+}
+
+/// The same fault; or the verdict on `bytes` as an answer in the graph.
+pub(crate) fn check(alloc: Global, call: &Call, answer: &mut String) -> Result<(), Fault> {
+    let file = given_file(alloc, call)?;
+    match graph_of(alloc, &file) {
+        Ok(g) => tell_verdict(alloc, &g, call.bytes("bytes")?, answer),
         Err(fault) => tell_fault(alloc, fault, answer),
     }
 }
@@ -72,4 +82,15 @@ fn tell_network(alloc: Global, g: &NetGraph, answer: &mut String) -> Result<(), 
     let set = first_network(alloc, g)?;
     tell_edges(answer, "network", &set)?;
     Ok(writeln!(answer, "length {}", length(g, &set))?)
+}
+
+// Tells the verdict on bytes as an answer in a graph.
+fn tell_verdict(alloc: Global, g: &NetGraph, bytes: &[u8], answer: &mut String) -> Result<(), Fault>
+    requires { length g.now.terminals ≤ 255 }
+{
+    if bytes.len() >= 1 << 32 {
+        return Err(Fault::NotAllowed);
+    }
+    let verdict = check_graph(alloc, g, bytes)?;
+    Ok(writeln!(answer, "{verdict:?}")?)
 }
