@@ -12,8 +12,8 @@ pub fn lifting_keeps_length()
     ensures { LiftingKeepsLength }
 {}
 
-/// The reduction of a graph is a graph again, each of whose edges stands for edges of the graph that no other stands for
-/// and that are not forced; its offset is at most the sum of the graph's lengths. A law: the call does nothing.
+/// The reduction of a graph is a graph again, each of whose edges stands for edges of the graph that no other stands
+/// for and that are not forced; its offset is at most the sum of the graph's lengths. A law: the call does nothing.
 pub fn reductions_fit()
     ensures { ReductionsFit }
 {}
