@@ -9,5 +9,6 @@ pub mod Underway
 pub mod UnderwayLaws
 pub mod Checking
 pub mod Accepted
+pub mod AcceptedLaws
 pub mod VerdictLaw
 pub mod UpgradeLaw

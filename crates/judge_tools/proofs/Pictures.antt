@@ -5,9 +5,10 @@ use Rattle.net_graph.specs.Network.{IsLowerBound}
 use Rattle.frame.specs.Outside.{Readable}
 use Rattle.frame.specs.Points.{grid_of_points}
 use Rattle.judge_tools.specs.declared.judge.Judgement.{Judgement}
+use Rattle.cert_check.specs.Named.{on_grid}
+use Rattle.cert_check.specs.AcceptedLaws.{shortest_where_optimal}
 use Rattle.verdict_line.specs.declared.line.VerdictLine.TheVariants as said
 use Rattle.verdict_line.specs.Verdicts.{verdict_told}
-use Rattle.judge_tools.specs.CheckLaws.{shortest_where_optimal}
 use Rattle.judge_tools.specs.Judging.{FindsJudgement}
 use Rattle.judge_tools.specs.Plot.{plot_print, Plots}
 
@@ -32,7 +33,7 @@ found_plot name before after judgement length_said bound_said optimal_said (ps, 
         tree = tree;
         accepts = accepts;
         bounds = below;
-        shortest = shortest_where_optimal (terminals_of ps) bytes answer judgement.judged.network tree accepts below;
+        shortest = shortest_where_optimal (on_grid (terminals_of ps)) bytes answer judgement.judged.network tree accepts below;
       },
       ap (λ grid. plot_print grid judgement.judged.network) of_points,
     )

@@ -1,16 +1,13 @@
 -- What `check` tells is true.
-use Rattle.std.proofs.Common.{ℕ, ◌≡◌, Bool, true, List, sym, subst, ap, ◌∙◌}
-use Rattle.std.proofs.lemmas.Bool.{eqb-true}
+use Rattle.std.proofs.Common.{ℕ, ◌≡◌, List, subst, ap, ◌∙◌}
 use Rattle.rst_outside.specs.Sink.{Appended}
 use Rattle.points_in.specs.declared.point.Point.{Point}
 use Rattle.points_in.specs.Terminals.{terminals_of}
-use Rattle.net_graph.specs.Network.{IsLowerBound, IsShortest}
-use Rattle.hanan_grid.specs.Grid.{hanan_grid_of}
-use Rattle.cert_tree.specs.declared.split.SplitOn.{SplitOn}
-use Rattle.cert_tree.specs.Tree.{Tree}
-use Rattle.cut_cert.specs.Value.{WrittenAnswer}
+use Rattle.net_graph.specs.Network.{IsLowerBound}
 use Rattle.cert_check.specs.declared.verdict.Finished.{Finished}
-use Rattle.cert_check.specs.Accepted.{Accepts, IsAccepting}
+use Rattle.cert_check.specs.Named.{on_grid}
+use Rattle.cert_check.specs.Accepted.{IsAccepting}
+use Rattle.cert_check.specs.AcceptedLaws.{shortest_where_optimal}
 use Rattle.frame.specs.Statuses.{answer_code}
 use Rattle.frame.specs.Outside.{Outside}
 use Rattle.frame.specs.Points.{grid_of_points}
@@ -19,16 +16,6 @@ use Rattle.verdict_line.specs.declared.line.VerdictLine.TheVariants as said
 use Rattle.verdict_line.specs.Verdicts.{accepted_line, verdict_told, line_text, line_status}
 use Rattle.judge_tools.specs.Judging.{IsChecked}
 use Rattle.judge_tools.specs.Truth.{ChecksTruly}
-
--- The network of an accepted answer that says optimal is a shortest one.
-pub shortest_where_optimal : (terminals : List Point) (bytes : List ℕ) (answer : WrittenAnswer) (network : List Bool)
-    (tree : Tree SplitOn) → Accepts terminals bytes answer network tree →
-    IsLowerBound (hanan_grid_of terminals) answer.head.bound → answer.head.optimal ≡ true →
-    IsShortest (hanan_grid_of terminals) network
-shortest_where_optimal terminals bytes answer network tree accepts below marked =
-    let same : answer.head.bound ≡ answer.head.length =
-    eqb-true answer.head.bound answer.head.length (sym accepts.status ∙ marked) in
-    (accepts.joins, subst (λ b. IsLowerBound (hanan_grid_of terminals) b) (same ∙ accepts.plain_length) below)
 
 -- Where the line of the verdict was written, what it tells is true.
 pub checks_truly : (name : List ℕ) (before after : Outside) (ps : List Point) (bytes : List ℕ) (f : Finished)
@@ -57,7 +44,7 @@ checks_truly name before after ps bytes f (said.Accepted length bound optimal) s
         accepts,
         subst (λ text. Appended before.written.out.taken text after.written.out.taken) line told,
         below,
-        λ marked. shortest_where_optimal (terminals_of ps) bytes answer f.network tree accepts below marked,
+        λ marked. shortest_where_optimal (on_grid (terminals_of ps)) bytes answer f.network tree accepts below marked,
       ),
     )
 checks_truly name before after ps bytes f (said.Refused cause) status is checked told ends = (

@@ -1,4 +1,3 @@
-pub mod TreeLaws
 pub mod SearchedLaws
 pub mod SearchLaws
 pub mod JoinLaws

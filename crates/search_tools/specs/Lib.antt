@@ -6,4 +6,3 @@ pub mod Steps
 pub mod Truth
 pub mod TruthLaws
 pub mod SolutionLaws
-pub mod Kinds

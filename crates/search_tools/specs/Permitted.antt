@@ -1,5 +1,5 @@
 -- The answers that a search may print for points and a list of their full trees.
-use Rattle.std.specs.Prelude.{ℕ, ◌≡◌, ◌<◌, ◌≤◌, ◌^◌, ◌==◌, Bool, true, false, List, length, if◌then◌else◌}
+use Rattle.std.specs.Prelude.{ℕ, ◌≡◌, ◌<◌, ◌≤◌, ◌^◌, Bool, true, false, List, length}
 use Rattle.points_in.specs.declared.point.Point.{Point}
 use Rattle.net_graph.specs.Network.{length_of}
 use Rattle.hanan_grid.specs.Grid.{hanan_grid_of}
@@ -12,11 +12,11 @@ use Rattle.cut_cert.specs.Text.{answer_text}
 use Rattle.cert_tree.specs.declared.split.SplitOn.{SplitOn}
 use Rattle.cert_tree.specs.Tree.{Tree}
 use Rattle.cert_check.specs.Accepted.{IsAccepted}
-use Rattle.frame.specs.declared.status.AnswerStatus.{AnswerStatus}
-use Rattle.frame.specs.declared.status.AnswerStatus.TheVariants.{Done, Stopped}
 use Rattle.frame.specs.Ends.{Print}
 use Rattle.search_rules.specs.declared.options.SearchOptions.{SearchOptions}
-use Rattle.search_tools.specs.Solution.{IsSearched, bound_of, solution}
+use Rattle.graph_search.specs.Searched.{IsSearched, bound_of}
+use Rattle.graph_search.specs.Status.{status_of_bound}
+use Rattle.search_tools.specs.Solution.{solution}
 
 -- What an answer tells of the concatenations of a list of trees of n terminals is true: some concatenation has the
 -- total, which is at most that of a least joining by the list's pairs, where these join all. Where it says least no
@@ -47,10 +47,6 @@ pub record IsPermitted (options : SearchOptions) (ps : List Point) (trees : List
   pub concat : IsConcatNote options.concat (length ps) trees note
   pub short : length_of (hanan_grid_of ps) network ≤ note.total
   pub few_bytes : length (search_text options.openings ps network tree note) < 2 ^ 32
-
--- the status of an answer: done where the bound is the length
-abbrev pub status_of_bound : ℕ → ℕ → AnswerStatus
-status_of_bound bound length = if bound == length then Done else Stopped
 
 -- what is printed of them
 abbrev pub search_print : ℕ → List Point → List Bool → Tree SplitOn → ConcatNote → Print

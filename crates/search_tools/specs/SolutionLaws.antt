@@ -20,7 +20,8 @@ use Rattle.frame.specs.declared.status.AnswerStatus.TheVariants.{Done, Stopped}
 use Rattle.frame.specs.Ends.{Print}
 use Rattle.search_rules.specs.declared.options.SearchOptions.{SearchOptions}
 use Rattle.search_tools.specs.declared.solution.Solution.{Solution}
-use Rattle.search_tools.specs.Solution.{IsSearched, solution}
+use Rattle.graph_search.specs.Searched.{IsSearched}
+use Rattle.search_tools.specs.Solution.{solution}
 use Rattle.search_tools.specs.Permitted.{IsPermitted, search_text, search_print}
 use Rattle.search_tools.specs.Steps.{IsFor, IsSpelled, solution_text, solution_status}
 

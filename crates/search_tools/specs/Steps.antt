@@ -1,9 +1,8 @@
 -- The steps of the tools that search, before they write, each with the cause of its refusals.
-use Rattle.std.specs.Prelude.{◌≡◌, ◌<◌, ◌≤◌, ◌^◌, ◌==◌, ℕ, List, Bool, true, false, length, Result, Ok, Err, if◌then◌else◌}
+use Rattle.std.specs.Prelude.{◌≡◌, ◌<◌, ◌≤◌, ◌^◌, ℕ, List, Bool, true, false, length, Result, Ok, Err, if◌then◌else◌}
 use Rattle.points_in.specs.declared.point.Point.{Point}
 use Rattle.points_in.specs.Terminals.{terminals_of}
 use Rattle.hanan_grid.specs.Grid.{hanan_grid_of}
-use Rattle.net_graph.specs.Graph.{Graph}
 use Rattle.net_graph.specs.Network.{length_of}
 use Rattle.full_tree.specs.declared.code.Tree.{Tree as FullTree}
 use Rattle.fst_file.specs.Value.{FstValue}
@@ -14,9 +13,7 @@ use Rattle.concatenation.specs.Concatenation.{all_of}
 use Rattle.fst_concat.specs.declared.chosen.ChosenKind.{ChosenKind}
 use Rattle.fst_concat.specs.declared.chosen.ChosenKind.TheVariants.{Least, Spent}
 use Rattle.fst_concat.specs.Chosen.{IsFirstApart}
-use Rattle.branch.specs.declared.solved.Solved.{Solved}
 use Rattle.branch.specs.States.{IsNetworkOf}
-use Rattle.cut_cert.specs.declared.answer.Answer.{Answer}
 use Rattle.cut_cert.specs.declared.head.ConcatNote.{ConcatNote}
 use Rattle.cut_cert.specs.Text.{answer_text}
 use Rattle.cut_cert.specs.declared.form.Form.TheVariants as form
@@ -36,7 +33,8 @@ use Rattle.search_tools.specs.declared.build_fault.BuildFault.{BuildFault}
 use Rattle.search_tools.specs.declared.build_fault.BuildFault.TheVariants.{InFile, Apart}
 use Rattle.search_tools.specs.declared.network.Found.{Found}
 use Rattle.search_tools.specs.declared.solution.Solution.{Solution}
-use Rattle.search_tools.specs.Solution.{IsSearched, bound_of, head_with, value_on}
+use Rattle.graph_search.specs.Searched.{IsSearched, value_on}
+use Rattle.graph_search.specs.Answering.{head_with}
 use Rattle.search_tools.specs.Permitted.{IsConcatNote}
 
 -- whether the kind says that no total is smaller
@@ -54,28 +52,6 @@ pub record IsMadeOf (allowed : ℕ) (ps : List Point) (trees : List FullTree) (f
 abbrev pub FindsNetwork : ℕ → List Point → List FullTree → Result Found ℕ → Type 0
 FindsNetwork allowed ps trees (Ok found) = IsMadeOf allowed ps trees found
 FindsNetwork allowed ps trees (Err place) = IsFirstApart (length ps) trees (all_of trees) place
-
--- What a search of at most so many openings found is told as it is, and the network is no longer than a first length.
-pub record IsTold (g : Graph) (openings first_length : ℕ) (solved : Solved) : Type 0 where
-  pub searched : IsSearched g openings first_length solved.network solved.tree
-  pub length : solved.length ≡ length_of g solved.network
-  pub bound : solved.bound ≡ bound_of g solved.network solved.tree
-  pub optimal : solved.optimal ≡ (solved.bound == solved.length)
-  pub no_longer : solved.length ≤ first_length
-
--- the answer that tells what a search found, with so many openings allowed
-abbrev pub answer_with : ℕ → ConcatNote → Solved → Answer
-answer_with openings note solved = record {
-  head = record {
-    length = solved.length;
-    bound = solved.bound;
-    optimal = solved.optimal;
-    openings = openings;
-    concat = note;
-  };
-  network = solved.network;
-  tree = solved.tree;
-}
 
 -- the text of an answer for its grid
 abbrev pub solution_text : Solution → List ℕ

@@ -1,14 +1,14 @@
 //! The answer that a search gives for a file of full trees.
 
-ghost use Rattle.std.specs.Prelude.{◌≡◌, IfOk};
-ghost use Rattle.search_tools.specs.Steps.{IsPrintable, IsSpelled, SolvesFile, answer_with, solution_text, solution_status};
+ghost use Rattle.std.specs.Prelude.{IfOk};
+ghost use Rattle.search_tools.specs.Steps.{IsPrintable, IsSpelled, SolvesFile, solution_text, solution_status};
 
 use crate::network::{Found, network_on};
 use crate::search::searched;
-use branch::Solved;
-use cut_cert::{Answer as CutAnswer, AnswerHead, ConcatNote, answer_len, write_answer};
+use cut_cert::{Answer as CutAnswer, answer_len, write_answer};
 use frame::{Answer, AnswerStatus};
 use fst_file::FstFile;
+use graph_search::answer_with;
 use hanan_grid::Grid;
 use rst_outside::{PutFault, Sink};
 use search_rules::SearchOptions;
@@ -63,28 +63,4 @@ pub fn solution_of(
     let answer = answer_with(options.openings, note, solved);
     prove!(answer_len(&grid, &answer) < 1 << 32);
     Ok(Ok(Solution { grid, answer }))
-}
-
-// The answer that tells what a search found, with so many openings allowed.
-fn answer_with(openings: u8, note: ConcatNote, solved: Solved) -> CutAnswer
-    ensures { result ≡ answer_with openings note solved }
-{
-    let Solved {
-        network,
-        length,
-        bound,
-        optimal,
-        tree,
-    } = solved;
-    CutAnswer {
-        head: AnswerHead {
-            length,
-            bound,
-            optimal,
-            openings,
-            concat: note,
-        },
-        network,
-        tree,
-    }
 }

@@ -19,9 +19,11 @@ use Rattle.search_rules.specs.declared.options.SearchOptions.{SearchOptions}
 use Rattle.search_rules.specs.declared.rules.AscentRule.{AscentRule}
 use Rattle.requests.specs.Requests.{Request}
 use Rattle.requests.specs.declared.request.Drawing.{Drawing}
-use Rattle.requests.specs.Requests.Request.{Points, Stp2points, Rfst, Prunefst, Bb, Solve, Check, Dumpfst, Fst2graph, Plot, Trial, Upgrade, Slack}
+use Rattle.requests.specs.Requests.Request.{Points, Stp2points, Rfst, Prunefst, Bb, Solve, Check, Dumpfst, Fst2graph, Plot}
+use Rattle.requests.specs.Requests.Request.{Trial, Upgrade, Slack, Graph, Checkgraph}
 use Rattle.suite.specs.Run.{IsShort, EndsAsAsked, IsRun}
 use Rattle.suite.specs.Headlines.{BuildHeadline, CheckHeadline, Headline, SlackHeadline, TrialHeadline}
+use Rattle.suite.specs.Headlines.{GraphHeadline, CheckgraphHeadline}
 use Rattle.suite.specs.Complete.{Completes}
 use Rattle.suite.proofs.Heads.{solve_headline, bb_headline, check_headline, slack_headline, trial_headline}
 use Rattle.suite.proofs.Completeness.{solve_completes, bb_completes, check_completes, plot_completes, upgrade_completes, dump_completes, rfst_completes, prune_completes, graph_completes, points_completes, stp_completes, slack_completes, trial_completes}
@@ -160,6 +162,14 @@ module _ (request : Option Request) (before after : Outside) (status : ℕ) (sho
   pub short_slack_headline : SlackHeadline request before after status
   short_slack_headline above ascent is zero = absurd (omega (arith, short.ends))
 
+  pub short_graph_headline : GraphHeadline request before after status
+  short_graph_headline options is (inl zero) = absurd (omega (arith, short.ends))
+  short_graph_headline options is (inr three) = absurd (omega (arith, short.ends))
+
+  pub short_checkgraph_headline : CheckgraphHeadline request before after status
+  short_checkgraph_headline name is (inl zero) = absurd (omega (arith, short.ends))
+  short_checkgraph_headline name is (inr one) = absurd (omega (arith, short.ends))
+
   short_of : (r : Option Request) → Completes r before after status
   short_of None = inr short.ends
   short_of (Some (Points drawing)) = λ writes. inr short.ends
@@ -175,6 +185,8 @@ module _ (request : Option Request) (before after : Outside) (status : ℕ) (sho
   short_of (Some (Trial drawing)) = λ few writes. inr short.ends
   short_of (Some (Upgrade name)) = λ points bytes ps file lists has spells writes. inr short.ends
   short_of (Some (Slack above ascent)) = λ bytes ps has lists writes. inr short.ends
+  short_of (Some (Graph options)) = λ bytes file has task writes. inr short.ends
+  short_of (Some (Checkgraph name)) = λ text bytes file has task input writes. inr short.ends
 
   pub short_completes : Completes request before after status
   short_completes = short_of request

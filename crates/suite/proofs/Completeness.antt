@@ -22,8 +22,8 @@ use Rattle.frame.specs.Points.{ListsPoints, IsListFault, grid_of_points}
 use Rattle.frame.specs.TakingLaws.{input_is_taken, whole_input_is, whole_file_is, lists_points_faultless, file_faultless}
 use Rattle.search_tools.specs.declared.build_fault.BuildFault.{BuildFault}
 use Rattle.search_tools.specs.declared.build_fault.BuildFault.TheVariants as build_fault
-use Rattle.search_tools.specs.Solution.{bound_of}
-use Rattle.search_tools.specs.Permitted.{status_of_bound}
+use Rattle.graph_search.specs.Searched.{bound_of}
+use Rattle.graph_search.specs.Status.{status_of_bound}
 use Rattle.search_tools.specs.Build.{Builds, EndsBb, build_fault_text, build_fault_status}
 use Rattle.search_tools.specs.Solve.{Solves, EndsSolve}
 use Rattle.judge_tools.specs.declared.judge.TheConstants.{ANSWER_LIMIT}
@@ -72,8 +72,8 @@ use Rattle.requests.specs.declared.request.Drawing.{Drawing}
 use Rattle.requests.specs.Requests.Request.{Points, Stp2points, Rfst, Prunefst, Bb, Solve, Check, Dumpfst, Fst2graph, Plot, Trial, Upgrade, Slack}
 use Rattle.suite.specs.Complete.{Completes}
 
--- the status of an answer is 0 or 3
-zero_or_three : (bound length status : ℕ) → status ≡ answer_code (status_of_bound bound length) → (status ≡ 0) ⊎ (status ≡ 3)
+-- The status of an answer is 0 or 3.
+pub zero_or_three : (bound length status : ℕ) → status ≡ answer_code (status_of_bound bound length) → (status ≡ 0) ⊎ (status ≡ 3)
 zero_or_three bound length status is = elim (eqb_tells bound length) [
   | inl (holds, equal) ↦ let ends : status ≡ 0 = rw holds at is in inl ends
   | inr (fails, apart) ↦ let ends : status ≡ 3 = rw fails at is in inr ends
@@ -87,8 +87,8 @@ check_faultless name before after points bytes ps file lists has (check_fault.Po
 check_faultless name before after points bytes ps file lists has (check_fault.Input fault) (grid, is) =
     input_is_taken ANSWER_LIMIT before.input after.input bytes fault has is
 
--- the status of a line is 0 or 1
-zero_or_one : (line : VerdictLine) (status : ℕ) → status ≡ answer_code (line_status line) → (status ≡ 0) ⊎ (status ≡ 1)
+-- The status of a line is 0 or 1.
+pub zero_or_one : (line : VerdictLine) (status : ℕ) → status ≡ answer_code (line_status line) → (status ≡ 0) ⊎ (status ≡ 1)
 zero_or_one (said.Accepted length bound optimal) status is = inl is
 zero_or_one (said.Refused cause) status is = inr is
 

@@ -1,3 +1,4 @@
 pub mod Heads
 pub mod Completeness
 pub mod Asked
+pub mod GraphRuns

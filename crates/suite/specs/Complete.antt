@@ -20,7 +20,11 @@ use Rattle.trial_tools.specs.Trial.{drawn_terminals}
 use Rattle.fst_file.specs.Value.{FstValue}
 use Rattle.fst_file.specs.Text.{SpellsFstFile}
 use Rattle.requests.specs.Requests.{Request}
-use Rattle.requests.specs.Requests.Request.{Points, Stp2points, Rfst, Prunefst, Bb, Solve, Check, Dumpfst, Fst2graph, Plot, Trial, Upgrade, Slack}
+use Rattle.stp_format.specs.Value.{StpValue}
+use Rattle.graph_tools.specs.declared.checking.TheConstants.{GRAPH_ANSWER_LIMIT}
+use Rattle.graph_tools.specs.Reading.{IsTaskText}
+use Rattle.requests.specs.Requests.Request.{Points, Stp2points, Rfst, Prunefst, Bb, Solve, Check, Dumpfst, Fst2graph, Plot}
+use Rattle.requests.specs.Requests.Request.{Trial, Upgrade, Slack, Graph, Checkgraph}
 
 -- no write to `out` fails
 abbrev pub IsWritable : Outside → Outside → Type 0
@@ -82,4 +86,12 @@ Completes (Some (Slack above ascent)) before after status =
     (bytes : List ℕ) (ps : List Point) → HasInput TEXT_LIMIT before.read.input after.read.input bytes →
     ListsPoints bytes ps →
     IsWritable before after → (status ≡ 0) ⊎ (status ≡ NO_MEMORY)
+Completes (Some (Graph options)) before after status =
+    (bytes : List ℕ) (file : StpValue) → HasInput TEXT_LIMIT before.read.input after.read.input bytes →
+    IsTaskText bytes file →
+    IsWritable before after → ((status ≡ 0) ⊎ (status ≡ 3)) ⊎ (status ≡ NO_MEMORY)
+Completes (Some (Checkgraph name)) before after status =
+    (text bytes : List ℕ) (file : StpValue) → HasFile TEXT_LIMIT before.read.shelf after.read.shelf name text →
+    IsTaskText text file → HasInput GRAPH_ANSWER_LIMIT before.read.input after.read.input bytes →
+    IsWritable before after → ((status ≡ 0) ⊎ (status ≡ 1)) ⊎ (status ≡ NO_MEMORY)
 Completes None before after status = (status ≡ MISUSED) ⊎ (status ≡ NO_MEMORY)

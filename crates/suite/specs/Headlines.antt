@@ -15,10 +15,15 @@ use Rattle.judge_tools.specs.Truth.{ChecksTruly}
 use Rattle.requests.specs.Requests.{Request}
 use Rattle.trial_tools.specs.Truth.{TriesTruly}
 use Rattle.slack_tools.specs.Truth.{BoundsTruly}
+use Rattle.stp_format.specs.Value.{StpValue}
+use Rattle.graph_solve.specs.Task.{graph_of_stp}
+use Rattle.graph_tools.specs.Reading.{IsTaskText}
+use Rattle.graph_tools.specs.Truth.{ChecksGraphTruly, SolvesTruly}
 use Rattle.search_rules.specs.declared.options.SearchOptions.{SearchOptions}
 use Rattle.search_rules.specs.declared.rules.AscentRule.{AscentRule}
 use Rattle.requests.specs.declared.request.Drawing.{Drawing}
-use Rattle.requests.specs.Requests.Request.{Bb, Solve, Check, Trial, Slack}
+use Rattle.search_rules.specs.declared.options.GraphOptions.{GraphOptions}
+use Rattle.requests.specs.Requests.Request.{Bb, Solve, Check, Trial, Slack, Graph, Checkgraph}
 
 -- What `solve` printed is true: the input was read to its end, it is a text of points, and the bytes that went out are
 -- an answer that may be printed for its terminals and for the kept ones of their trees (`SearchesTruly`): the answer of
@@ -65,3 +70,23 @@ abbrev pub SlackHeadline : Option Request → Outside → Outside → ℕ → Ty
 SlackHeadline request before after status =
     (above : Option ℕ) (ascent : AscentRule) → request ≡ Some (Slack above ascent) → status ≡ 0 →
     BoundsTruly above before after
+
+-- What `graph` printed is true: the input was read to its end, it is an STP file whose graph is a Steiner problem, and
+-- the bytes that went out are an answer that may be printed in this graph (`SolvesTruly`): the answer of a network of
+-- the graph with its length and of a tree of cuts that bounds every network, accepted by whoever judges it, which stops
+-- short only once as many openings were made as the words allow.
+abbrev pub GraphHeadline : Option Request → Outside → Outside → ℕ → Type 0
+GraphHeadline request before after status = (options : GraphOptions) → request ≡ Some (Graph options) →
+    (status ≡ 0) ⊎ (status ≡ 3) →
+    (bytes : List ℕ) × (file : StpValue)
+    × CameToTheEnd before.read.input.rest bytes after.read.input.rest
+    × IsTaskText bytes file
+    × SolvesTruly options.openings (graph_of_stp file) before after status
+
+-- What `checkgraph` told is true: the file is an STP file whose graph is a Steiner problem, the input was read to its
+-- end, and the status is 0 exactly where its bytes are accepted as an answer in the graph. Then `out` gained the line
+-- with the answer's length and bound, no network of the graph is shorter than that bound, and where the answer says
+-- optimal its network is a shortest one.
+abbrev pub CheckgraphHeadline : Option Request → Outside → Outside → ℕ → Type 0
+CheckgraphHeadline request before after status = (name : List ℕ) → request ≡ Some (Checkgraph name) →
+    (status ≡ 0) ⊎ (status ≡ 1) → ChecksGraphTruly name before after status

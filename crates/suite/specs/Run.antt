@@ -1,5 +1,5 @@
 -- A run of the program.
-use Rattle.std.specs.Prelude.{ℕ, ◌≡◌, List, codes, Option, Some, None, ◌⊎◌}
+use Rattle.std.specs.Prelude.{ℕ, ◌≡◌, List, ◌++◌, codes, Option, Some, None, ◌⊎◌}
 use Rattle.frame.specs.declared.status.TheConstants.{MISUSED, NO_MEMORY}
 use Rattle.frame.specs.Outside.{Outside}
 use Rattle.frame.specs.Ends.{Reports, no_memory_line}
@@ -16,12 +16,16 @@ use Rattle.tree_tools.specs.Generation.{EndsRfst}
 use Rattle.tree_tools.specs.Pruning.{EndsPrunefst}
 use Rattle.trial_tools.specs.Trial.{EndsTrial}
 use Rattle.slack_tools.specs.Slack.{EndsSlack}
+use Rattle.graph_tools.specs.Solve.{EndsGraph}
+use Rattle.graph_tools.specs.Check.{EndsCheckgraph}
 use Rattle.requests.specs.Requests.{Request}
-use Rattle.requests.specs.Requests.Request.{Points, Stp2points, Rfst, Prunefst, Bb, Solve, Check, Dumpfst, Fst2graph, Plot, Trial, Upgrade, Slack}
+use Rattle.requests.specs.Requests.Request.{Points, Stp2points, Rfst, Prunefst, Bb, Solve, Check, Dumpfst, Fst2graph, Plot}
+use Rattle.requests.specs.Requests.Request.{Trial, Upgrade, Slack, Graph, Checkgraph}
 
 -- the text on `err` where the words ask for nothing
 abbrev pub usage_line : List ℕ
-usage_line = codes "usage: rst points|stp2points|rfst|prunefst|bb|solve|check|dumpfst|fst2graph|plot|trial|upgrade|slack [WORDS]\n"
+usage_line = codes "usage: rst points|stp2points|rfst|prunefst|bb|solve|check|dumpfst|fst2graph|plot"
+    ++ codes "|trial|upgrade|slack|graph|checkgraph [WORDS]\n"
 
 -- Memory is wanting while the words are read: nothing is read or printed.
 pub record IsShort (before after : Outside) (status : ℕ) : Type 0 where
@@ -52,6 +56,8 @@ EndsAsAsked (Some (Plot points)) before after status = EndsPlot points before af
 EndsAsAsked (Some (Trial drawing)) before after status = EndsTrial drawing.count drawing.seed before after status
 EndsAsAsked (Some (Upgrade points)) before after status = EndsUpgrade points before after status
 EndsAsAsked (Some (Slack above ascent)) before after status = EndsSlack above before after status
+EndsAsAsked (Some (Graph options)) before after status = EndsGraph options.openings before after status
+EndsAsAsked (Some (Checkgraph name)) before after status = EndsCheckgraph name before after status
 EndsAsAsked None before after status = IsMisused before after status
 
 -- A run of the program with the request that its words make.

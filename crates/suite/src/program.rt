@@ -5,10 +5,12 @@ ghost use Rattle.frame.specs.Outside.{outside};
 ghost use Rattle.requests.specs.Requests.{request_of, meaning, IsWithinLimits};
 ghost use Rattle.suite.specs.Run.{IsRun};
 ghost use Rattle.suite.specs.Headlines.{Headline, BuildHeadline, CheckHeadline, TrialHeadline, SlackHeadline};
+ghost use Rattle.suite.specs.Headlines.{GraphHeadline, CheckgraphHeadline};
 ghost use Rattle.suite.specs.Complete.{Completes};
 
 use crate::laws::trial_is_solve;
 use frame::{MISUSED, NO_MEMORY, report};
+use graph_tools::{checkgraph, graph, task_has_no_fault};
 use judge_tools::{check, plot, upgrade};
 use point_tools::{located_has_no_fault, points, stp2points};
 use requests::{Request, request_in};
@@ -22,7 +24,7 @@ use trial_tools::trial;
 
 /// What is said where the words ask for no tool.
 const USAGE_LINE: &[u8] =
-    b"usage: rst points|stp2points|rfst|prunefst|bb|solve|check|dumpfst|fst2graph|plot|trial|upgrade|slack [WORDS]\n";
+    b"usage: rst points|stp2points|rfst|prunefst|bb|solve|check|dumpfst|fst2graph|plot|trial|upgrade|slack|graph|checkgraph [WORDS]\n";
 
 /// Runs the tool that the words after the program's name ask for, and gives the status that the program ends with.
 ///
@@ -52,6 +54,12 @@ pub fn run<I: Source, O: Sink, R: Sink, S: Shelf>(
         (outside (I.state input.old) (O.state out.old) (R.state err.old) (S.state shelf.old))
         (outside (I.state input.new) (O.state out.new) (R.state err.new) (S.state shelf.new)) result }
     ensures bounded { SlackHeadline (request_of (map string_bytes words.now))
+        (outside (I.state input.old) (O.state out.old) (R.state err.old) (S.state shelf.old))
+        (outside (I.state input.new) (O.state out.new) (R.state err.new) (S.state shelf.new)) result }
+    ensures networked { GraphHeadline (request_of (map string_bytes words.now))
+        (outside (I.state input.old) (O.state out.old) (R.state err.old) (S.state shelf.old))
+        (outside (I.state input.new) (O.state out.new) (R.state err.new) (S.state shelf.new)) result }
+    ensures judged { CheckgraphHeadline (request_of (map string_bytes words.now))
         (outside (I.state input.old) (O.state out.old) (R.state err.old) (S.state shelf.old))
         (outside (I.state input.new) (O.state out.new) (R.state err.new) (S.state shelf.new)) result }
     ensures complete { Completes (request_of (map string_bytes words.now))
@@ -95,6 +103,12 @@ fn answer<I: Source, O: Sink, R: Sink, S: Shelf>(
     ensures bounded { SlackHeadline (option_map meaning request.entry)
         (outside (I.state input.old) (O.state out.old) (R.state err.old) (S.state shelf.old))
         (outside (I.state input.new) (O.state out.new) (R.state err.new) (S.state shelf.new)) result }
+    ensures networked { GraphHeadline (option_map meaning request.entry)
+        (outside (I.state input.old) (O.state out.old) (R.state err.old) (S.state shelf.old))
+        (outside (I.state input.new) (O.state out.new) (R.state err.new) (S.state shelf.new)) result }
+    ensures judged { CheckgraphHeadline (option_map meaning request.entry)
+        (outside (I.state input.old) (O.state out.old) (R.state err.old) (S.state shelf.old))
+        (outside (I.state input.new) (O.state out.new) (R.state err.new) (S.state shelf.new)) result }
     ensures complete { Completes (option_map meaning request.entry)
         (outside (I.state input.old) (O.state out.old) (R.state err.old) (S.state shelf.old))
         (outside (I.state input.new) (O.state out.new) (R.state err.new) (S.state shelf.new)) result }
@@ -131,6 +145,14 @@ fn answer<I: Source, O: Sink, R: Sink, S: Shelf>(
         }
         Some(Request::Upgrade { points }) => upgrade(alloc, points, input, out, err, shelf),
         Some(Request::Slack { above, ascent }) => slack(alloc, above, ascent, input, out, err),
+        Some(Request::Graph(options)) => {
+            task_has_no_fault();
+            graph(alloc, options, input, out, err)
+        }
+        Some(Request::Checkgraph { graph }) => {
+            task_has_no_fault();
+            checkgraph(alloc, graph, input, out, err, shelf)
+        }
         None => {
             report(err, USAGE_LINE);
             MISUSED

@@ -21,7 +21,7 @@ use Rattle.tree_inputs.specs.declared.generation_fault.GenerationFault.TheVarian
 use Rattle.tree_inputs.specs.GenerationFaults.{generation_fault_text, generation_fault_status}
 use Rattle.tree_inputs.specs.Generation.{most_members}
 use Rattle.search_rules.specs.Options.{usual_options}
-use Rattle.search_tools.specs.Solution.{bound_of}
+use Rattle.graph_search.specs.Searched.{bound_of}
 use Rattle.search_tools.specs.Permitted.{IsPermitted}
 use Rattle.trial_tools.specs.declared.trial_line.TrialLine.{TrialLine}
 use Rattle.trial_tools.specs.TrialLine.{trial_print}

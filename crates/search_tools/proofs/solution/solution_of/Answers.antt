@@ -7,7 +7,8 @@ use Rattle.cut_cert.specs.declared.answer.Answer.{Answer}
 use Rattle.cut_cert.specs.Text.{answer_text}
 use Rattle.cut_cert.specs.Answers.{IsAnswerOn, value_of}
 use Rattle.search_tools.specs.Steps.{FindsNetwork, IsFor}
-use Rattle.search_tools.proofs.SearchedLaws.{is_for, told_fits}
+use Rattle.graph_search.specs.AnsweringLaws.{told_fits}
+use Rattle.search_tools.proofs.SearchedLaws.{is_for}
 use Rattle.search_tools.proofs.solution.solution_of.Goals as goal
 
 pub network_on-requires : goal.network_on-requires

@@ -3,6 +3,8 @@ use Rattle.std.proofs.Common.{rules, option_map}
 use Rattle.frame.specs.Outside.{outside}
 use Rattle.requests.specs.Requests.{meaning}
 use Rattle.suite.proofs.Asked.{solve_asked_completes, bb_asked_completes, check_asked_completes, plot_asked_completes, upgrade_asked_completes, dump_asked_completes, rfst_asked_completes, prune_asked_completes, graph_asked_completes, points_asked_completes, stp_asked_completes, solve_asked_runs, bb_asked_runs, solve_asked_headline, bb_asked_headline, check_asked_headline, trial_asked_completes, trial_asked_headline, slack_asked_completes, slack_asked_headline}
+use Rattle.suite.proofs.GraphRuns.{checkgraph_asked_completes, checkgraph_asked_headline}
+use Rattle.suite.proofs.GraphRuns.{graph_asked_headline, graph_asked_completes as network_asked_completes}
 use Rattle.suite.proofs.program.answer.Goals as goal
 
 pub returns-in-Some-Solve-clause-run : goal.returns-in-Some-Solve-clause-run
@@ -204,3 +206,47 @@ returns-in-Some-Slack-clause-complete g c =
     c.slack.result
     (search rules)
     (c.slack.ensures (g.S.Shelf.state c.args.shelf.now))
+
+pub returns-in-Some-Graph-clause-networked : goal.returns-in-Some-Graph-clause-networked
+returns-in-Some-Graph-clause-networked g c =
+    let request = option_map meaning c.args.request in
+    graph_asked_headline request
+    (outside (g.I.Source.state c.args.input.now) (g.O.Sink.state c.args.out.now) (g.R.Sink.state c.args.err.now) (g.S.Shelf.state c.args.shelf.now))
+    (outside (g.I.Source.state c.graph.new.input) (g.O.Sink.state c.graph.new.out) (g.R.Sink.state c.graph.new.err) (g.S.Shelf.state c.args.shelf.now))
+    c.graph.result
+    c.in-Some-Graph.options
+    (search rules)
+    (c.graph.ensures (g.S.Shelf.state c.args.shelf.now))
+
+pub returns-in-Some-Graph-clause-complete : goal.returns-in-Some-Graph-clause-complete
+returns-in-Some-Graph-clause-complete g c =
+    let request = option_map meaning c.args.request in
+    network_asked_completes request
+    (outside (g.I.Source.state c.args.input.now) (g.O.Sink.state c.args.out.now) (g.R.Sink.state c.args.err.now) (g.S.Shelf.state c.args.shelf.now))
+    (outside (g.I.Source.state c.graph.new.input) (g.O.Sink.state c.graph.new.out) (g.R.Sink.state c.graph.new.err) (g.S.Shelf.state c.args.shelf.now))
+    c.graph.result
+    c.task_has_no_fault-in-Some-Graph.ensures c.in-Some-Graph.options
+    (search rules)
+    (c.graph.ensures (g.S.Shelf.state c.args.shelf.now))
+
+pub returns-in-Some-Checkgraph-clause-judged : goal.returns-in-Some-Checkgraph-clause-judged
+returns-in-Some-Checkgraph-clause-judged g c =
+    let request = option_map meaning c.args.request in
+    checkgraph_asked_headline request
+    (outside (g.I.Source.state c.args.input.now) (g.O.Sink.state c.args.out.now) (g.R.Sink.state c.args.err.now) (g.S.Shelf.state c.args.shelf.now))
+    (outside (g.I.Source.state c.checkgraph.new.input) (g.O.Sink.state c.checkgraph.new.out) (g.R.Sink.state c.checkgraph.new.err) (g.S.Shelf.state c.checkgraph.new.shelf))
+    c.checkgraph.result
+    c.in-Some-Checkgraph.graph.now
+    (search rules)
+    c.checkgraph.ensures
+
+pub returns-in-Some-Checkgraph-clause-complete : goal.returns-in-Some-Checkgraph-clause-complete
+returns-in-Some-Checkgraph-clause-complete g c =
+    let request = option_map meaning c.args.request in
+    checkgraph_asked_completes request
+    (outside (g.I.Source.state c.args.input.now) (g.O.Sink.state c.args.out.now) (g.R.Sink.state c.args.err.now) (g.S.Shelf.state c.args.shelf.now))
+    (outside (g.I.Source.state c.checkgraph.new.input) (g.O.Sink.state c.checkgraph.new.out) (g.R.Sink.state c.checkgraph.new.err) (g.S.Shelf.state c.checkgraph.new.shelf))
+    c.checkgraph.result
+    c.task_has_no_fault-in-Some-Checkgraph.ensures c.in-Some-Checkgraph.graph.now
+    (search rules)
+    c.checkgraph.ensures

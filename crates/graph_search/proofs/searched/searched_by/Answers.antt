@@ -1,0 +1,10 @@
+-- What the search found is told as it is.
+use Rattle.net_graph.specs.Network.{length_of}
+use Rattle.graph_search.proofs.SearchedLaws.{told_or_not}
+use Rattle.graph_search.proofs.searched.searched_by.Goals as goal
+
+pub returns : goal.returns
+returns _ c =
+    told_or_not c.args.g.now _ c.args.openings (length_of c.args.g.now c.args.first) _ c.solve.result
+    c.raise.ensures.graph c.raise.ensures.first
+    c.solve.ensures.solved c.solve.ensures.few c.solve.ensures.stopped

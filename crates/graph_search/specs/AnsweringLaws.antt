@@ -1,0 +1,56 @@
+-- The answer that tells what a search found can be written, and its head tells the network and the tree.
+use Rattle.std.proofs.Common.{ℕ, ◌≡◌, ◌≤◌, Bool, List, ap, ◌∙◌, eqb, arith}
+use Rattle.net_graph.specs.Graph.{Graph}
+use Rattle.net_graph.specs.Network.{length_of}
+use Rattle.net_graph.specs.Decision.{nothing_decided}
+use Rattle.cert_tree.specs.declared.split.SplitOn.{SplitOn}
+use Rattle.cert_tree.specs.Tree.{Tree}
+use Rattle.branch.specs.declared.solved.Solved.{Solved}
+use Rattle.branch.specs.RunLaws.{EndsRunOfOpenings-longer}
+use Rattle.cut_cert.specs.declared.head.AnswerHead.{AnswerHead}
+use Rattle.cut_cert.specs.declared.head.ConcatNote.{ConcatNote}
+use Rattle.cut_cert.specs.Answers.{IsAnswerOn}
+use Rattle.graph_search.specs.Searched.{IsSearched, IsTold, bound_of, value_on}
+use Rattle.graph_search.specs.Answering.{answer_with, head_with}
+use Rattle.graph_search.specs.TreeLaws.{nodes_on, packings_on}
+
+-- The answer can be written.
+pub told_fits : (g : Graph) (openings first_length : ℕ) (note : ConcatNote) (s : Solved) → openings ≤ 255 →
+    IsTold g openings first_length s → IsAnswerOn g (answer_with openings note s)
+told_fits g openings first_length note s small is = record {
+  network = is.searched.network_of.size;
+  few = let few = is.searched.few in omega arith;
+  nodes = nodes_on g (nothing_decided g) s.tree is.searched.valid;
+  packings = packings_on g (nothing_decided g) s.tree is.searched.valid is.searched.cuts;
+}
+
+-- Its head tells the network, the tree and the note.
+pub told_head : (g : Graph) (openings first_length : ℕ) (note : ConcatNote) (s : Solved) →
+    IsTold g openings first_length s →
+    (answer_with openings note s).head ≡ head_with openings (length_of g s.network) (value_on g s.tree) note
+told_head g openings first_length note s is =
+    let head : ℕ → ℕ → Bool → AnswerHead =
+    λ length bound optimal. record {
+      length = length;
+      bound = bound;
+      optimal = optimal;
+      openings = openings;
+      concat = note;
+    } in
+    ap (head s.length s.bound) is.optimal
+    ∙ ap (λ (n : ℕ). head n s.bound (eqb s.bound n)) is.length
+    ∙ ap (λ (b : ℕ). head (length_of g s.network) b (eqb b (length_of g s.network))) is.bound
+
+-- A search from a first length is one from each greater length.
+pub searched_longer : (g : Graph) (openings first later : ℕ) (network : List Bool) (tree : Tree SplitOn) →
+    first ≤ later → IsSearched g openings first network tree → IsSearched g openings later network tree
+searched_longer g openings first later network tree longer searched = record {
+  network_of = searched.network_of;
+  valid = searched.valid;
+  bounds = searched.bounds;
+  few = searched.few;
+  stopped = searched.stopped;
+  cuts = searched.cuts;
+  maximal = searched.maximal;
+  run = EndsRunOfOpenings-longer g first later network tree longer searched.run;
+}

@@ -1,0 +1,9 @@
+pub mod Kinds
+pub mod Searched
+pub mod Answering
+pub mod TreeLaws
+pub mod AnsweringLaws
+pub mod Status
+pub mod StatusLaws
+pub mod Truth
+pub mod TruthLaws

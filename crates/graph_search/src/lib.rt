@@ -1,0 +1,13 @@
+//! The search for a shortest network in a graph that the tools for points and for graphs share: it begins with a
+//! network, and goes by the rules that the words choose.
+#![tactic(auto)]
+
+mod answering;
+mod raising;
+mod searched;
+mod shortening;
+
+pub use answering::answer_with;
+pub use raising::Raising;
+pub use searched::searched;
+pub use shortening::{Shortening, offer_shorter};

@@ -1,0 +1,27 @@
+//! What is done with a search before its first split.
+
+ghost use Rattle.std.specs.Prelude.{◌≡◌, OnOk};
+ghost use Rattle.net_graph.specs.Graph.{Graph};
+ghost use Rattle.cert_tree.specs.Preorder.{split_count};
+
+use branch::Search;
+use dual_ascent::Rule;
+use std::alloc::{AllocError, Global};
+
+/// What may raise the first leaf of a search and shorten its network, before any leaf is split.
+pub trait Raising {
+    /// It is made for searches in this graph.
+    ghost is_for: { Self → Graph → Type 0 };
+
+    /// Raises a search. An `Err` is want of memory.
+    fn raise<F: Rule, G: Rule>(
+        &self,
+        alloc: Global,
+        search: &mut Search<'_, F, G>,
+    ) -> Result<(), AllocError>
+        requires graph { is_for self.now search.old.graph }
+        requires leaf { split_count search.old.tree ≡ 0 }
+        ensures graph { OnOk result (search.new.graph ≡ search.old.graph) }
+        ensures first { OnOk result (search.new.first_length ≡ search.old.first_length) }
+        ensures leaf { OnOk result (split_count search.new.tree ≡ 0) };
+}

@@ -1,0 +1,4 @@
+pub mod ReadingLaws
+pub mod SolutionLaws
+pub mod SolveLaws
+pub mod CheckLaws

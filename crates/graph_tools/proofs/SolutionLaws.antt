@@ -1,0 +1,101 @@
+-- What a search found in a graph is an answer in it, and one that may be printed once its text is known to spell it.
+use Rattle.std.proofs.Common.{ℕ, ◌≡◌, ◌≤◌, Bool, List, length, All, cond, refl, subst, ap, sym, arith}
+use Rattle.net_graph.specs.Graph.{Graph, total_of}
+use Rattle.net_graph.specs.Members.{members_of}
+use Rattle.net_graph.specs.Network.{length_of}
+use Rattle.cert_tree.specs.declared.split.SplitOn.{SplitOn}
+use Rattle.cert_tree.specs.Tree.{Tree}
+use Rattle.cert_tree.specs.Preorder.{nodes_of, split_count}
+use Rattle.branch.specs.declared.solved.Solved.{Solved}
+use Rattle.cut_cert.specs.declared.head.AnswerHead.{AnswerHead}
+use Rattle.cut_cert.specs.declared.form.Form.TheVariants as form
+use Rattle.cut_cert.specs.declared.version.Version.TheVariants as version
+use Rattle.cut_cert.specs.Notes.{no_note}
+use Rattle.cut_cert.specs.Text.{answer_text}
+use Rattle.cut_cert.specs.Spelling.{SpellsAnswer}
+use Rattle.cut_cert.specs.Value.{WrittenAnswer}
+use Rattle.cut_cert.specs.Answers.{IsNodeOn, edge_labels, graph_value_of, labelled, number_labels}
+use Rattle.frame.specs.declared.status.AnswerStatus.TheVariants.{Done, Stopped}
+use Rattle.frame.specs.Ends.{Print}
+use Rattle.graph_search.specs.Searched.{IsSearched, IsTold}
+use Rattle.graph_search.specs.Answering.{answer_with}
+use Rattle.graph_search.specs.AnsweringLaws.{told_fits, told_head, searched_longer}
+use Rattle.graph_solve.specs.Accepted.{IsGraphAccepted}
+use Rattle.graph_tools.specs.declared.solution.GraphSolution.{GraphSolution}
+use Rattle.graph_tools.specs.Solution.{IsFor, IsPermittedGraphAnswer, IsPrintable, IsSpelled, graph_solution, graph_text}
+use Rattle.graph_tools.specs.Solution.{graph_print, solution_status, solution_text}
+
+-- The answer of a search that began with a network no longer than all edges together.
+pub is_for : (openings first_length : ℕ) (g : Graph) (s : Solved) → openings ≤ 255 → first_length ≤ total_of g →
+    IsTold g openings first_length s → IsFor openings g (record { graph = g; answer = answer_with openings no_note s })
+is_for openings first_length g s small short is = record {
+  graph = refl;
+  searched = searched_longer g openings first_length (total_of g) s.network s.tree short is.searched;
+  head = told_head g openings first_length no_note s is;
+  fits = told_fits g openings first_length no_note s small is;
+}
+
+-- it can be written
+pub for_fits : (openings : ℕ) (g : Graph) (s : GraphSolution) → IsFor openings g s → IsPrintable s
+for_fits openings g s is = rw is.graph in is.fits
+
+-- what it tells
+told_value : (openings : ℕ) (g : Graph) (s : GraphSolution) → IsFor openings g s →
+    graph_value_of s.answer ≡ graph_solution openings g s.answer.network s.answer.tree
+told_value openings g s is =
+    let told : AnswerHead → WrittenAnswer =
+    λ head. record {
+      version = version.Graph;
+      head = record head { concat = no_note };
+      edges = edge_labels number_labels (members_of s.answer.network);
+      tree = labelled number_labels s.answer.tree;
+    } in
+    ap told is.head
+
+-- a text that spells the answer of a network and a tree is accepted
+accepted_solution : (openings first_length : ℕ) (g : Graph) (set : List Bool) (tree : Tree SplitOn) →
+    SpellsAnswer (form.OfGraph (length g.edges) g.vertices) (graph_text openings g set tree)
+    (graph_solution openings g set tree) →
+    IsSearched g openings first_length set tree → All (IsNodeOn g) (nodes_of tree) → split_count tree ≤ 255 →
+    IsGraphAccepted g (graph_text openings g set tree)
+accepted_solution openings first_length g set tree spells searched nodes few = (
+  graph_solution openings g set tree,
+  set,
+  tree,
+  record {
+    spells = spells;
+    size = searched.network_of.size;
+    edges = refl;
+    joins = searched.network_of.joins;
+    plain_length = refl;
+    named_tree = refl;
+    splits = nodes;
+    few = few;
+    valid = searched.valid;
+    bound = refl;
+    status = refl;
+  },
+)
+
+-- The answer is one that may be printed in the graph, where its text spells it.
+pub permitted_answer : (openings : ℕ) (g : Graph) (s : GraphSolution) → IsFor openings g s → IsSpelled s →
+    IsPermittedGraphAnswer openings g s.answer.network s.answer.tree
+permitted_answer openings g s is spells =
+    let spelled : SpellsAnswer (form.OfGraph (length g.edges) g.vertices) (answer_text (graph_value_of s.answer)) (graph_value_of s.answer) =
+    subst (λ (h : Graph). SpellsAnswer (form.OfGraph (length h.edges) h.vertices) (answer_text (graph_value_of s.answer)) (graph_value_of s.answer)) is.graph spells in record {
+      accepted =
+          accepted_solution openings (total_of g) g s.answer.network s.answer.tree
+          (subst (λ (w : WrittenAnswer). SpellsAnswer (form.OfGraph (length g.edges) g.vertices) (answer_text w) w)
+          (told_value openings g s is) spelled)
+          is.searched is.fits.nodes is.fits.few;
+      searched = is.searched;
+    }
+
+-- It is printed as the answer of the network and the tree.
+pub printed_answer : (openings : ℕ) (g : Graph) (s : GraphSolution) → IsFor openings g s →
+    let print : Print = record { text = solution_text s; status = solution_status s } in
+    print ≡ graph_print openings g s.answer.network s.answer.tree
+printed_answer openings g s is =
+    let of_written : WrittenAnswer → Print =
+    λ w. record { text = answer_text w; status = cond w.head.optimal Done Stopped } in
+    ap of_written (told_value openings g s is)

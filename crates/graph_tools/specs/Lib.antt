@@ -1,0 +1,6 @@
+pub mod Reading
+pub mod Solution
+pub mod Solve
+pub mod Check
+pub mod Truth
+pub mod TruthLaws

@@ -1,0 +1,78 @@
+-- The answer of the tool in a graph.
+use Rattle.std.specs.Prelude.{ℕ, ◌≡◌, Bool, List, length, if◌then◌else◌}
+use Rattle.net_graph.specs.Graph.{Graph, total_of}
+use Rattle.net_graph.specs.Members.{members_of}
+use Rattle.net_graph.specs.Network.{length_of}
+use Rattle.cert_tree.specs.declared.split.SplitOn.{SplitOn}
+use Rattle.cert_tree.specs.Tree.{Tree}
+use Rattle.cut_cert.specs.declared.form.Form.TheVariants as form
+use Rattle.cut_cert.specs.declared.version.Version.TheVariants as version
+use Rattle.cut_cert.specs.Notes.{no_note}
+use Rattle.cut_cert.specs.Text.{answer_text}
+use Rattle.cut_cert.specs.Spelling.{SpellsAnswer}
+use Rattle.cut_cert.specs.Value.{WrittenAnswer}
+use Rattle.cut_cert.specs.Answers.{IsAnswerOn, edge_labels, graph_value_of, labelled, number_labels}
+use Rattle.frame.specs.declared.status.AnswerStatus.{AnswerStatus}
+use Rattle.frame.specs.declared.status.AnswerStatus.TheVariants.{Done, Stopped}
+use Rattle.frame.specs.Ends.{Print}
+use Rattle.graph_search.specs.Searched.{IsSearched, bound_of, value_on}
+use Rattle.graph_search.specs.Answering.{head_with}
+use Rattle.graph_search.specs.Status.{status_of_bound}
+use Rattle.graph_solve.specs.Accepted.{IsGraphAccepted}
+use Rattle.graph_tools.specs.declared.solution.GraphSolution.{GraphSolution}
+
+-- what the answer of a network and a tree tells, with so many openings allowed
+abbrev pub graph_solution : ℕ → Graph → List Bool → Tree SplitOn → WrittenAnswer
+graph_solution openings g network tree = record {
+  version = version.Graph;
+  head = head_with openings (length_of g network) (value_on g tree) no_note;
+  edges = edge_labels number_labels (members_of network);
+  tree = labelled number_labels tree;
+}
+
+-- its text
+abbrev pub graph_text : ℕ → Graph → List Bool → Tree SplitOn → List ℕ
+graph_text openings g network tree = answer_text (graph_solution openings g network tree)
+
+-- A network and a tree of cuts that an answer may tell in a graph, with so many openings allowed. The text that tells
+-- both is accepted as an answer in the graph. The tree has at most as many splits as openings are allowed, and exactly
+-- as many where its value is below the network's length; each of its leaves has few cuts, and is maximal where its
+-- value is below the length. Network and tree end a run of openings whose first network is no longer than all edges
+-- together.
+pub record IsPermittedGraphAnswer (openings : ℕ) (g : Graph) (network : List Bool) (tree : Tree SplitOn)
+    : Type 0 where
+  pub accepted : IsGraphAccepted g (graph_text openings g network tree)
+  pub searched : IsSearched g openings (total_of g) network tree
+
+-- what is printed of them
+abbrev pub graph_print : ℕ → Graph → List Bool → Tree SplitOn → Print
+graph_print openings g network tree = record {
+  text = graph_text openings g network tree;
+  status = status_of_bound (bound_of g network tree) (length_of g network);
+}
+
+-- the text of an answer in its graph
+abbrev pub solution_text : GraphSolution → List ℕ
+solution_text s = answer_text (graph_value_of s.answer)
+
+-- the status that the tool ends with when it is printed
+abbrev pub solution_status : GraphSolution → AnswerStatus
+solution_status s = if s.answer.head.optimal then Done else Stopped
+
+-- the answer can be written
+abbrev pub IsPrintable : GraphSolution → Type 0
+IsPrintable s = IsAnswerOn s.graph s.answer
+
+-- its text spells it
+abbrev pub IsSpelled : GraphSolution → Type 0
+IsSpelled s =
+    SpellsAnswer (form.OfGraph (length s.graph.edges) s.graph.vertices) (solution_text s) (graph_value_of s.answer)
+
+-- The answer tells a network of the graph and a tree of cuts, as a search from a network ends with them that is no
+-- longer than all edges together.
+pub record IsFor (openings : ℕ) (g : Graph) (s : GraphSolution) : Type 0 where
+  pub graph : s.graph ≡ g
+  pub searched : IsSearched g openings (total_of g) s.answer.network s.answer.tree
+  pub head : s.answer.head
+      ≡ head_with openings (length_of g s.answer.network) (value_on g s.answer.tree) no_note
+  pub fits : IsAnswerOn g s.answer

@@ -1,0 +1,159 @@
+//! The tool `checkgraph`: an STP file and an answer in its graph come in, the verdict on the answer goes out.
+
+ghost use Rattle.std.specs.Prelude.{◌≡◌, ◌≤◌, ◌^◌, length, IfOk};
+ghost use Rattle.text_out.specs.Gathers.{Gathers};
+ghost use Rattle.frame.specs.Outside.{readable, outside};
+ghost use Rattle.frame.specs.Ends.{print_of};
+ghost use Rattle.frame.specs.Leaves.{LeavesFiles};
+ghost use Rattle.frame.specs.Taking.{KeepsFiles};
+ghost use Rattle.graph_solve.specs.Accepted.{verdict_of};
+ghost use Rattle.verdict_line.specs.Verdicts.{graph_line_text, graph_line_status, verdict_told};
+ghost use Rattle.graph_tools.specs.Check.{ChecksGraph, EndsCheckgraph, IsJudged, ReadsGraphFile, line_of};
+ghost use Rattle.graph_tools.specs.Check.{checkgraph_fault_text, checkgraph_fault_status, graph_file_text};
+
+use crate::reading::graph_in;
+use crate::text_fault::GraphTextFault;
+use frame::{Fault, FaultStatus, FileFault, InputFault, TEXT_LIMIT, conclude, take_file, take_input};
+use graph_solve::{GraphVerdict, check_graph};
+use net_graph::NetGraph;
+use rst_outside::{Shelf, Sink, Source};
+use std::alloc::{AllocError, Global};
+use text_out::{Block, literal};
+use verdict_line::{GraphVerdictLine, VerdictLine};
+
+/// The greatest number of bytes of an answer in a graph that is judged.
+pub const GRAPH_ANSWER_LIMIT: u64 = 1 << 28;
+
+/// Why an answer in a graph isn't judged.
+#[derive(Clone, Copy, Debug, PartialEq, Eq)]
+pub enum CheckgraphFault {
+    /// The STP file isn't taken whole.
+    File(FileFault),
+    /// It gives no Steiner problem.
+    Graph(GraphTextFault),
+    /// The answer isn't taken whole.
+    Input(InputFault),
+}
+
+impl Fault for CheckgraphFault {
+    ghost text = { checkgraph_fault_text };
+
+    ghost status = { checkgraph_fault_status };
+
+    fn status(&self) -> FaultStatus {
+        match self {
+            CheckgraphFault::File(fault) => fault.status(),
+            CheckgraphFault::Graph(fault) => fault.status(),
+            CheckgraphFault::Input(fault) => fault.status(),
+        }
+    }
+
+    fn write<R: Sink>(&self, block: &mut Block, err: &mut R) {
+        match self {
+            CheckgraphFault::File(fault) => write_file_fault(block, err, *fault),
+            CheckgraphFault::Graph(fault) => fault.write(block, err),
+            CheckgraphFault::Input(fault) => fault.write(block, err),
+        }
+    }
+}
+
+// What is said where the STP file isn't taken whole.
+fn write_file_fault<R: Sink>(block: &mut Block, err: &mut R, fault: FileFault)
+    ensures { Gathers (R.state err.old) block.old (graph_file_text fault) (R.state err.new) block.new }
+{
+    match fault {
+        FileFault::Unread => literal(block, err, b"cannot read the graph"),
+        FileFault::TooLong { .. } => fault.write(block, err),
+    }
+}
+
+/// Runs `checkgraph`: reads the STP file of this name, then takes an answer from the input whole, and prints the line
+/// of the verdict on it as an answer in the file's graph. Gives the status that the program ends with.
+pub fn checkgraph<I: Source, O: Sink, R: Sink, S: Shelf>(
+    alloc: Global,
+    graph_name: &str,
+    input: &mut I,
+    out: &mut O,
+    err: &mut R,
+    shelf: &mut S,
+) -> u8
+    ensures { EndsCheckgraph graph_name.now
+        (outside (I.state input.old) (O.state out.old) (R.state err.old) (S.state shelf.old))
+        (outside (I.state input.new) (O.state out.new) (R.state err.new) (S.state shelf.new)) result }
+{
+    let found = verdict_on(alloc, graph_name, input, shelf);
+    conclude(out, err, b"checkgraph", found)
+}
+
+// The line of the verdict on the input as an answer in the graph of a file. A fault has the cause that it names. An
+// `Err` is want of memory.
+fn verdict_on<I: Source, S: Shelf>(
+    alloc: Global,
+    graph_name: &str,
+    input: &mut I,
+    shelf: &mut S,
+) -> Result<Result<GraphVerdictLine, CheckgraphFault>, AllocError>
+    ensures finds { IfOk result (λ found. ChecksGraph graph_name.now
+        (readable (I.state input.old) (S.state shelf.old)) (readable (I.state input.new) (S.state shelf.new))
+        (print_of graph_line_text graph_line_status found)) }
+    ensures leaves { LeavesFiles
+        (readable (I.state input.old) (S.state shelf.old)) (readable (I.state input.new) (S.state shelf.new)) }
+{
+    let graph = match read_graph_file(alloc, shelf, graph_name)? {
+        Ok(graph) => graph,
+        Err(fault) => return Ok(Err(fault)),
+    };
+    let bytes = match take_input(alloc, input, GRAPH_ANSWER_LIMIT)? {
+        Ok(bytes) => bytes,
+        Err(fault) => return Ok(Err(CheckgraphFault::Input(fault))),
+    };
+    Ok(Ok(judged(alloc, &graph, bytes.as_slice())?))
+}
+
+// The graph of the STP file of this name; or why there is none. An `Err` is want of memory.
+fn read_graph_file<S: Shelf>(
+    alloc: Global,
+    shelf: &mut S,
+    name: &str,
+) -> Result<Result<NetGraph, CheckgraphFault>, AllocError>
+    ensures reads { IfOk result (ReadsGraphFile (S.state shelf.old) (S.state shelf.new) name.now) }
+    ensures files { KeepsFiles (S.state shelf.old) (S.state shelf.new) }
+{
+    let bytes = match take_file(alloc, shelf, name, TEXT_LIMIT)? {
+        Ok(bytes) => bytes,
+        Err(fault) => return Ok(Err(CheckgraphFault::File(fault))),
+    };
+    match graph_in(alloc, bytes.as_slice())? {
+        Ok(graph) => Ok(Ok(graph)),
+        Err(fault) => Ok(Err(CheckgraphFault::Graph(fault))),
+    }
+}
+
+// The line of the verdict on bytes as an answer in a graph. An `Err` is want of memory.
+fn judged(alloc: Global, graph: &NetGraph, bytes: &[u8]) -> Result<GraphVerdictLine, AllocError>
+    requires terminals { length graph.now.terminals ≤ 255 }
+    requires few { length bytes.now ≤ 2 ^ 28 }
+    ensures { IfOk result (IsJudged graph.now bytes.now) }
+{
+    let verdict = check_graph(alloc, graph, bytes)?;
+    Ok(line_of(verdict))
+}
+
+// The line of a verdict.
+fn line_of(verdict: GraphVerdict) -> GraphVerdictLine
+    ensures { result ≡ line_of verdict }
+{
+    let line = match verdict {
+        GraphVerdict::Accepted {
+            length,
+            bound,
+            optimal,
+        } => VerdictLine::Accepted {
+            length,
+            bound,
+            optimal,
+        },
+        GraphVerdict::Refused(cause) => VerdictLine::Refused(cause),
+    };
+    GraphVerdictLine { line }
+}

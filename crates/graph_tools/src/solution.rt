@@ -1,0 +1,73 @@
+//! An answer in a graph, as the tool prints it.
+
+ghost use Rattle.std.specs.Prelude.{◌≡◌, IfOk};
+ghost use Rattle.net_graph.specs.Network.{IsNetwork};
+ghost use Rattle.graph_solve.specs.Task.{all_edges};
+ghost use Rattle.graph_tools.specs.Solution.{IsFor, IsPrintable, IsSpelled, solution_status, solution_text};
+
+use cut_cert::{Answer as CutAnswer, ConcatNote, write_graph_answer};
+use frame::{Answer, AnswerStatus};
+use graph_search::{Shortening, answer_with, searched};
+use graph_solve::first_network;
+use net_graph::NetGraph;
+use rst_outside::{PutFault, Sink};
+use search_rules::GraphOptions;
+use std::alloc::{AllocError, Global};
+
+// In how many descents of local search the network that the first leaf shows is made shorter at most.
+const DESCENTS: u32 = 20;
+
+// Nothing is told of a concatenation.
+const NO_NOTE: ConcatNote = ConcatNote {
+    least: false,
+    total: 0,
+};
+
+/// An answer, and the graph that it is for.
+#[derive(Debug, Drop)]
+pub struct GraphSolution {
+    pub graph: NetGraph,
+    pub answer: CutAnswer,
+}
+
+impl Answer for GraphSolution {
+    ghost text = { solution_text };
+
+    ghost status = { solution_status };
+
+    ghost fits = { IsPrintable };
+
+    ghost told = { IsSpelled };
+
+    fn status(&self) -> AnswerStatus {
+        if self.answer.head.optimal {
+            AnswerStatus::Done
+        } else {
+            AnswerStatus::Stopped
+        }
+    }
+
+    fn write<O: Sink>(&self, out: &mut O) -> Result<(), PutFault> {
+        write_graph_answer(out, &self.graph, &self.answer)
+    }
+}
+
+/// The answer in a graph: what a search finds that begins with a network which grows along shortest paths and is made
+/// short by local search. An `Err` is want of memory.
+pub(crate) fn solution_in(
+    alloc: Global,
+    graph: NetGraph,
+    options: GraphOptions,
+) -> Result<GraphSolution, AllocError>
+    requires { IsNetwork graph.now (all_edges graph.now) }
+    ensures { IfOk result (IsFor options.openings graph) }
+{
+    let first = first_network(alloc, &graph)?;
+    let shortening = Shortening {
+        graph: &graph,
+        descents: DESCENTS,
+    };
+    let solved = searched(alloc, &graph, first, options, &shortening)?;
+    let answer = answer_with(options.openings, NO_NOTE, solved);
+    Ok(GraphSolution { graph, answer })
+}

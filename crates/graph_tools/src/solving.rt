@@ -1,0 +1,71 @@
+//! The tool `graph`: an STP file comes in, the answer of a network of its graph goes out.
+
+ghost use Rattle.std.specs.Prelude.{IfOk};
+ghost use Rattle.rst_outside.specs.Shelf.{ShelfState};
+ghost use Rattle.frame.specs.Outside.{outside, readable};
+ghost use Rattle.frame.specs.Taking.{TakesSome};
+ghost use Rattle.frame.specs.FromText.{FromText};
+ghost use Rattle.graph_tools.specs.Reading.{ReadsGraph};
+ghost use Rattle.graph_tools.specs.Solve.{EndsGraph, FindsAnswer};
+
+use crate::reading::graph_in;
+use crate::solution::{GraphSolution, solution_in};
+use crate::text_fault::GraphTextFault;
+use frame::{TEXT_LIMIT, TextFault, conclude, take_input};
+use net_graph::NetGraph;
+use rst_outside::{Sink, Source};
+use search_rules::GraphOptions;
+use std::alloc::{AllocError, Global};
+
+/// Runs `graph`: reads an STP file from the input and prints the answer of a network of its graph, with edges and
+/// vertices by their numbers in the file. Gives the status that the program ends with.
+pub fn graph<I: Source, O: Sink, R: Sink>(
+    alloc: Global,
+    options: GraphOptions,
+    input: &mut I,
+    out: &mut O,
+    err: &mut R,
+) -> u8
+    ensures { (shelf : ShelfState) → EndsGraph options.openings
+        (outside (I.state input.old) (O.state out.old) (R.state err.old) shelf)
+        (outside (I.state input.new) (O.state out.new) (R.state err.new) shelf) result }
+{
+    let found = find(alloc, options, input);
+    conclude(out, err, b"graph", found)
+}
+
+// The answer in the graph of the file that the input is. A fault has the cause that it names. An `Err` is want of
+// memory.
+fn find<I: Source>(
+    alloc: Global,
+    options: GraphOptions,
+    input: &mut I,
+) -> Result<Result<GraphSolution, TextFault<GraphTextFault>>, AllocError>
+    ensures finds { (shelf : ShelfState) → IfOk result (FromText TEXT_LIMIT (FindsAnswer options.openings)
+        (readable (I.state input.old) shelf) (readable (I.state input.new) shelf)) }
+    ensures takes { TakesSome (I.state input.old) (I.state input.new) }
+{
+    match take_graph(alloc, input)? {
+        Ok(graph) => Ok(Ok(solution_in(alloc, graph, options)?)),
+        Err(fault) => Ok(Err(fault)),
+    }
+}
+
+// The graph of the file that the input is; or why there is none. An `Err` is want of memory.
+fn take_graph<I: Source>(
+    alloc: Global,
+    input: &mut I,
+) -> Result<Result<NetGraph, TextFault<GraphTextFault>>, AllocError>
+    ensures reads { (shelf : ShelfState) → IfOk result (FromText TEXT_LIMIT ReadsGraph
+        (readable (I.state input.old) shelf) (readable (I.state input.new) shelf)) }
+    ensures takes { TakesSome (I.state input.old) (I.state input.new) }
+{
+    let bytes = match take_input(alloc, input, TEXT_LIMIT)? {
+        Ok(bytes) => bytes,
+        Err(fault) => return Ok(Err(TextFault::Input(fault))),
+    };
+    match graph_in(alloc, bytes.as_slice())? {
+        Ok(graph) => Ok(Ok(graph)),
+        Err(fault) => Ok(Err(TextFault::Text(fault))),
+    }
+}
