@@ -7,5 +7,5 @@ mod options;
 mod rules;
 
 pub use choosing::{ascent_place, split_place};
-pub use options::SearchOptions;
+pub use options::{GraphOptions, SearchOptions};
 pub use rules::{AscentRule, SplitRule, UnknownRule};
