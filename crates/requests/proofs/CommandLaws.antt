@@ -14,7 +14,7 @@ use Rattle.clap.specs.declared.builder.command.Command.{Command}
 use Rattle.clap.specs.declared.error.kind.ErrorKind.{ErrorKind}
 use Rattle.clap.specs.declared.parser.matches.ArgMatches.{ArgMatches}
 use Rattle.requests.specs.Commands.{command_of, drawing_rules, search_rules, size_rule, tool_named}
-use Rattle.requests.specs.Requests.{IsWithinLimits, Request, drawing_from, drawing_in, meaning, request_by, request_of, request_to, search_from, search_in, without_fault}
+use Rattle.requests.specs.Requests.{IsWithinLimits, Request, drawing_from, drawing_in, graph_in, meaning, request_by, request_of, request_to, search_from, search_in, without_fault}
 use Rattle.requests.specs.Values.{ascent_in, number_in, split_in, truth_in}
 use Rattle.requests.proofs.PassLaws.{HasParser, IsOwnName, number_within}
 use Rattle.requests.specs.declared.request.Drawing.{Drawing}
@@ -57,6 +57,8 @@ commands_are_simple tool.Plot = refl
 commands_are_simple tool.Trial = refl
 commands_are_simple tool.Upgrade = refl
 commands_are_simple tool.Slack = refl
+commands_are_simple tool.Graph = refl
+commands_are_simple tool.Checkgraph = refl
 
 -- the command took the words
 pub taken : (t : Tool) (words : List Text) (app : App) (rows : List Row) → app ≡ command_of t → fault_of app words ≡ [] → rows ≡ matches_of app words
@@ -192,6 +194,8 @@ limits tool.Trial old m p is = drawing_limits (rows_of (found_of m)) Request.Tri
 limits tool.Upgrade old m p is = free (first_of (codes "points") (rows_of (found_of m))) Request.Upgrade (λ x. tt)
 limits tool.Slack old m p is =
     free (ascent_in (rows_of (found_of m))) (Request.Slack (number_in 64 (codes "above") (rows_of (found_of m)))) (λ x. tt)
+limits tool.Graph old m p is = free (graph_in (rows_of (found_of m))) Request.Graph (λ x. tt)
+limits tool.Checkgraph old m p is = free (first_of (codes "stp") (rows_of (found_of m))) Request.Checkgraph (λ x. tt)
 
 -- ---- what the code holds
 

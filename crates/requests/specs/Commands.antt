@@ -25,10 +25,13 @@ name_of tool.Plot = codes "plot"
 name_of tool.Trial = codes "trial"
 name_of tool.Upgrade = codes "upgrade"
 name_of tool.Slack = codes "slack"
+name_of tool.Graph = codes "graph"
+name_of tool.Checkgraph = codes "checkgraph"
 
 abbrev pub all_tools : List Tool
 all_tools = tool.Points ∷ tool.Stp2points ∷ tool.Rfst ∷ tool.Prunefst ∷ tool.Bb ∷ tool.Solve ∷ tool.Check ∷ tool.Dumpfst
-    ∷ tool.Fst2graph ∷ tool.Plot ∷ tool.Trial ∷ tool.Upgrade ∷ tool.Slack ∷ []
+    ∷ tool.Fst2graph ∷ tool.Plot ∷ tool.Trial ∷ tool.Upgrade ∷ tool.Slack ∷ tool.Graph
+    ∷ tool.Checkgraph ∷ []
 
 -- the tool of this name
 abbrev pub tool_named : Text → Option Tool
@@ -83,13 +86,22 @@ seed_rule = record (operand_rule (codes "seed")) { parser = Some (parser.Unsigne
 abbrev pub points_rule : Rule
 points_rule = operand_rule (codes "points")
 
+abbrev pub stp_rule : Rule
+stp_rule = operand_rule (codes "stp")
+
 -- ---- commands
 
 abbrev pub drawing_rules : List Rule
 drawing_rules = count_rule ∷ seed_rule ∷ []
 
+abbrev pub choice_rules : List Rule
+choice_rules = ascent_rule ∷ split_rule ∷ []
+
 abbrev pub search_rules : List Rule
-search_rules = openings_rule ∷ concat_rule ∷ ascent_rule ∷ split_rule ∷ []
+search_rules = openings_rule ∷ concat_rule ∷ choice_rules
+
+abbrev pub graph_rules : List Rule
+graph_rules = openings_rule ∷ choice_rules
 
 abbrev pub arguments_of : Tool → List Rule
 arguments_of tool.Points = drawing_rules
@@ -105,6 +117,8 @@ arguments_of tool.Plot = points_rule ∷ []
 arguments_of tool.Trial = drawing_rules
 arguments_of tool.Upgrade = points_rule ∷ []
 arguments_of tool.Slack = above_rule ∷ ascent_rule ∷ []
+arguments_of tool.Graph = graph_rules
+arguments_of tool.Checkgraph = stp_rule ∷ []
 
 -- the command with further arguments
 abbrev pub with_rules : App → List Rule → App

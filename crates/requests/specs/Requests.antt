@@ -13,6 +13,7 @@ use Rattle.requests.specs.declared.tool.Tool.{Tool}
 use Rattle.requests.specs.declared.tool.Tool.TheVariants as tool
 use Rattle.requests.specs.declared.request.Drawing.{Drawing}
 use Rattle.search_rules.specs.declared.options.SearchOptions.{SearchOptions}
+use Rattle.search_rules.specs.declared.options.GraphOptions.{GraphOptions}
 use Rattle.requests.specs.declared.request.Request.{Request as Asked}
 use Rattle.requests.specs.declared.request.Request.TheVariants as asked
 
@@ -31,6 +32,8 @@ pub data Request : Type 0 where
   Trial : Drawing → Request
   Upgrade : (points : Text) → Request
   Slack : (above : Option ℕ) → AscentRule → Request
+  Graph : GraphOptions → Request
+  Checkgraph : (graph : Text) → Request
 
 -- the request of the code, which holds a file's name by reference
 abbrev pub meaning : Asked → Request
@@ -47,6 +50,8 @@ meaning (asked.Plot points) = Request.Plot points.now
 meaning (asked.Trial drawing) = Request.Trial drawing
 meaning (asked.Upgrade points) = Request.Upgrade points.now
 meaning (asked.Slack above ascent) = Request.Slack above ascent
+meaning (asked.Graph choices) = Request.Graph choices
+meaning (asked.Checkgraph graph) = Request.Checkgraph graph.now
 
 -- ---- a tool's request, by the values of its arguments
 
@@ -68,6 +73,15 @@ abbrev pub search_in : List Row → Option SearchOptions
 search_in rows = search_from (number_in 8 (codes "openings") rows) (number_in 32 (codes "concat") rows)
     (ascent_in rows) (split_in rows)
 
+-- the search in a graph of these choices, where all are there
+abbrev pub graph_from : Option ℕ → Option AscentRule → Option SplitRule → Option GraphOptions
+graph_from (Some openings) (Some ascent) (Some split) =
+    Some (record { openings = openings; ascent = ascent; split = split })
+graph_from _ _ _ = None
+
+abbrev pub graph_in : List Row → Option GraphOptions
+graph_in rows = graph_from (number_in 8 (codes "openings") rows) (ascent_in rows) (split_in rows)
+
 -- what the tool is asked for, where each of its arguments has a value
 abbrev pub request_by : Tool → List Row → Option Request
 request_by tool.Points rows = option_map Request.Points (drawing_in rows)
@@ -84,6 +98,8 @@ request_by tool.Plot rows = option_map Request.Plot (first_of (codes "points") r
 request_by tool.Trial rows = option_map Request.Trial (drawing_in rows)
 request_by tool.Upgrade rows = option_map Request.Upgrade (first_of (codes "points") rows)
 request_by tool.Slack rows = option_map (Request.Slack (number_in 64 (codes "above") rows)) (ascent_in rows)
+request_by tool.Graph rows = option_map Request.Graph (graph_in rows)
+request_by tool.Checkgraph rows = option_map Request.Checkgraph (first_of (codes "stp") rows)
 
 -- ---- the words
 

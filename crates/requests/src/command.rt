@@ -4,7 +4,8 @@ ghost use Rattle.std.specs.Prelude.{◌≡◌, IfOk, false};
 ghost use Rattle.clap.specs.Words.{app_of, rule_of};
 ghost use Rattle.requests.specs.Commands.{command_of, count_rule, seed_rule, size_rule};
 ghost use Rattle.requests.specs.Commands.{openings_rule, concat_rule, ascent_rule, split_rule, pieces_rule};
-ghost use Rattle.requests.specs.Commands.{above_rule, points_rule, option_rule, operand_rule, search_rules, with_rules};
+ghost use Rattle.requests.specs.Commands.{above_rule, points_rule, stp_rule, option_rule, operand_rule};
+ghost use Rattle.requests.specs.Commands.{search_rules, choice_rules, with_rules};
 ghost use Rattle.requests.specs.declared.tool.Tool.TheVariants as tool;
 
 use clap::{Arg, ArgAction, Command, value_parser};
@@ -107,15 +108,32 @@ pub(crate) fn slack<'a>(alloc: Global) -> Result<Command<'a>, AllocError>
         .arg(ascent(alloc))
 }
 
+/// `graph [--openings COUNT] [--ascent RULE] [--split RULE]`
+pub(crate) fn graph<'a>(alloc: Global) -> Result<Command<'a>, AllocError>
+    ensures { IfOk result (λ command. app_of command ≡ command_of tool.Graph) }
+{
+    choosing(alloc, Command::new(alloc, "graph").arg(openings(alloc))?)
+}
+
+/// `checkgraph STP`
+pub(crate) fn checkgraph<'a>(alloc: Global) -> Result<Command<'a>, AllocError>
+    ensures { IfOk result (λ command. app_of command ≡ command_of tool.Checkgraph) }
+{
+    Command::new(alloc, "checkgraph").arg(stp_file(alloc))
+}
+
 // The command with the options of a search: `[--openings COUNT] [--concat COUNT] [--ascent RULE] [--split RULE]`.
 fn searching<'a>(alloc: Global, command: Command<'a>) -> Result<Command<'a>, AllocError>
     ensures { IfOk result (λ searching. app_of searching ≡ with_rules (app_of command.entry) search_rules) }
 {
-    command
-        .arg(openings(alloc))?
-        .arg(concat(alloc))?
-        .arg(ascent(alloc))?
-        .arg(split(alloc))
+    choosing(alloc, command.arg(openings(alloc))?.arg(concat(alloc))?)
+}
+
+// The command with the options that choose rules: `[--ascent RULE] [--split RULE]`.
+fn choosing<'a>(alloc: Global, command: Command<'a>) -> Result<Command<'a>, AllocError>
+    ensures { IfOk result (λ choosing. app_of choosing ≡ with_rules (app_of command.entry) choice_rules) }
+{
+    command.arg(ascent(alloc))?.arg(split(alloc))
 }
 
 fn openings<'a>(alloc: Global) -> Arg<'a>
@@ -190,6 +208,13 @@ fn points_file<'a>(alloc: Global) -> Arg<'a>
     ensures own { result.global ≡ false }
 {
     operand(alloc, "points")
+}
+
+fn stp_file<'a>(alloc: Global) -> Arg<'a>
+    ensures rule { rule_of result ≡ stp_rule }
+    ensures own { result.global ≡ false }
+{
+    operand(alloc, "stp")
 }
 
 // The option `--NAME VALUE`, with the value that stands where it is not given.

@@ -1,6 +1,6 @@
 //! Requests.
 
-use search_rules::{AscentRule, SearchOptions};
+use search_rules::{AscentRule, GraphOptions, SearchOptions};
 
 /// A tool of the program, with what its words tell it.
 #[derive(Clone, Copy, Debug, PartialEq, Eq)]
@@ -48,6 +48,12 @@ pub enum Request<'a> {
     Slack {
         above: Option<u64>,
         ascent: AscentRule,
+    },
+    /// Reads an STP file and prints a network of its graph.
+    Graph(GraphOptions),
+    /// Judges an answer in the graph of the STP file of this name.
+    Checkgraph {
+        graph: &'a str,
     },
 }
 

@@ -26,6 +26,8 @@ pub(crate) enum Tool {
     Trial,
     Upgrade,
     Slack,
+    Graph,
+    Checkgraph,
 }
 
 impl Tool {
@@ -47,6 +49,8 @@ impl Tool {
             "trial" => Some(Tool::Trial),
             "upgrade" => Some(Tool::Upgrade),
             "slack" => Some(Tool::Slack),
+            "graph" => Some(Tool::Graph),
+            "checkgraph" => Some(Tool::Checkgraph),
             _ => None,
         }
     }
@@ -69,6 +73,8 @@ impl Tool {
             Tool::Trial => command::trial(alloc),
             Tool::Upgrade => command::upgrade(alloc),
             Tool::Slack => command::slack(alloc),
+            Tool::Graph => command::graph(alloc),
+            Tool::Checkgraph => command::checkgraph(alloc),
         }
     }
 
@@ -105,6 +111,10 @@ impl Tool {
             Tool::Slack => Request::Slack {
                 above: value::above(matches),
                 ascent: value::ascent(matches)?,
+            },
+            Tool::Graph => Request::Graph(value::graph(matches)?),
+            Tool::Checkgraph => Request::Checkgraph {
+                graph: value::text(matches, "stp")?,
             },
         })
     }

@@ -3,11 +3,11 @@
 ghost use Rattle.std.specs.Prelude.{◌≡◌, codes, option_map};
 ghost use Rattle.clap.specs.Words.{first_of, found_of, rows_of};
 ghost use Rattle.requests.specs.Values.{number_in, truth_in, ascent_in, split_in};
-ghost use Rattle.requests.specs.Requests.{drawing_in, search_in};
+ghost use Rattle.requests.specs.Requests.{drawing_in, search_in, graph_in};
 
 use crate::request::Drawing;
 use clap::ArgMatches;
-use search_rules::{AscentRule, SearchOptions, SplitRule};
+use search_rules::{AscentRule, GraphOptions, SearchOptions, SplitRule};
 
 /// The text of the argument `id`.
 pub(crate) fn text<'a>(matches: &ArgMatches<'a>, id: &str) -> Option<&'a str>
@@ -65,6 +65,13 @@ pub(crate) fn above(matches: &ArgMatches<'_>) -> Option<u64>
     large_number(matches, "above")
 }
 
+// The number of `--openings`.
+fn openings(matches: &ArgMatches<'_>) -> Option<u8>
+    ensures { result ≡ number_in 8 (codes "openings") (rows_of (found_of matches.now)) }
+{
+    byte(matches, "openings")
+}
+
 // The rule that `--split` names.
 fn split(matches: &ArgMatches<'_>) -> Option<SplitRule>
     ensures { result ≡ split_in (rows_of (found_of matches.now)) }
@@ -87,8 +94,19 @@ pub(crate) fn search(matches: &ArgMatches<'_>) -> Option<SearchOptions>
     ensures { result ≡ search_in (rows_of (found_of matches.now)) }
 {
     Some(SearchOptions {
-        openings: byte(matches, "openings")?,
+        openings: openings(matches)?,
         concat: number(matches, "concat")?,
+        ascent: ascent(matches)?,
+        split: split(matches)?,
+    })
+}
+
+/// How a network of a graph is searched for.
+pub(crate) fn graph(matches: &ArgMatches<'_>) -> Option<GraphOptions>
+    ensures { result ≡ graph_in (rows_of (found_of matches.now)) }
+{
+    Some(GraphOptions {
+        openings: openings(matches)?,
         ascent: ascent(matches)?,
         split: split(matches)?,
     })

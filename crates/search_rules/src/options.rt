@@ -49,3 +49,12 @@ pub struct GraphOptions {
     /// What a leaf is split on.
     pub split: SplitRule,
 }
+
+impl GraphOptions {
+    /// What is chosen where no word asks for anything else.
+    pub const USUAL: GraphOptions = GraphOptions {
+        openings: 100,
+        ascent: AscentRule::Least,
+        split: SplitRule::Longest,
+    };
+}

@@ -1,5 +1,5 @@
 -- The line that tells a verdict, and the status that the tool ends with.
-use Rattle.std.specs.Prelude.{ℕ, Bool, List, ◌++◌, codes, decimal}
+use Rattle.std.specs.Prelude.{ℕ, ◌+◌, Bool, List, ◌++◌, codes, decimal}
 use Rattle.cut_cert.specs.Text.{status_word}
 use Rattle.tree_judge.specs.declared.cause.Cause.{Cause}
 use Rattle.tree_judge.specs.declared.cause.Cause.TheVariants.{NotAnswer, OffGrid, OffGridVertex, EdgeOrder, NotJoined, WrongLength, Decided, DecidedVertex, TooDeep, RootInCut, IdleCut, Overload, WrongBound, WrongStatus}
@@ -10,6 +10,14 @@ use Rattle.frame.specs.declared.status.AnswerStatus.TheVariants as ends
 use Rattle.frame.specs.Ends.{Print}
 use Rattle.verdict_line.specs.declared.line.VerdictLine.{VerdictLine}
 use Rattle.verdict_line.specs.declared.line.VerdictLine.TheVariants.{Accepted, Refused}
+use Rattle.verdict_line.specs.declared.graph_line.GraphVerdictLine.{GraphVerdictLine}
+use Rattle.verdict_line.specs.declared.counting.Counting.{Counting}
+use Rattle.verdict_line.specs.declared.counting.Counting.TheVariants.{FromZero, FromOne}
+
+-- what is told of an edge or a vertex, by the number that it has when they count from 0
+abbrev pub counted : Counting → ℕ → ℕ
+counted FromZero number = number
+counted FromOne number = number + 1
 
 -- what is said of a line
 abbrev pub about_line : ℕ → List ℕ → List ℕ
@@ -37,22 +45,22 @@ abbrev pub about_load : ℕ → ℕ → ℕ → ℕ → List ℕ
 about_load line edge load room = about_line line (codes " loads edge ") ++ decimal edge
     ++ codes " with " ++ decimal load ++ codes " of " ++ decimal room
 
--- why an answer is refused
-abbrev pub cause_text : Cause → List ℕ
-cause_text (NotAnswer line) = about_line line (codes " is not in the format")
-cause_text (OffGrid line) = about_line line (codes " names no grid edge")
-cause_text (OffGridVertex line) = about_line line (codes " names no grid vertex")
-cause_text (EdgeOrder line) = about_line line (codes " is out of order")
-cause_text (NotJoined point) = about_point point
-cause_text (WrongLength printed found) = about_number (codes "length") printed found
-cause_text (Decided line edge) = about_decided line edge
-cause_text (DecidedVertex line vertex) = about_decided_vertex line vertex
-cause_text (TooDeep line) = about_line line (codes " is split 256")
-cause_text (RootInCut line) = about_line line (codes " has the root in its cut")
-cause_text (IdleCut line) = about_line line (codes " cuts off no required vertex")
-cause_text (Overload line edge load room) = about_load line edge load room
-cause_text (WrongBound printed found) = about_number (codes "bound") printed found
-cause_text WrongStatus = codes "status"
+-- why an answer is refused; terminals count from 0, and lines from 1
+abbrev pub cause_text_by : Counting → Cause → List ℕ
+cause_text_by counting (NotAnswer line) = about_line line (codes " is not in the format")
+cause_text_by counting (OffGrid line) = about_line line (codes " names no grid edge")
+cause_text_by counting (OffGridVertex line) = about_line line (codes " names no grid vertex")
+cause_text_by counting (EdgeOrder line) = about_line line (codes " is out of order")
+cause_text_by counting (NotJoined point) = about_point point
+cause_text_by counting (WrongLength printed found) = about_number (codes "length") printed found
+cause_text_by counting (Decided line edge) = about_decided line (counted counting edge)
+cause_text_by counting (DecidedVertex line vertex) = about_decided_vertex line (counted counting vertex)
+cause_text_by counting (TooDeep line) = about_line line (codes " is split 256")
+cause_text_by counting (RootInCut line) = about_line line (codes " has the root in its cut")
+cause_text_by counting (IdleCut line) = about_line line (codes " cuts off no required vertex")
+cause_text_by counting (Overload line edge load room) = about_load line (counted counting edge) load room
+cause_text_by counting (WrongBound printed found) = about_number (codes "bound") printed found
+cause_text_by counting WrongStatus = codes "status"
 
 -- what is said of an answer that is accepted
 abbrev pub accepted_line : ℕ → ℕ → Bool → List ℕ
@@ -60,11 +68,15 @@ accepted_line length bound optimal = codes "accepted length " ++ decimal length 
     ++ codes " " ++ status_word optimal ++ codes "\n"
 
 -- what is said of an answer that is refused: without the line feed, and as a line
-abbrev pub refusal : Cause → List ℕ
-refusal cause = codes "refused " ++ cause_text cause
+abbrev pub refusal_by : Counting → Cause → List ℕ
+refusal_by counting cause = codes "refused " ++ cause_text_by counting cause
 
-abbrev pub refused_line : Cause → List ℕ
-refused_line cause = refusal cause ++ codes "\n"
+abbrev pub refused_line_by : Counting → Cause → List ℕ
+refused_line_by counting cause = refusal_by counting cause ++ codes "\n"
+
+-- .. of an answer for points
+abbrev pub refusal : Cause → List ℕ
+refusal = refusal_by FromZero
 
 -- the verdict that a line tells
 abbrev pub verdict_told : VerdictLine → Verdict
@@ -72,14 +84,27 @@ verdict_told (Accepted length bound optimal) = verdict.Accepted length bound opt
 verdict_told (Refused cause) = verdict.Refused cause
 
 -- the text of a line, and the status that the tool ends with
-abbrev pub line_text : VerdictLine → List ℕ
-line_text (Accepted length bound optimal) = accepted_line length bound optimal
-line_text (Refused cause) = refused_line cause
+abbrev pub line_text_by : Counting → VerdictLine → List ℕ
+line_text_by counting (Accepted length bound optimal) = accepted_line length bound optimal
+line_text_by counting (Refused cause) = refused_line_by counting cause
 
 abbrev pub line_status : VerdictLine → AnswerStatus
 line_status (Accepted length bound optimal) = ends.Done
 line_status (Refused cause) = ends.Refused
 
--- what is printed of a line
+-- the text of a line for points, and what is printed of it
+abbrev pub line_text : VerdictLine → List ℕ
+line_text = line_text_by FromZero
+
 abbrev pub line_print : VerdictLine → Print
 line_print line = record { text = line_text line; status = line_status line }
+
+-- the text of a line in the graph of an STP file, its status, and what is printed of it
+abbrev pub graph_line_text : GraphVerdictLine → List ℕ
+graph_line_text told = line_text_by FromOne told.line
+
+abbrev pub graph_line_status : GraphVerdictLine → AnswerStatus
+graph_line_status told = line_status told.line
+
+abbrev pub graph_line_print : GraphVerdictLine → Print
+graph_line_print told = record { text = graph_line_text told; status = graph_line_status told }

@@ -1,24 +1,38 @@
 //! The causes of a refusal, as they are told.
 
 ghost use Rattle.text_out.specs.Gathers.{Gathers};
-ghost use Rattle.verdict_line.specs.Verdicts.{cause_text, refusal, about_line, about_point, about_number, about_decided, about_decided_vertex, about_load};
+ghost use Rattle.verdict_line.specs.Verdicts.{cause_text_by, refusal, refusal_by, about_line, about_point};
+ghost use Rattle.verdict_line.specs.Verdicts.{about_number, about_decided, about_decided_vertex, about_load};
 
+use crate::counting::Counting;
 use cert_check::Cause;
 use rst_outside::Sink;
 use text_out::{Block, literal, number};
 
-/// Writes what is said of an answer that is refused, without the line feed.
-#[tactic(auto, using(text_out::specs::GatherLaws::pieces))]
+/// Writes what is said of an answer for points that is refused, without the line feed.
 pub fn write_refusal<O: Sink>(block: &mut Block, out: &mut O, cause: Cause)
     ensures { Gathers (O.state out.old) block.old (refusal cause) (O.state out.new) block.new }
 {
+    write_refusal_by(block, out, Counting::FromZero, cause);
+}
+
+/// Writes what is said of an answer that is refused, with edges and vertices so counted, and without the line feed.
+#[tactic(auto, using(text_out::specs::GatherLaws::pieces))]
+pub(crate) fn write_refusal_by<O: Sink>(
+    block: &mut Block,
+    out: &mut O,
+    counting: Counting,
+    cause: Cause,
+)
+    ensures { Gathers (O.state out.old) block.old (refusal_by counting cause) (O.state out.new) block.new }
+{
     literal(block, out, b"refused ");
-    write_cause(block, out, cause);
+    write_cause(block, out, counting, cause);
 }
 
 // Why an answer is refused.
-fn write_cause<O: Sink>(block: &mut Block, out: &mut O, cause: Cause)
-    ensures { Gathers (O.state out.old) block.old (cause_text cause) (O.state out.new) block.new }
+fn write_cause<O: Sink>(block: &mut Block, out: &mut O, counting: Counting, cause: Cause)
+    ensures { Gathers (O.state out.old) block.old (cause_text_by counting cause) (O.state out.new) block.new }
 {
     match cause {
         Cause::NotAnswer(line) => write_about_line(block, out, line, b" is not in the format"),
@@ -31,9 +45,11 @@ fn write_cause<O: Sink>(block: &mut Block, out: &mut O, cause: Cause)
         Cause::WrongLength { printed, found } => {
             write_about_number(block, out, b"length", printed, found)
         }
-        Cause::Decided { line, edge } => write_about_decided(block, out, line, edge),
+        Cause::Decided { line, edge } => {
+            write_about_decided(block, out, line, counting.told(edge))
+        }
         Cause::DecidedVertex { line, vertex } => {
-            write_about_decided_vertex(block, out, line, vertex)
+            write_about_decided_vertex(block, out, line, counting.told(vertex))
         }
         Cause::TooDeep(line) => write_about_line(block, out, line, b" is split 256"),
         Cause::RootInCut(line) => write_about_line(block, out, line, b" has the root in its cut"),
@@ -45,7 +61,7 @@ fn write_cause<O: Sink>(block: &mut Block, out: &mut O, cause: Cause)
             edge,
             load,
             room,
-        } => write_about_load(block, out, line, edge, load, room),
+        } => write_about_load(block, out, line, counting.told(edge), load, room),
         Cause::WrongBound { printed, found } => {
             write_about_number(block, out, b"bound", printed, found)
         }
@@ -93,7 +109,7 @@ fn write_about_number<O: Sink>(
 
 // What is said of a line that decides an edge which isn't undecided there.
 #[tactic(auto, using(text_out::specs::GatherLaws::pieces))]
-fn write_about_decided<O: Sink>(block: &mut Block, out: &mut O, line: u64, edge: u32)
+fn write_about_decided<O: Sink>(block: &mut Block, out: &mut O, line: u64, edge: u64)
     ensures { Gathers (O.state out.old) block.old (about_decided line edge) (O.state out.new) block.new }
 {
     write_about_line(block, out, line, b" decides edge ");
@@ -103,7 +119,7 @@ fn write_about_decided<O: Sink>(block: &mut Block, out: &mut O, line: u64, edge:
 
 // What is said of a line of a split on a vertex that isn't undecided there.
 #[tactic(auto, using(text_out::specs::GatherLaws::pieces))]
-fn write_about_decided_vertex<O: Sink>(block: &mut Block, out: &mut O, line: u64, vertex: u32)
+fn write_about_decided_vertex<O: Sink>(block: &mut Block, out: &mut O, line: u64, vertex: u64)
     ensures { Gathers (O.state out.old) block.old (about_decided_vertex line vertex) (O.state out.new) block.new }
 {
     write_about_line(block, out, line, b" splits on vertex ");
@@ -117,7 +133,7 @@ fn write_about_load<O: Sink>(
     block: &mut Block,
     out: &mut O,
     line: u64,
-    edge: u32,
+    edge: u64,
     load: u128,
     room: u64,
 )

@@ -2,7 +2,10 @@
 #![tactic(auto)]
 
 mod cause;
+mod counting;
+mod graph_line;
 mod line;
 
 pub use cause::write_refusal;
+pub use graph_line::GraphVerdictLine;
 pub use line::VerdictLine;

@@ -3,9 +3,11 @@
 ghost use Rattle.std.specs.Prelude.{◌≡◌, IfSome, IfNone};
 ghost use Rattle.rst_outside.specs.Sink.{Writes};
 ghost use Rattle.text_out.specs.Gathers.{Gathers};
-ghost use Rattle.verdict_line.specs.Verdicts.{accepted_line, refused_line, verdict_told, line_text, line_status};
+ghost use Rattle.verdict_line.specs.Verdicts.{accepted_line, refused_line_by, verdict_told};
+ghost use Rattle.verdict_line.specs.Verdicts.{line_text, line_text_by, line_status};
 
-use crate::cause::write_refusal;
+use crate::cause::write_refusal_by;
+use crate::counting::Counting;
 use cert_check::{Cause, Verdict};
 use cut_cert::status_word;
 use frame::{Answer, AnswerStatus};
@@ -64,23 +66,28 @@ impl Answer for VerdictLine {
     }
 
     fn write<O: Sink>(&self, out: &mut O) -> Result<(), PutFault> {
-        write_whole(out, *self)
+        write_whole(out, Counting::FromZero, *self)
     }
 }
 
-// Writes the line. An `Err` says that the sink failed, and that the line was cut short.
+/// Writes the line, with edges and vertices so counted. An `Err` says that the sink failed, and that the line was cut
+/// short.
 #[tactic(auto, using(text_out::specs::GatherLaws::pieces))]
-fn write_whole<O: Sink>(out: &mut O, line: VerdictLine) -> Result<(), PutFault>
-    ensures { Writes (O.state out.old) (line_text line) (O.state out.new) result }
+pub(crate) fn write_whole<O: Sink>(
+    out: &mut O,
+    counting: Counting,
+    line: VerdictLine,
+) -> Result<(), PutFault>
+    ensures { Writes (O.state out.old) (line_text_by counting line) (O.state out.new) result }
 {
     let mut block = Block::new();
-    write_line(&mut block, out, line);
+    write_line(&mut block, out, counting, line);
     finish(block, out)
 }
 
 // The line, of which the last bytes wait in the block.
-fn write_line<O: Sink>(block: &mut Block, out: &mut O, line: VerdictLine)
-    ensures { Gathers (O.state out.old) block.old (line_text line) (O.state out.new) block.new }
+fn write_line<O: Sink>(block: &mut Block, out: &mut O, counting: Counting, line: VerdictLine)
+    ensures { Gathers (O.state out.old) block.old (line_text_by counting line) (O.state out.new) block.new }
 {
     match line {
         VerdictLine::Accepted {
@@ -88,7 +95,7 @@ fn write_line<O: Sink>(block: &mut Block, out: &mut O, line: VerdictLine)
             bound,
             optimal,
         } => write_accepted(block, out, length, bound, optimal),
-        VerdictLine::Refused(cause) => write_refused(block, out, cause),
+        VerdictLine::Refused(cause) => write_refused(block, out, counting, cause),
     }
 }
 
@@ -108,9 +115,9 @@ fn write_accepted<O: Sink>(block: &mut Block, out: &mut O, length: u64, bound: u
 
 // The line of an answer that is refused.
 #[tactic(auto, using(text_out::specs::GatherLaws::pieces))]
-fn write_refused<O: Sink>(block: &mut Block, out: &mut O, cause: Cause)
-    ensures { Gathers (O.state out.old) block.old (refused_line cause) (O.state out.new) block.new }
+fn write_refused<O: Sink>(block: &mut Block, out: &mut O, counting: Counting, cause: Cause)
+    ensures { Gathers (O.state out.old) block.old (refused_line_by counting cause) (O.state out.new) block.new }
 {
-    write_refusal(block, out, cause);
+    write_refusal_by(block, out, counting, cause);
     literal(block, out, b"\n");
 }
