@@ -4,10 +4,10 @@
 
 mod answering;
 mod raising;
-mod searched;
+mod search;
 mod shortening;
 
 pub use answering::answer_with;
 pub use raising::Raising;
-pub use searched::searched;
+pub use search::searched;
 pub use shortening::{Shortening, offer_shorter};

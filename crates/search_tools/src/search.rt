@@ -56,6 +56,7 @@ pub fn searched(
 }
 
 // The exchanges on a grid that raise a search.
+#[derive(Drop)]
 struct Exchanges<'a> {
     grid: &'a Grid,
 }
