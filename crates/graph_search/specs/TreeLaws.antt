@@ -31,7 +31,8 @@ nodes_on g d (Split (split.Edge n) outside inside) (undecided, of_outside, of_in
     (nodes_on g (inside_of d (split.Edge n)) inside of_inside))
 
 -- its cuts weigh at least 1, and are sets of the graph's vertices
-cuts_on : (g : Graph) (d : Decided) (tree : Tree SplitOn) → IsValidTree g d tree → All (All (IsCutOn g)) (packings_of tree)
+cuts_on : (g : Graph) (d : Decided) (tree : Tree SplitOn) → IsValidTree g d tree →
+    All (All (IsCutOn g)) (packings_of tree)
 cuts_on g d (Leaf cuts) feasible =
     All-cons (All (IsCutOn g)) cuts []
     (λ k c inside. let of_cut = feasible.cuts k c inside in record { some = of_cut.0; size = of_cut.1.size })

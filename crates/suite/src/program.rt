@@ -24,7 +24,8 @@ use trial_tools::trial;
 
 /// What is said where the words ask for no tool.
 const USAGE_LINE: &[u8] =
-    b"usage: rst points|stp2points|rfst|prunefst|bb|solve|check|dumpfst|fst2graph|plot|trial|upgrade|slack|graph|checkgraph [WORDS]\n";
+    b"usage: rst points|stp2points|rfst|prunefst|bb|solve|check|dumpfst|fst2graph|plot|trial\
+      |upgrade|slack|graph|checkgraph [WORDS]\n";
 
 /// Runs the tool that the words after the program's name ask for, and gives the status that the program ends with.
 ///
@@ -113,46 +114,26 @@ fn answer<I: Source, O: Sink, R: Sink, S: Shelf>(
         (outside (I.state input.old) (O.state out.old) (R.state err.old) (S.state shelf.old))
         (outside (I.state input.new) (O.state out.new) (R.state err.new) (S.state shelf.new)) result }
 {
+    located_has_no_fault();
+    spelled_has_no_fault();
+    task_has_no_fault();
+    trial_is_solve();
     match request {
         Some(Request::Points(drawing)) => points(alloc, drawing.count, drawing.seed, out, err),
-        Some(Request::Stp2points) => {
-            located_has_no_fault();
-            stp2points(alloc, input, out, err)
-        }
+        Some(Request::Stp2points) => stp2points(alloc, input, out, err),
         Some(Request::Rfst { size }) => rfst(alloc, size, input, out, err),
-        Some(Request::Prunefst) => {
-            spelled_has_no_fault();
-            prunefst(alloc, input, out, err)
-        }
-        Some(Request::Bb(search)) => {
-            spelled_has_no_fault();
-            bb(alloc, search, input, out, err)
-        }
+        Some(Request::Prunefst) => prunefst(alloc, input, out, err),
+        Some(Request::Bb(search)) => bb(alloc, search, input, out, err),
         Some(Request::Solve { size, search }) => { solve(alloc, search, size, input, out, err) }
         Some(Request::Check { points }) => check(alloc, points, input, out, err, shelf),
-        Some(Request::Dumpfst { pieces }) => {
-            spelled_has_no_fault();
-            dumpfst(alloc, pieces, input, out, err)
-        }
-        Some(Request::Fst2graph) => {
-            spelled_has_no_fault();
-            fst2graph(alloc, input, out, err)
-        }
+        Some(Request::Dumpfst { pieces }) => dumpfst(alloc, pieces, input, out, err),
+        Some(Request::Fst2graph) => fst2graph(alloc, input, out, err),
         Some(Request::Plot { points }) => plot(alloc, points, input, out, err, shelf),
-        Some(Request::Trial(drawing)) => {
-            trial_is_solve();
-            trial(alloc, drawing.count, drawing.seed, out, err)
-        }
+        Some(Request::Trial(drawing)) => trial(alloc, drawing.count, drawing.seed, out, err),
         Some(Request::Upgrade { points }) => upgrade(alloc, points, input, out, err, shelf),
         Some(Request::Slack { above, ascent }) => slack(alloc, above, ascent, input, out, err),
-        Some(Request::Graph(options)) => {
-            task_has_no_fault();
-            graph(alloc, options, input, out, err)
-        }
-        Some(Request::Checkgraph { graph }) => {
-            task_has_no_fault();
-            checkgraph(alloc, graph, input, out, err, shelf)
-        }
+        Some(Request::Graph(options)) => graph(alloc, options, input, out, err),
+        Some(Request::Checkgraph { graph }) => checkgraph(alloc, graph, input, out, err, shelf),
         None => {
             report(err, USAGE_LINE);
             MISUSED

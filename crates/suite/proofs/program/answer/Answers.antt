@@ -80,7 +80,7 @@ returns-in-Some-Upgrade-clause-complete g c =
 pub returns-in-Some-Dumpfst-clause-complete : goal.returns-in-Some-Dumpfst-clause-complete
 returns-in-Some-Dumpfst-clause-complete g c =
     let request = option_map meaning c.args.request in
-    dump_asked_completes c.spelled_has_no_fault-in-Some-Dumpfst.ensures.no_fault request c.in-Some-Dumpfst.pieces
+    dump_asked_completes c.spelled_has_no_fault.ensures.no_fault request c.in-Some-Dumpfst.pieces
     (outside (g.I.Source.state c.args.input.now) (g.O.Sink.state c.args.out.now) (g.R.Sink.state c.args.err.now) (g.S.Shelf.state c.args.shelf.now))
     (outside (g.I.Source.state c.dumpfst.new.input) (g.O.Sink.state c.dumpfst.new.out) (g.R.Sink.state c.dumpfst.new.err) (g.S.Shelf.state c.args.shelf.now))
     c.dumpfst.result
@@ -130,7 +130,7 @@ returns-in-Some-Bb-clause-built g c =
 pub returns-in-Some-Bb-clause-complete : goal.returns-in-Some-Bb-clause-complete
 returns-in-Some-Bb-clause-complete g c =
     let request = option_map meaning c.args.request in
-    bb_asked_completes c.spelled_has_no_fault-in-Some-Bb.ensures.no_fault c.spelled_has_no_fault-in-Some-Bb.ensures.one request c.in-Some-Bb.search
+    bb_asked_completes c.spelled_has_no_fault.ensures.no_fault c.spelled_has_no_fault.ensures.one request c.in-Some-Bb.search
     (outside (g.I.Source.state c.args.input.now) (g.O.Sink.state c.args.out.now) (g.R.Sink.state c.args.err.now) (g.S.Shelf.state c.args.shelf.now))
     (outside (g.I.Source.state c.bb.new.input) (g.O.Sink.state c.bb.new.out) (g.R.Sink.state c.bb.new.err) (g.S.Shelf.state c.args.shelf.now))
     c.bb.result
@@ -160,7 +160,7 @@ returns-in-Some-Stp2points-clause-complete g c =
 pub returns-in-Some-Fst2graph-clause-complete : goal.returns-in-Some-Fst2graph-clause-complete
 returns-in-Some-Fst2graph-clause-complete g c =
     let request = option_map meaning c.args.request in
-    graph_asked_completes c.spelled_has_no_fault-in-Some-Fst2graph.ensures.no_fault request
+    graph_asked_completes c.spelled_has_no_fault.ensures.no_fault request
     (outside (g.I.Source.state c.args.input.now) (g.O.Sink.state c.args.out.now) (g.R.Sink.state c.args.err.now) (g.S.Shelf.state c.args.shelf.now))
     (outside (g.I.Source.state c.fst2graph.new.input) (g.O.Sink.state c.fst2graph.new.out) (g.R.Sink.state c.fst2graph.new.err) (g.S.Shelf.state c.args.shelf.now))
     c.fst2graph.result
@@ -225,7 +225,7 @@ returns-in-Some-Graph-clause-complete g c =
     (outside (g.I.Source.state c.args.input.now) (g.O.Sink.state c.args.out.now) (g.R.Sink.state c.args.err.now) (g.S.Shelf.state c.args.shelf.now))
     (outside (g.I.Source.state c.graph.new.input) (g.O.Sink.state c.graph.new.out) (g.R.Sink.state c.graph.new.err) (g.S.Shelf.state c.args.shelf.now))
     c.graph.result
-    c.task_has_no_fault-in-Some-Graph.ensures c.in-Some-Graph.options
+    c.task_has_no_fault.ensures c.in-Some-Graph.options
     (search rules)
     (c.graph.ensures (g.S.Shelf.state c.args.shelf.now))
 
@@ -247,6 +247,6 @@ returns-in-Some-Checkgraph-clause-complete g c =
     (outside (g.I.Source.state c.args.input.now) (g.O.Sink.state c.args.out.now) (g.R.Sink.state c.args.err.now) (g.S.Shelf.state c.args.shelf.now))
     (outside (g.I.Source.state c.checkgraph.new.input) (g.O.Sink.state c.checkgraph.new.out) (g.R.Sink.state c.checkgraph.new.err) (g.S.Shelf.state c.checkgraph.new.shelf))
     c.checkgraph.result
-    c.task_has_no_fault-in-Some-Checkgraph.ensures c.in-Some-Checkgraph.graph.now
+    c.task_has_no_fault.ensures c.in-Some-Checkgraph.graph.now
     (search rules)
     c.checkgraph.ensures
