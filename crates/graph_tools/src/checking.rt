@@ -13,7 +13,9 @@ ghost use Rattle.graph_tools.specs.Check.{checkgraph_fault_text, checkgraph_faul
 
 use crate::reading::graph_in;
 use crate::text_fault::GraphTextFault;
-use frame::{Fault, FaultStatus, FileFault, InputFault, TEXT_LIMIT, conclude, take_file, take_input};
+use frame::{
+    Fault, FaultStatus, FileFault, InputFault, TEXT_LIMIT, conclude, take_file, take_input,
+};
 use graph_solve::{GraphVerdict, check_graph};
 use net_graph::NetGraph;
 use rst_outside::{Shelf, Sink, Source};

@@ -46,13 +46,7 @@ pub fn searched(
         (length_of (hanan_grid_of grid.now) first)) }
 {
     let exchanges = Exchanges { grid };
-    graph_search::searched(
-        alloc,
-        grid.graph(),
-        first,
-        options.in_graph(),
-        &exchanges,
-    )
+    graph_search::searched(alloc, grid.graph(), first, options.in_graph(), &exchanges)
 }
 
 // The exchanges on a grid that raise a search.
