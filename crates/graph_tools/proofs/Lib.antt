@@ -1,4 +1,3 @@
-pub mod ReadingLaws
 pub mod SolutionLaws
 pub mod SolveLaws
 pub mod CheckLaws

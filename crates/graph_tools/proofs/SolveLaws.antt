@@ -12,9 +12,9 @@ use Rattle.frame.specs.declared.text_fault.TextFault.TheVariants.{Input, Text}
 use Rattle.frame.specs.Outside.{Readable, readable}
 use Rattle.frame.specs.Ends.{print_of}
 use Rattle.frame.specs.FromText.{FromText}
-use Rattle.graph_tools.specs.declared.text_fault.GraphTextFault.{GraphTextFault}
+use Rattle.graph_inputs.specs.declared.text_fault.GraphTextFault.{GraphTextFault}
 use Rattle.graph_tools.specs.declared.solution.GraphSolution.{GraphSolution}
-use Rattle.graph_tools.specs.Reading.{ReadsGraph}
+use Rattle.graph_inputs.specs.Reading.{ReadsGraph}
 use Rattle.graph_tools.specs.Solution.{IsFor, IsPrintable, IsSpelled, solution_text, solution_status}
 use Rattle.graph_tools.specs.Solve.{FindsAnswer, SolvesGraph}
 use Rattle.graph_tools.proofs.SolutionLaws.{for_fits, permitted_answer, printed_answer}

@@ -20,11 +20,11 @@ use Rattle.frame.specs.Taking.{IsFileFault, IsInputFault, IsWholeFile, IsWholeIn
 use Rattle.verdict_line.specs.declared.line.VerdictLine.TheVariants as said
 use Rattle.verdict_line.specs.declared.graph_line.GraphVerdictLine.{GraphVerdictLine}
 use Rattle.verdict_line.specs.Verdicts.{graph_line_print}
-use Rattle.graph_tools.specs.declared.text_fault.GraphTextFault.{GraphTextFault}
+use Rattle.graph_inputs.specs.declared.text_fault.GraphTextFault.{GraphTextFault}
 use Rattle.graph_tools.specs.declared.checking.CheckgraphFault.{CheckgraphFault}
 use Rattle.graph_tools.specs.declared.checking.CheckgraphFault.TheVariants.{File, Graph as OfGraph, Input}
 use Rattle.graph_tools.specs.declared.checking.TheConstants.{GRAPH_ANSWER_LIMIT}
-use Rattle.graph_tools.specs.Reading.{IsTaskText, ReadsGraph, graph_fault_text, graph_fault_status}
+use Rattle.graph_inputs.specs.Reading.{IsTaskText, ReadsGraph, graph_fault_text, graph_fault_status}
 
 -- what is said where the STP file isn't taken whole
 abbrev pub graph_file_text : FileFault → List ℕ

@@ -1,4 +1,3 @@
-pub mod Reading
 pub mod Solution
 pub mod Solve
 pub mod Check

@@ -10,9 +10,9 @@ use Rattle.frame.specs.Ends.{Print, Ends}
 use Rattle.frame.specs.FaultTexts.{text_fault_text, text_fault_status}
 use Rattle.frame.specs.FromText.{FromText}
 use Rattle.frame.specs.Leaves.{LeavesShelf}
-use Rattle.graph_tools.specs.declared.text_fault.GraphTextFault.{GraphTextFault}
+use Rattle.graph_inputs.specs.declared.text_fault.GraphTextFault.{GraphTextFault}
 use Rattle.graph_tools.specs.declared.solution.GraphSolution.{GraphSolution}
-use Rattle.graph_tools.specs.Reading.{IsTaskText, ReadsGraph, graph_fault_text, graph_fault_status}
+use Rattle.graph_inputs.specs.Reading.{IsTaskText, ReadsGraph, graph_fault_text, graph_fault_status}
 use Rattle.graph_tools.specs.Solution.{IsFor, IsPermittedGraphAnswer, graph_print}
 
 -- What `graph` finds in a text, before it writes: an answer in the graph of the STP file that it is; or why it gives

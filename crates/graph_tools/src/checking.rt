@@ -11,11 +11,10 @@ ghost use Rattle.verdict_line.specs.Verdicts.{graph_line_text, graph_line_status
 ghost use Rattle.graph_tools.specs.Check.{ChecksGraph, EndsCheckgraph, IsJudged, ReadsGraphFile, line_of};
 ghost use Rattle.graph_tools.specs.Check.{checkgraph_fault_text, checkgraph_fault_status, graph_file_text};
 
-use crate::reading::graph_in;
-use crate::text_fault::GraphTextFault;
 use frame::{
     Fault, FaultStatus, FileFault, InputFault, TEXT_LIMIT, conclude, take_file, take_input,
 };
+use graph_inputs::{GraphTextFault, graph_in};
 use graph_solve::{GraphVerdict, check_graph};
 use net_graph::NetGraph;
 use rst_outside::{Shelf, Sink, Source};

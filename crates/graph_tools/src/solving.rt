@@ -5,14 +5,11 @@ ghost use Rattle.rst_outside.specs.Shelf.{ShelfState};
 ghost use Rattle.frame.specs.Outside.{outside, readable};
 ghost use Rattle.frame.specs.Taking.{TakesSome};
 ghost use Rattle.frame.specs.FromText.{FromText};
-ghost use Rattle.graph_tools.specs.Reading.{ReadsGraph};
 ghost use Rattle.graph_tools.specs.Solve.{EndsGraph, FindsAnswer};
 
-use crate::reading::graph_in;
 use crate::solution::{GraphSolution, solution_in};
-use crate::text_fault::GraphTextFault;
-use frame::{TEXT_LIMIT, TextFault, conclude, take_input};
-use net_graph::NetGraph;
+use frame::{TEXT_LIMIT, TextFault, conclude};
+use graph_inputs::{GraphTextFault, take_graph};
 use rst_outside::{Sink, Source};
 use search_rules::GraphOptions;
 use std::alloc::{AllocError, Global};
@@ -48,24 +45,5 @@ fn find<I: Source>(
     match take_graph(alloc, input)? {
         Ok(graph) => Ok(Ok(solution_in(alloc, graph, options)?)),
         Err(fault) => Ok(Err(fault)),
-    }
-}
-
-// The graph of the file that the input is; or why there is none. An `Err` is want of memory.
-fn take_graph<I: Source>(
-    alloc: Global,
-    input: &mut I,
-) -> Result<Result<NetGraph, TextFault<GraphTextFault>>, AllocError>
-    ensures reads { (shelf : ShelfState) → IfOk result (FromText TEXT_LIMIT ReadsGraph
-        (readable (I.state input.old) shelf) (readable (I.state input.new) shelf)) }
-    ensures takes { TakesSome (I.state input.old) (I.state input.new) }
-{
-    let bytes = match take_input(alloc, input, TEXT_LIMIT)? {
-        Ok(bytes) => bytes,
-        Err(fault) => return Ok(Err(TextFault::Input(fault))),
-    };
-    match graph_in(alloc, bytes.as_slice())? {
-        Ok(graph) => Ok(Ok(graph)),
-        Err(fault) => Ok(Err(TextFault::Text(fault))),
     }
 }

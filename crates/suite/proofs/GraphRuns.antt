@@ -22,8 +22,8 @@ use Rattle.graph_solve.specs.Task.{graph_of_stp}
 use Rattle.graph_tools.specs.declared.checking.CheckgraphFault.{CheckgraphFault}
 use Rattle.graph_tools.specs.declared.checking.CheckgraphFault.TheVariants as checkgraph_fault
 use Rattle.graph_tools.specs.declared.checking.TheConstants.{GRAPH_ANSWER_LIMIT}
-use Rattle.graph_tools.specs.declared.text_fault.GraphTextFault.{GraphTextFault}
-use Rattle.graph_tools.specs.Reading.{IsTaskText, ReadsGraph, TaskHasNoFault, graph_fault_text, graph_fault_status}
+use Rattle.graph_inputs.specs.declared.text_fault.GraphTextFault.{GraphTextFault}
+use Rattle.graph_inputs.specs.Reading.{IsTaskText, ReadsGraph, TaskHasNoFault, graph_fault_text, graph_fault_status}
 use Rattle.graph_tools.specs.Solve.{EndsGraph, SolvesGraph}
 use Rattle.graph_tools.specs.Check.{ChecksGraph, EndsCheckgraph, checkgraph_fault_text, checkgraph_fault_status, line_of}
 use Rattle.graph_tools.specs.Truth.{ChecksGraphTruly}

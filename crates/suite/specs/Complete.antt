@@ -22,7 +22,7 @@ use Rattle.fst_file.specs.Text.{SpellsFstFile}
 use Rattle.requests.specs.Requests.{Request}
 use Rattle.stp_format.specs.Value.{StpValue}
 use Rattle.graph_tools.specs.declared.checking.TheConstants.{GRAPH_ANSWER_LIMIT}
-use Rattle.graph_tools.specs.Reading.{IsTaskText}
+use Rattle.graph_inputs.specs.Reading.{IsTaskText}
 use Rattle.requests.specs.Requests.Request.{Points, Stp2points, Rfst, Prunefst, Bb, Solve, Check, Dumpfst, Fst2graph, Plot}
 use Rattle.requests.specs.Requests.Request.{Trial, Upgrade, Slack, Graph, Checkgraph}
 

@@ -17,7 +17,7 @@ use Rattle.trial_tools.specs.Truth.{TriesTruly}
 use Rattle.slack_tools.specs.Truth.{BoundsTruly}
 use Rattle.stp_format.specs.Value.{StpValue}
 use Rattle.graph_solve.specs.Task.{graph_of_stp}
-use Rattle.graph_tools.specs.Reading.{IsTaskText}
+use Rattle.graph_inputs.specs.Reading.{IsTaskText}
 use Rattle.graph_tools.specs.Truth.{ChecksGraphTruly, SolvesTruly}
 use Rattle.search_rules.specs.declared.options.SearchOptions.{SearchOptions}
 use Rattle.search_rules.specs.declared.rules.AscentRule.{AscentRule}

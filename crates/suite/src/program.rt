@@ -10,7 +10,8 @@ ghost use Rattle.suite.specs.Complete.{Completes};
 
 use crate::laws::trial_is_solve;
 use frame::{MISUSED, NO_MEMORY, report};
-use graph_tools::{checkgraph, graph, task_has_no_fault};
+use graph_inputs::task_has_no_fault;
+use graph_tools::{checkgraph, graph};
 use judge_tools::{check, plot, upgrade};
 use point_tools::{located_has_no_fault, points, stp2points};
 use requests::{Request, request_in};

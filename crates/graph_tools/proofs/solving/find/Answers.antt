@@ -4,7 +4,7 @@ use Rattle.net_graph.specs.Graph.{Graph}
 use Rattle.frame.specs.declared.take.TheConstants.{TEXT_LIMIT}
 use Rattle.frame.specs.Outside.{readable}
 use Rattle.frame.specs.FromText.{FromText}
-use Rattle.graph_tools.specs.Reading.{ReadsGraph}
+use Rattle.graph_inputs.specs.Reading.{ReadsGraph}
 use Rattle.graph_tools.proofs.SolveLaws.{fault_found, found_in_graph, read_joined}
 use Rattle.graph_tools.proofs.solving.find.Goals as goal
 

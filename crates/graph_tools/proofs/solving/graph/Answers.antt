@@ -6,7 +6,7 @@ use Rattle.frame.specs.EndLaws.{ends_with}
 use Rattle.frame.specs.FaultTexts.{text_fault_text, text_fault_status}
 use Rattle.frame.specs.FromText.{FromText}
 use Rattle.frame.specs.Leaves.{LeavesShelf}
-use Rattle.graph_tools.specs.Reading.{graph_fault_text, graph_fault_status}
+use Rattle.graph_inputs.specs.Reading.{graph_fault_text, graph_fault_status}
 use Rattle.graph_tools.specs.Solution.{solution_text, solution_status}
 use Rattle.graph_tools.specs.Solve.{SolvesGraph}
 use Rattle.graph_tools.proofs.SolveLaws.{solved_or_not, solved_writable}

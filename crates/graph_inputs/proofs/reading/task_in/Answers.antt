@@ -1,5 +1,5 @@
-use Rattle.graph_tools.proofs.ReadingLaws.{task_apart}
-use Rattle.graph_tools.proofs.reading.task_in.Goals as goal
+use Rattle.graph_inputs.proofs.ReadingLaws.{task_apart}
+use Rattle.graph_inputs.proofs.reading.task_in.Goals as goal
 
 pub returns : goal.returns
 returns c =

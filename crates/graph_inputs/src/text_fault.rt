@@ -1,6 +1,6 @@
 //! Why a text gives no Steiner problem in a graph.
 
-ghost use Rattle.graph_tools.specs.Reading.{graph_fault_text, graph_fault_status};
+ghost use Rattle.graph_inputs.specs.Reading.{graph_fault_text, graph_fault_status};
 
 use frame::{Fault, FaultStatus};
 use graph_solve::TaskFault;

@@ -11,8 +11,8 @@ use Rattle.graph_solve.specs.Fault.{IsTask, IsFirstFault}
 use Rattle.graph_solve.specs.Said.{task_fault_text, task_passes_limit, IsMemory as IsMemoryOfTask}
 use Rattle.frame.specs.declared.status.FaultStatus.{FaultStatus}
 use Rattle.frame.specs.FaultTexts.{format_fault_status}
-use Rattle.graph_tools.specs.declared.text_fault.GraphTextFault.{GraphTextFault}
-use Rattle.graph_tools.specs.declared.text_fault.GraphTextFault.TheVariants.{InFile, InGraph}
+use Rattle.graph_inputs.specs.declared.text_fault.GraphTextFault.{GraphTextFault}
+use Rattle.graph_inputs.specs.declared.text_fault.GraphTextFault.TheVariants.{InFile, InGraph}
 
 -- what is said of a fault
 abbrev pub graph_fault_text : GraphTextFault → List ℕ

@@ -14,8 +14,8 @@ use Rattle.graph_solve.specs.declared.fault.TaskFault.TheVariants as task
 use Rattle.graph_solve.specs.Task.{graph_of_stp, total_of_stp}
 use Rattle.graph_solve.specs.Fault.{IsTask, IsFirstFault, IsFirstApartNode}
 use Rattle.graph_solve.specs.Said.{IsMemory as IsMemoryOfTask}
-use Rattle.graph_tools.specs.declared.text_fault.GraphTextFault.TheVariants.{InFile, InGraph}
-use Rattle.graph_tools.specs.Reading.{IsTaskText, ReadsFile, TakesTask, TaskHasNoFault}
+use Rattle.graph_inputs.specs.declared.text_fault.GraphTextFault.TheVariants.{InFile, InGraph}
+use Rattle.graph_inputs.specs.Reading.{IsTaskText, ReadsFile, TakesTask, TaskHasNoFault}
 
 -- a fault of what is due is due, but for want of memory
 fault_due : (due : Result StpValue StpFault) (fault : StpFault) → IsFaultOf fault due →

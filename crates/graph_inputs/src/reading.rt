@@ -3,7 +3,7 @@
 ghost use Rattle.std.specs.Prelude.{◌≡◌, IfOk, IfErr};
 ghost use Rattle.stp_format.specs.Reading.{Gives, stp_of};
 ghost use Rattle.stp_format.specs.Value.{StpValue};
-ghost use Rattle.graph_tools.specs.Reading.{ReadsFile, ReadsGraph, TakesTask, TaskHasNoFault};
+ghost use Rattle.graph_inputs.specs.Reading.{ReadsFile, ReadsGraph, TakesTask, TaskHasNoFault};
 
 use crate::text_fault::GraphTextFault;
 use frame::apart;
@@ -13,10 +13,7 @@ use std::alloc::{AllocError, Global};
 use stp_format::{StpFault, StpFile, read_stp};
 
 /// The graph of the STP file that a text is; or why it gives none. An `Err` is want of memory.
-pub(crate) fn graph_in(
-    alloc: Global,
-    bytes: &[u8],
-) -> Result<Result<NetGraph, GraphTextFault>, AllocError>
+pub fn graph_in(alloc: Global, bytes: &[u8]) -> Result<Result<NetGraph, GraphTextFault>, AllocError>
     ensures { IfOk result (ReadsGraph bytes.now) }
 {
     let file = match file_in(alloc, bytes)? {
