@@ -14,7 +14,7 @@ use Rattle.cut_cert.specs.Notes.{no_note}
 use Rattle.cut_cert.specs.Text.{answer_text}
 use Rattle.cut_cert.specs.Spelling.{SpellsAnswer}
 use Rattle.cut_cert.specs.Value.{WrittenAnswer}
-use Rattle.cut_cert.specs.Answers.{IsNodeOn, edge_labels, graph_value_of, labelled, number_labels}
+use Rattle.cut_cert.specs.Answers.{IsAnswerOn, IsNodeOn, edge_labels, graph_value_of, labelled, number_labels}
 use Rattle.frame.specs.declared.status.AnswerStatus.TheVariants.{Done, Stopped}
 use Rattle.frame.specs.Ends.{Print}
 use Rattle.graph_search.specs.Searched.{IsSearched, IsTold}
@@ -37,7 +37,7 @@ is_for openings first_length g s small short is = record {
 
 -- it can be written
 pub for_fits : (openings : ℕ) (g : Graph) (s : GraphSolution) → IsFor openings g s → IsPrintable s
-for_fits openings g s is = rw is.graph in is.fits
+for_fits openings g s is = subst (λ (h : Graph). IsAnswerOn h s.answer) (sym is.graph) is.fits
 
 -- what it tells
 told_value : (openings : ℕ) (g : Graph) (s : GraphSolution) → IsFor openings g s →
