@@ -59,7 +59,7 @@ pub(crate) fn solution_in(
     graph: NetGraph,
     options: GraphOptions,
 ) -> Result<GraphSolution, AllocError>
-    requires { IsNetwork graph.now (all_edges graph.now) }
+    requires { IsNetwork graph (all_edges graph) }
     ensures { IfOk result (IsFor options.openings graph) }
 {
     let first = first_network(alloc, &graph)?;
