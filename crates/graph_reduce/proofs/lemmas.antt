@@ -20,3 +20,7 @@ pub mod Renumbering
 pub mod LiftingLaw
 pub mod FitLaw
 pub mod Sizes
+pub mod HeldPlaces
+pub mod Carriers
+pub mod HeldStates
+pub mod Carrying

@@ -5,3 +5,4 @@ pub mod Reduction
 pub mod Lifting
 pub mod Fitness
 pub mod Ending
+pub mod Held

@@ -2,5 +2,7 @@
 #![tactic(auto)]
 
 mod laws;
+mod numbers;
+mod work;
 
 pub use laws::{lifting_keeps_length, reductions_end, reductions_fit};
