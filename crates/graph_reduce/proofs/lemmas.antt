@@ -24,3 +24,5 @@ pub mod HeldPlaces
 pub mod Carriers
 pub mod HeldStates
 pub mod Carrying
+pub mod Start
+pub mod Clearing

@@ -6,3 +6,4 @@ pub mod Lifting
 pub mod Fitness
 pub mod Ending
 pub mod Held
+pub mod Clear

@@ -3,6 +3,8 @@
 
 mod laws;
 mod numbers;
+mod start;
+mod tidy;
 mod work;
 
 pub use laws::{lifting_keeps_length, reductions_end, reductions_fit};

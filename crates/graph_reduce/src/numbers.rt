@@ -27,8 +27,8 @@ pub(crate) fn move_all(numbers: &mut Vec<u32>, from: u32, to: u32)
     }
 }
 
-// Whether the number stands in the list.
-fn stands_in(numbers: &[u32], to: u32) -> bool
+/// Whether the number stands in the list.
+pub(crate) fn stands_in(numbers: &[u32], to: u32) -> bool
     ensures { result ≡ list_any (λ n. n == to) numbers.now }
 {
     numbers.iter().any(|n| *n == to)

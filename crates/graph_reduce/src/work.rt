@@ -1,12 +1,14 @@
 //! The state of a reduction under way.
 
-ghost use Rattle.std.specs.Prelude.{◌≡◌, ◌≢◌, ℕ, ◌+◌, ◌<◌, ◌≤◌, ◌^◌, ◌⊎◌, false, length, replicate, slice_get, slice_set, MatchOption, Some, None};
-ghost use Rattle.graph_reduce.specs.State.{Bundle, HasEdge, HasNode, union};
+ghost use Rattle.std.specs.Prelude.{◌≡◌, ◌≢◌, ℕ, ◌+◌, ◌<◌, ◌≤◌, ◌^◌, ◌⊎◌, false, length, replicate, slice_get, slice_set, MatchOption, IfOk, Some, None};
+ghost use Rattle.graph_reduce.specs.State.{Bundle, HasEdge, start_of, union};
 ghost use Rattle.graph_reduce.specs.Rules.{without_edge, without_edges, without_node, moved};
 ghost use Rattle.graph_reduce.specs.Held.{carried_by};
 
 use crate::numbers::{move_all, replace_all};
-use net_graph::{Edge, EdgeSet, VertexSet};
+use crate::start::{every_edge, every_node, own_places, without_repeats};
+use net_graph::{Edge, EdgeSet, NetGraph, VertexSet};
+use std::alloc::{AllocError, Global};
 use std::marker::Model;
 
 /// The state of a reduction, in arrays. Its nodes and edges keep their numbers and places.
@@ -33,6 +35,20 @@ impl Model for Work {
 }
 
 impl Work {
+    /// The first state of a graph's reduction. An `Err` is want of memory.
+    pub fn of_graph(alloc: Global, g: &NetGraph) -> Result<Work, AllocError>
+        ensures { IfOk result (λ w. w ≡ start_of g.now) }
+    {
+        Ok(Work {
+            nodes: every_node(alloc, g.vertex_count())?,
+            edges: every_edge(alloc, g.edges())?,
+            carriers: own_places(alloc, g.edge_count())?,
+            terminals: without_repeats(alloc, g.terminals())?,
+            forced: EdgeSet::empty(alloc, g.edge_count())?,
+            offset: 0,
+        })
+    }
+
     /// How many numbers nodes have.
     pub fn node_count(&self) -> u32
         ensures { result ≡ length self.now.nodes }
