@@ -26,3 +26,4 @@ pub mod HeldStates
 pub mod Carrying
 pub mod Start
 pub mod Clearing
+pub mod Longer

@@ -7,3 +7,4 @@ pub mod Fitness
 pub mod Ending
 pub mod Held
 pub mod Clear
+pub mod Survey

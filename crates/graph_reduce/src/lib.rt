@@ -2,8 +2,10 @@
 #![tactic(auto)]
 
 mod laws;
+mod node_edges;
 mod numbers;
 mod start;
+mod survey;
 mod tidy;
 mod work;
 

@@ -89,7 +89,8 @@ fn drop_parallels_of(work: &mut Work, place: u32)
     ensures places { length work.new.edges ≡ length work.old.edges }
     ensures clear { IsClearTo work.new (length work.new.edges) (place + 1) 0 }
 {
-    for later in place + 1..work.place_count() {
+    let end = work.place_count();
+    for later in place + 1..end {
         drop_longer(work, place, later);
     }
 }
