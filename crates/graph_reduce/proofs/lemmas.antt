@@ -27,3 +27,4 @@ pub mod Carrying
 pub mod Start
 pub mod Clearing
 pub mod Longer
+pub mod Seeing
