@@ -28,3 +28,5 @@ pub mod Start
 pub mod Clearing
 pub mod Longer
 pub mod Seeing
+pub mod NodeKinds
+pub mod NodeRuleLaws

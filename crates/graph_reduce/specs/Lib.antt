@@ -8,3 +8,4 @@ pub mod Ending
 pub mod Held
 pub mod Clear
 pub mod Survey
+pub mod NodeRules

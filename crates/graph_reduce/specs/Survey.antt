@@ -58,3 +58,9 @@ pub record AreMarked (s : State) (marks : List Bool) : Type 0 where
   pub size : length marks ≡ length s.nodes
   pub marked : (v : ℕ) → has marks v ≡ true → IsTerminal s v
   pub terminals : (v : ℕ) → IsTerminal s v → has marks v ≡ true
+
+-- all nodes are seen, and the terminals are marked
+pub record IsSurvey (s : State) (seen : List NodeEdges) (marks : List Bool) : Type 0 where
+  pub size : length seen ≡ length s.nodes
+  pub edges : AreSeenTo s (length s.edges) seen
+  pub terminals : AreMarked s marks

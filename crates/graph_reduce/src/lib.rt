@@ -3,6 +3,7 @@
 
 mod laws;
 mod node_edges;
+mod node_rules;
 mod numbers;
 mod start;
 mod survey;

@@ -2,7 +2,7 @@
 
 ghost use Rattle.std.specs.Prelude.{◌≡◌, ℕ, ◌+◌, ◌<◌, length, slice_get, Some, IfOk};
 ghost use Rattle.graph_reduce.specs.State.{Bundle, HasEdge};
-ghost use Rattle.graph_reduce.specs.Survey.{IsNumbered, AreSeenTo, AreMarked};
+ghost use Rattle.graph_reduce.specs.Survey.{IsNumbered, AreSeenTo, AreMarked, IsSurvey};
 ghost use Rattle.graph_reduce.specs.declared.node_edges.NodeEdges.{NodeEdges};
 
 use crate::node_edges::NodeEdges;
@@ -10,15 +10,39 @@ use crate::work::Work;
 use net_graph::{Edge, VertexSet};
 use std::alloc::{AllocError, Global};
 
-/// Room for what is seen of each node. An `Err` is want of memory.
-pub(crate) fn room_for_edges(alloc: Global, count: u32) -> Result<Vec<NodeEdges>, AllocError>
-    ensures { IfOk result (λ v. length v.items ≡ count) }
-{
-    vec![in alloc; NodeEdges::NoEdge; count as usize]
+/// The nodes of a state: their edges, and marks of those that are terminals.
+#[derive(Debug, Drop)]
+pub(crate) struct Survey {
+    pub edges: Vec<NodeEdges>,
+    pub terminals: VertexSet,
 }
 
-/// Sees the edges of each node.
-pub(crate) fn see_edges(work: &Work, seen: &mut [NodeEdges])
+impl Survey {
+    /// Room for so many nodes. An `Err` is want of memory.
+    pub fn room(alloc: Global, count: u32) -> Result<Survey, AllocError>
+        ensures edges { IfOk result (λ s. length s.edges.items ≡ count) }
+        ensures terminals { IfOk result (λ s. length s.terminals ≡ count) }
+    {
+        Ok(Survey {
+            edges: vec![in alloc; NodeEdges::NoEdge; count as usize]?,
+            terminals: VertexSet::empty(alloc, count)?,
+        })
+    }
+
+    /// Sees the nodes of the state.
+    pub fn see(&mut self, work: &Work)
+        requires edges { length self.old.edges.items ≡ length work.now.nodes }
+        requires terminals { length self.old.terminals ≡ length work.now.nodes }
+        requires numbered { IsNumbered work.now }
+        ensures { IsSurvey work.now self.new.edges.items self.new.terminals }
+    {
+        see_edges(work, &mut self.edges);
+        mark_terminals(work, &mut self.terminals);
+    }
+}
+
+// Sees the edges of each node.
+fn see_edges(work: &Work, seen: &mut [NodeEdges])
     requires count { length seen.old ≡ length work.now.nodes }
     requires numbered { IsNumbered work.now }
     ensures { AreSeenTo work.now (length work.now.edges) seen.new }
@@ -54,8 +78,8 @@ fn see_edge(_work: &Work, seen: &mut [NodeEdges], place: u32, edge: Edge)
     }
 }
 
-/// Marks the terminals.
-pub(crate) fn mark_terminals(work: &Work, marks: &mut VertexSet)
+// Marks the terminals.
+fn mark_terminals(work: &Work, marks: &mut VertexSet)
     requires count { length marks.old ≡ length work.now.nodes }
     requires numbered { IsNumbered work.now }
     ensures { AreMarked work.now marks.new }
