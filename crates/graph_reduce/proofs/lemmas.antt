@@ -30,3 +30,7 @@ pub mod Longer
 pub mod Seeing
 pub mod NodeKinds
 pub mod NodeRuleLaws
+pub mod Bounds
+pub mod NodeTaken
+pub mod Alike
+pub mod Stepping

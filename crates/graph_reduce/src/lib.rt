@@ -1,12 +1,16 @@
 //! Reductions of Steiner problems in graphs: smaller graphs whose networks lift.
 #![tactic(auto)]
 
+mod ends;
 mod laws;
 mod node_edges;
 mod node_rules;
 mod numbers;
+mod reduced;
 mod start;
+
 mod survey;
+mod taken;
 mod tidy;
 mod work;
 

@@ -7,8 +7,8 @@ ghost use Rattle.graph_reduce.specs.State.{Bundle, HasEdge};
 ghost use Rattle.graph_reduce.specs.Rules.{AreParallel};
 ghost use Rattle.graph_reduce.specs.Clear.{LeadsTo, HasSomeEdge, IsClearTo, IsTidy, IsWithin};
 
+use crate::ends::have_same_ends;
 use crate::work::Work;
-use net_graph::Edge;
 
 /// Takes the first three rules until none of them applies.
 pub(crate) fn tidy(work: &mut Work)
@@ -101,7 +101,7 @@ pub(crate) fn drop_longer(work: &mut Work, place: u32, later: u32)
     requires later { later < length work.old.edges }
     requires clear { IsClearTo work.old (length work.old.edges) place later }
     ensures leads { LeadsTo work.old work.new }
-    ensures places { length work.new.edges ≡ length work.old.edges }
+    ensures within { IsWithin work.new work.old }
     ensures clear { IsClearTo work.new (length work.new.edges) place (later + 1) }
 {
     if let (Some(x), Some(y)) = (work.edge(place), work.edge(later)) {
@@ -109,12 +109,4 @@ pub(crate) fn drop_longer(work: &mut Work, place: u32, later: u32)
             work.drop_edge(if y.length < x.length { place } else { later });
         }
     }
-}
-
-// Whether the edges have the same two ends.
-fn have_same_ends(x: Edge, y: Edge) -> bool
-    ensures same { OnTrue result (HasEnds y x.a x.b) }
-    ensures apart { OnFalse result (¬ HasEnds y x.a x.b) }
-{
-    (x.a == y.a && x.b == y.b) || (x.a == y.b && x.b == y.a)
 }

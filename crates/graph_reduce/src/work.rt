@@ -81,6 +81,17 @@ impl Work {
         self.edges[place as usize]
     }
 
+    /// The edge at a place that holds one.
+    pub fn edge_at(&self, place: u32) -> Edge
+        requires { (x : Bundle) × HasEdge self.now place x }
+        ensures { (x : Bundle) × HasEdge self.now place x × (x.edge ≡ result) }
+    {
+        match self.edge(place) {
+            Some(edge) => edge,
+            None => unreachable!(),
+        }
+    }
+
     /// The terminals, in order.
     pub fn terminals(&self) -> &[u32]
         ensures { result.now ≡ self.now.terminals }

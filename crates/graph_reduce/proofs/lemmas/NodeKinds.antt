@@ -31,7 +31,7 @@ module _ (s : State) (v : ℕ) where
   abbrev end : ℕ
   end = length s.edges
 
-  below_end : (n : ℕ) → EndsIn s v n → n < end
+  pub below_end : (n : ℕ) → EndsIn s v n → n < end
   below_end n (x, at, ends) = slice_get_within s.edges n (Some x) at
 
   -- ---- one edge at most

@@ -8,7 +8,7 @@ pub loop-later-preserved : goal.loop-later-preserved
 loop-later-preserved c = record {
   leads = then_steps c.args.work.now c.loop-later.work c.drop_longer.new.work c.loop-later.invariant.leads
       c.drop_longer.ensures.leads;
-  places = c.drop_longer.ensures.places ∙ c.loop-later.invariant.places;
+  places = c.drop_longer.ensures.within.places ∙ c.loop-later.invariant.places;
   clear = c.drop_longer.ensures.clear;
 }
 
