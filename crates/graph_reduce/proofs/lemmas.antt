@@ -34,3 +34,4 @@ pub mod Bounds
 pub mod NodeTaken
 pub mod Alike
 pub mod Stepping
+pub mod SurveyLaws

@@ -1,11 +1,11 @@
 -- The rules at nodes.
-use Rattle.std.specs.Prelude.{ℕ, ◌<◌, Bool, true, false}
+use Rattle.std.specs.Prelude.{ℕ, ◌<◌, Bool, true, false, length}
 use Rattle.graph_reduce.specs.declared.node_rules.NodeRule.{NodeRule}
 use Rattle.graph_reduce.specs.declared.node_rules.NodeRule.TheVariants.{Leaf, Passed, TerminalLeaf}
 use Rattle.graph_reduce.specs.declared.node_edges.NodeEdges.{NodeEdges}
 use Rattle.graph_reduce.specs.declared.node_edges.NodeEdges.TheVariants.{NoEdge, OneEdge, TwoEdges, More}
 use Rattle.graph_reduce.specs.State.{State, HasNode, IsTerminal}
-use Rattle.graph_reduce.specs.Step.{Rule, Applies, order_of}
+use Rattle.graph_reduce.specs.Step.{Rule, Applies}
 use Rattle.graph_reduce.specs.Step as step
 
 abbrev pub rule_of : NodeRule → Rule
@@ -36,9 +36,6 @@ IsOfKind s TerminalLeaf v = IsTerminal s v
 
 -- a rule applies at a node, and at none below it
 pub record IsLowest (s : State) (rule : NodeRule) (v : ℕ) : Type 0 where
+  pub node : v < length s.nodes
   pub applies : Applies s (rule_of rule) v
   pub none : (u : ℕ) → u < v → ¬ Applies s (rule_of rule) u
-
--- no earlier rule applies
-abbrev pub NoneEarlier : State → NodeRule → Type 0
-NoneEarlier s rule = (earlier : Rule) (there : ℕ) → order_of earlier < order_of (rule_of rule) → ¬ Applies s earlier there

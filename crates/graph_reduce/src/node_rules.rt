@@ -55,7 +55,7 @@ fn applies(survey: &Survey, work: &Work, rule: NodeRule, v: u32) -> bool
     ensures yes { OnTrue result (Applies work.now (rule_of rule) v) }
     ensures no { OnFalse result (¬ Applies work.now (rule_of rule) v) }
 {
-    rule.suits(survey.edges[v as usize]) && is_of_kind(survey, work, rule, v)
+    rule.suits(survey.edges_of(work, v)) && is_of_kind(survey, work, rule, v)
 }
 
 // Whether the node is left and no terminal or, for the last rule, a terminal.

@@ -42,7 +42,13 @@ fn goes_on(work: &mut Work, survey: &mut Survey) -> bool
     ensures terminals { length survey.new.terminals ≡ length work.old.nodes }
 {
     survey.see(work);
-    takes_leaf(work, survey) || takes_passed(work, survey) || takes_terminal(work, survey)
+    if takes_leaf(work, survey) {
+        return true;
+    }
+    if takes_passed(work, survey) {
+        return true;
+    }
+    takes_terminal(work, survey)
 }
 
 // Drops the lowest leaf, if there is one.
@@ -52,11 +58,11 @@ fn takes_leaf(work: &mut Work, survey: &Survey) -> bool
     requires survey { IsSurvey work.old survey.now.edges.items survey.now.terminals }
     ensures more { OnTrue result (GoesOn work.old work.new) }
     ensures same { OnFalse result (work.new ≡ work.old) }
-    ensures none { OnFalse result ((v : ℕ) → ¬ Applies work.old step.Leaf v) }
+    ensures none { OnFalse result ((v : ℕ) → ¬ Applies work.new step.Leaf v) }
 {
     match lowest(survey, work, NodeRule::Leaf) {
         Some(v) => {
-            drop_leaf(work, v, survey.edges[v as usize]);
+            drop_leaf(work, v, survey.edges_of(work, v));
             true
         }
         None => false,
@@ -71,11 +77,11 @@ fn takes_passed(work: &mut Work, survey: &Survey) -> bool
     requires leaves { (v : ℕ) → ¬ Applies work.old step.Leaf v }
     ensures more { OnTrue result (GoesOn work.old work.new) }
     ensures same { OnFalse result (work.new ≡ work.old) }
-    ensures none { OnFalse result ((v : ℕ) → ¬ Applies work.old step.Passed v) }
+    ensures none { OnFalse result ((v : ℕ) → ¬ Applies work.new step.Passed v) }
 {
     match lowest(survey, work, NodeRule::Passed) {
         Some(v) => {
-            join_at(work, v, survey.edges[v as usize]);
+            join_at(work, v, survey.edges_of(work, v));
             true
         }
         None => false,
@@ -109,11 +115,11 @@ fn takes_terminal(work: &mut Work, survey: &Survey) -> bool
     requires passed { (v : ℕ) → ¬ Applies work.old step.Passed v }
     ensures more { OnTrue result (GoesOn work.old work.new) }
     ensures same { OnFalse result (work.new ≡ work.old) }
-    ensures none { OnFalse result ((v : ℕ) → ¬ Applies work.old step.TerminalLeaf v) }
+    ensures none { OnFalse result ((v : ℕ) → ¬ Applies work.new step.TerminalLeaf v) }
 {
     match lowest(survey, work, NodeRule::TerminalLeaf) {
         Some(v) => {
-            force_at(work, v, survey.edges[v as usize]);
+            force_at(work, v, survey.edges_of(work, v));
             true
         }
         None => false,

@@ -2,7 +2,7 @@
 
 ghost use Rattle.std.specs.Prelude.{◌≡◌, ℕ, ◌+◌, ◌<◌, length, slice_get, Some, IfOk};
 ghost use Rattle.graph_reduce.specs.State.{Bundle, HasEdge};
-ghost use Rattle.graph_reduce.specs.Survey.{IsNumbered, AreSeenTo, AreMarked, IsSurvey};
+ghost use Rattle.graph_reduce.specs.Survey.{IsNumbered, IsSeenTo, AreSeenTo, AreMarked, IsSurvey};
 ghost use Rattle.graph_reduce.specs.declared.node_edges.NodeEdges.{NodeEdges};
 
 use crate::node_edges::NodeEdges;
@@ -38,6 +38,15 @@ impl Survey {
     {
         see_edges(work, &mut self.edges);
         mark_terminals(work, &mut self.terminals);
+    }
+
+    /// The edges of a node of the state.
+    pub fn edges_of(&self, _work: &Work, v: u32) -> NodeEdges
+        requires survey { IsSurvey _work.now self.now.edges.items self.now.terminals }
+        requires node { v < length _work.now.nodes }
+        ensures { IsSeenTo _work.now v (length _work.now.edges) result }
+    {
+        self.edges[v as usize]
     }
 }
 

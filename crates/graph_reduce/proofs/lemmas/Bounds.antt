@@ -7,10 +7,11 @@ use Rattle.net_graph.specs.EntryLaws.{slice_get-set_other}
 use Rattle.net_graph.specs.Graph.{Graph, IsGraph}
 use Rattle.graph_reduce.specs.State.{Bundle, State, HasEdge, start_of}
 use Rattle.graph_reduce.specs.Survey.{IsNumbered}
-use Rattle.graph_reduce.specs.Clear.{LeadsTo, IsReached}
-use Rattle.graph_reduce.proofs.lemmas.Clearing.{then_steps}
+use Rattle.graph_reduce.specs.Clear.{LeadsTo, IsReached, GoesOn}
+use Rattle.graph_reduce.proofs.lemmas.Clearing.{one_step, then_steps}
 use Rattle.graph_reduce.proofs.lemmas.Fits.{Fits, Fits-start, all}
 use Rattle.graph_reduce.proofs.lemmas.Lengths.{length_in, length_in-set}
+use Rattle.graph_reduce.proofs.lemmas.Sizes.{size_of, steps_less}
 use Rattle.graph_reduce.proofs.lemmas.Soundness.{IsSound, IsSound-start}
 use Rattle.graph_reduce.proofs.lemmas.Steps.{steps_keep, steps_fit}
 use Rattle.graph_reduce.proofs.lemmas.Terminals.{In-from_Contains}
@@ -52,3 +53,25 @@ module _ (s : State) (reached : IsReached s) where
       let there = length_in-set (slice_set s.edges n None) m (Some y) None all all
           (slice_get-set_other s.edges n m None (λ same. apart (sym same)) ∙ y_at) (λ k other. refl) in
       omega (arith, here, there, fits.total, reached.sound.total)
+
+-- ---- from the first state of a graph
+
+module _ (g : Graph) (graph : IsGraph g) (s : State) (leads : LeadsTo (start_of g) s) where
+  pub reached_from : IsReached s
+  reached_from = record { graph = g; sound = graph; from_start = leads }
+
+  pub nodes_from : length s.nodes ≡ g.vertices
+  unfolding reached_from
+  nodes_from = (fits s reached_from).nodes
+
+-- ---- more steps
+
+pub leads_on : (old new : State) → GoesOn old new → LeadsTo old new
+leads_on old new more = then_steps old more.next new (one_step old more.next more.step) more.rest
+
+pub smaller_on : (old new : State) → GoesOn old new → size_of new < size_of old
+smaller_on old new more = omega (
+  arith,
+  steps_less 1 old more.next (old, refl, more.step),
+  steps_less more.rest.count more.next new more.rest.steps,
+)

@@ -1,15 +1,15 @@
 -- A rule applies at a node where the node is of the rule's kind and its edges suit, and only there.
-use Rattle.std.specs.Prelude.{ℕ, ◌≡◌, ◌<◌, Bool, List, true, false, length, slice_get, slice_index_or, Some, All}
+use Rattle.std.specs.Prelude.{ℕ, ◌≡◌, ◌<◌, true, false, length, slice_get, Some, All}
 use Rattle.std.proofs.Common.{refl, sym, ap, ◌∙◌, subst, arith}
 use Rattle.std.proofs.lemmas.List.Elements.{All-contains}
-use Rattle.std.proofs.lemmas.Option.{slice_get_within, slice_get-get_or}
+use Rattle.std.proofs.lemmas.Option.{slice_get_within}
 use Rattle.graph_reduce.specs.declared.node_edges.NodeEdges.{NodeEdges}
 use Rattle.graph_reduce.specs.declared.node_edges.NodeEdges.TheVariants.{NoEdge, OneEdge, TwoEdges, More}
 use Rattle.graph_reduce.specs.declared.node_rules.NodeRule.{NodeRule}
 use Rattle.graph_reduce.specs.declared.node_rules.NodeRule.TheVariants.{Leaf, Passed, TerminalLeaf}
 use Rattle.graph_reduce.specs.State.{State, HasNode, IsTerminal}
 use Rattle.graph_reduce.specs.Step.{Applies}
-use Rattle.graph_reduce.specs.Survey.{IsSeenTo, IsNumbered, IsSurvey}
+use Rattle.graph_reduce.specs.Survey.{IsSeenTo, IsNumbered}
 use Rattle.graph_reduce.specs.NodeRules.{rule_of, suits, IsOfKind}
 use Rattle.graph_reduce.proofs.lemmas.NodeKinds.{leaf_not_two, leaf_not_more, passed_not_none, passed_not_one, passed_not_more, forced_not_none, forced_not_two, forced_not_more, lone_applies, leaf_applies, passed_applies, forced_applies, leaf_node, passed_node, forced_node}
 
@@ -54,9 +54,18 @@ kind_below s v Leaf numbered kind = slice_get_within s.nodes v true kind.0
 kind_below s v Passed numbered kind = slice_get_within s.nodes v true kind.0
 kind_below s v TerminalLeaf numbered kind = All-contains (λ t. t < length s.nodes) s.terminals v numbered.terminals kind
 
--- the edges that are seen of a node
-pub seen_of : (s : State) (seen : List NodeEdges) (marks : List Bool) (v : ℕ) (edges : NodeEdges) →
-    IsSurvey s seen marks → v < length s.nodes → edges ≡ slice_index_or seen v edges →
-    IsSeenTo s v (length s.edges) edges
-seen_of s seen marks v edges survey below is =
-    survey.edges v edges (slice_get-get_or seen v edges (omega (arith, survey.size)) ∙ ap Some (sym is))
+-- where two edges of a node become one, it has two
+pub passed_seen : (s : State) (v : ℕ) (edges : NodeEdges) → IsSeenTo s v (length s.edges) edges →
+    Applies s (rule_of Passed) v → ((one two : ℕ) → edges ≡ TwoEdges one two → ⊥) → ⊥
+passed_seen s v NoEdge seen applies other = passed_not_none s v seen applies
+passed_seen s v (OneEdge place) seen applies other = passed_not_one s v place seen applies
+passed_seen s v (TwoEdges one two) seen applies other = other one two refl
+passed_seen s v More seen applies other = passed_not_more s v seen applies
+
+-- where a terminal's edge is forced, it has one
+pub forced_seen : (s : State) (v : ℕ) (edges : NodeEdges) → IsSeenTo s v (length s.edges) edges →
+    Applies s (rule_of TerminalLeaf) v → ((place : ℕ) → edges ≡ OneEdge place → ⊥) → ⊥
+forced_seen s v NoEdge seen applies other = forced_not_none s v seen applies
+forced_seen s v (OneEdge place) seen applies other = other place refl
+forced_seen s v (TwoEdges one two) seen applies other = forced_not_two s v one two seen applies
+forced_seen s v More seen applies other = forced_not_more s v seen applies
