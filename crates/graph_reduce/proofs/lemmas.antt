@@ -35,3 +35,5 @@ pub mod NodeTaken
 pub mod Alike
 pub mod Stepping
 pub mod SurveyLaws
+pub mod LeftLists
+pub mod LeftLaws

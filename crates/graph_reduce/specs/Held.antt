@@ -1,5 +1,5 @@
 -- What the arrays of a reduction under way stand for.
-use Rattle.std.specs.Prelude.{ℕ, ◌≡◌, ◌≤◌, ◌+◌, ◌==◌, Bool, List, [], ◌∷◌, map, length, Option}
+use Rattle.std.specs.Prelude.{ℕ, ◌≡◌, ◌<◌, ◌≤◌, ◌+◌, ◌==◌, Bool, List, [], ◌∷◌, map, length, Option, All}
 use Rattle.std.specs.Option.{option_map}
 use Rattle.net_graph.specs.declared.edge.Edge.{Edge}
 use Rattle.graph_reduce.specs.State.{Bundle, State}
@@ -22,6 +22,7 @@ pub record IsShaped (edges : List (Option Edge)) (carriers : List ℕ) (forced :
   pub each : length carriers ≡ length edges
   pub size : length forced ≡ length edges
   pub few : length edges ≤ 4900
+  pub within : All (λ place. place < length edges) carriers
 
 -- the state that these arrays hold: each edge of the graph has the place that carries it
 abbrev pub held_state : List Bool → List (Option Edge) → List ℕ → List ℕ → List Bool → ℕ → State

@@ -9,3 +9,5 @@ pub mod Held
 pub mod Clear
 pub mod Survey
 pub mod NodeRules
+pub mod Left
+pub mod LeftArrays

@@ -3,15 +3,17 @@
 
 mod ends;
 mod laws;
+mod left;
 mod node_edges;
 mod node_rules;
 mod numbers;
-mod reduced;
+mod reduction;
 mod start;
-
+mod steps;
 mod survey;
 mod taken;
 mod tidy;
 mod work;
 
 pub use laws::{lifting_keeps_length, reductions_end, reductions_fit};
+pub use reduction::{Reduced, reduce};

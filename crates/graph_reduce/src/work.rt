@@ -3,7 +3,7 @@
 ghost use Rattle.std.specs.Prelude.{◌≡◌, ◌≢◌, ℕ, ◌+◌, ◌<◌, ◌≤◌, ◌^◌, ◌⊎◌, false, length, replicate, slice_get, slice_set, MatchOption, IfOk, Some, None};
 ghost use Rattle.graph_reduce.specs.State.{Bundle, HasEdge, start_of, union};
 ghost use Rattle.graph_reduce.specs.Rules.{without_edge, without_edges, without_node, moved};
-ghost use Rattle.graph_reduce.specs.Held.{carried_by};
+ghost use Rattle.graph_reduce.specs.Held.{carried_by, held_state, IsShaped};
 
 use crate::numbers::{move_all, replace_all};
 use crate::start::{every_edge, every_node, own_places, without_repeats};
@@ -21,6 +21,18 @@ pub(crate) struct Work {
     terminals: Vec<u32>,
     forced: EdgeSet,
     offset: u64,
+}
+
+/// The arrays of a state.
+#[derive(Debug, Drop)]
+pub(crate) struct Arrays {
+    pub nodes: VertexSet,
+    pub edges: Vec<Option<Edge>>,
+    /// For each edge of the graph the place whose edge stands for it, or stood for it as long as it was there.
+    pub carriers: Vec<u32>,
+    pub terminals: Vec<u32>,
+    pub forced: EdgeSet,
+    pub offset: u64,
 }
 
 impl Model for Work {
@@ -97,6 +109,30 @@ impl Work {
         ensures { result.now ≡ self.now.terminals }
     {
         &self.terminals
+    }
+
+    /// The arrays of the state.
+    pub fn into_arrays(self) -> Arrays
+        ensures state { held_state result.nodes result.edges.items result.carriers.items result.terminals.items
+            result.forced result.offset ≡ self }
+        ensures shaped { IsShaped result.edges.items result.carriers.items result.forced }
+    {
+        let Work {
+            nodes,
+            edges,
+            carriers,
+            terminals,
+            forced,
+            offset,
+        } = self;
+        Arrays {
+            nodes,
+            edges,
+            carriers,
+            terminals,
+            forced,
+            offset,
+        }
     }
 
     /// Drops the edge at the place.

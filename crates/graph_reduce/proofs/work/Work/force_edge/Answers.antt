@@ -1,4 +1,5 @@
-use Rattle.std.proofs.Common.{length, ◌≡◌, ◌+◌, ◌∙◌, sym, ap, arith, length-set, slice_set, None}
+use Rattle.std.proofs.Common.{subst, length, ◌≡◌, ◌+◌, ◌∙◌, sym, ap, arith, length-set, slice_set, None}
+use Rattle.std.specs.Prelude.{◌<◌, All}
 use Rattle.graph_reduce.specs.State.{union}
 use Rattle.graph_reduce.specs.Held.{held_state, carried_by}
 use Rattle.graph_reduce.proofs.lemmas.HeldStates.{place_within, edge_forced}
@@ -30,4 +31,6 @@ invariant_of-self c = record {
   size = c.add_carried.ensures.size ∙ c.self.invariant.size
       ∙ sym (length-set c.self.inside.edges.items c.args.place None);
   few = omega (arith, length-set c.self.inside.edges.items c.args.place None, c.self.invariant.few);
+  within = subst (λ n. All (λ place. place < n) c.self.inside.carriers.items)
+      (sym (length-set c.self.inside.edges.items c.args.place None)) c.self.invariant.within;
 }

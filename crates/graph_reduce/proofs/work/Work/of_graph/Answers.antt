@@ -1,11 +1,11 @@
-use Rattle.std.specs.Prelude.{◌≡◌, ◌≤◌, length, map, replicate, Some, true, false}
+use Rattle.std.specs.Prelude.{◌≡◌, ◌<◌, ◌≤◌, All, length, map, replicate, Some, true, false}
 use Rattle.std.specs.List.{range_with_len}
-use Rattle.std.proofs.Common.{sym, ap, ◌∙◌, arith}
+use Rattle.std.proofs.Common.{sym, subst, ap, ◌∙◌, arith}
 use Rattle.std.proofs.lemmas.List.{length-map, length-replicate}
 use Rattle.std.proofs.lemmas.List.FromFn.{length-range_with_len}
 use Rattle.net_graph.specs.declared.edge.Edge.{Edge}
 use Rattle.graph_reduce.specs.State.{distinct_of}
-use Rattle.graph_reduce.proofs.lemmas.Start.{start_held}
+use Rattle.graph_reduce.proofs.lemmas.Start.{range_below, start_held}
 use Rattle.graph_reduce.proofs.work.Work.of_graph.Goals as goal
 
 pub invariant_of-result : goal.invariant_of-result
@@ -19,6 +19,8 @@ invariant_of-result c =
       each = ap length c.in_ok-own_places.ensures ∙ length-range_with_len 0 c.edge_count.result ∙ count ∙ sym size;
       size = ap length c.in_ok-empty.ensures ∙ length-replicate c.edge_count-2.result false ∙ count' ∙ sym size;
       few = omega (arith, size, c.edge_count.ensures.graph.few_edges);
+      within = subst (All (λ place. place < length c.in_ok-every_edge.field-0.items)) (sym c.in_ok-own_places.ensures)
+          (range_below 0 c.edge_count.result (length c.in_ok-every_edge.field-0.items) (omega (arith, size, count)));
     }
 
 pub returns : goal.returns

@@ -2,7 +2,7 @@ use Rattle.std.specs.Prelude.{◌≡◌, length}
 use Rattle.graph_reduce.specs.State.{start_of}
 use Rattle.graph_reduce.specs.Clear.{LeadsTo, IsTidy}
 use Rattle.graph_reduce.proofs.lemmas.Sizes.{size_of}
-use Rattle.graph_reduce.proofs.reduced.reduced_state.Given as goal
+use Rattle.graph_reduce.proofs.steps.reduced_state.Given as goal
 
 abbrev pub invariant-loop : goal.invariant-loop
 invariant-loop l = record {

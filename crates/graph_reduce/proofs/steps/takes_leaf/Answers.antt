@@ -2,7 +2,7 @@ use Rattle.std.specs.Prelude.{◌≡◌}
 use Rattle.graph_reduce.proofs.lemmas.Bounds.{reached_numbered}
 use Rattle.graph_reduce.proofs.lemmas.Clearing.{no_steps}
 use Rattle.graph_reduce.proofs.lemmas.Stepping.{leaf_step, tidy_leaf}
-use Rattle.graph_reduce.proofs.reduced.takes_leaf.Goals as goal
+use Rattle.graph_reduce.proofs.steps.takes_leaf.Goals as goal
 
 pub lowest-requires-clause-numbered : goal.lowest-requires-clause-numbered
 lowest-requires-clause-numbered c = reached_numbered c.args.work.now c.requires.reached

@@ -7,7 +7,7 @@ use Rattle.graph_reduce.specs.Step.Rule.{Leaf, Passed}
 use Rattle.graph_reduce.specs.Clear.{IsTidy}
 use Rattle.graph_reduce.proofs.lemmas.Bounds.{reached_numbered}
 use Rattle.graph_reduce.proofs.lemmas.Stepping.{all_done}
-use Rattle.graph_reduce.proofs.reduced.goes_on.Goals as goal
+use Rattle.graph_reduce.proofs.steps.goes_on.Goals as goal
 
 -- what does not apply in a state does not in the same state
 still_none : (old new : State) → new ≡ old → ((v : ℕ) → ¬ Applies old Leaf v) → (v : ℕ) → ¬ Applies new Leaf v

@@ -5,7 +5,7 @@ use Rattle.graph_reduce.specs.State.{start_of}
 use Rattle.graph_reduce.specs.Clear.{LeadsTo}
 use Rattle.graph_reduce.proofs.lemmas.Bounds.{nodes_from, leads_on, smaller_on}
 use Rattle.graph_reduce.proofs.lemmas.Clearing.{then_steps}
-use Rattle.graph_reduce.proofs.reduced.reduced_state.Goals as goal
+use Rattle.graph_reduce.proofs.steps.reduced_state.Goals as goal
 
 pub loop-init : goal.loop-init
 loop-init c =

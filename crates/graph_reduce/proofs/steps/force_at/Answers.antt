@@ -2,7 +2,7 @@ use Rattle.std.specs.Prelude.{◌≡◌}
 use Rattle.graph_reduce.proofs.lemmas.Clearing.{within_then}
 use Rattle.graph_reduce.proofs.lemmas.NodeRuleLaws.{forced_seen}
 use Rattle.graph_reduce.proofs.lemmas.Stepping.{forced_step, tidy_within, within_forced}
-use Rattle.graph_reduce.proofs.reduced.force_at.Goals as goal
+use Rattle.graph_reduce.proofs.steps.force_at.Goals as goal
 
 pub unreachable-requires : goal.unreachable-requires
 unreachable-requires c = forced_seen c.args.work.now c.args.v c.args.edges c.requires.seen c.requires.lowest.applies

@@ -5,7 +5,7 @@ use Rattle.graph_reduce.specs.Clear.{IsTidyBut}
 use Rattle.graph_reduce.proofs.lemmas.JoinedPlaces.{one}
 use Rattle.graph_reduce.proofs.lemmas.NodeRuleLaws.{passed_seen}
 use Rattle.graph_reduce.proofs.lemmas.Stepping.{passed_step, tidy_joined, joined_at}
-use Rattle.graph_reduce.proofs.reduced.join_at.Goals as goal
+use Rattle.graph_reduce.proofs.steps.join_at.Goals as goal
 
 pub drop_alike-requires-clause-edge : goal.drop_alike-requires-clause-edge
 drop_alike-requires-clause-edge c = let (joins, is) = c.join_edges.ensures in (
