@@ -37,3 +37,4 @@ pub mod Stepping
 pub mod SurveyLaws
 pub mod LeftLists
 pub mod LeftLaws
+pub mod Lifted

@@ -1,5 +1,5 @@
 -- The arrays of the state that is left when no rule applies.
-use Rattle.net_graph.specs.Graph.{Graph}
+use Rattle.net_graph.specs.Graph.{Graph, IsGraph}
 use Rattle.graph_reduce.specs.declared.work.Arrays.{Arrays}
 use Rattle.graph_reduce.specs.State.{State}
 use Rattle.graph_reduce.specs.Step.{IsReducedTo}
@@ -10,8 +10,9 @@ use Rattle.graph_reduce.specs.Reduction.{Reduction, reduction_of}
 abbrev pub held_in : Arrays → State
 held_in a = held_state a.nodes a.edges.items a.carriers.items a.terminals.items a.forced a.offset
 
--- no rule applies to the state, which steps lead to from the graph
+-- steps lead from the graph to the state, and no rule applies to it
 pub record AreReducedArrays (g : Graph) (a : Arrays) : Type 0 where
+  pub graph : IsGraph g
   pub reduced : IsReducedTo g (held_in a)
   pub shaped : IsShaped a.edges.items a.carriers.items a.forced
 

@@ -72,16 +72,15 @@ pub fn reduce(alloc: Global, g: &NetGraph) -> Result<Reduced, AllocError>
 // The graph that is left, between new numbers. An `Err` is want of memory.
 fn graph_left(
     alloc: Global,
-    g: &NetGraph,
+    _g: &NetGraph,
     arrays: &Arrays,
     numbering: &Numbering,
 ) -> Result<NetGraph, AllocError>
-    requires arrays { AreReducedArrays g.now arrays.now }
+    requires arrays { AreReducedArrays _g.now arrays.now }
     requires origins { numbering.now.origins.items ≡ members_of arrays.now.nodes }
     requires numbers { numbering.now.numbers.items ≡ numbers_of arrays.now.nodes }
     ensures { IfOk result (λ graph. graph ≡ graph_of_left arrays.now) }
 {
-    let _few = g.vertex_count();
     let edges = renumbered_edges(alloc, &arrays.edges, &numbering.numbers)?;
     let terminals = renumbered_terminals(alloc, &arrays.terminals, &numbering.numbers)?;
     sound_graph(alloc, numbering.origins.len() as u32, edges, terminals)

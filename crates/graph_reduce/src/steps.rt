@@ -1,7 +1,8 @@
 //! Steps of a reduction, until no rule applies.
 
-ghost use Rattle.std.specs.Prelude.{◌≡◌, ℕ, length, IfOk};
+ghost use Rattle.std.specs.Prelude.{◌≡◌, ℕ, length, IfOk, OnOk};
 ghost use Rattle.std.specs.Bool.{OnTrue, OnFalse};
+ghost use Rattle.net_graph.specs.Graph.{IsGraph};
 ghost use Rattle.graph_reduce.specs.Step.{Rule, Applies, IsReducedTo};
 ghost use Rattle.graph_reduce.specs.Step as step;
 ghost use Rattle.graph_reduce.specs.Survey.{IsSeenTo, IsSurvey};
@@ -19,7 +20,8 @@ use std::alloc::{AllocError, Global};
 
 /// The state after the rules were taken until none applies. An `Err` is want of memory.
 pub(crate) fn reduced_state(alloc: Global, g: &NetGraph) -> Result<Work, AllocError>
-    ensures { IfOk result (IsReducedTo g.now) }
+    ensures reduced { IfOk result (IsReducedTo g.now) }
+    ensures graph { OnOk result (IsGraph g.now) }
 {
     let vertices = g.vertex_count();
     let mut work = Work::of_graph(alloc, g)?;

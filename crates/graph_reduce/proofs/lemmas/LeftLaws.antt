@@ -1,12 +1,12 @@
 -- The arrays that are left are those of the reduction.
-use Rattle.std.specs.Prelude.{ℕ, zero, suc, ◌≡◌, ◌+◌, ◌<◌, ◌≤◌, Bool, true, List, [], ◌∷◌, map, length, slice_get, slice_index, slice_index_or, Option, Some, None, All}
+use Rattle.std.specs.Prelude.{ℕ, zero, suc, ◌≡◌, ◌+◌, ◌<◌, ◌≤◌, Bool, true, false, List, [], ◌∷◌, map, length, slice_get, slice_index, slice_index_or, Option, Some, None, All}
 use Rattle.std.specs.List.{range_with_len}
 use Rattle.std.proofs.Common.{refl, sym, ap, ◌∙◌, subst, arith}
 use Rattle.std.proofs.lemmas.List.{length-map, get_or-map}
 use Rattle.std.proofs.lemmas.List.FromFn.{length-range_with_len, get_or-range_with_len, length-map-range_with_len}
 use Rattle.std.proofs.lemmas.Option.{slice_get_within}
 use Rattle.net_graph.specs.declared.edge.Edge.{Edge}
-use Rattle.net_graph.specs.Graph.{Graph, IsGraph}
+use Rattle.net_graph.specs.Graph.{Graph, IsGraph, graph_of}
 use Rattle.net_graph.specs.Members.{members_from, members_of}
 use Rattle.graph_reduce.specs.State.{Bundle, State, HasEdge, start_of}
 use Rattle.graph_reduce.specs.Step.{IsReducedTo}
@@ -14,7 +14,7 @@ use Rattle.graph_reduce.specs.Reduction.{Reduction, IsReductionOf, bundles_left,
 use Rattle.graph_reduce.specs.Fitness.{IsFitFor}
 use Rattle.graph_reduce.specs.Held.{carried_by, bundle_of, bundles_at, held_state, IsShaped}
 use Rattle.graph_reduce.specs.Survey.{IsNumbered}
-use Rattle.graph_reduce.specs.Left.{places_left, edges_left, between_numbers, numbers_of, HaveEndsBelow, IsLaidOut}
+use Rattle.graph_reduce.specs.Left.{places_left, edges_left, between_numbers, numbers_of, reduction_held, HaveEndsBelow, IsLaidOut}
 use Rattle.graph_reduce.proofs.lemmas.Bounds.{reached_from, reached_numbered, nodes_from}
 use Rattle.graph_reduce.proofs.lemmas.FitLaw.{reductions_fit_lem}
 use Rattle.graph_reduce.proofs.lemmas.HeldPlaces.{bundle_at_place}
@@ -45,6 +45,19 @@ edges_renumbered nodes carriers n (Some e ∷ edges) below =
     let a = number_at nodes e.a ends.0 in let b = number_at nodes e.b ends.1 in
     let first : between_numbers (numbers_of nodes) e ≡ renumbered nodes e = cc in
     let rest = edges_renumbered nodes carriers (n + 1) edges (λ place d at. below (suc place) d at) in cc
+
+-- as many numbers as nodes
+pub length-numbers : (nodes : List Bool) → length (numbers_of nodes) ≡ length nodes
+length-numbers nodes = length-map-range_with_len (number_among nodes) 0 (length nodes)
+
+-- no more nodes are left than there were
+pub few_left : (nodes : List Bool) → length (members_of nodes) ≤ length nodes
+few_left nodes = few_from 0 nodes
+  where
+    few_from : (n : ℕ) (flags : List Bool) → length (members_from n flags) ≤ length flags
+    few_from n [] = omega arith
+    few_from n (true ∷ flags) = omega (arith, few_from (n + 1) flags)
+    few_from n (false ∷ flags) = omega (arith, few_from (n + 1) flags)
 
 -- .. and the terminals
 terminals_renumbered : (nodes : List Bool) (terminals : List ℕ) → ((k : ℕ) → k < length terminals →
@@ -105,6 +118,14 @@ module _ (g : Graph) (graph : IsGraph g) (nodes : List Bool) (edges : List (Opti
     pub terminals_are : map (λ t. slice_index (numbers_of nodes) t) terminals ≡ (reduction_of s).graph.terminals
     terminals_are = terminals_renumbered nodes terminals (λ k inside. terminals_below k 0 inside)
 
+    -- the graph of what is left
+    pub left_graph_is : (count : ℕ) (left : List Edge) (list : List ℕ) (one two : List ℕ) → one ≡ numbers_of nodes →
+        two ≡ numbers_of nodes → count ≡ length (members_of nodes) → left ≡ edges_left one edges →
+        list ≡ map (λ t. slice_index two t) terminals → graph_of count left list ≡ (reduction_of s).graph
+    left_graph_is count left list one two one_is two_is count_is left_is list_is =
+        let e = left_is ∙ ap (λ numbers. edges_left numbers edges) one_is ∙ edges_are in
+        let t = list_is ∙ ap (λ numbers. map (λ v. slice_index numbers v) terminals) two_is ∙ terminals_are in cc
+
   pub originals_are : map (carried_by carriers) (places_left 0 edges) ≡ (reduction_of s).originals
   originals_are = originals_left carriers 0 edges
 
@@ -116,3 +137,10 @@ module _ (g : Graph) (graph : IsGraph g) (nodes : List Bool) (edges : List (Opti
     size = shaped.size ∙ sym shaped.each;
     few = omega (arith, shaped.each, shaped.few);
   }
+
+  -- what is left with its new numbers is the reduction
+  pub held_reduction : (left : Graph) (origins places : List ℕ) → left ≡ (reduction_of s).graph →
+      origins ≡ members_of nodes → places ≡ places_left 0 edges →
+      reduction_held left origins places carriers forced offset ≡ reduction_of s
+  held_reduction left origins places left_is origins_is places_is =
+      let sets = ap (map (carried_by carriers)) places_is ∙ originals_are in cc
