@@ -4,7 +4,7 @@ use Rattle.graph_reduce.specs.declared.work.Arrays.{Arrays}
 use Rattle.graph_reduce.specs.State.{State}
 use Rattle.graph_reduce.specs.Step.{IsReducedTo}
 use Rattle.graph_reduce.specs.Held.{held_state, IsShaped}
-use Rattle.graph_reduce.specs.Reduction.{Reduction, reduction_of}
+use Rattle.graph_reduce.specs.Reduction.{reduction_of}
 
 -- the state that the arrays hold
 abbrev pub held_in : Arrays → State

@@ -164,8 +164,10 @@ impl Work {
         requires earlier { earlier < length self.old.edges }
         requires later { later < length self.old.edges }
         ensures { (x y : Bundle) → HasEdge self.old earlier x → HasEdge self.old later y →
-            self.new ≡ record self.old { edges = slice_set (slice_set self.old.edges earlier
-                (Some (record { edge = edge; originals = union x.originals y.originals }))) later None } }
+            self.new ≡ record self.old {
+              edges = slice_set (slice_set self.old.edges earlier
+                  (Some (record { edge = edge; originals = union x.originals y.originals }))) later None;
+            } }
     {
         replace_all(&mut self.carriers, later, earlier);
         self.edges[earlier as usize] = Some(edge);
@@ -177,8 +179,11 @@ impl Work {
         requires place { place < length self.old.edges }
         requires fits { self.old.offset + more < 2 ^ 64 }
         ensures { (x : Bundle) → HasEdge self.old place x →
-            self.new ≡ record self.old { edges = slice_set self.old.edges place None;
-                forced = union self.old.forced x.originals; offset = self.old.offset + more } }
+            self.new ≡ record self.old {
+              edges = slice_set self.old.edges place None;
+              forced = union self.old.forced x.originals;
+              offset = self.old.offset + more;
+            } }
     {
         add_carried(&mut self.forced, &self.carriers, place);
         self.offset += more;

@@ -1,5 +1,5 @@
 -- The one edge that may be parallel to another, and what is left where the longer of both is dropped.
-use Rattle.std.specs.Prelude.{ℕ, ◌≡◌, ◌≢◌, ◌⊎◌, ◌+◌, ◌<◌, ◌≤◌, length, slice_get, Some}
+use Rattle.std.specs.Prelude.{ℕ, ◌≡◌, ◌≢◌, ◌⊎◌, ◌+◌, ◌<◌, ◌≤◌, length, Some}
 use Rattle.std.proofs.Common.{refl, sym, ap, ◌∙◌, inl, inr, ⊎_elim, subst, arith}
 use Rattle.std.proofs.lemmas.Bool.{cases_eq, cases_lt}
 use Rattle.std.proofs.lemmas.Option.{slice_get_within}
@@ -45,13 +45,18 @@ ordered n m apart = elim (cases_lt n m) [
 parallel_after : (s : State) (place n : ℕ) (alike : AreAlike s place n) → place < n →
     AreParallel s place n alike.x alike.y
 parallel_after s place n alike order = record {
-  order = order; first_at = alike.at; second_at = alike.other_at; same_ends = alike.ends;
+  order = order;
+  first_at = alike.at;
+  second_at = alike.other_at;
+  same_ends = alike.ends;
 }
 
 parallel_before : (s : State) (place n : ℕ) (alike : AreAlike s place n) → n < place →
     AreParallel s n place alike.y alike.x
 parallel_before s place n alike order = record {
-  order = order; first_at = alike.other_at; second_at = alike.at;
+  order = order;
+  first_at = alike.other_at;
+  second_at = alike.at;
   same_ends = ends_back alike.x.edge alike.y.edge alike.ends;
 }
 
@@ -59,13 +64,21 @@ parallel_before s place n alike order = record {
 alike_first : (s : State) (n m : ℕ) (x y : Bundle) → AreParallel s n m x y → AreAlike s n m
 alike_first s n m x y are = record {
   apart = λ same. let order = are.order in absurd (omega arith);
-  x = x; y = y; at = are.first_at; other_at = are.second_at; ends = are.same_ends;
+  x = x;
+  y = y;
+  at = are.first_at;
+  other_at = are.second_at;
+  ends = are.same_ends;
 }
 
 alike_second : (s : State) (n m : ℕ) (x y : Bundle) → AreParallel s n m x y → AreAlike s m n
 alike_second s n m x y are = record {
   apart = λ same. let order = are.order in absurd (omega arith);
-  x = y; y = x; at = are.second_at; other_at = are.first_at; ends = ends_back x.edge y.edge are.same_ends;
+  x = y;
+  y = x;
+  at = are.second_at;
+  other_at = are.first_at;
+  ends = ends_back x.edge y.edge are.same_ends;
 }
 
 module _ (s : State) (place : ℕ) (tidy : IsTidyBut s place) where
@@ -75,10 +88,15 @@ module _ (s : State) (place : ℕ) (tidy : IsTidyBut s place) where
     | inl same ↦ same
     | inr apart ↦ absurd (⊎_elim
         (λ (order : n < m). tidy.parallels n m first.y second.y first.apart second.apart (record {
-          order = order; first_at = first.other_at; second_at = second.other_at; same_ends = ends;
+          order = order;
+          first_at = first.other_at;
+          second_at = second.other_at;
+          same_ends = ends;
         }))
         (λ (order : m < n). tidy.parallels m n second.y first.y second.apart first.apart (record {
-          order = order; first_at = second.other_at; second_at = first.other_at;
+          order = order;
+          first_at = second.other_at;
+          second_at = first.other_at;
           same_ends = ends_back first.y.edge second.y.edge ends;
         }))
         (ordered n m apart))
@@ -148,14 +166,20 @@ module _ (s : State) (place : ℕ) (tidy : IsTidyBut s place) where
     -- an edge that is alike afterwards was so before
     alike_before : (n : ℕ) → AreAlike new place n → AreAlike s place n
     alike_before n is = record {
-      apart = is.apart; x = is.x; y = is.y; ends = is.ends;
-      at = within.edges place is.x is.at; other_at = within.edges n is.y is.other_at;
+      apart = is.apart;
+      x = is.x;
+      y = is.y;
+      ends = is.ends;
+      at = within.edges place is.x is.at;
+      other_at = within.edges n is.y is.other_at;
     }
 
     parallel_old : (n m : ℕ) (x y : Bundle) → AreParallel new n m x y → AreParallel s n m x y
     parallel_old n m x y are = record {
-      order = are.order; same_ends = are.same_ends;
-      first_at = within.edges n x are.first_at; second_at = within.edges m y are.second_at;
+      order = are.order;
+      same_ends = are.same_ends;
+      first_at = within.edges n x are.first_at;
+      second_at = within.edges m y are.second_at;
     }
 
     tidy_left : (length new.terminals ≡ 1 → ¬ ((n : ℕ) × (x : Bundle) × HasEdge new n x)) →

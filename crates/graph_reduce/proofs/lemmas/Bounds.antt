@@ -1,6 +1,6 @@
 -- Of a state that steps lead to: its edges and terminals are nodes, and its lengths are within those of the graph.
-use Rattle.std.specs.Prelude.{ℕ, ◌≡◌, ◌≢◌, ◌+◌, ◌<◌, ◌^◌, true, length, slice_get, slice_set, slice_index_or, Some, None}
-use Rattle.std.proofs.Common.{refl, sym, ap, ◌∙◌, arith}
+use Rattle.std.specs.Prelude.{ℕ, ◌≡◌, ◌≢◌, ◌+◌, ◌<◌, ◌^◌, true, length, slice_set, slice_index_or, Some, None}
+use Rattle.std.proofs.Common.{refl, sym, ◌∙◌, arith}
 use Rattle.std.proofs.lemmas.List.Elements.{Contains-get_or}
 use Rattle.std.proofs.lemmas.Option.{slice_get_within}
 use Rattle.net_graph.specs.EntryLaws.{slice_get-set_other}
@@ -10,7 +10,7 @@ use Rattle.graph_reduce.specs.Survey.{IsNumbered}
 use Rattle.graph_reduce.specs.Clear.{LeadsTo, IsReached, GoesOn}
 use Rattle.graph_reduce.proofs.lemmas.Clearing.{one_step, then_steps}
 use Rattle.graph_reduce.proofs.lemmas.Fits.{Fits, Fits-start, all}
-use Rattle.graph_reduce.proofs.lemmas.Lengths.{length_in, length_in-set}
+use Rattle.graph_reduce.proofs.lemmas.Lengths.{length_in-set}
 use Rattle.graph_reduce.proofs.lemmas.Sizes.{size_of, steps_less}
 use Rattle.graph_reduce.proofs.lemmas.Soundness.{IsSound, IsSound-start}
 use Rattle.graph_reduce.proofs.lemmas.Steps.{steps_keep, steps_fit}
@@ -51,7 +51,7 @@ module _ (s : State) (reached : IsReached s) where
   reached_lengths n m x y apart x_at y_at =
       let here = length_in-set s.edges n (Some x) None all all x_at (λ k other. refl) in
       let there = length_in-set (slice_set s.edges n None) m (Some y) None all all
-          (slice_get-set_other s.edges n m None (λ same. apart (sym same)) ∙ y_at) (λ k other. refl) in
+      (slice_get-set_other s.edges n m None (λ same. apart (sym same)) ∙ y_at) (λ k other. refl) in
       omega (arith, here, there, fits.total, reached.sound.total)
 
 -- ---- from the first state of a graph

@@ -1,5 +1,5 @@
 -- What places carry, where one is put in the place of another.
-use Rattle.std.specs.Prelude.{ℕ, zero, suc, ◌≡◌, ◌≢◌, ◌+◌, ◌==◌, ◌||◌, ◌<◌, Bool, true, false, List, [], ◌∷◌, map, length, slice_get, slice_set, slice_index_or, All, Option, Some, None, if◌then◌else◌}
+use Rattle.std.specs.Prelude.{ℕ, ◌≡◌, ◌≢◌, ◌+◌, ◌==◌, ◌||◌, ◌<◌, Bool, true, false, List, [], ◌∷◌, map, length, slice_get, slice_set, slice_index_or, All, Option, Some, None, if◌then◌else◌}
 use Rattle.std.specs.Option.{option_map}
 use Rattle.std.proofs.Common.{refl, sym, ap, ◌∙◌, inl, inr, subst, arith, length-set}
 use Rattle.std.proofs.lemmas.Bool.{cases_eq, cases_lt, eq-eqb, ne_eqb}
@@ -94,10 +94,16 @@ module _ (carriers : List ℕ) (edges : List (Option Edge)) (i j : ℕ) (e : Edg
         (omega (arith, length-bundles_at after 0 edges))
         ∙ sym (slice_get-set_same (bundles_at carriers 0 edges) i (Some one)
         (omega (arith, length-bundles_at carriers 0 edges)))
-    | inr past ↦ slice_get_past new i (omega (arith, length-set (bundles_at after 0 edges) i (Some one),
-        length-bundles_at after 0 edges))
-        ∙ sym (slice_get_past old i (omega (arith, length-set (bundles_at carriers 0 edges) i (Some one),
-        length-bundles_at carriers 0 edges)))
+    | inr past ↦ slice_get_past new i (omega (
+      arith,
+      length-set (bundles_at after 0 edges) i (Some one),
+      length-bundles_at after 0 edges,
+    ))
+        ∙ sym (slice_get_past old i (omega (
+          arith,
+          length-set (bundles_at carriers 0 edges) i (Some one),
+          length-bundles_at carriers 0 edges,
+        )))
   ]
 
   before : (k : ℕ) → k ≢ j → slice_get new k ≡ slice_get old k

@@ -1,6 +1,6 @@
 -- The union of a set with what a place carries, flag by flag.
-use Rattle.std.specs.Prelude.{ℕ, zero, suc, ◌≡◌, ◌+◌, ◌==◌, ◌||◌, ◌<◌, Bool, List, [], ◌∷◌, length, slice_index_or}
-use Rattle.std.proofs.Common.{refl, sym, ap, ◌∙◌, arith}
+use Rattle.std.specs.Prelude.{ℕ, suc, ◌≡◌, ◌==◌, ◌||◌, ◌<◌, Bool, List, [], ◌∷◌, length, slice_index_or}
+use Rattle.std.proofs.Common.{refl, arith}
 use Rattle.net_graph.specs.Flags.{has}
 use Rattle.graph_reduce.specs.State.{union}
 use Rattle.graph_reduce.specs.Held.{carried_by}
@@ -17,5 +17,5 @@ union_by_flags (x ∷ old) (y ∷ new) [] place sizes same flags = absurd (omega
 union_by_flags (x ∷ old) (y ∷ new) (c ∷ carriers) place sizes same flags =
     let first : y ≡ (x || (c == place)) = flags 0 (omega arith) in
     let rest = union_by_flags old new carriers place (omega arith) (omega arith)
-        (λ k below. flags (suc k) (omega arith)) in
+    (λ k below. flags (suc k) (omega arith)) in
     cc

@@ -1,18 +1,15 @@
 -- Where no earlier rule applies, and what stays so where edges are dropped.
-use Rattle.std.specs.Prelude.{ℕ, zero, suc, ◌≡◌, ◌≢◌, ◌⊎◌, ◌+◌, ◌<◌, ◌≤◌, Bool, true, false, List, length, replicate, slice_get, slice_set, Option, Some, None, if◌then◌else◌, nat_lt}
+use Rattle.std.specs.Prelude.{ℕ, zero, suc, ◌≡◌, ◌≢◌, ◌⊎◌, ◌+◌, ◌<◌, length, Some, None, if◌then◌else◌, nat_lt}
 use Rattle.std.proofs.Common.{refl, sym, ap, ◌∙◌, inl, inr, ⊎_elim, subst, arith, length-set}
 use Rattle.std.proofs.lemmas.Bool.{cases_eq}
 use Rattle.std.proofs.lemmas.List.{length-replicate}
-use Rattle.std.proofs.lemmas.Option.{same_Some, slice_get_within}
-use Rattle.net_graph.specs.EntryLaws.{slice_get-set_same, slice_get-set_other, slice_get-replicate}
-use Rattle.net_graph.specs.Network.{HasEnds}
+use Rattle.std.proofs.lemmas.Option.{slice_get_within}
+use Rattle.net_graph.specs.EntryLaws.{slice_get-replicate}
 use Rattle.graph_reduce.specs.State.{Bundle, State, HasEdge}
-use Rattle.graph_reduce.specs.Rules.{DropsAllEdges, DropsLoop, DropsParallel, AreParallel, without_edge, without_edges}
-use Rattle.graph_reduce.specs.Step.{Rule, Takes, Applies, IsBefore, IsStep, AreSteps}
+use Rattle.graph_reduce.specs.Rules.{AreParallel, without_edge, without_edges}
+use Rattle.graph_reduce.specs.Step.{Applies, IsStep, AreSteps}
 use Rattle.graph_reduce.specs.Step.Rule.{OneTerminal, Loop, Parallel, Leaf, Passed, TerminalLeaf}
 use Rattle.graph_reduce.specs.Clear.{LeadsTo, HasSomeEdge, IsClearTo, IsTidy, IsWithin}
-use Rattle.graph_reduce.proofs.lemmas.Choices.{set_cases}
-use Rattle.graph_reduce.proofs.lemmas.Ends.{same_edge}
 use Rattle.graph_reduce.proofs.lemmas.Keeping.{found_before}
 use Rattle.graph_reduce.proofs.lemmas.Steps.{NoneBefore}
 
@@ -165,7 +162,11 @@ drops_parallel s place later x y clear are = record {
   rule = Parallel;
   at = place;
   takes = record {
-    later = later; x = x; y = y; parallel = are; becomes = refl;
+    later = later;
+    x = x;
+    y = y;
+    parallel = are;
+    becomes = refl;
     next = λ between z below other. clear.parallels place between x z (inr (refl, below)) other;
   };
   first = none;

@@ -1,13 +1,11 @@
 -- What the arrays of a reduction hold at their places, and after a place was written.
-use Rattle.std.specs.Prelude.{ℕ, zero, suc, ◌≡◌, ◌≢◌, ◌+◌, ◌==◌, ◌||◌, ◌<◌, Bool, true, false, List, [], ◌∷◌, map, length, replicate, slice_get, slice_set, Option, Some, None, if◌then◌else◌}
+use Rattle.std.specs.Prelude.{ℕ, zero, suc, ◌≡◌, ◌+◌, ◌<◌, List, [], ◌∷◌, length, replicate, slice_get, slice_set, Option, Some, None}
 use Rattle.std.specs.Option.{option_map}
-use Rattle.std.proofs.Common.{refl, sym, ap, ◌∙◌, inl, inr, subst, arith, length-set}
-use Rattle.std.proofs.lemmas.Bool.{cases_eq, eq-eqb, ne_eqb}
-use Rattle.std.proofs.lemmas.Option.{same_Some, slice_get_within}
+use Rattle.std.proofs.Common.{refl, sym, ap, ◌∙◌, arith}
+use Rattle.std.proofs.lemmas.Option.{same_Some}
 use Rattle.net_graph.specs.declared.edge.Edge.{Edge}
-use Rattle.net_graph.specs.EntryLaws.{slice_get-set_same, slice_get-set_other}
-use Rattle.graph_reduce.specs.State.{Bundle, union}
-use Rattle.graph_reduce.specs.Held.{carried_by, bundle_of, bundles_at}
+use Rattle.graph_reduce.specs.State.{Bundle}
+use Rattle.graph_reduce.specs.Held.{bundle_of, bundles_at}
 
 -- lists of the same entries
 pub same_entries : {A : Type 0} (xs ys : List A) → ((k : ℕ) → slice_get xs k ≡ slice_get ys k) → xs ≡ ys

@@ -1,12 +1,11 @@
 -- What the arrays of a reduction hold after each change.
-use Rattle.std.specs.Prelude.{ℕ, ◌≡◌, ◌≢◌, ◌+◌, ◌<◌, Bool, List, length, map, replicate, slice_get, slice_set, slice_index_or, Option, Some, None, MatchOption}
+use Rattle.std.specs.Prelude.{ℕ, ◌≡◌, ◌≢◌, ◌+◌, ◌<◌, Bool, List, length, replicate, slice_get, slice_set, Option, Some, None, MatchOption}
 use Rattle.std.specs.Option.{option_map}
-use Rattle.std.proofs.Common.{refl, sym, ap, ◌∙◌, subst, arith}
-use Rattle.std.proofs.lemmas.Option.{same_Some, slice_get-get_or, get_or_from_slice_get}
+use Rattle.std.proofs.Common.{refl, sym, ap, ◌∙◌, arith}
 use Rattle.net_graph.specs.declared.edge.Edge.{Edge}
 use Rattle.graph_reduce.specs.State.{Bundle, State, HasEdge, union}
-use Rattle.graph_reduce.specs.Rules.{without_edge, without_edges, without_node, moved}
-use Rattle.graph_reduce.specs.Held.{carried_by, bundle_of, bundles_at, held_state}
+use Rattle.graph_reduce.specs.Rules.{without_edge, without_edges}
+use Rattle.graph_reduce.specs.Held.{carried_by, bundle_of, held_state}
 use Rattle.graph_reduce.proofs.lemmas.HeldPlaces.{length-bundles_at, held_at, bundles_at-set, bundles_at-none, edge_at, bundle_at_place}
 use Rattle.graph_reduce.proofs.lemmas.Carriers.{replaced, bundles_joined}
 
@@ -62,8 +61,10 @@ module _ (nodes : List Bool) (edges : List (Option Edge)) (carriers terminals : 
 
   pub edges_joined : (i j : ℕ) (e : Edge) (x y : Bundle) → i ≢ j → HasEdge s i x → HasEdge s j y →
       held_state nodes (slice_set (slice_set edges i (Some e)) j None) (replaced j i carriers) terminals forced offset ≡
-      record s { edges = slice_set (slice_set s.edges i
-          (Some (record { edge = e; originals = union x.originals y.originals }))) j None }
+      record s {
+        edges = slice_set (slice_set s.edges i
+            (Some (record { edge = e; originals = union x.originals y.originals }))) j None;
+      }
   edges_joined i j e x y apart x_at y_at =
       let (d, d_at, d_is) = edge_at carriers edges i x (ap (λ t. slice_get t.edges i) is ∙ x_at) in
       let (f, f_at, f_is) = edge_at carriers edges j y (ap (λ t. slice_get t.edges j) is ∙ y_at) in

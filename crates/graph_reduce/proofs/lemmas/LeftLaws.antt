@@ -1,17 +1,15 @@
 -- The arrays that are left are those of the reduction.
-use Rattle.std.specs.Prelude.{ℕ, zero, suc, ◌≡◌, ◌+◌, ◌<◌, ◌≤◌, Bool, true, false, List, [], ◌∷◌, map, length, slice_get, slice_index, slice_index_or, Option, Some, None, All}
+use Rattle.std.specs.Prelude.{ℕ, zero, suc, ◌≡◌, ◌+◌, ◌<◌, ◌≤◌, Bool, true, false, List, [], ◌∷◌, map, length, slice_index, Option, Some, None, All}
 use Rattle.std.specs.List.{range_with_len}
 use Rattle.std.proofs.Common.{refl, sym, ap, ◌∙◌, subst, arith}
-use Rattle.std.proofs.lemmas.List.{length-map, get_or-map}
+use Rattle.std.proofs.lemmas.List.{get_or-map}
 use Rattle.std.proofs.lemmas.List.FromFn.{length-range_with_len, get_or-range_with_len, length-map-range_with_len}
-use Rattle.std.proofs.lemmas.Option.{slice_get_within}
 use Rattle.net_graph.specs.declared.edge.Edge.{Edge}
 use Rattle.net_graph.specs.Graph.{Graph, IsGraph, graph_of}
 use Rattle.net_graph.specs.Members.{members_from, members_of}
-use Rattle.graph_reduce.specs.State.{Bundle, State, HasEdge, start_of}
+use Rattle.graph_reduce.specs.State.{State}
 use Rattle.graph_reduce.specs.Step.{IsReducedTo}
-use Rattle.graph_reduce.specs.Reduction.{Reduction, IsReductionOf, bundles_left, number_among, renumbered, reduction_of}
-use Rattle.graph_reduce.specs.Fitness.{IsFitFor}
+use Rattle.graph_reduce.specs.Reduction.{IsReductionOf, bundles_left, number_among, renumbered, reduction_of}
 use Rattle.graph_reduce.specs.Held.{carried_by, bundle_of, bundles_at, held_state, IsShaped}
 use Rattle.graph_reduce.specs.Survey.{IsNumbered}
 use Rattle.graph_reduce.specs.Left.{places_left, edges_left, between_numbers, numbers_of, reduction_held, HaveEndsBelow, IsLaidOut}

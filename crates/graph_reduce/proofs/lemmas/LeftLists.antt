@@ -1,6 +1,6 @@
 -- What is left, edge after edge and node after node.
-use Rattle.std.specs.Prelude.{ℕ, zero, suc, ◌≡◌, ◌+◌, ◌<◌, ◌≤◌, ◌++◌, Bool, true, false, List, [], ◌∷◌, map, length, take, slice_get, slice_index_or, is_some, Option, Some, None, if◌then◌else◌}
-use Rattle.std.proofs.Common.{refl, sym, ap, ◌∙◌, arith}
+use Rattle.std.specs.Prelude.{ℕ, zero, suc, ◌≡◌, ◌+◌, ◌≤◌, ◌++◌, Bool, true, false, List, [], ◌∷◌, length, take, is_some, Option, Some, None, if◌then◌else◌}
+use Rattle.std.proofs.Common.{refl, ap, ◌∙◌, arith}
 use Rattle.net_graph.specs.declared.edge.Edge.{Edge}
 use Rattle.net_graph.specs.Members.{members_from, members_of}
 use Rattle.graph_reduce.specs.Reduction.{number_among}

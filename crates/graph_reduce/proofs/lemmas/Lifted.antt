@@ -1,10 +1,9 @@
 -- A set that is put together by the places of its edges is the lifted one.
-use Rattle.std.specs.Prelude.{ℕ, zero, suc, ◌≡◌, ◌+◌, ◌<◌, ◌==◌, ◌||◌, ◌&&◌, Bool, true, false, List, [], ◌∷◌, map, length, take, slice_set, slice_index, slice_index_or}
-use Rattle.std.proofs.Common.{refl, sym, ap, ◌∙◌, inl, inr, subst, arith}
+use Rattle.std.specs.Prelude.{ℕ, zero, suc, ◌≡◌, ◌+◌, ◌<◌, ◌==◌, ◌||◌, ◌&&◌, Bool, true, false, List, [], ◌∷◌, map, length, take, slice_set, slice_index}
+use Rattle.std.proofs.Common.{refl, sym, ap, ◌∙◌, inl, inr, arith}
 use Rattle.std.proofs.lemmas.Bool.{cases_eq, eq-eqb, ne_eqb}
 use Rattle.std.proofs.lemmas.List.{length-map, get_or-map, get_or-set_same, get_or-set_other, ext_get_or}
 use Rattle.net_graph.specs.Flags.{has}
-use Rattle.graph_reduce.specs.State.{union}
 use Rattle.graph_reduce.specs.Held.{carried_by}
 use Rattle.graph_reduce.specs.Left.{has_place}
 use Rattle.graph_reduce.specs.Reduction.{union_of}

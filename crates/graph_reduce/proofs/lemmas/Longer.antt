@@ -1,6 +1,6 @@
 -- The longer of two parallel edges, on a tie the later.
-use Rattle.std.specs.Prelude.{ℕ, ◌≡◌, ◌≢◌, ◌+◌, ◌<◌, ◌≤◌, Bool, true, false, length, nat_lt, Some, None, if◌then◌else◌}
-use Rattle.std.proofs.Common.{refl, sym, ap, ◌∙◌, inl, inr, subst, arith, length-set, ltb}
+use Rattle.std.specs.Prelude.{ℕ, ◌≡◌, ◌+◌, ◌<◌, ◌≤◌, Bool, true, false, length, nat_lt, None, if◌then◌else◌}
+use Rattle.std.proofs.Common.{refl, sym, ap, ◌∙◌, subst, length-set}
 use Rattle.std.proofs.lemmas.Bool.{lt-ltb, le-ltb}
 use Rattle.net_graph.specs.declared.edge.Edge.{Edge}
 use Rattle.net_graph.specs.Network.{HasEnds}
@@ -42,7 +42,7 @@ module _ (s : State) (place later : ℕ) (x y : Edge) where
       let ends' : HasEnds by.edge bx.edge.a bx.edge.b =
       subst (λ e. HasEnds e bx.edge.a bx.edge.b) (sym y_is) (subst (λ e. HasEnds y e.a e.b) (sym x_is) ends) in
       let step = drops_parallel s place later bx by clear
-          (record { order = order; first_at = x_at; second_at = y_at; same_ends = ends' }) in
+      (record { order = order; first_at = x_at; second_at = y_at; same_ends = ends' }) in
       one_step s new (subst (IsStep s) (ap (λ (e : Edge). without_edge s (if nat_lt e.length bx.edge.length then place else later)) y_is
       ∙ ap (λ (e : Edge). without_edge s (if nat_lt y.length e.length then place else later)) x_is ∙ sym is) step)
 

@@ -1,17 +1,15 @@
 -- The edges that a node has where a rule applies at it.
-use Rattle.std.specs.Prelude.{ℕ, ◌≡◌, ◌≢◌, ◌⊎◌, ◌<◌, Bool, true, false, List, length, slice_get, slice_set, Some, None, ◌+◌}
-use Rattle.std.proofs.Common.{refl, sym, ap, ◌∙◌, inl, inr, ⊎_elim, subst, arith}
+use Rattle.std.specs.Prelude.{ℕ, ◌≡◌, ◌⊎◌, ◌<◌, false, length, slice_set, Some, None, ◌+◌}
+use Rattle.std.proofs.Common.{refl, inl, inr, arith}
 use Rattle.std.proofs.lemmas.Bool.{cases_eq}
 use Rattle.std.proofs.lemmas.Option.{slice_get_within}
 use Rattle.net_graph.specs.Flags.{has}
 use Rattle.net_graph.specs.Network.{HasEnds}
-use Rattle.graph_reduce.specs.declared.node_edges.NodeEdges.{NodeEdges}
-use Rattle.graph_reduce.specs.declared.node_edges.NodeEdges.TheVariants.{NoEdge, OneEdge, TwoEdges, More}
 use Rattle.graph_reduce.specs.State.{Bundle, State, HasEdge, HasNode, IsTerminal, EndsIn, HasOneEdge, union}
-use Rattle.graph_reduce.specs.Rules.{DropsLoneNode, DropsLeaf, JoinsEdges, ForcesEdge, joined, moved, without_edge, without_node}
-use Rattle.graph_reduce.specs.Step.{Rule, Takes, Applies}
+use Rattle.graph_reduce.specs.Rules.{joined, moved, without_edge, without_node}
+use Rattle.graph_reduce.specs.Step.{Applies}
 use Rattle.graph_reduce.specs.Step.Rule.{Leaf, Passed, TerminalLeaf}
-use Rattle.graph_reduce.specs.Survey.{IsSeenTo, HasOneBelow, HasTwoBelow, HasThree}
+use Rattle.graph_reduce.specs.Survey.{HasOneBelow, HasTwoBelow, HasThree}
 
 -- the other end of an edge of the node
 pub record OtherEnd (x : Bundle) (v : ℕ) : Type 0 where
@@ -134,9 +132,21 @@ module _ (s : State) (v : ℕ) where
           edges = slice_set (slice_set s.edges one (Some (joined x y o.other p.other))) two None;
         },
         record {
-          node = node; free = free; earlier = one; later = two; order = has.order; x = x; y = y;
-          u = o.other; w = p.other; earlier_at = x_at; later_at = y_at; earlier_ends = o.ends; later_ends = p.ends;
-          only = two_only one two has; becomes = refl;
+          node = node;
+          free = free;
+          earlier = one;
+          later = two;
+          order = has.order;
+          x = x;
+          y = y;
+          u = o.other;
+          w = p.other;
+          earlier_at = x_at;
+          later_at = y_at;
+          earlier_ends = o.ends;
+          later_ends = p.ends;
+          only = two_only one two has;
+          becomes = refl;
         },
       )
 

@@ -1,13 +1,13 @@
 -- A rule applies at a node where the node is of the rule's kind and its edges suit, and only there.
-use Rattle.std.specs.Prelude.{ℕ, ◌≡◌, ◌<◌, true, false, length, slice_get, Some, All}
-use Rattle.std.proofs.Common.{refl, sym, ap, ◌∙◌, subst, arith}
+use Rattle.std.specs.Prelude.{ℕ, ◌≡◌, ◌<◌, true, length}
+use Rattle.std.proofs.Common.{refl}
 use Rattle.std.proofs.lemmas.List.Elements.{All-contains}
 use Rattle.std.proofs.lemmas.Option.{slice_get_within}
 use Rattle.graph_reduce.specs.declared.node_edges.NodeEdges.{NodeEdges}
 use Rattle.graph_reduce.specs.declared.node_edges.NodeEdges.TheVariants.{NoEdge, OneEdge, TwoEdges, More}
 use Rattle.graph_reduce.specs.declared.node_rules.NodeRule.{NodeRule}
 use Rattle.graph_reduce.specs.declared.node_rules.NodeRule.TheVariants.{Leaf, Passed, TerminalLeaf}
-use Rattle.graph_reduce.specs.State.{State, HasNode, IsTerminal}
+use Rattle.graph_reduce.specs.State.{State}
 use Rattle.graph_reduce.specs.Step.{Applies}
 use Rattle.graph_reduce.specs.Survey.{IsSeenTo, IsNumbered}
 use Rattle.graph_reduce.specs.NodeRules.{rule_of, suits, IsOfKind}

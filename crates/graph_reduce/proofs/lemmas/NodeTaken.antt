@@ -1,5 +1,5 @@
 -- The rules at nodes are taken by what is done to the state.
-use Rattle.std.specs.Prelude.{ℕ, ◌≡◌, ◌≢◌, ◌+◌, ◌<◌, ◌^◌, false, length, slice_get, slice_set, Some, None}
+use Rattle.std.specs.Prelude.{ℕ, ◌≡◌, ◌≢◌, ◌+◌, ◌<◌, ◌^◌, false, length, slice_set, Some, None}
 use Rattle.std.proofs.Common.{refl, sym, ap, ◌∙◌, inl, inr, subst, arith}
 use Rattle.std.proofs.lemmas.List.Elements.{All-contains}
 use Rattle.net_graph.specs.declared.edge.Edge.{Edge}
@@ -7,7 +7,7 @@ use Rattle.net_graph.specs.Network.{HasEnds}
 use Rattle.graph_reduce.specs.declared.node_edges.NodeEdges.{NodeEdges}
 use Rattle.graph_reduce.specs.declared.node_edges.NodeEdges.TheVariants.{NoEdge, OneEdge, TwoEdges, More}
 use Rattle.graph_reduce.specs.State.{Bundle, State, HasEdge, HasNode, IsTerminal, union}
-use Rattle.graph_reduce.specs.Rules.{JoinsEdges, ForcesEdge, joined, moved, without_edge, without_node}
+use Rattle.graph_reduce.specs.Rules.{JoinsEdges, ForcesEdge, moved, without_edge, without_node}
 use Rattle.graph_reduce.specs.Step.{Applies, Takes}
 use Rattle.graph_reduce.specs.Step.Rule.{Leaf}
 use Rattle.graph_reduce.specs.Survey.{IsSeenTo, HasOneBelow, HasTwoBelow}
@@ -20,7 +20,10 @@ module _ (s new : State) (v : ℕ) where
   pub leaf_without : (edges : NodeEdges) → Applies s Leaf v → IsSeenTo s v (length s.edges) edges →
       ((place : ℕ) → edges ≡ OneEdge place → ⊥) → new ≡ without_node s v → Takes Leaf v s new
   leaf_without NoEdge applies seen other is = let node = leaf_node s v applies in inl (record {
-    node = node.0; free = node.1; none = λ n ends. seen n (below_end s v n ends) ends; becomes = is;
+    node = node.0;
+    free = node.1;
+    none = λ n ends. seen n (below_end s v n ends) ends;
+    becomes = is;
   })
   leaf_without (OneEdge place) applies seen other is = absurd (other place refl)
   leaf_without (TwoEdges one two) applies seen other is = absurd (leaf_not_two s v one two seen applies)
@@ -37,16 +40,28 @@ module _ (s new : State) (v : ℕ) where
       HasTwoBelow s v (length s.edges) earlier later → HoldsEdge s earlier e → HoldsEdge s later f →
       HasEnds e v u → HasEnds f v w →
       ((x y : Bundle) → HasEdge s earlier x → HasEdge s later y →
-          mid ≡ record s { edges = slice_set (slice_set s.edges earlier (Some (record {
-            edge = record { a = u; b = w; length = e.length + f.length }; originals = union x.originals y.originals;
-          }))) later None }) →
+      mid ≡ record s {
+        edges = slice_set (slice_set s.edges earlier (Some (record {
+          edge = record { a = u; b = w; length = e.length + f.length };
+          originals = union x.originals y.originals;
+        }))) later None;
+      }) →
       new ≡ without_node mid v → (joins : JoinsEdges v s new) × (joins.earlier ≡ earlier)
   edges_joined_at mid earlier later u w e f node free two e_held f_held e_ends f_ends changed is =
       let (x, x_at, x_is) = e_held in
       let (y, y_at, y_is) = f_held in (
         record {
-          node = node; free = free; earlier = earlier; later = later; order = two.order; x = x; y = y; u = u; w = w;
-          earlier_at = x_at; later_at = y_at;
+          node = node;
+          free = free;
+          earlier = earlier;
+          later = later;
+          order = two.order;
+          x = x;
+          y = y;
+          u = u;
+          w = w;
+          earlier_at = x_at;
+          later_at = y_at;
           earlier_ends = subst (λ (d : Edge). HasEnds d v u) (sym x_is) e_ends;
           later_ends = subst (λ (d : Edge). HasEnds d v w) (sym y_is) f_ends;
           only = two_only s v earlier later two;
@@ -62,7 +77,8 @@ module _ (s new : State) (v : ℕ) where
       after x y length = record s {
         nodes = slice_set s.nodes v false;
         edges = slice_set (slice_set s.edges earlier (Some (record {
-          edge = record { a = u; b = w; length = length }; originals = union x.originals y.originals;
+          edge = record { a = u; b = w; length = length };
+          originals = union x.originals y.originals;
         }))) later None;
       }
 
@@ -76,7 +92,10 @@ module _ (s new : State) (v : ℕ) where
       ForcesEdge v s new
   edge_forced_at one two place other e terminal has held ends changed then_moved is =
       let (x, x_at, x_is) = held in record {
-        terminal = terminal; place = place; x = x; other = other;
+        terminal = terminal;
+        place = place;
+        x = x;
+        other = other;
         edge = record {
           at = x_at;
           ends = subst (λ (d : Edge). HasEnds d v other) (sym x_is) ends;
@@ -102,8 +121,12 @@ module _ (s new : State) (v : ℕ) where
 pub lengths_fit : (s : State) (earlier later : ℕ) (e f : Edge) → IsReached s → earlier ≢ later →
     HoldsEdge s earlier e → HoldsEdge s later f → e.length + f.length < 2 ^ 63
 lengths_fit s earlier later e f reached apart (x, x_at, x_is) (y, y_at, y_is) =
-    omega (arith, reached_lengths s reached earlier later x y apart x_at y_at, ap (λ (d : Edge). d.length) x_is,
-        ap (λ (d : Edge). d.length) y_is)
+    omega (
+      arith,
+      reached_lengths s reached earlier later x y apart x_at y_at,
+      ap (λ (d : Edge). d.length) x_is,
+      ap (λ (d : Edge). d.length) y_is,
+    )
 
 pub length_fits : (s : State) (place : ℕ) (e : Edge) → IsReached s → HoldsEdge s place e →
     s.offset + e.length < 2 ^ 63

@@ -42,22 +42,22 @@ pub distinct_of-push : (ns : List ℕ) (n : ℕ) → distinct_of (ns ++ n ∷ []
 distinct_of-push [] n = refl
 distinct_of-push (a ∷ ns) n = rw (distinct_of-push ns n) (elim (cases_Bool (a == n)) [
   | inl same ↦ let back : (n == a) ≡ true = eq-eqb n a (sym (eqb-true a n same)) in
-    elim (cases_Bool (holds n (distinct_of ns))) [
-    | inl held ↦ rw (same, held)
-    | inr new ↦ rw (
-      same,
-      new,
-      filter-append (λ m. not (m == a)) (distinct_of ns) (n ∷ []),
-      back,
-      append-nil (filter (λ m. not (m == a)) (distinct_of ns)),
-    )
-  ]
+      elim (cases_Bool (holds n (distinct_of ns))) [
+        | inl held ↦ rw (same, held)
+        | inr new ↦ rw (
+          same,
+          new,
+          filter-append (λ m. not (m == a)) (distinct_of ns) (n ∷ []),
+          back,
+          append-nil (filter (λ m. not (m == a)) (distinct_of ns)),
+        )
+      ]
   | inr apart ↦ let back : (n == a) ≡ false = ne_eqb n a (λ same. absurd (
       let yes : (a == n) ≡ true = eq-eqb a n (sym same) in cc)) in
-    rw (apart, holds-without a n apart (distinct_of ns)) (elim (cases_Bool (holds n (distinct_of ns))) [
-    | inl held ↦ rw held
-    | inr new ↦ rw (new, filter-append (λ m. not (m == a)) (distinct_of ns) (n ∷ []), back)
-  ])
+      rw (apart, holds-without a n apart (distinct_of ns)) (elim (cases_Bool (holds n (distinct_of ns))) [
+        | inl held ↦ rw held
+        | inr new ↦ rw (new, filter-append (λ m. not (m == a)) (distinct_of ns) (n ∷ []), back)
+      ])
 ])
 
 -- numbers of which none is this one

@@ -1,17 +1,15 @@
 -- Steps by the rules at nodes, and what is tidy after them.
-use Rattle.std.specs.Prelude.{ℕ, ◌≡◌, ◌≢◌, ◌⊎◌, ◌<◌, false, length, slice_get, slice_set, Some, None}
+use Rattle.std.specs.Prelude.{ℕ, ◌≡◌, ◌≢◌, length, None}
 use Rattle.std.proofs.Common.{refl, sym, ap, ◌∙◌, inl, inr, ⊎_elim, subst, arith, length-set}
 use Rattle.net_graph.specs.Network.{HasEnds}
-use Rattle.graph_reduce.specs.declared.node_edges.NodeEdges.{NodeEdges}
-use Rattle.graph_reduce.specs.declared.node_edges.NodeEdges.TheVariants.{NoEdge, OneEdge, TwoEdges, More}
 use Rattle.graph_reduce.specs.declared.node_rules.NodeRule.TheVariants as node
 use Rattle.graph_reduce.specs.State.{Bundle, State, HasEdge}
-use Rattle.graph_reduce.specs.Rules.{AreParallel, DropsLoneNode, DropsLeaf, JoinsEdges, ForcesEdge, without_edge, without_node}
-use Rattle.graph_reduce.specs.Step.{Rule, Takes, Applies, IsBefore, IsStep}
+use Rattle.graph_reduce.specs.Rules.{JoinsEdges, ForcesEdge, without_edge, without_node}
+use Rattle.graph_reduce.specs.Step.{Rule, Takes, Applies, IsStep}
 use Rattle.graph_reduce.specs.Step.Rule.{OneTerminal, Loop, Parallel, Leaf, Passed, TerminalLeaf}
 use Rattle.graph_reduce.specs.NodeRules.{IsLowest}
-use Rattle.graph_reduce.specs.Clear.{HasSomeEdge, LeadsTo, IsTidy, IsTidyBut, IsWithin, GoesOn}
-use Rattle.graph_reduce.proofs.lemmas.Clearing.{no_steps, not_idle, parallel_within, within_same, within_then, within_without}
+use Rattle.graph_reduce.specs.Clear.{HasSomeEdge, IsTidy, IsTidyBut, IsWithin}
+use Rattle.graph_reduce.proofs.lemmas.Clearing.{not_idle, parallel_within}
 use Rattle.graph_reduce.proofs.lemmas.JoinedPlaces.{one, after, found, one_at}
 use Rattle.graph_reduce.proofs.lemmas.Keeping.{found_before}
 use Rattle.graph_reduce.proofs.lemmas.Steps.{NoneBefore}
@@ -109,7 +107,9 @@ module _ (v : ℕ) (old new : State) (tidy : IsTidy old) (joins : JoinsEdges v o
   -- the other ends are two nodes
   others_apart : joins.u ≢ joins.w
   others_apart same = tidy.parallels joins.earlier joins.later joins.x joins.y (record {
-    order = joins.order; first_at = joins.earlier_at; second_at = joins.later_at;
+    order = joins.order;
+    first_at = joins.earlier_at;
+    second_at = joins.later_at;
     same_ends = ends joins.earlier_ends (subst (HasEnds joins.y.edge v) (sym same) joins.later_ends);
   })
     where
@@ -139,8 +139,10 @@ module _ (v : ℕ) (old new : State) (tidy : IsTidy old) (joins : JoinsEdges v o
         (λ (p : (n ≢ joins.earlier) × (n ≢ joins.later) × HasEdge old n x). tidy.loops n x p.2 same)
         (found v old new joins n x at);
     parallels = λ n m x y n_apart m_apart are. tidy.parallels n m x y (record {
-      order = are.order; same_ends = are.same_ends;
-      first_at = old_at n x n_apart are.first_at; second_at = old_at m y m_apart are.second_at;
+      order = are.order;
+      same_ends = are.same_ends;
+      first_at = old_at n x n_apart are.first_at;
+      second_at = old_at m y m_apart are.second_at;
     });
   }
 

@@ -1,4 +1,4 @@
-use Rattle.std.specs.Prelude.{◌++◌, ◌∷◌, [], take, None, Some}
+use Rattle.std.specs.Prelude.{◌++◌, ◌∷◌, [], take, None}
 use Rattle.std.proofs.Common.{sym, ap, ◌∙◌}
 use Rattle.std.proofs.lemmas.List.{take_more}
 use Rattle.graph_reduce.specs.Left.{edges_left, between_numbers}

@@ -1,6 +1,5 @@
 use Rattle.std.proofs.Common.{◌∙◌, sym}
 use Rattle.std.proofs.lemmas.Bool.{OnTrue_from, OnTrue_at, OnFalse_from}
-use Rattle.graph_reduce.specs.NodeRules.{suits}
 use Rattle.graph_reduce.proofs.lemmas.NodeRuleLaws.{suits_from, applies_from}
 use Rattle.graph_reduce.proofs.node_rules.applies.Goals as goal
 

@@ -11,5 +11,5 @@ loop-v-preserved c = below_more (λ u. ¬ Applies c.args.work.now (rule_of c.arg
 pub returns : goal.returns
 returns c v applies =
     let below = kind_below c.args.work.now v c.args.rule c.requires.numbered
-        (kind_from c.args.work.now v c.args.rule applies) in
+    (kind_from c.args.work.now v c.args.rule applies) in
     c.loop-v.invariant v (omega arith) applies

@@ -1,4 +1,4 @@
-use Rattle.std.specs.Prelude.{◌≡◌, ◌<◌, length, slice_index, true, false}
+use Rattle.std.specs.Prelude.{◌<◌, length, slice_index, true}
 use Rattle.std.proofs.Common.{sym, ap, ◌∙◌, arith}
 use Rattle.std.proofs.lemmas.List.{length-set}
 use Rattle.net_graph.specs.Flags.{has}
@@ -12,7 +12,7 @@ loop-n-preserved c =
     let places = c.args.places.now in
     let below : n < length places = omega (arith, c.loop-n-test.true, c.len-n-end.ensures, c.requires.numbers) in
     let within : slice_index places n < length c.loop-n.chosen =
-        omega (arith, c.requires.below n 0 below, c.loop-n.invariant.size) in
+    omega (arith, c.requires.below n 0 below, c.loop-n.invariant.size) in
     elim c.if-has.branch [
       | then-has w ↦ let is = w.chosen-is ∙ w.add.ensures in record {
         size = ap length is ∙ length-set c.loop-n.chosen (slice_index places n) true ∙ c.loop-n.invariant.size;

@@ -15,7 +15,7 @@ pub invariant_of-result : goal.invariant_of-result
 invariant_of-result c =
     let a = c.in_ok-arrays.arrays in
     let out = laid_out c.args.g.now c.in_ok-arrays.ensures.graph a.nodes a.edges.items a.carriers.items
-        a.terminals.items a.forced a.offset c.in_ok-arrays.ensures.shaped in
+    a.terminals.items a.forced a.offset c.in_ok-arrays.ensures.shaped in
     let places = c.in_ok-places.ensures ∙ ap (places_left 0) c.deref.ensures.value in
     subst (λ left. IsLaidOut left c.in_ok-places.places.items a.carriers.items a.forced) (sym c.in_ok-graph.ensures)
     (subst (λ ps. IsLaidOut (graph_of_left a) ps a.carriers.items a.forced) (sym places) out)

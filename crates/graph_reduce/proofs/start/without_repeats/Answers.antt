@@ -1,4 +1,4 @@
-use Rattle.std.proofs.Common.{◌≡◌, ◌<◌, ◌++◌, ◌∷◌, [], ◌∙◌, sym, ap, arith, length, get_or, take, true, false, cond}
+use Rattle.std.proofs.Common.{◌++◌, ◌∷◌, [], ◌∙◌, sym, ap, get_or, take, cond}
 use Rattle.std.proofs.lemmas.List.{take_more}
 use Rattle.graph_reduce.specs.State.{distinct_of}
 use Rattle.graph_reduce.proofs.lemmas.Start.{holds, distinct_of-push}
@@ -10,7 +10,7 @@ loop-n-preserved c =
     let n = get_or c.args.numbers.now c.loop-n.n-index 0 in
     let so_far = take c.loop-n.n-index c.args.numbers.now in
     let more = ap distinct_of (take_more c.args.numbers.now c.loop-n.n-index 0 c.loop-n-test.true)
-        ∙ distinct_of-push so_far n in
+    ∙ distinct_of-push so_far n in
     let test = c.stands_in.ensures ∙ ap (holds n) (c.deref.ensures.value ∙ c.loop-n.invariant) in
     elim c.if-not-stands_in.branch [
       | then-not-stands_in+in_ok-push w ↦

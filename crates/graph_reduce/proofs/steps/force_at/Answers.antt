@@ -1,4 +1,3 @@
-use Rattle.std.specs.Prelude.{◌≡◌}
 use Rattle.graph_reduce.proofs.lemmas.Clearing.{within_then}
 use Rattle.graph_reduce.proofs.lemmas.NodeRuleLaws.{forced_seen}
 use Rattle.graph_reduce.proofs.lemmas.Stepping.{forced_step, tidy_within, within_forced}

@@ -1,6 +1,5 @@
-use Rattle.std.specs.Prelude.{◌≡◌}
 use Rattle.std.proofs.Common.{subst}
-use Rattle.graph_reduce.specs.State.{Bundle, HasEdge}
+use Rattle.graph_reduce.specs.State.{HasEdge}
 use Rattle.graph_reduce.specs.Clear.{IsTidyBut}
 use Rattle.graph_reduce.proofs.lemmas.JoinedPlaces.{one}
 use Rattle.graph_reduce.proofs.lemmas.NodeRuleLaws.{passed_seen}

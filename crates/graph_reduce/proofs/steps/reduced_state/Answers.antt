@@ -1,6 +1,4 @@
-use Rattle.std.specs.Prelude.{◌≡◌, length}
-use Rattle.std.proofs.Common.{◌∙◌, sym, subst, ap}
-use Rattle.std.proofs.lemmas.Bool.{OnTrue_at}
+use Rattle.std.proofs.Common.{◌∙◌, sym, subst}
 use Rattle.graph_reduce.specs.State.{start_of}
 use Rattle.graph_reduce.specs.Clear.{LeadsTo}
 use Rattle.graph_reduce.proofs.lemmas.Bounds.{nodes_from, leads_on, smaller_on}
@@ -25,10 +23,10 @@ pub loop-preserved : goal.loop-preserved
 loop-preserved c =
     let more = c.loop-test.ensures.more in
     let leads = then_steps (start_of c.args.g.now) c.loop.work c.goes_on.new.work c.loop.invariant.leads
-        (leads_on c.loop.work c.goes_on.new.work more) in
+    (leads_on c.loop.work c.goes_on.new.work more) in
     let graph = c.vertex_count-vertices.ensures.graph in
     let same = nodes_from c.args.g.now graph c.loop.work c.loop.invariant.leads
-        ∙ sym (nodes_from c.args.g.now graph c.goes_on.new.work leads) in
+    ∙ sym (nodes_from c.args.g.now graph c.goes_on.new.work leads) in
     record {
       leads = leads;
       tidy = more.tidy;

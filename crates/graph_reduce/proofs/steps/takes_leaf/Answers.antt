@@ -1,4 +1,3 @@
-use Rattle.std.specs.Prelude.{◌≡◌}
 use Rattle.graph_reduce.proofs.lemmas.Bounds.{reached_numbered}
 use Rattle.graph_reduce.proofs.lemmas.Clearing.{no_steps}
 use Rattle.graph_reduce.proofs.lemmas.Stepping.{leaf_step, tidy_leaf}

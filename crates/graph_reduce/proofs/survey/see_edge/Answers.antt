@@ -1,8 +1,3 @@
-use Rattle.std.specs.Prelude.{◌≡◌, ◌≢◌, ◌+◌, ◌<◌, List, length, slice_set, slice_index_or}
-use Rattle.std.proofs.Common.{subst, sym}
-use Rattle.net_graph.specs.declared.edge.Edge.{Edge}
-use Rattle.graph_reduce.specs.declared.node_edges.NodeEdges.{NodeEdges}
-use Rattle.graph_reduce.proofs.lemmas.Longer.{HoldsEdge}
 use Rattle.graph_reduce.proofs.lemmas.Seeing.{held_both, held_loop}
 use Rattle.graph_reduce.proofs.survey.see_edge.Goals as goal
 

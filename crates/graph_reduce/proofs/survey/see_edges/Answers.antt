@@ -2,7 +2,7 @@ use Rattle.std.specs.Prelude.{◌≡◌, ◌+◌, length, None, Some}
 use Rattle.std.proofs.Common.{◌∙◌, sym, subst, arith}
 use Rattle.std.proofs.lemmas.Option.{same_Some}
 use Rattle.graph_reduce.specs.Survey.{AreSeenTo}
-use Rattle.graph_reduce.proofs.lemmas.Seeing.{seen_none, seen_at_first}
+use Rattle.graph_reduce.proofs.lemmas.Seeing.{seen_none}
 use Rattle.graph_reduce.proofs.survey.see_edges.Goals as goal
 use Rattle.graph_reduce.proofs.survey.see_edges.Goals.{in-Some, in_default}
 

@@ -1,4 +1,3 @@
-use Rattle.std.proofs.Common.{◌≡◌, length}
 use Rattle.graph_reduce.specs.Survey.{AreSeenTo}
 use Rattle.graph_reduce.proofs.survey.see_edges.Given as goal
 

@@ -1,5 +1,5 @@
-use Rattle.std.specs.Prelude.{◌≡◌, ◌≢◌, ◌+◌, ◌<◌, ◌^◌, length, true}
-use Rattle.std.proofs.Common.{◌∙◌, ap, sym, subst, arith}
+use Rattle.std.specs.Prelude.{length, true}
+use Rattle.std.proofs.Common.{ap, arith}
 use Rattle.std.proofs.lemmas.Option.{slice_get_within}
 use Rattle.graph_reduce.proofs.lemmas.NodeTaken.{edges_joined_at, lengths_fit}
 use Rattle.graph_reduce.proofs.taken.join_edges.Goals as goal
@@ -8,7 +8,7 @@ pub overflow_add-edge : goal.overflow_add-edge
 overflow_add-edge c =
     let order = c.requires.edges.order in
     let fits = lengths_fit c.args.work.now c.args.earlier c.args.later c.edge_at-x.result c.edge_at-y.result
-        c.requires.reached (λ same. absurd (omega arith)) c.edge_at-x.ensures c.edge_at-y.ensures in
+    c.requires.reached (λ same. absurd (omega arith)) c.edge_at-x.ensures c.edge_at-y.ensures in
     omega (arith, fits)
 
 pub drop_node-requires : goal.drop_node-requires

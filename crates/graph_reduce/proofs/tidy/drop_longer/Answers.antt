@@ -1,6 +1,5 @@
-use Rattle.std.specs.Prelude.{◌≡◌, length, nat_lt, if◌then◌else◌}
-use Rattle.std.proofs.Common.{◌∙◌, ap, subst}
-use Rattle.graph_reduce.specs.State.{State, Bundle}
+use Rattle.std.specs.Prelude.{◌≡◌, nat_lt, if◌then◌else◌}
+use Rattle.std.proofs.Common.{◌∙◌, ap}
 use Rattle.graph_reduce.specs.Rules.{without_edge}
 use Rattle.graph_reduce.proofs.lemmas.Longer.{Pair, longer_chosen, later_chosen, leads_dropped, clear_dropped, clear_apart}
 use Rattle.graph_reduce.proofs.tidy.drop_longer.Goals as goal

@@ -1,7 +1,7 @@
-use Rattle.std.specs.Prelude.{◌≡◌, ◌+◌, length}
+use Rattle.std.specs.Prelude.{◌≡◌, length}
 use Rattle.std.proofs.Common.{◌∙◌, subst, arith}
 use Rattle.graph_reduce.specs.Clear.{IsClearTo}
-use Rattle.graph_reduce.proofs.lemmas.Clearing.{then_steps, clear_next, clear_start, no_steps}
+use Rattle.graph_reduce.proofs.lemmas.Clearing.{then_steps, clear_next}
 use Rattle.graph_reduce.proofs.tidy.drop_parallels_of.Goals as goal
 
 pub loop-later-preserved : goal.loop-later-preserved

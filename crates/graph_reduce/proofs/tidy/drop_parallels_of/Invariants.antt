@@ -1,4 +1,4 @@
-use Rattle.std.proofs.Common.{◌≡◌, ◌+◌, ◌≤◌, length}
+use Rattle.std.proofs.Common.{◌≡◌, length}
 use Rattle.graph_reduce.specs.Clear.{LeadsTo, IsClearTo}
 use Rattle.graph_reduce.proofs.tidy.drop_parallels_of.Given as goal
 

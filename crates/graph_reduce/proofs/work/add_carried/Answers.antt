@@ -1,5 +1,4 @@
-use Rattle.std.specs.Prelude.{length}
-use Rattle.std.proofs.Common.{◌∙◌, arith}
+use Rattle.std.proofs.Common.{arith}
 use Rattle.graph_reduce.proofs.lemmas.Carrying.{union_by_flags}
 use Rattle.graph_reduce.proofs.work.add_carried.Goals as goal
 

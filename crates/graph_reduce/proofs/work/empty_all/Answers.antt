@@ -1,5 +1,5 @@
-use Rattle.std.specs.Prelude.{length, replicate, slice_get, Some, None}
-use Rattle.std.proofs.Common.{◌≡◌, ◌<◌, arith}
+use Rattle.std.specs.Prelude.{length}
+use Rattle.std.proofs.Common.{arith}
 use Rattle.graph_reduce.proofs.lemmas.HeldPlaces.{all_none}
 use Rattle.graph_reduce.proofs.work.empty_all.Goals as goal
 

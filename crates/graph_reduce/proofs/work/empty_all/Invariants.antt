@@ -1,4 +1,4 @@
-use Rattle.std.proofs.Common.{◌≡◌, ℕ, ◌<◌, get_or, Some, None}
+use Rattle.std.proofs.Common.{◌≡◌, ℕ, ◌<◌, Some, None}
 use Rattle.std.specs.Prelude.{slice_get}
 use Rattle.graph_reduce.proofs.work.empty_all.Given as goal
 

@@ -1,4 +1,4 @@
-use Rattle.std.specs.Prelude.{◌≡◌, ◌+◌, ◌≤◌, ◌++◌, ◌∷◌, [], length, map, take, true, false, if◌then◌else◌}
+use Rattle.std.specs.Prelude.{◌≡◌, ◌+◌, ◌++◌, ◌∷◌, [], length, map, take, if◌then◌else◌}
 use Rattle.std.specs.List.{range_with_len}
 use Rattle.std.proofs.Common.{sym, ap, ◌∙◌, arith}
 use Rattle.std.proofs.lemmas.List.{append-nil}
@@ -24,7 +24,7 @@ pub loop-v-preserved : goal.loop-v-preserved
 loop-v-preserved c =
     let v = c.loop-v.v in
     let number : c.len-in-loop-v.result ≡ number_among c.args.nodes.now v = c.len-in-loop-v.ensures
-        ∙ c.loop-v.origins.ok.0 ∙ ap length c.loop-v.invariant.origins ∙ number_is c.args.nodes.now v in
+    ∙ c.loop-v.origins.ok.0 ∙ ap length c.loop-v.invariant.origins ∙ number_is c.args.nodes.now v in
     let more = members_of-more c.args.nodes.now v (omega (arith, c.len-v-end.ensures, c.loop-v-test.true)) in
     let zero_more : 0 + v ≡ v = omega arith in
     record {

@@ -1,5 +1,5 @@
-use Rattle.std.specs.Prelude.{◌≡◌, ◌<◌, ◌||◌, length, slice_index}
-use Rattle.std.proofs.Common.{sym, ap, subst, ◌∙◌, arith}
+use Rattle.std.specs.Prelude.{◌||◌, length, slice_index}
+use Rattle.std.proofs.Common.{ap, ◌∙◌, arith}
 use Rattle.net_graph.specs.Flags.{has}
 use Rattle.graph_reduce.specs.Left.{has_place}
 use Rattle.graph_reduce.specs.Reduction.{lift_of}

@@ -1,8 +1,7 @@
 use Rattle.std.specs.Prelude.{length}
-use Rattle.std.proofs.Common.{◌≡◌, sym, ap, ◌∙◌, subst, replicate, None}
+use Rattle.std.proofs.Common.{ap, ◌∙◌}
 use Rattle.std.proofs.lemmas.List.{with_items_is}
 use Rattle.graph_reduce.specs.Held.{held_state}
-use Rattle.graph_reduce.specs.Rules.{without_edges}
 use Rattle.graph_reduce.proofs.lemmas.HeldStates.{edges_dropped}
 use Rattle.graph_reduce.proofs.work.Work.drop_edges.Goals as goal
 

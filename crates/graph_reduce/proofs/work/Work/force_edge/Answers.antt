@@ -1,4 +1,4 @@
-use Rattle.std.proofs.Common.{subst, length, ◌≡◌, ◌+◌, ◌∙◌, sym, ap, arith, length-set, slice_set, None}
+use Rattle.std.proofs.Common.{subst, length, ◌+◌, ◌∙◌, sym, ap, arith, length-set, slice_set, None}
 use Rattle.std.specs.Prelude.{◌<◌, All}
 use Rattle.graph_reduce.specs.State.{union}
 use Rattle.graph_reduce.specs.Held.{held_state, carried_by}
@@ -22,8 +22,12 @@ add_carried-requires-clause-sizes c = ap length c.deref.ensures.value ∙ c.self
     ∙ sym c.self.invariant.size
 
 pub add_carried-requires-clause-few : goal.add_carried-requires-clause-few
-add_carried-requires-clause-few c = omega (arith, ap length c.deref.ensures.value, c.self.invariant.each,
-    c.self.invariant.few)
+add_carried-requires-clause-few c = omega (
+  arith,
+  ap length c.deref.ensures.value,
+  c.self.invariant.each,
+  c.self.invariant.few,
+)
 
 pub invariant_of-self : goal.invariant_of-self
 invariant_of-self c = record {

@@ -1,7 +1,6 @@
 use Rattle.std.proofs.Common.{◌≡◌, ◌∙◌, sym, ap, subst, arith, length-set, slice_set, Some, None}
 use Rattle.std.proofs.lemmas.List.{length-map, with_items_is}
 use Rattle.std.specs.Prelude.{◌<◌, ◌==◌, length, All, if◌then◌else◌}
-use Rattle.graph_reduce.specs.State.{union}
 use Rattle.graph_reduce.specs.Held.{held_state}
 use Rattle.graph_reduce.proofs.lemmas.Carriers.{replaced, replaced_below}
 use Rattle.graph_reduce.proofs.lemmas.HeldStates.{place_within, edges_joined}
@@ -14,7 +13,7 @@ index_mut-requires c = rw c.self.inside.edges.ok.0 (place_within c.self.inside.n
 pub index_mut-requires-2 : goal.index_mut-requires-2
 index_mut-requires-2 c =
     let within = place_within c.self.inside.nodes c.self.inside.edges.items c.self.inside.carriers.items c.self.inside.terminals.items c.self.inside.forced c.self.inside.offset c.args.self.now c.self.view_is
-        c.args.later c.requires.later in
+    c.args.later c.requires.later in
     omega (arith, length-set c.self.inside.edges.items c.args.earlier (Some c.args.edge))
 
 pub returns : goal.returns
@@ -32,11 +31,11 @@ invariant_of-self c =
     let edges = c.self.inside.edges.items in
     let carriers = c.self.inside.carriers.items in
     let size = length-set (slice_set edges c.args.earlier (Some c.args.edge)) c.args.later None
-        ∙ length-set edges c.args.earlier (Some c.args.edge) in
+    ∙ length-set edges c.args.earlier (Some c.args.edge) in
     let new : _ ≡ replaced c.args.later c.args.earlier carriers =
-        with_items_is c.self.inside.carriers c.replace_all.new.numbers
-        (c.replace_all.auto.numbers ∙ c.deref_mut.ensures.len)
-        ∙ c.replace_all.ensures ∙ ap (replaced c.args.later c.args.earlier) c.deref_mut.ensures.value in
+    with_items_is c.self.inside.carriers c.replace_all.new.numbers
+    (c.replace_all.auto.numbers ∙ c.deref_mut.ensures.len)
+    ∙ c.replace_all.ensures ∙ ap (replaced c.args.later c.args.earlier) c.deref_mut.ensures.value in
     record {
       each = ap length new ∙ length-map carriers (λ n. if n == c.args.later then c.args.earlier else n)
           ∙ c.self.invariant.each ∙ sym size;

@@ -1,4 +1,4 @@
-use Rattle.std.specs.Prelude.{◌≡◌, ◌<◌, ◌≤◌, All, length, map, replicate, Some, true, false}
+use Rattle.std.specs.Prelude.{◌≡◌, ◌<◌, All, length, map, replicate, Some, true, false}
 use Rattle.std.specs.List.{range_with_len}
 use Rattle.std.proofs.Common.{sym, subst, ap, ◌∙◌, arith}
 use Rattle.std.proofs.lemmas.List.{length-map, length-replicate}
@@ -13,8 +13,8 @@ invariant_of-result c =
     let count = c.edge_count.ensures.count in
     let count' = c.edge_count-2.ensures.count in
     let size : length c.in_ok-every_edge.field-0.items ≡ length c.args.g.now.edges =
-        ap length (c.in_ok-every_edge.ensures) ∙ length-map c.edges.result.now (λ (e : Edge). Some e)
-        ∙ ap length c.edges.ensures.edges in
+    ap length (c.in_ok-every_edge.ensures) ∙ length-map c.edges.result.now (λ (e : Edge). Some e)
+    ∙ ap length c.edges.ensures.edges in
     record {
       each = ap length c.in_ok-own_places.ensures ∙ length-range_with_len 0 c.edge_count.result ∙ count ∙ sym size;
       size = ap length c.in_ok-empty.ensures ∙ length-replicate c.edge_count-2.result false ∙ count' ∙ sym size;
