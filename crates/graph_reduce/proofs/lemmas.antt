@@ -38,3 +38,4 @@ pub mod SurveyLaws
 pub mod LeftLists
 pub mod LeftLaws
 pub mod Lifted
+pub mod Texts

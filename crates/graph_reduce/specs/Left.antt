@@ -1,5 +1,5 @@
 -- The nodes and edges that are left, with their new numbers, and what a set of them stands for.
-use Rattle.std.specs.Prelude.{ℕ, ◌+◌, ◌≡◌, ◌<◌, ◌≤◌, ◌==◌, ◌&&◌, ◌||◌, Bool, false, List, [], ◌∷◌, map, length, slice_get, slice_index, Option, Some, None, All}
+use Rattle.std.specs.Prelude.{ℕ, ◌+◌, ◌≡◌, ◌<◌, ◌≤◌, ◌==◌, ◌&&◌, ◌||◌, Bool, false, List, [], ◌∷◌, map, length, slice_get, slice_index, slice_index_or, Option, Some, None, All}
 use Rattle.std.specs.List.{range_with_len}
 use Rattle.net_graph.specs.declared.edge.Edge.{Edge}
 use Rattle.net_graph.specs.Graph.{Graph}
@@ -47,8 +47,13 @@ reduction_held graph origins places carriers forced offset = record {
   offset = offset;
 }
 
+-- what an edge of the reduction stands for
+abbrev pub originals_at : Reduction → ℕ → List Bool
+originals_at r n = slice_index_or r.originals n []
+
 -- the arrays of a reduction are of the size of the graph
-pub record IsLaidOut (graph : Graph) (places carriers : List ℕ) (forced : List Bool) : Type 0 where
+pub record IsLaidOut (graph : Graph) (origins places carriers : List ℕ) (forced : List Bool) : Type 0 where
+  pub nodes : All (λ v. v < 2500) origins
   pub numbers : length places ≡ length graph.edges
   pub below : All (λ place. place < length carriers) places
   pub within : All (λ place. place < length carriers) carriers

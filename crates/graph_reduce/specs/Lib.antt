@@ -11,3 +11,4 @@ pub mod Survey
 pub mod NodeRules
 pub mod Left
 pub mod LeftArrays
+pub mod Text

@@ -14,6 +14,8 @@ mod survey;
 mod taken;
 mod tidy;
 mod work;
+mod write;
 
 pub use laws::{lifting_keeps_length, reductions_end, reductions_fit};
 pub use reduction::{Reduced, reduce};
+pub use write::write_reduced;

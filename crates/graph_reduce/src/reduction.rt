@@ -7,7 +7,7 @@ ghost use Rattle.graph_reduce.specs.Reduction.{IsReductionOf, lift_of};
 ghost use Rattle.graph_reduce.specs.Fitness.{IsFitFor};
 ghost use Rattle.graph_reduce.specs.Lifting.{KeepsNetworks};
 ghost use Rattle.net_graph.specs.Members.{members_of};
-ghost use Rattle.graph_reduce.specs.Left.{numbers_of, has_place};
+ghost use Rattle.graph_reduce.specs.Left.{numbers_of, has_place, originals_at};
 ghost use Rattle.graph_reduce.specs.LeftArrays.{AreReducedArrays, graph_of_left};
 
 use crate::left::{Numbering, held_places, renumbered_edges, renumbered_terminals};
@@ -38,7 +38,7 @@ impl Model for Reduced {
 
     ghost view = { λ r. reduction_held r.graph r.origins.items r.places.items r.carriers.items r.forced r.offset };
 
-    ghost invariant = { λ r. IsLaidOut r.graph r.places.items r.carriers.items r.forced };
+    ghost invariant = { λ r. IsLaidOut r.graph r.origins.items r.places.items r.carriers.items r.forced };
 }
 
 // The arrays of the state that is left. An `Err` is want of memory.
@@ -107,6 +107,40 @@ impl Reduced {
         ensures { slice_get self.now.origins v ≡ Some result }
     {
         self.origins[v as usize]
+    }
+
+    /// The vertices of the original graph that the vertices of the reduced graph were, ascending.
+    pub(crate) fn origins(&self) -> &[u32]
+        ensures origins { result.now ≡ self.now.origins }
+        ensures below { All (λ v. v < 2500) result.now }
+    {
+        &self.origins
+    }
+
+    /// The forced edges.
+    pub(crate) fn forced(&self) -> &EdgeSet
+        ensures forced { result.now ≡ self.now.forced }
+        ensures few { length result.now ≤ 4900 }
+    {
+        &self.forced
+    }
+
+    /// How many edges the original graph has.
+    pub(crate) fn original_count(&self) -> u32
+        ensures count { result ≡ length self.now.forced }
+        ensures few { result ≤ 4900 }
+    {
+        self.forced.len()
+    }
+
+    /// Whether an edge of the reduced graph stands for the edge of the original graph.
+    pub(crate) fn stands_for(&self, n: u32, e: u32) -> bool
+        requires number { n < length self.now.graph.edges }
+        requires edge { e < length self.now.forced }
+        ensures flag { result ≡ has (originals_at self.now n) e }
+        ensures size { length (originals_at self.now n) ≡ length self.now.forced }
+    {
+        self.carriers[e as usize] == self.places[n as usize]
     }
 
     /// What a set of the reduced graph's edges stands for, and the forced edges: a set of the original graph's edges.

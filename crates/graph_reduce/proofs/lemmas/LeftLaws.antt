@@ -57,6 +57,13 @@ few_left nodes = few_from 0 nodes
     few_from n (true ∷ flags) = omega (arith, few_from (n + 1) flags)
     few_from n (false ∷ flags) = omega (arith, few_from (n + 1) flags)
 
+-- the numbers of a set are below its size
+members_below : (n : ℕ) (flags : List Bool) (end : ℕ) → n + length flags ≤ end → All (λ v. v < end) (members_from n flags)
+members_below n [] end fits k d below = absurd (omega arith)
+members_below n (false ∷ flags) end fits k d below = members_below (n + 1) flags end (omega arith) k d below
+members_below n (true ∷ flags) end fits zero d below = omega arith
+members_below n (true ∷ flags) end fits (suc k) d below = members_below (n + 1) flags end (omega arith) k d (omega arith)
+
 -- .. and the terminals
 terminals_renumbered : (nodes : List Bool) (terminals : List ℕ) → ((k : ℕ) → k < length terminals →
     slice_index terminals k < length nodes) →
@@ -127,8 +134,10 @@ module _ (g : Graph) (graph : IsGraph g) (nodes : List Bool) (edges : List (Opti
   pub originals_are : map (carried_by carriers) (places_left 0 edges) ≡ (reduction_of s).originals
   originals_are = originals_left carriers 0 edges
 
-  pub laid_out : IsShaped edges carriers forced → IsLaidOut (reduction_of s).graph (places_left 0 edges) carriers forced
-  laid_out shaped = record {
+  pub laid_out : length nodes ≤ 2500 → IsShaped edges carriers forced →
+      IsLaidOut (reduction_of s).graph (members_of nodes) (places_left 0 edges) carriers forced
+  laid_out few shaped = record {
+    nodes = members_below 0 nodes 2500 (omega (arith, few));
     numbers = length-left nodes carriers 0 edges;
     below = left_below 0 edges (length carriers) (omega (arith, shaped.each));
     within = subst (λ n. All (λ place. place < n) carriers) (sym shaped.each) shaped.within;

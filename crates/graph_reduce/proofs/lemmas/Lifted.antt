@@ -73,7 +73,7 @@ module _ (places : List ℕ) (set chosen : List Bool) (n : ℕ) (below : n < len
 
 -- ---- the lifted set
 
-carried_at : (carriers : List ℕ) (place e : ℕ) → e < length carriers →
+pub carried_at : (carriers : List ℕ) (place e : ℕ) → e < length carriers →
     has (carried_by carriers place) e ≡ (slice_index carriers e == place)
 carried_at carriers place e below = get_or-map (λ c. c == place) carriers e 0 false below
 
