@@ -54,6 +54,7 @@ originals_at r n = slice_index_or r.originals n []
 -- the arrays of a reduction are of the size of the graph
 pub record IsLaidOut (graph : Graph) (origins places carriers : List ℕ) (forced : List Bool) : Type 0 where
   pub nodes : All (λ v. v < 2500) origins
+  pub vertices : length origins ≡ graph.vertices
   pub numbers : length places ≡ length graph.edges
   pub below : All (λ place. place < length carriers) places
   pub within : All (λ place. place < length carriers) carriers

@@ -89,7 +89,9 @@ fn graph_left(
 impl Reduced {
     /// The reduced graph.
     pub fn graph(&self) -> &NetGraph
-        ensures { result.now ≡ self.now.graph }
+        ensures graph { result.now ≡ self.now.graph }
+        ensures edges { length self.now.originals ≡ length self.now.graph.edges }
+        ensures origins { length self.now.origins ≡ self.now.graph.vertices }
     {
         &self.graph
     }
@@ -103,7 +105,7 @@ impl Reduced {
 
     /// The vertex of the original graph that a vertex of the reduced graph was.
     pub fn origin(&self, v: u32) -> u32
-        requires { v < length self.now.origins }
+        requires { v < self.now.graph.vertices }
         ensures { slice_get self.now.origins v ≡ Some result }
     {
         self.origins[v as usize]
@@ -129,6 +131,8 @@ impl Reduced {
     pub(crate) fn original_count(&self) -> u32
         ensures count { result ≡ length self.now.forced }
         ensures few { result ≤ 4900 }
+        ensures sizes { (n : ℕ) → n < length self.now.graph.edges →
+            length (originals_at self.now n) ≡ length self.now.forced }
     {
         self.forced.len()
     }
@@ -137,8 +141,7 @@ impl Reduced {
     pub(crate) fn stands_for(&self, n: u32, e: u32) -> bool
         requires number { n < length self.now.graph.edges }
         requires edge { e < length self.now.forced }
-        ensures flag { result ≡ has (originals_at self.now n) e }
-        ensures size { length (originals_at self.now n) ≡ length self.now.forced }
+        ensures { result ≡ has (originals_at self.now n) e }
     {
         self.carriers[e as usize] == self.places[n as usize]
     }

@@ -96,6 +96,7 @@ fn write_number<S: Sink>(block: &mut Block, sink: &mut S, n: u32)
 }
 
 // The lines of numbers.
+#[tactic(auto, using(text_out::specs::GatherLaws::pieces))]
 fn write_numbers<S: Sink>(block: &mut Block, sink: &mut S, numbers: &[u32])
     requires { All (λ n. n < 4900) numbers.now }
     ensures { Gathers (S.state sink.old) block.old (flat_map number_line numbers.now) (S.state sink.new) block.new }

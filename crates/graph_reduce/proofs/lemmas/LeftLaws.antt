@@ -138,6 +138,7 @@ module _ (g : Graph) (graph : IsGraph g) (nodes : List Bool) (edges : List (Opti
       IsLaidOut (reduction_of s).graph (members_of nodes) (places_left 0 edges) carriers forced
   laid_out few shaped = record {
     nodes = members_below 0 nodes 2500 (omega (arith, few));
+    vertices = refl;
     numbers = length-left nodes carriers 0 edges;
     below = left_below 0 edges (length carriers) (omega (arith, shaped.each));
     within = subst (λ n. All (λ place. place < n) carriers) (sym shaped.each) shaped.within;

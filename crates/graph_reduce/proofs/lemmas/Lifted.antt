@@ -1,12 +1,13 @@
 -- A set that is put together by the places of its edges is the lifted one.
 use Rattle.std.specs.Prelude.{ℕ, zero, suc, ◌≡◌, ◌+◌, ◌<◌, ◌==◌, ◌||◌, ◌&&◌, Bool, true, false, List, [], ◌∷◌, map, length, take, slice_set, slice_index}
-use Rattle.std.proofs.Common.{refl, sym, ap, ◌∙◌, inl, inr, arith}
+use Rattle.std.proofs.Common.{refl, sym, ap, ◌∙◌, inl, inr, subst, arith}
 use Rattle.std.proofs.lemmas.Bool.{cases_eq, eq-eqb, ne_eqb}
 use Rattle.std.proofs.lemmas.List.{length-map, get_or-map, get_or-set_same, get_or-set_other, ext_get_or}
 use Rattle.net_graph.specs.Flags.{has}
 use Rattle.graph_reduce.specs.Held.{carried_by}
-use Rattle.graph_reduce.specs.Left.{has_place}
-use Rattle.graph_reduce.specs.Reduction.{union_of}
+use Rattle.net_graph.specs.Graph.{Graph}
+use Rattle.graph_reduce.specs.Left.{has_place, originals_at, reduction_held, IsLaidOut}
+use Rattle.graph_reduce.specs.Reduction.{Reduction, union_of}
 use Rattle.graph_reduce.proofs.lemmas.Fits.{length-union}
 use Rattle.graph_reduce.proofs.lemmas.Unions.{has-union}
 
@@ -109,3 +110,12 @@ lifted_is places carriers set forced lifted size same flags =
     (same ∙ size ∙ sym (length-lifted places carriers set forced size))
     (λ e below. flags e (omega (arith, below, same, size))
     ∙ sym (lifted_flag places carriers set forced e (omega (arith, below, same, size))))
+
+-- each edge's set is of the size of the graph
+pub size_at : (graph : Graph) (origins places carriers : List ℕ) (forced : List Bool) (offset : ℕ) (r : Reduction) →
+    reduction_held graph origins places carriers forced offset ≡ r → IsLaidOut graph origins places carriers forced →
+    (n : ℕ) → n < length r.graph.edges → length (originals_at r n) ≡ length r.forced
+size_at graph origins places carriers forced offset r is out n below = subst
+    (λ t. n < length t.graph.edges → length (originals_at t n) ≡ length t.forced) is
+    (λ inside. ap length (get_or-map (carried_by carriers) places n 0 [] (omega (arith, inside, out.numbers)))
+    ∙ length-map carriers (λ c. c == slice_index places n) ∙ sym out.size) below

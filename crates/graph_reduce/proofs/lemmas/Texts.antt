@@ -1,6 +1,6 @@
 -- Texts of lists and sets, item after item.
 use Rattle.std.specs.Prelude.{ℕ, zero, suc, ◌≡◌, ◌+◌, ◌<◌, Bool, true, false, List, [], ◌∷◌, ◌++◌, flat_map, length, take, slice_get, slice_index_or, Some, if◌then◌else◌}
-use Rattle.std.proofs.Common.{refl, sym, ap, ◌∙◌, append_assoc, arith}
+use Rattle.std.proofs.Common.{refl, sym, ap, ◌∙◌, append_assoc, arith, length-append}
 use Rattle.std.proofs.lemmas.Grind.{flat_map-append}
 use Rattle.std.proofs.lemmas.List.{append-nil, flat_map_more}
 use Rattle.std.proofs.lemmas.Option.{same_Some}
@@ -40,3 +40,12 @@ pub left_lines-more : (edges : List Edge) (sets : List (List Bool)) (n : ℕ) (e
     left_lines (take (n + 1) edges) (take (n + 1) sets)
 left_lines-more edges sets n e at below = left_lines-suc edges sets n e at below
     ∙ ap (λ m. left_lines (take m edges) (take m sets)) (let next : suc n ≡ n + 1 = omega arith in next)
+
+-- .. and how many there are
+pub count_with : (set : List Bool) (n : ℕ) → n < length set → has set n ≡ true →
+    length (members_of (take n set)) + 1 ≡ length (members_of (take (n + 1) set))
+count_with set n below is = omega (
+  arith,
+  ap length (members_of-more set n below ∙ ap (λ b. members_of (take n set) ++ (if b then n ∷ [] else [])) is),
+  length-append (members_of (take n set)) (n ∷ []),
+)
