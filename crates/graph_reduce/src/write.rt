@@ -33,7 +33,12 @@ fn write_forced<S: Sink>(block: &mut Block, sink: &mut S, reduced: &Reduced)
 {
     literal(block, sink, b"rst reduced 1\n");
     write_count(block, sink, b"offset ", reduced.offset());
-    write_count(block, sink, b"forced ", u64::from(count_of(reduced.forced())));
+    write_count(
+        block,
+        sink,
+        b"forced ",
+        u64::from(count_of(reduced.forced())),
+    );
     write_members(block, sink, reduced.forced());
 }
 
@@ -61,7 +66,12 @@ fn write_nodes<S: Sink>(block: &mut Block, sink: &mut S, reduced: &Reduced)
 fn write_edges<S: Sink>(block: &mut Block, sink: &mut S, reduced: &Reduced)
     ensures { Gathers (S.state sink.old) block.old (edges_text reduced.now) (S.state sink.new) block.new }
 {
-    write_count(block, sink, b"edges ", u64::from(reduced.graph().edge_count()));
+    write_count(
+        block,
+        sink,
+        b"edges ",
+        u64::from(reduced.graph().edge_count()),
+    );
     write_edge_lines(block, sink, reduced);
 }
 
