@@ -121,8 +121,9 @@ fn write_terminals<S: Sink>(block: &mut Block, sink: &mut S, graph: &NetGraph)
     ensures { Gathers (S.state sink.old) block.old (flat_map number_line graph.now.terminals)
         (S.state sink.new) block.new }
 {
-    let _vertices = graph.vertex_count();
-    write_numbers(block, sink, graph.terminals());
+    for place in 0..graph.terminal_count() {
+        write_number(block, sink, graph.terminal(place));
+    }
 }
 
 // The lines of a set's numbers, ascending.
