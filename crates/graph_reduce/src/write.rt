@@ -33,7 +33,12 @@ fn write_forced<S: Sink>(block: &mut Block, sink: &mut S, reduced: &Reduced)
 {
     literal(block, sink, b"rst reduced 1\n");
     write_count(block, sink, b"offset ", reduced.offset());
-    write_count(block, sink, b"forced ", u64::from(count_of(reduced.forced())));
+    write_count(
+        block,
+        sink,
+        b"forced ",
+        u64::from(count_of(reduced.forced())),
+    );
     write_members(block, sink, reduced.forced());
 }
 
@@ -61,7 +66,12 @@ fn write_nodes<S: Sink>(block: &mut Block, sink: &mut S, reduced: &Reduced)
 fn write_edges<S: Sink>(block: &mut Block, sink: &mut S, reduced: &Reduced)
     ensures { Gathers (S.state sink.old) block.old (edges_text reduced.now) (S.state sink.new) block.new }
 {
-    write_count(block, sink, b"edges ", u64::from(reduced.graph().edge_count()));
+    write_count(
+        block,
+        sink,
+        b"edges ",
+        u64::from(reduced.graph().edge_count()),
+    );
     write_edge_lines(block, sink, reduced);
 }
 
@@ -111,8 +121,9 @@ fn write_terminals<S: Sink>(block: &mut Block, sink: &mut S, graph: &NetGraph)
     ensures { Gathers (S.state sink.old) block.old (flat_map number_line graph.now.terminals)
         (S.state sink.new) block.new }
 {
-    let _vertices = graph.vertex_count();
-    write_numbers(block, sink, graph.terminals());
+    for place in 0..graph.terminal_count() {
+        write_number(block, sink, graph.terminal(place));
+    }
 }
 
 // The lines of a set's numbers, ascending.

@@ -25,9 +25,11 @@ carried_other from to place (x ∷ xs) one two =
       | inl is ↦ (let here : (if x == from then to else x) ≡ to = ap (λ b. if b then to else x) (eq-eqb x from is) in
           let no : (to == place) ≡ false = ne_eqb to place (λ same. two (sym same)) in
           let other : (x == place) ≡ false = ne_eqb x place (λ same. one (sym same ∙ is)) in
-          let first : ((if x == from then to else x) == place) ≡ (x == place) = ap (λ y. y == place) here ∙ no ∙ sym other in
+          let first : ((if x == from then to else x) == place) ≡ (x == place) = ap (λ y. y == place) here ∙ no
+          ∙ sym other in
           cc)
-      | inr apart ↦ (let here : (if x == from then to else x) ≡ x = ap (λ b. if b then to else x) (ne_eqb x from apart) in
+      | inr apart ↦ (let here : (if x == from then to else x) ≡ x = ap (λ b. if b then to else x)
+          (ne_eqb x from apart) in
           let first : ((if x == from then to else x) == place) ≡ (x == place) = ap (λ y. y == place) here in
           cc)
     ]
@@ -80,7 +82,8 @@ module _ (carriers : List ℕ) (edges : List (Option Edge)) (i j : ℕ) (e : Edg
       ∙ sym (length-set (bundles_at carriers 0 edges) i (Some one) ∙ length-bundles_at carriers 0 edges)
 
   -- neither place
-  elsewhere : (k : ℕ) → k ≢ i → k ≢ j → slice_get (bundles_at after 0 edges) k ≡ slice_get (bundles_at carriers 0 edges) k
+  elsewhere : (k : ℕ) → k ≢ i → k ≢ j →
+      slice_get (bundles_at after 0 edges) k ≡ slice_get (bundles_at carriers 0 edges) k
   elsewhere k one_apart two_apart = held_at after 0 edges k
       ∙ ap (λ set. option_map (option_map (λ (y : Edge). record { edge = y; originals = set })) (slice_get edges k))
       (carried_other j i (0 + k) carriers (λ same. two_apart (sym (here k) ∙ same))

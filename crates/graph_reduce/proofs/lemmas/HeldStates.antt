@@ -3,6 +3,7 @@ use Rattle.std.specs.Prelude.{ℕ, ◌≡◌, ◌≢◌, ◌+◌, ◌<◌, Bool,
 use Rattle.std.specs.Option.{option_map}
 use Rattle.std.proofs.Common.{refl, sym, ap, ◌∙◌, arith}
 use Rattle.net_graph.specs.declared.edge.Edge.{Edge}
+use Rattle.graph_reduce.specs.declared.work.Work.TheInside.{Inside}
 use Rattle.graph_reduce.specs.State.{Bundle, State, HasEdge, union}
 use Rattle.graph_reduce.specs.Rules.{without_edge, without_edges}
 use Rattle.graph_reduce.specs.Held.{carried_by, bundle_of, held_state}
@@ -26,8 +27,26 @@ with_forced place more s set = record s {
   offset = s.offset + more;
 }
 
-module _ (nodes : List Bool) (edges : List (Option Edge)) (carriers terminals : List ℕ) (forced : List Bool)
-    (offset : ℕ) (s : State) (is : held_state nodes edges carriers terminals forced offset ≡ s) where
+module _ (w : Inside) (s : State)
+    (is : held_state w.nodes w.edges.items w.carriers.items w.terminals.items w.forced w.offset ≡ s) where
+  abbrev nodes : List Bool
+  nodes = w.nodes
+
+  abbrev edges : List (Option Edge)
+  edges = w.edges.items
+
+  abbrev carriers : List ℕ
+  carriers = w.carriers.items
+
+  abbrev terminals : List ℕ
+  terminals = w.terminals.items
+
+  abbrev forced : List Bool
+  forced = w.forced
+
+  abbrev offset : ℕ
+  offset = w.offset
+
   abbrev held : State
   held = held_state nodes edges carriers terminals forced offset
 

@@ -19,17 +19,20 @@ use Rattle.graph_reduce.proofs.lemmas.HeldPlaces.{bundle_at_place}
 
 -- each place carries what its edge stands for
 originals_left : (carriers : List ℕ) (n : ℕ) (edges : List (Option Edge)) →
-    map (carried_by carriers) (places_left n edges) ≡ map (λ x. x.originals) (bundles_left (bundles_at carriers n edges))
+    map (carried_by carriers) (places_left n edges) ≡ map (λ x. x.originals) (bundles_left
+    (bundles_at carriers n edges))
 originals_left carriers n [] = refl
 originals_left carriers n (None ∷ edges) = originals_left carriers (n + 1) edges
-originals_left carriers n (Some e ∷ edges) = ap (λ more. carried_by carriers n ∷ more) (originals_left carriers (n + 1) edges)
+originals_left carriers n (Some e ∷ edges) = ap (λ more. carried_by carriers n ∷ more) (originals_left carriers
+    (n + 1) edges)
 
 -- the new number of a node
 number_at : (nodes : List Bool) (v : ℕ) → v < length nodes → slice_index (numbers_of nodes) v ≡ number_among nodes v
 number_at nodes v below =
     get_or-map (number_among nodes) (range_with_len 0 (length nodes)) v 0 0
     (omega (arith, length-range_with_len 0 (length nodes)))
-    ∙ ap (number_among nodes) (get_or-range_with_len 0 (length nodes) v 0 below ∙ (let same : 0 + v ≡ v = omega arith in same))
+    ∙ ap (number_among nodes) (get_or-range_with_len 0 (length nodes) v 0 below
+    ∙ (let same : 0 + v ≡ v = omega arith in same))
 
 -- the edges between new numbers
 edges_renumbered : (nodes : List Bool) (carriers : List ℕ) (n : ℕ) (edges : List (Option Edge)) →
@@ -58,11 +61,13 @@ few_left nodes = few_from 0 nodes
     few_from n (false ∷ flags) = omega (arith, few_from (n + 1) flags)
 
 -- the numbers of a set are below its size
-members_below : (n : ℕ) (flags : List Bool) (end : ℕ) → n + length flags ≤ end → All (λ v. v < end) (members_from n flags)
+members_below : (n : ℕ) (flags : List Bool) (end : ℕ) → n + length flags ≤ end →
+    All (λ v. v < end) (members_from n flags)
 members_below n [] end fits k d below = absurd (omega arith)
 members_below n (false ∷ flags) end fits k d below = members_below (n + 1) flags end (omega arith) k d below
 members_below n (true ∷ flags) end fits zero d below = omega arith
-members_below n (true ∷ flags) end fits (suc k) d below = members_below (n + 1) flags end (omega arith) k d (omega arith)
+members_below n (true ∷ flags) end fits (suc k) d below = members_below (n + 1) flags end (omega arith) k d
+    (omega arith)
 
 -- .. and the terminals
 terminals_renumbered : (nodes : List Bool) (terminals : List ℕ) → ((k : ℕ) → k < length terminals →
@@ -74,7 +79,8 @@ terminals_renumbered nodes (t ∷ terminals) below =
     let rest = terminals_renumbered nodes terminals (λ k inside. below (suc k) (omega arith)) in cc
 
 -- as many places are left as edges
-length-left : (nodes : List Bool) (carriers : List ℕ) (n : ℕ) (edges : List (Option Edge)) → length (places_left n edges) ≡
+length-left : (nodes : List Bool) (carriers : List ℕ) (n : ℕ) (edges : List (Option Edge)) →
+    length (places_left n edges) ≡
     length (map (λ x. renumbered nodes x.edge) (bundles_left (bundles_at carriers n edges)))
 length-left nodes carriers n [] = refl
 length-left nodes carriers n (None ∷ edges) = length-left nodes carriers (n + 1) edges

@@ -35,7 +35,8 @@ place_more (p ∷ places) [] n place below same = absurd (omega arith)
 place_more (p ∷ places) (flag ∷ set) zero place below same = or_false (flag && (place == p))
 place_more (p ∷ places) (flag ∷ set) (suc n) place below same =
     ap (λ b. (flag && (place == p)) || b) (place_more places set n place (omega arith) (omega arith))
-    ∙ or_assoc (flag && (place == p)) (has_place (take n places) set place) (has set n && (place == slice_index places n))
+    ∙ or_assoc (flag && (place == p)) (has_place (take n places) set place) (has set n &&
+    (place == slice_index places n))
 
 has_place_more : (places : List ℕ) (set : List Bool) (n place : ℕ) → n < length places → length places ≡ length set →
     has_place (take (n + 1) places) set place ≡
@@ -58,7 +59,8 @@ has_with set n k below = elim (cases_eq k n) [
     or_true false = refl
 
 module _ (places : List ℕ) (set chosen : List Bool) (n : ℕ) (below : n < length places)
-    (same : length places ≡ length set) (are : (place : ℕ) → has chosen place ≡ has_place (take n places) set place) where
+    (same : length places ≡ length set) (are : (place : ℕ) →
+    has chosen place ≡ has_place (take n places) set place) where
   pub chosen_with : has set n ≡ true → slice_index places n < length chosen → (place : ℕ) →
       has (slice_set chosen (slice_index places n) true) place ≡ has_place (take (n + 1) places) set place
   chosen_with is within place = has_with chosen (slice_index places n) place within

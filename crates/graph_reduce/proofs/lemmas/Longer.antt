@@ -43,7 +43,8 @@ module _ (s : State) (place later : ℕ) (x y : Edge) where
       subst (λ e. HasEnds e bx.edge.a bx.edge.b) (sym y_is) (subst (λ e. HasEnds y e.a e.b) (sym x_is) ends) in
       let step = drops_parallel s place later bx by clear
       (record { order = order; first_at = x_at; second_at = y_at; same_ends = ends' }) in
-      one_step s new (subst (IsStep s) (ap (λ (e : Edge). without_edge s (if nat_lt e.length bx.edge.length then place else later)) y_is
+      one_step s new (subst (IsStep s) (ap (λ (e : Edge). without_edge s
+      (if nat_lt e.length bx.edge.length then place else later)) y_is
       ∙ ap (λ (e : Edge). without_edge s (if nat_lt y.length e.length then place else later)) x_is ∙ sym is) step)
 
   -- one of the two places is empty
@@ -55,7 +56,8 @@ module _ (s : State) (place later : ℕ) (x y : Edge) where
       IsClearTo new (length new.edges) place (later + 1)
   clear_dropped clear new is = subst (λ t. IsClearTo t (length t.edges) place (later + 1)) (sym is)
       (clear_later dropped (length dropped.edges) place later
-      (subst (λ n. IsClearTo dropped n place later) (sym (length-set s.edges (if nat_lt y.length x.length then place else later) None))
+      (subst (λ n. IsClearTo dropped n place later) (sym (length-set s.edges
+      (if nat_lt y.length x.length then place else later) None))
       (clear_within dropped s (length s.edges) place later
       (within_without s (if nat_lt y.length x.length then place else later)) refl clear))
       (λ a b. gone (nat_lt y.length x.length) a b))

@@ -21,7 +21,8 @@ other_end_of x v (inl is) = record { other = x.edge.b; ends = inl (is, refl) }
 other_end_of x v (inr is) = record { other = x.edge.a; ends = inr (refl, is) }
 
 -- an end of an edge
-pub end_of : (s : State) (v other place : ℕ) (x : Bundle) → HasEdge s place x → HasEnds x.edge v other → EndsIn s v place
+pub end_of : (s : State) (v other place : ℕ) (x : Bundle) → HasEdge s place x → HasEnds x.edge v other →
+    EndsIn s v place
 end_of s v other place x at (inl is) = (x, at, inl is.0)
 end_of s v other place x at (inr is) = (x, at, inr is.1)
 

@@ -74,7 +74,8 @@ seen_apart s place v More apart has = has
 -- a place without an edge
 pub seen_none : (s : State) (place : ℕ) (seen : List NodeEdges) → ((x : Bundle) → ¬ HasEdge s place x) →
     AreSeenTo s place seen → AreSeenTo s (place + 1) seen
-seen_none s place seen none are v edges at = seen_apart s place v edges (λ (x, x_at, ends). none x x_at) (are v edges at)
+seen_none s place seen none are v edges at = seen_apart s place v edges (λ (x, x_at, ends). none x x_at)
+    (are v edges at)
 
 module _ (s : State) (place : ℕ) (x : Bundle) (at : HasEdge s place x) (seen : List NodeEdges)
     (are : AreSeenTo s place seen) where

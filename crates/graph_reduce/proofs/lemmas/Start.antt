@@ -61,7 +61,8 @@ distinct_of-push (a ∷ ns) n = rw (distinct_of-push ns n) (elim (cases_Bool (a 
 ])
 
 -- numbers of which none is this one
-none_carried : (start size place : ℕ) → place < start → carried_by (range_with_len start size) place ≡ replicate size false
+none_carried : (start size place : ℕ) → place < start →
+    carried_by (range_with_len start size) place ≡ replicate size false
 none_carried start zero place below = refl
 none_carried start (suc size) place below =
     let first : (start == place) ≡ false = ne_eqb start place (λ same. absurd (omega arith)) in

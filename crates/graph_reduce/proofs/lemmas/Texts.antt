@@ -1,14 +1,14 @@
 -- Texts of lists and sets, item after item.
 use Rattle.std.specs.Prelude.{ℕ, zero, suc, ◌≡◌, ◌+◌, ◌<◌, Bool, true, false, List, [], ◌∷◌, ◌++◌, flat_map, length, take, slice_get, slice_index_or, Some, if◌then◌else◌}
-use Rattle.std.proofs.Common.{refl, sym, ap, ◌∙◌, append_assoc, arith, length-append}
+use Rattle.std.proofs.Common.{sym, ap, ◌∙◌, append_assoc, arith, length-append}
 use Rattle.std.proofs.lemmas.Grind.{flat_map-append}
-use Rattle.std.proofs.lemmas.List.{append-nil, flat_map_more}
-use Rattle.std.proofs.lemmas.Option.{same_Some}
+use Rattle.std.proofs.lemmas.List.{append-nil, take_more}
+use Rattle.std.proofs.lemmas.Option.{get_or_from_slice_get, same_Some, slice_get_within}
 use Rattle.net_graph.specs.declared.edge.Edge.{Edge}
 use Rattle.net_graph.specs.Flags.{has}
 use Rattle.net_graph.specs.Members.{members_of}
 use Rattle.net_graph.specs.MembersLaws.{members_of-more}
-use Rattle.graph_reduce.specs.Text.{left_line, left_lines}
+use Rattle.graph_reduce.specs.Text.{left_line, left_lines, number_line}
 
 -- one flag more: the text of a number where it is set
 pub members_with : (f : ℕ → List ℕ) (set : List Bool) (n : ℕ) → n < length set → has set n ≡ true →
@@ -49,3 +49,11 @@ count_with set n below is = omega (
   ap length (members_of-more set n below ∙ ap (λ b. members_of (take n set) ++ (if b then n ∷ [] else [])) is),
   length-append (members_of (take n set)) (n ∷ []),
 )
+
+-- one number more
+pub number_more : (ns : List ℕ) (k n : ℕ) → slice_get ns k ≡ Some n →
+    flat_map number_line (take k ns) ++ number_line n ≡ flat_map number_line (take (k + 1) ns)
+number_more ns k n at = sym (ap (flat_map number_line) (take_more ns k n (slice_get_within ns k n at)
+    ∙ ap (λ m. take k ns ++ m ∷ []) (get_or_from_slice_get ns k n n at))
+    ∙ flat_map-append number_line (take k ns) (n ∷ [])
+    ∙ ap (λ more. flat_map number_line (take k ns) ++ more) (append-nil (number_line n)))

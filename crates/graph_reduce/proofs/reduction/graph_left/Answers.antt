@@ -11,7 +11,8 @@ renumbered_edges-requires c =
     let a = c.args.arrays.now in
     let below = ends_below c.args._g.now c.requires.arrays.graph a.nodes a.edges.items a.carriers.items
     a.terminals.items a.forced a.offset c.requires.arrays.reduced in
-    let size : length a.nodes ≡ length c.deref-2.result.now = sym (ap length (c.deref-2.ensures.value ∙ c.requires.numbers)
+    let size : length a.nodes ≡ length c.deref-2.result.now = sym (ap length (c.deref-2.ensures.value
+    ∙ c.requires.numbers)
     ∙ length-numbers a.nodes) in
     subst (λ n. HaveEndsBelow n c.deref.result.now) size
     (subst (HaveEndsBelow (length a.nodes)) (sym c.deref.ensures.value) below)
@@ -21,7 +22,8 @@ renumbered_terminals-requires c =
     let a = c.args.arrays.now in
     let below = terminals_below c.args._g.now c.requires.arrays.graph a.nodes a.edges.items a.carriers.items
     a.terminals.items a.forced a.offset c.requires.arrays.reduced in
-    let size : length a.nodes ≡ length c.deref-4.result.now = sym (ap length (c.deref-4.ensures.value ∙ c.requires.numbers)
+    let size : length a.nodes ≡ length c.deref-4.result.now = sym (ap length (c.deref-4.ensures.value
+    ∙ c.requires.numbers)
     ∙ length-numbers a.nodes) in
     subst (λ n. All (λ t. t < n) c.deref-3.result.now) size
     (subst (All (λ t. t < length a.nodes)) (sym c.deref-3.ensures.value) below)

@@ -16,9 +16,9 @@ invariant_of-result c =
     let a = c.in_ok-arrays.arrays in
     let graph = c.in_ok-arrays.ensures.graph in
     let few = few_nodes c.args.g.now graph a.nodes a.edges.items a.carriers.items a.terminals.items a.forced a.offset
-        c.in_ok-arrays.ensures.reduced in
+    c.in_ok-arrays.ensures.reduced in
     let out = laid_out c.args.g.now graph a.nodes a.edges.items a.carriers.items a.terminals.items a.forced a.offset
-        few c.in_ok-arrays.ensures.shaped in
+    few c.in_ok-arrays.ensures.shaped in
     let places = c.in_ok-places.ensures ∙ ap (places_left 0) c.deref.ensures.value in
     let origins = c.in_ok-numbering.numbering.origins.items in
     subst (λ left. IsLaidOut left origins c.in_ok-places.places.items a.carriers.items a.forced)

@@ -3,4 +3,5 @@ use Rattle.graph_reduce.proofs.lemmas.Start.{all_set}
 use Rattle.graph_reduce.proofs.start.every_node.Goals as goal
 
 pub returns : goal.returns
-returns c = all_set c.loop-v.set c.args.count c.loop-v.invariant.size (λ k below. c.loop-v.invariant.added k (omega arith))
+returns c = all_set c.loop-v.set c.args.count c.loop-v.invariant.size (λ k below. c.loop-v.invariant.added k
+    (omega arith))

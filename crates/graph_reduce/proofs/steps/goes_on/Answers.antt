@@ -27,7 +27,8 @@ pub returns-clause-done : goal.returns-clause-done
 returns-clause-done c = OnFalse_from c.takes_terminal.result _ (λ no.
     let same = OnFalse_at no c.takes_terminal.ensures.same in
     let none = OnFalse_at no c.takes_terminal.ensures.none in
-    let tidy = subst IsTidy (sym (same ∙ c.if-takes_passed.ensures.same ∙ c.if-takes_leaf.ensures.same)) c.requires.tidy in
+    let tidy = subst IsTidy (sym (same ∙ c.if-takes_passed.ensures.same
+    ∙ c.if-takes_leaf.ensures.same)) c.requires.tidy in
     all_done c.takes_terminal.new.work tidy
     (still_none c.takes_leaf.new.work c.takes_terminal.new.work (same ∙ c.if-takes_passed.ensures.same)
     c.if-takes_leaf.ensures.none)

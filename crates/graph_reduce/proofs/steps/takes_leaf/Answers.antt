@@ -9,7 +9,8 @@ lowest-requires-clause-numbered c = reached_numbered c.args.work.now c.requires.
 pub returns-in-Some-clause-more : goal.returns-in-Some-clause-more
 returns-in-Some-clause-more c = record {
   next = c.drop_leaf.new.work;
-  step = leaf_step c.args.work.now c.requires.tidy c.in-Some.v c.drop_leaf.new.work c.in-Some.ensures c.drop_leaf.ensures;
+  step = leaf_step c.args.work.now c.requires.tidy c.in-Some.v c.drop_leaf.new.work c.in-Some.ensures
+      c.drop_leaf.ensures;
   rest = no_steps c.drop_leaf.new.work;
   tidy = tidy_leaf c.in-Some.v c.args.work.now c.drop_leaf.new.work c.requires.tidy c.drop_leaf.ensures;
 }

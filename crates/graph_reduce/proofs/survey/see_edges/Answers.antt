@@ -17,5 +17,6 @@ loop-place-preserved c = elim c.match-edge.branch [
 
 pub returns : goal.returns
 returns c =
-    let same : c.loop-place.place ≡ length c.args.work.now.edges = omega (arith, c.place_count-place-end.ensures.count) in
+    let same : c.loop-place.place ≡ length c.args.work.now.edges = omega
+    (arith, c.place_count-place-end.ensures.count) in
     subst (λ n. AreSeenTo c.args.work.now n c.loop-place.seen) same c.loop-place.invariant

@@ -19,7 +19,8 @@ drop_node-requires c =
     omega (arith, within, ap (λ s. length s.nodes) (c.join_edges.ensures x y x_at y_at))
 
 pub returns : goal.returns
-returns c = edges_joined_at c.args.work.now c.drop_node.new.self c.args.v c.join_edges.new.self c.args.earlier c.args.later
+returns c = edges_joined_at c.args.work.now c.drop_node.new.self c.args.v c.join_edges.new.self c.args.earlier
+    c.args.later
     c.other_end.result c.other_end-2.result c.edge_at-x.result c.edge_at-y.result c.requires.node c.requires.free
     c.requires.edges c.edge_at-x.ensures c.edge_at-y.ensures c.other_end.ensures c.other_end-2.ensures
     c.join_edges.ensures c.drop_node.ensures

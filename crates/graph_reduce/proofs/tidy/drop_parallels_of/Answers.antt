@@ -21,4 +21,5 @@ returns-clause-clear c =
       c.loop-later.auto.later-end,
     ) in
     clear_next c.loop-later.work (length c.loop-later.work.edges) c.args.place
-    (subst (IsClearTo c.loop-later.work (length c.loop-later.work.edges) c.args.place) same c.loop-later.invariant.clear)
+    (subst (IsClearTo c.loop-later.work
+    (length c.loop-later.work.edges) c.args.place) same c.loop-later.invariant.clear)

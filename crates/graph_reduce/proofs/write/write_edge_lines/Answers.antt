@@ -1,5 +1,5 @@
 use Rattle.std.specs.Prelude.{◌≡◌, ◌<◌, ◌≤◌, length, take, slice_get, Some}
-use Rattle.std.proofs.Common.{ap, sym, subst, ◌∙◌, arith}
+use Rattle.std.proofs.Common.{ap, subst, arith}
 use Rattle.std.proofs.lemmas.List.{take_all}
 use Rattle.text_out.specs.GatherLaws.{gathers_two}
 use Rattle.text_out.specs.Gathers.{Gathers}
@@ -18,8 +18,8 @@ loop-n-preserved g c =
       c.graph.ensures.edges,
     ) in
     let at : slice_get r.graph.edges c.loop-n.n ≡ Some c.edge.result =
-        subst (λ h. slice_get h.edges c.loop-n.n ≡ Some c.edge.result) c.graph-in-loop-n.ensures.graph
-        c.edge.ensures.edge in
+    subst (λ h. slice_get h.edges c.loop-n.n ≡ Some c.edge.result) c.graph-in-loop-n.ensures.graph
+    c.edge.ensures.edge in
     gathers_two _ _ _ _ _ _ _ _ _ c.loop-n.invariant c.write_edge.ensures
     (left_lines-more r.graph.edges r.originals c.loop-n.n c.edge.result at below)
 

@@ -10,5 +10,5 @@ returns c = ap (λ es. held_state c.self.inside.nodes es c.self.inside.carriers.
     c.self.inside.forced c.self.inside.offset)
     (with_items_is c.self.inside.edges c.empty_all.new.edges (c.empty_all.auto.edges ∙ c.deref_mut.ensures.len)
     ∙ c.empty_all.ensures)
-    ∙ edges_dropped c.self.inside.nodes c.self.inside.edges.items c.self.inside.carriers.items c.self.inside.terminals.items c.self.inside.forced c.self.inside.offset c.args.self.now c.self.view_is
-    (length c.deref_mut.result.now) (ap length c.deref_mut.ensures.value)
+    ∙ edges_dropped c.self.inside c.args.self.now c.self.view_is (length c.deref_mut.result.now)
+    (ap length c.deref_mut.ensures.value)

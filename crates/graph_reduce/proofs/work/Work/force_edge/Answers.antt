@@ -6,16 +6,16 @@ use Rattle.graph_reduce.proofs.lemmas.HeldStates.{place_within, edge_forced}
 use Rattle.graph_reduce.proofs.work.Work.force_edge.Goals as goal
 
 pub index_mut-requires : goal.index_mut-requires
-index_mut-requires c = rw c.self.inside.edges.ok.0 (place_within c.self.inside.nodes c.self.inside.edges.items c.self.inside.carriers.items c.self.inside.terminals.items c.self.inside.forced c.self.inside.offset c.args.self.now c.self.view_is
-    c.args.place c.requires.place)
+index_mut-requires c = rw c.self.inside.edges.ok.0
+    (place_within c.self.inside c.args.self.now c.self.view_is c.args.place c.requires.place)
 
 pub returns : goal.returns
 returns c = λ x x_at.
     ap (λ set. held_state c.self.inside.nodes (slice_set c.self.inside.edges.items c.args.place None)
     c.self.inside.carriers.items c.self.inside.terminals.items set (c.self.inside.offset + c.args.more))
-    (c.add_carried.ensures.set ∙ ap (λ cs. union c.self.inside.forced (carried_by cs c.args.place)) c.deref.ensures.value)
-    ∙ edge_forced c.self.inside.nodes c.self.inside.edges.items c.self.inside.carriers.items c.self.inside.terminals.items c.self.inside.forced c.self.inside.offset c.args.self.now c.self.view_is
-    c.args.place c.args.more x x_at
+    (c.add_carried.ensures.set ∙ ap (λ cs. union c.self.inside.forced
+    (carried_by cs c.args.place)) c.deref.ensures.value)
+    ∙ edge_forced c.self.inside c.args.self.now c.self.view_is c.args.place c.args.more x x_at
 
 pub add_carried-requires-clause-sizes : goal.add_carried-requires-clause-sizes
 add_carried-requires-clause-sizes c = ap length c.deref.ensures.value ∙ c.self.invariant.each

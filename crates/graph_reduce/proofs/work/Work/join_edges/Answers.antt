@@ -7,13 +7,12 @@ use Rattle.graph_reduce.proofs.lemmas.HeldStates.{place_within, edges_joined}
 use Rattle.graph_reduce.proofs.work.Work.join_edges.Goals as goal
 
 pub index_mut-requires : goal.index_mut-requires
-index_mut-requires c = rw c.self.inside.edges.ok.0 (place_within c.self.inside.nodes c.self.inside.edges.items c.self.inside.carriers.items c.self.inside.terminals.items c.self.inside.forced c.self.inside.offset c.args.self.now c.self.view_is
-    c.args.earlier c.requires.earlier)
+index_mut-requires c = rw c.self.inside.edges.ok.0
+    (place_within c.self.inside c.args.self.now c.self.view_is c.args.earlier c.requires.earlier)
 
 pub index_mut-requires-2 : goal.index_mut-requires-2
 index_mut-requires-2 c =
-    let within = place_within c.self.inside.nodes c.self.inside.edges.items c.self.inside.carriers.items c.self.inside.terminals.items c.self.inside.forced c.self.inside.offset c.args.self.now c.self.view_is
-    c.args.later c.requires.later in
+    let within = place_within c.self.inside c.args.self.now c.self.view_is c.args.later c.requires.later in
     omega (arith, length-set c.self.inside.edges.items c.args.earlier (Some c.args.edge))
 
 pub returns : goal.returns
@@ -21,10 +20,11 @@ returns c = λ x y x_at y_at.
     ap (λ cs. held_state c.self.inside.nodes
     (slice_set (slice_set c.self.inside.edges.items c.args.earlier (Some c.args.edge)) c.args.later None) cs
     c.self.inside.terminals.items c.self.inside.forced c.self.inside.offset)
-    (with_items_is c.self.inside.carriers c.replace_all.new.numbers (c.replace_all.auto.numbers ∙ c.deref_mut.ensures.len)
+    (with_items_is c.self.inside.carriers c.replace_all.new.numbers (c.replace_all.auto.numbers
+    ∙ c.deref_mut.ensures.len)
     ∙ c.replace_all.ensures ∙ ap (replaced c.args.later c.args.earlier) c.deref_mut.ensures.value)
-    ∙ edges_joined c.self.inside.nodes c.self.inside.edges.items c.self.inside.carriers.items c.self.inside.terminals.items c.self.inside.forced c.self.inside.offset c.args.self.now c.self.view_is
-    c.args.earlier c.args.later c.args.edge x y c.requires.apart x_at y_at
+    ∙ edges_joined c.self.inside c.args.self.now c.self.view_is c.args.earlier c.args.later c.args.edge x y
+    c.requires.apart x_at y_at
 
 pub invariant_of-self : goal.invariant_of-self
 invariant_of-self c =
@@ -44,8 +44,7 @@ invariant_of-self c =
       within = subst (λ cs. All (λ place. place < length (slice_set (slice_set edges c.args.earlier (Some c.args.edge))
           c.args.later None)) cs) (sym new)
           (replaced_below c.args.later c.args.earlier _ carriers
-          (let below = place_within c.self.inside.nodes edges carriers c.self.inside.terminals.items
-          c.self.inside.forced c.self.inside.offset c.args.self.now c.self.view_is c.args.earlier c.requires.earlier in
+          (let below = place_within c.self.inside c.args.self.now c.self.view_is c.args.earlier c.requires.earlier in
           omega (arith, size, below))
           (subst (λ n. All (λ place. place < n) carriers) (sym size) c.self.invariant.within));
     }

@@ -3,4 +3,5 @@ use Rattle.graph_reduce.proofs.lemmas.HeldStates.{place_count_is}
 use Rattle.graph_reduce.proofs.work.Work.place_count.Goals as goal
 
 pub returns-clause-count : goal.returns-clause-count
-returns-clause-count c = c.len.ensures ∙ c.self.inside.edges.ok.0 ∙ place_count_is c.self.inside.nodes c.self.inside.edges.items c.self.inside.carriers.items c.self.inside.terminals.items c.self.inside.forced c.self.inside.offset c.args.self.now c.self.view_is
+returns-clause-count c = c.len.ensures ∙ c.self.inside.edges.ok.0
+    ∙ place_count_is c.self.inside c.args.self.now c.self.view_is
