@@ -1,5 +1,5 @@
 -- A network that was found in a reduction can be lifted.
-use Rattle.std.proofs.Common.{ℕ, ◌≡◌, ◌+◌, ◌<◌, ◌≤◌, ◌^◌, Bool, true, List, length, replicate, Some, refl, subst, sym, ap, ◌∙◌, arith, length-replicate}
+use Rattle.std.proofs.Common.{ℕ, ◌≡◌, ◌+◌, ◌<◌, ◌≤◌, ◌^◌, Bool, true, List, length, Some, Result, Ok, Err, IfOk, ap, ◌∙◌, arith, length-replicate}
 use Rattle.std.specs.Prelude.{slice_get}
 use Rattle.std.proofs.lemmas.List.{get_or-replicate}
 use Rattle.std.proofs.lemmas.List.Elements.{All-weaker}
@@ -15,8 +15,10 @@ use Rattle.graph_reduce.specs.Lifting.{KeepsNetworks}
 use Rattle.graph_reduce.specs.Reduction.{Reduction, lift_of}
 use Rattle.graph_solve.specs.Task.{all_edges}
 use Rattle.graph_tools.specs.declared.lifted.Lifted.{Lifted}
-use Rattle.graph_tools.specs.Lifted.{lifted_by}
-use Rattle.graph_tools.specs.Solution.{IsAnswerFor}
+use Rattle.graph_tools.specs.Lifted.{IsLiftedFor, lifted_by}
+use Rattle.graph_tools.specs.Reduce.{IsReduced}
+use Rattle.graph_tools.specs.Solution.{IsAnswerFor, IsSpelled}
+use Rattle.graph_tools.proofs.SolutionLaws.{permitted_answer}
 
 -- each edge is one of all
 has_edge : (g : Graph) (e : ℕ) → e < length g.edges → slice_get (all_edges g) e ≡ Some true
@@ -74,3 +76,12 @@ lifted_same r a set same is =
       optimal = h.optimal;
     } in
     ap (λ s. told s a.head) same ∙ ap (told (lift_of r a.network)) is.head
+
+-- the network of an answer in the reduced graph, lifted, is one that is lifted in the graph
+pub lifted_for : {E : Type 0} (g : Graph) (r : Reduction) (a : Answer) (result : Result Lifted E) → IsReduced g r →
+    IsAnswerFor 100 r.graph a → IsSpelled (record { graph = r.graph; answer = a }) →
+    IfOk result (λ l. l ≡ lifted_by r a.network a.tree) → IfOk result (IsLiftedFor g)
+lifted_for g r a (Ok l) reduced is spells same =
+    let permitted = permitted_answer 100 r.graph (record { graph = r.graph; answer = a }) is spells in
+    (r, a.network, a.tree, reduced, permitted, same)
+lifted_for g r a (Err memory) reduced is spells same = tt
