@@ -52,7 +52,7 @@ pub checks_graph_truly : (name : List ℕ) (before after : Outside) (file : StpV
 checks_graph_truly name before after file bytes (Accepted length bound optimal) status checked told ends =
     let g = graph_of_stp file in
     let (network, says) = checked.judges.accepted length bound optimal refl in
-    let (answer, tree, accepts, _) = says in
+    let (answer, tree, accepts, length_is, bound_is, optimal_is) = says in
     let below = checked.judges.bound length bound optimal refl in (
       file,
       bytes,

@@ -58,7 +58,7 @@ pub(crate) fn solution_in(
     graph: NetGraph,
     options: GraphOptions,
 ) -> Result<GraphSolution, AllocError>
-    requires { IsNetwork graph.now (all_edges graph.now) }
+    requires { IsNetwork graph (all_edges graph) }
     ensures { IfOk result (IsFor options.openings graph) }
 {
     let answer = answer_in(alloc, &graph, options)?;
