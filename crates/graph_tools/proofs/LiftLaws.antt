@@ -1,7 +1,7 @@
 -- A network that was found in a reduction can be lifted.
-use Rattle.std.proofs.Common.{ℕ, ◌≡◌, ◌+◌, ◌<◌, ◌≤◌, ◌^◌, Bool, true, List, length, Some, Result, Ok, Err, IfOk, ap, ◌∙◌, arith, length-replicate}
+use Rattle.std.proofs.Common.{ℕ, ◌≡◌, ◌<◌, ◌^◌, Bool, true, List, length, Some, Result, Ok, Err, IfOk, ap, ◌∙◌, arith}
 use Rattle.std.specs.Prelude.{slice_get}
-use Rattle.std.proofs.lemmas.List.{get_or-replicate}
+use Rattle.std.proofs.lemmas.List.{get_or-replicate, length-replicate}
 use Rattle.std.proofs.lemmas.List.Elements.{All-weaker}
 use Rattle.std.proofs.lemmas.Option.{slice_get-get_or, slice_get_within}
 use Rattle.net_graph.specs.Graph.{Graph, IsGraph, root_of}
@@ -12,7 +12,7 @@ use Rattle.cut_cert.specs.declared.answer.Answer.{Answer}
 use Rattle.cut_cert.specs.declared.head.AnswerHead.{AnswerHead}
 use Rattle.graph_reduce.specs.Fitness.{IsFitFor}
 use Rattle.graph_reduce.specs.Lifting.{KeepsNetworks}
-use Rattle.graph_reduce.specs.Reduction.{Reduction, lift_of}
+use Rattle.graph_reduce.specs.Reduction.{Reduction}
 use Rattle.graph_solve.specs.Task.{all_edges}
 use Rattle.graph_tools.specs.declared.lifted.Lifted.{Lifted}
 use Rattle.graph_tools.specs.Lifted.{IsLiftedFor, lifted_by}
@@ -57,25 +57,6 @@ pub bound_small : (r : Reduction) (a : Answer) → IsGraph r.graph → IsAnswerF
 bound_small r a graph is =
     let same = ap (λ (h : AnswerHead). h.bound) is.head in
     let small = length_of-small r.graph a.network graph in omega (arith, same, small)
-
--- what is told of an answer, lifted
-pub lifted_same : (r : Reduction) (a : Answer) (set : List Bool) → set ≡ lift_of r a.network →
-    IsAnswerFor 100 r.graph a →
-    record {
-      network = set;
-      length = a.head.length + r.offset;
-      bound = a.head.bound + r.offset;
-      optimal = a.head.optimal;
-    } ≡ lifted_by r a.network a.tree
-lifted_same r a set same is =
-    let told : List Bool → AnswerHead → Lifted =
-    λ s h. record {
-      network = s;
-      length = h.length + r.offset;
-      bound = h.bound + r.offset;
-      optimal = h.optimal;
-    } in
-    ap (λ s. told s a.head) same ∙ ap (told (lift_of r a.network)) is.head
 
 -- the network of an answer in the reduced graph, lifted, is one that is lifted in the graph
 pub lifted_for : {E : Type 0} (g : Graph) (r : Reduction) (a : Answer) (result : Result Lifted E) → IsReduced g r →

@@ -1,6 +1,5 @@
-use Rattle.std.specs.Prelude.{◌≡◌, ◌+◌, ◌<◌, ◌≤◌, ◌++◌, ◌∷◌, [], length, take, true, if◌then◌else◌}
+use Rattle.std.specs.Prelude.{◌+◌, ◌<◌, length}
 use Rattle.std.proofs.Common.{ap, sym, ◌∙◌, arith}
-use Rattle.net_graph.specs.Members.{members_of}
 use Rattle.graph_reduce.proofs.lemmas.LeftLists.{number_is, number_least}
 use Rattle.graph_reduce.proofs.lemmas.Texts.{count_with, members_without}
 use Rattle.graph_tools.proofs.lifted.count_of.Goals as goal

@@ -1,5 +1,5 @@
-use Rattle.std.specs.Prelude.{◌≡◌, ◌+◌, ◌<◌, length, take, flat_map, true, false}
-use Rattle.std.proofs.Common.{ap, sym, subst, ◌∙◌, arith}
+use Rattle.std.specs.Prelude.{◌+◌, ◌<◌, length, take, flat_map}
+use Rattle.std.proofs.Common.{sym, subst, ◌∙◌, arith}
 use Rattle.text_out.specs.GatherLaws.{gathers_two}
 use Rattle.text_out.specs.Gathers.{Gathers}
 use Rattle.net_graph.specs.Members.{members_of}
