@@ -1,7 +1,5 @@
 -- From what `reduce` found to what is due to the text.
-use Rattle.std.proofs.Common.{ℕ, ◌≡◌, Bool, List, Result, Ok, Err, IfOk, refl, subst, sym, ap}
-use Rattle.cert_tree.specs.declared.split.SplitOn.{SplitOn}
-use Rattle.cert_tree.specs.Tree.{Tree}
+use Rattle.std.proofs.Common.{ℕ, List, Result, Ok, Err, IfOk, refl, subst, ap}
 use Rattle.net_graph.specs.Graph.{Graph}
 use Rattle.graph_solve.specs.Task.{graph_of_stp}
 use Rattle.frame.specs.declared.status.AnswerStatus.{AnswerStatus}

@@ -1,5 +1,5 @@
 -- What is true where `reduce` printed.
-use Rattle.std.specs.Prelude.{ℕ, ◌≡◌, ◌+◌, Bool, true, false, List, ◌↔◌}
+use Rattle.std.specs.Prelude.{ℕ, ◌≡◌, Bool, true, false, List, ◌↔◌}
 use Rattle.rst_outside.specs.Sink.{Appended}
 use Rattle.rst_outside.specs.Source.{CameToTheEnd}
 use Rattle.net_graph.specs.Graph.{Graph, total_of}
