@@ -11,7 +11,11 @@ pub(crate) fn have_same_ends(x: Edge, y: Edge) -> bool
     ensures same { OnTrue result (HasEnds y x.a x.b) }
     ensures apart { OnFalse result (¬ HasEnds y x.a x.b) }
 {
-    (x.a == y.a && x.b == y.b) || (x.a == y.b && x.b == y.a)
+    if x.a == y.a {
+        x.b == y.b
+    } else {
+        x.a == y.b && x.b == y.a
+    }
 }
 
 /// The other end of an edge of a node.
