@@ -5,3 +5,10 @@ pub mod Reduction
 pub mod Lifting
 pub mod Fitness
 pub mod Ending
+pub mod Held
+pub mod Clear
+pub mod Survey
+pub mod NodeRules
+pub mod Left
+pub mod LeftArrays
+pub mod Text

@@ -1,6 +1,21 @@
 //! Reductions of Steiner problems in graphs: smaller graphs whose networks lift.
 #![tactic(auto)]
 
+mod ends;
 mod laws;
+mod left;
+mod node_edges;
+mod node_rules;
+mod numbers;
+mod reduction;
+mod start;
+mod steps;
+mod survey;
+mod taken;
+mod tidy;
+mod work;
+mod write;
 
 pub use laws::{lifting_keeps_length, reductions_end, reductions_fit};
+pub use reduction::{Reduced, reduce};
+pub use write::write_reduced;

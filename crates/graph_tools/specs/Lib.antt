@@ -3,3 +3,7 @@ pub mod Solve
 pub mod Check
 pub mod Truth
 pub mod TruthLaws
+pub mod Reduce
+pub mod Lifted
+pub mod ReduceTruth
+pub mod ReduceTruthLaws

@@ -7,6 +7,7 @@ use Rattle.cert_tree.specs.declared.split.SplitOn.{SplitOn}
 use Rattle.cert_tree.specs.Tree.{Tree}
 use Rattle.cut_cert.specs.declared.form.Form.TheVariants as form
 use Rattle.cut_cert.specs.declared.version.Version.TheVariants as version
+use Rattle.cut_cert.specs.declared.answer.Answer.{Answer}
 use Rattle.cut_cert.specs.Notes.{no_note}
 use Rattle.cut_cert.specs.Text.{answer_text}
 use Rattle.cut_cert.specs.Spelling.{SpellsAnswer}
@@ -76,3 +77,7 @@ pub record IsFor (openings : ℕ) (g : Graph) (s : GraphSolution) : Type 0 where
   pub head : s.answer.head
       ≡ head_with openings (length_of g s.answer.network) (value_on g s.answer.tree) no_note
   pub fits : IsAnswerOn g s.answer
+
+-- The answer is one in this graph.
+abbrev pub IsAnswerFor : ℕ → Graph → Answer → Type 0
+IsAnswerFor openings g a = IsFor openings g (record { graph = g; answer = a })

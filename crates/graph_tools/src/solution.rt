@@ -3,7 +3,7 @@
 ghost use Rattle.std.specs.Prelude.{◌≡◌, IfOk};
 ghost use Rattle.net_graph.specs.Network.{IsNetwork};
 ghost use Rattle.graph_solve.specs.Task.{all_edges};
-ghost use Rattle.graph_tools.specs.Solution.{IsFor, IsPrintable, IsSpelled, solution_status, solution_text};
+ghost use Rattle.graph_tools.specs.Solution.{IsAnswerFor, IsFor, IsPrintable, IsSpelled, solution_status, solution_text};
 
 use cut_cert::{Answer as CutAnswer, ConcatNote, write_graph_answer};
 use frame::{Answer, AnswerStatus};
@@ -52,8 +52,7 @@ impl Answer for GraphSolution {
     }
 }
 
-/// The answer in a graph: what a search finds that begins with a network which grows along shortest paths and is made
-/// short by local search. An `Err` is want of memory.
+/// The answer in a graph. An `Err` is want of memory.
 pub(crate) fn solution_in(
     alloc: Global,
     graph: NetGraph,
@@ -62,12 +61,25 @@ pub(crate) fn solution_in(
     requires { IsNetwork graph (all_edges graph) }
     ensures { IfOk result (IsFor options.openings graph) }
 {
-    let first = first_network(alloc, &graph)?;
+    let answer = answer_in(alloc, &graph, options)?;
+    Ok(GraphSolution { graph, answer })
+}
+
+/// What is answered in a graph: what a search finds that begins with a network which grows along shortest paths and is
+/// made short by local search. An `Err` is want of memory.
+pub(crate) fn answer_in(
+    alloc: Global,
+    graph: &NetGraph,
+    options: GraphOptions,
+) -> Result<CutAnswer, AllocError>
+    requires { IsNetwork graph.now (all_edges graph.now) }
+    ensures { IfOk result (IsAnswerFor options.openings graph.now) }
+{
+    let first = first_network(alloc, graph)?;
     let shortening = Shortening {
-        graph: &graph,
+        graph,
         descents: DESCENTS,
     };
-    let solved = searched(alloc, &graph, first, options, &shortening)?;
-    let answer = answer_with(options.openings, NO_NOTE, solved);
-    Ok(GraphSolution { graph, answer })
+    let solved = searched(alloc, graph, first, options, &shortening)?;
+    Ok(answer_with(options.openings, NO_NOTE, solved))
 }

@@ -59,6 +59,7 @@ commands_are_simple tool.Upgrade = refl
 commands_are_simple tool.Slack = refl
 commands_are_simple tool.Graph = refl
 commands_are_simple tool.Checkgraph = refl
+commands_are_simple tool.Reduce = refl
 
 -- the command took the words
 pub taken : (t : Tool) (words : List Text) (app : App) (rows : List Row) → app ≡ command_of t → fault_of app words ≡ [] → rows ≡ matches_of app words
@@ -196,6 +197,7 @@ limits tool.Slack old m p is =
     free (ascent_in (rows_of (found_of m))) (Request.Slack (number_in 64 (codes "above") (rows_of (found_of m)))) (λ x. tt)
 limits tool.Graph old m p is = free (graph_in (rows_of (found_of m))) Request.Graph (λ x. tt)
 limits tool.Checkgraph old m p is = free (first_of (codes "stp") (rows_of (found_of m))) Request.Checkgraph (λ x. tt)
+limits tool.Reduce old m p is = free (truth_in (codes "solve") (rows_of (found_of m))) Request.Reduce (λ x. tt)
 
 -- ---- what the code holds
 

@@ -27,11 +27,12 @@ name_of tool.Upgrade = codes "upgrade"
 name_of tool.Slack = codes "slack"
 name_of tool.Graph = codes "graph"
 name_of tool.Checkgraph = codes "checkgraph"
+name_of tool.Reduce = codes "reduce"
 
 abbrev pub all_tools : List Tool
 all_tools = tool.Points ∷ tool.Stp2points ∷ tool.Rfst ∷ tool.Prunefst ∷ tool.Bb ∷ tool.Solve ∷ tool.Check ∷ tool.Dumpfst
     ∷ tool.Fst2graph ∷ tool.Plot ∷ tool.Trial ∷ tool.Upgrade ∷ tool.Slack ∷ tool.Graph
-    ∷ tool.Checkgraph ∷ []
+    ∷ tool.Checkgraph ∷ tool.Reduce ∷ []
 
 -- the tool of this name
 abbrev pub tool_named : Text → Option Tool
@@ -77,6 +78,10 @@ above_rule = record (new_rule (codes "above")) {
 abbrev pub pieces_rule : Rule
 pieces_rule = record (new_rule (codes "pieces")) { long = Some (codes "pieces"); action = Some SetTrue }
 
+-- the option `--solve`, which takes none either
+abbrev pub solve_rule : Rule
+solve_rule = record (new_rule (codes "solve")) { long = Some (codes "solve"); action = Some SetTrue }
+
 abbrev pub count_rule : Rule
 count_rule = record (operand_rule (codes "count")) { parser = whole_number 1 50 }
 
@@ -119,6 +124,7 @@ arguments_of tool.Upgrade = points_rule ∷ []
 arguments_of tool.Slack = above_rule ∷ ascent_rule ∷ []
 arguments_of tool.Graph = graph_rules
 arguments_of tool.Checkgraph = stp_rule ∷ []
+arguments_of tool.Reduce = solve_rule ∷ []
 
 -- the command with further arguments
 abbrev pub with_rules : App → List Rule → App

@@ -34,6 +34,7 @@ pub data Request : Type 0 where
   Slack : (above : Option ℕ) → AscentRule → Request
   Graph : GraphOptions → Request
   Checkgraph : (graph : Text) → Request
+  Reduce : (solve : Bool) → Request
 
 -- the request of the code, which holds a file's name by reference
 abbrev pub meaning : Asked → Request
@@ -52,6 +53,7 @@ meaning (asked.Upgrade points) = Request.Upgrade points.now
 meaning (asked.Slack above ascent) = Request.Slack above ascent
 meaning (asked.Graph choices) = Request.Graph choices
 meaning (asked.Checkgraph graph) = Request.Checkgraph graph.now
+meaning (asked.Reduce solve) = Request.Reduce solve
 
 -- ---- a tool's request, by the values of its arguments
 
@@ -100,6 +102,7 @@ request_by tool.Upgrade rows = option_map Request.Upgrade (first_of (codes "poin
 request_by tool.Slack rows = option_map (Request.Slack (number_in 64 (codes "above") rows)) (ascent_in rows)
 request_by tool.Graph rows = option_map Request.Graph (graph_in rows)
 request_by tool.Checkgraph rows = option_map Request.Checkgraph (first_of (codes "stp") rows)
+request_by tool.Reduce rows = option_map Request.Reduce (truth_in (codes "solve") rows)
 
 -- ---- the words
 

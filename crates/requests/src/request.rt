@@ -55,6 +55,11 @@ pub enum Request<'a> {
     Checkgraph {
         graph: &'a str,
     },
+    /// Reads an STP file and prints the reduction of its graph; where `solve` says so, a network of the graph that is
+    /// found in the reduction.
+    Reduce {
+        solve: bool,
+    },
 }
 
 /// Points to draw.

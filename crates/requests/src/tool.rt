@@ -28,6 +28,7 @@ pub(crate) enum Tool {
     Slack,
     Graph,
     Checkgraph,
+    Reduce,
 }
 
 impl Tool {
@@ -51,6 +52,7 @@ impl Tool {
             "slack" => Some(Tool::Slack),
             "graph" => Some(Tool::Graph),
             "checkgraph" => Some(Tool::Checkgraph),
+            "reduce" => Some(Tool::Reduce),
             _ => None,
         }
     }
@@ -75,6 +77,7 @@ impl Tool {
             Tool::Slack => command::slack(alloc),
             Tool::Graph => command::graph(alloc),
             Tool::Checkgraph => command::checkgraph(alloc),
+            Tool::Reduce => command::reduce(alloc),
         }
     }
 
@@ -115,6 +118,9 @@ impl Tool {
             Tool::Graph => Request::Graph(value::graph(matches)?),
             Tool::Checkgraph => Request::Checkgraph {
                 graph: value::text(matches, "stp")?,
+            },
+            Tool::Reduce => Request::Reduce {
+                solve: value::flag(matches, "solve")?,
             },
         })
     }

@@ -2,3 +2,4 @@ pub mod Heads
 pub mod Completeness
 pub mod Asked
 pub mod GraphRuns
+pub mod ReduceRuns

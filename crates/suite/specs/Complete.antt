@@ -1,5 +1,5 @@
 -- How a run ends that nothing troubles.
-use Rattle.std.specs.Prelude.{ℕ, ◌≡◌, List, length, Option, Some, None, Ok, ◌⊎◌}
+use Rattle.std.specs.Prelude.{ℕ, ◌≡◌, Bool, true, false, List, length, Option, Some, None, Ok, ◌⊎◌}
 use Rattle.rst_outside.specs.Counts.{Rose}
 use Rattle.points_in.specs.declared.point.Point.{Point}
 use Rattle.frame.specs.declared.status.TheConstants.{MISUSED, NO_MEMORY}
@@ -24,11 +24,16 @@ use Rattle.stp_format.specs.Value.{StpValue}
 use Rattle.graph_tools.specs.declared.checking.TheConstants.{GRAPH_ANSWER_LIMIT}
 use Rattle.graph_inputs.specs.Reading.{IsTaskText}
 use Rattle.requests.specs.Requests.Request.{Points, Stp2points, Rfst, Prunefst, Bb, Solve, Check, Dumpfst, Fst2graph, Plot}
-use Rattle.requests.specs.Requests.Request.{Trial, Upgrade, Slack, Graph, Checkgraph}
+use Rattle.requests.specs.Requests.Request.{Trial, Upgrade, Slack, Graph, Checkgraph, Reduce}
 
 -- no write to `out` fails
 abbrev pub IsWritable : Outside → Outside → Type 0
 IsWritable before after = Rose before.written.out.faults after.written.out.faults → ⊥
+
+-- A reduction was printed, or a lifted network, which may be short of optimal; or memory was wanting.
+abbrev pub EndsComplete : Bool → ℕ → Type 0
+EndsComplete false status = (status ≡ 0) ⊎ (status ≡ NO_MEMORY)
+EndsComplete true status = ((status ≡ 0) ⊎ (status ≡ 3)) ⊎ (status ≡ NO_MEMORY)
 
 -- Where what a tool reads is told, within its limits and without fault, and no read or write fails, the status is one
 -- that the tool answers with, or memory was wanting.
@@ -94,4 +99,7 @@ Completes (Some (Checkgraph name)) before after status =
     (text bytes : List ℕ) (file : StpValue) → HasFile TEXT_LIMIT before.read.shelf after.read.shelf name text →
     IsTaskText text file → HasInput GRAPH_ANSWER_LIMIT before.read.input after.read.input bytes →
     IsWritable before after → ((status ≡ 0) ⊎ (status ≡ 1)) ⊎ (status ≡ NO_MEMORY)
+Completes (Some (Reduce solve)) before after status =
+    (bytes : List ℕ) (file : StpValue) → HasInput TEXT_LIMIT before.read.input after.read.input bytes →
+    IsTaskText bytes file → IsWritable before after → EndsComplete solve status
 Completes None before after status = (status ≡ MISUSED) ⊎ (status ≡ NO_MEMORY)

@@ -1,5 +1,5 @@
 -- What is true of what the program printed.
-use Rattle.std.specs.Prelude.{ℕ, ◌≡◌, List, Option, Some, ◌⊎◌}
+use Rattle.std.specs.Prelude.{ℕ, ◌≡◌, Bool, List, Option, Some, ◌⊎◌}
 use Rattle.rst_outside.specs.Source.{CameToTheEnd}
 use Rattle.points_in.specs.declared.point.Point.{Point}
 use Rattle.points_in.specs.Terminals.{terminals_of}
@@ -19,11 +19,12 @@ use Rattle.stp_format.specs.Value.{StpValue}
 use Rattle.graph_solve.specs.Task.{graph_of_stp}
 use Rattle.graph_inputs.specs.Reading.{IsTaskText}
 use Rattle.graph_tools.specs.Truth.{ChecksGraphTruly, SolvesTruly}
+use Rattle.graph_tools.specs.ReduceTruth.{ReducesTruly}
 use Rattle.search_rules.specs.declared.options.SearchOptions.{SearchOptions}
 use Rattle.search_rules.specs.declared.rules.AscentRule.{AscentRule}
 use Rattle.requests.specs.declared.request.Drawing.{Drawing}
 use Rattle.search_rules.specs.declared.options.GraphOptions.{GraphOptions}
-use Rattle.requests.specs.Requests.Request.{Bb, Solve, Check, Trial, Slack, Graph, Checkgraph}
+use Rattle.requests.specs.Requests.Request.{Bb, Solve, Check, Trial, Slack, Graph, Checkgraph, Reduce}
 
 -- What `solve` printed is true: the input was read to its end, it is a text of points, and the bytes that went out are
 -- an answer that may be printed for its terminals and for the kept ones of their trees (`SearchesTruly`): the answer of
@@ -90,3 +91,11 @@ GraphHeadline request before after status = (options : GraphOptions) → request
 abbrev pub CheckgraphHeadline : Option Request → Outside → Outside → ℕ → Type 0
 CheckgraphHeadline request before after status = (name : List ℕ) → request ≡ Some (Checkgraph name) →
     (status ≡ 0) ⊎ (status ≡ 1) → ChecksGraphTruly name before after status
+
+-- What `reduce` printed is true: the input was read to its end, it is an STP file whose graph is a Steiner problem, and
+-- the bytes that went out are the reduction of this graph, each of whose networks lifts to one of the graph. With
+-- `--solve` they tell a network of the graph with its length, lifted from the answer that a search found in the
+-- reduction, and a bound below which no network of the graph falls (`LiftsTruly`).
+abbrev pub ReduceHeadline : Option Request → Outside → Outside → ℕ → Type 0
+ReduceHeadline request before after status = (solve : Bool) → request ≡ Some (Reduce solve) →
+    (status ≡ 0) ⊎ (status ≡ 3) → ReducesTruly solve before after status

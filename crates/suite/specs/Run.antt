@@ -18,14 +18,15 @@ use Rattle.trial_tools.specs.Trial.{EndsTrial}
 use Rattle.slack_tools.specs.Slack.{EndsSlack}
 use Rattle.graph_tools.specs.Solve.{EndsGraph}
 use Rattle.graph_tools.specs.Check.{EndsCheckgraph}
+use Rattle.graph_tools.specs.Lifted.{EndsReduceAs}
 use Rattle.requests.specs.Requests.{Request}
 use Rattle.requests.specs.Requests.Request.{Points, Stp2points, Rfst, Prunefst, Bb, Solve, Check, Dumpfst, Fst2graph, Plot}
-use Rattle.requests.specs.Requests.Request.{Trial, Upgrade, Slack, Graph, Checkgraph}
+use Rattle.requests.specs.Requests.Request.{Trial, Upgrade, Slack, Graph, Checkgraph, Reduce}
 
 -- the text on `err` where the words ask for nothing
 abbrev pub usage_line : List ℕ
 usage_line = codes "usage: rst points|stp2points|rfst|prunefst|bb|solve|check|dumpfst|fst2graph|plot"
-    ++ codes "|trial|upgrade|slack|graph|checkgraph [WORDS]\n"
+    ++ codes "|trial|upgrade|slack|graph|checkgraph|reduce [WORDS]\n"
 
 -- Memory is wanting while the words are read: nothing is read or printed.
 pub record IsShort (before after : Outside) (status : ℕ) : Type 0 where
@@ -58,6 +59,7 @@ EndsAsAsked (Some (Upgrade points)) before after status = EndsUpgrade points bef
 EndsAsAsked (Some (Slack above ascent)) before after status = EndsSlack above before after status
 EndsAsAsked (Some (Graph options)) before after status = EndsGraph options.openings before after status
 EndsAsAsked (Some (Checkgraph name)) before after status = EndsCheckgraph name before after status
+EndsAsAsked (Some (Reduce solve)) before after status = EndsReduceAs solve before after status
 EndsAsAsked None before after status = IsMisused before after status
 
 -- A run of the program with the request that its words make.

@@ -115,7 +115,7 @@ fits_lone : (g : Graph) (v : ℕ) (old new : State) → Fits g old → DropsLone
 fits_lone g v old new fits drops = subst (Fits g) (sym drops.becomes)
     (fits_less g old _ fits (length-set old.nodes v false) refl refl refl (omega arith) (λ n x at. at))
 
-length-union : (xs ys : List Bool) → length xs ≡ length ys → length (union xs ys) ≡ length ys
+pub length-union : (xs ys : List Bool) → length xs ≡ length ys → length (union xs ys) ≡ length ys
 length-union [] ys size = refl
 length-union (x ∷ xs) [] size = absurd (omega arith)
 length-union (x ∷ xs) (y ∷ ys) size = ap suc (length-union xs ys (omega arith))

@@ -5,6 +5,7 @@ use Rattle.requests.specs.Requests.{meaning}
 use Rattle.suite.proofs.Asked.{solve_asked_completes, bb_asked_completes, check_asked_completes, plot_asked_completes, upgrade_asked_completes, dump_asked_completes, rfst_asked_completes, prune_asked_completes, graph_asked_completes, points_asked_completes, stp_asked_completes, solve_asked_runs, bb_asked_runs, solve_asked_headline, bb_asked_headline, check_asked_headline, trial_asked_completes, trial_asked_headline, slack_asked_completes, slack_asked_headline}
 use Rattle.suite.proofs.GraphRuns.{checkgraph_asked_completes, checkgraph_asked_headline}
 use Rattle.suite.proofs.GraphRuns.{graph_asked_headline, graph_asked_completes as network_asked_completes}
+use Rattle.suite.proofs.ReduceRuns.{reduce_asked_completes, reduce_asked_headline}
 use Rattle.suite.proofs.program.answer.Goals as goal
 
 pub returns-in-Some-Solve-clause-run : goal.returns-in-Some-Solve-clause-run
@@ -250,3 +251,22 @@ returns-in-Some-Checkgraph-clause-complete g c =
     c.task_has_no_fault.ensures c.in-Some-Checkgraph.graph.now
     (search rules)
     c.checkgraph.ensures
+
+pub returns-in-Some-Reduce-clause-reduced : goal.returns-in-Some-Reduce-clause-reduced
+returns-in-Some-Reduce-clause-reduced g c =
+    reduce_asked_headline (option_map meaning c.args.request)
+    (outside (g.I.Source.state c.args.input.now) (g.O.Sink.state c.args.out.now) (g.R.Sink.state c.args.err.now) (g.S.Shelf.state c.args.shelf.now))
+    (outside (g.I.Source.state c.reduce.new.input) (g.O.Sink.state c.reduce.new.out) (g.R.Sink.state c.reduce.new.err) (g.S.Shelf.state c.args.shelf.now))
+    c.reduce.result c.in-Some-Reduce.solve
+    (search rules)
+    (c.reduce.ensures (g.S.Shelf.state c.args.shelf.now))
+
+pub returns-in-Some-Reduce-clause-complete : goal.returns-in-Some-Reduce-clause-complete
+returns-in-Some-Reduce-clause-complete g c =
+    reduce_asked_completes (option_map meaning c.args.request)
+    (outside (g.I.Source.state c.args.input.now) (g.O.Sink.state c.args.out.now) (g.R.Sink.state c.args.err.now) (g.S.Shelf.state c.args.shelf.now))
+    (outside (g.I.Source.state c.reduce.new.input) (g.O.Sink.state c.reduce.new.out) (g.R.Sink.state c.reduce.new.err) (g.S.Shelf.state c.args.shelf.now))
+    c.reduce.result c.in-Some-Reduce.solve
+    (search rules)
+    (c.reduce.ensures (g.S.Shelf.state c.args.shelf.now))
+    c.task_has_no_fault.ensures

@@ -1,0 +1,205 @@
+-- The one edge that may be parallel to another, and what is left where the longer of both is dropped.
+use Rattle.std.specs.Prelude.{ℕ, ◌≡◌, ◌≢◌, ◌⊎◌, ◌+◌, ◌<◌, ◌≤◌, length, Some}
+use Rattle.std.proofs.Common.{refl, sym, ap, ◌∙◌, inl, inr, ⊎_elim, subst, arith}
+use Rattle.std.proofs.lemmas.Bool.{cases_eq, cases_lt}
+use Rattle.std.proofs.lemmas.Option.{slice_get_within}
+use Rattle.net_graph.specs.declared.edge.Edge.{Edge}
+use Rattle.net_graph.specs.Network.{HasEnds}
+use Rattle.graph_reduce.specs.State.{Bundle, State, HasEdge}
+use Rattle.graph_reduce.specs.Rules.{AreParallel}
+use Rattle.graph_reduce.specs.Clear.{IsClearTo, IsTidy, IsTidyBut, IsWithin, AreAlike, IsFirstAlike}
+use Rattle.graph_reduce.proofs.lemmas.Ends.{same_edge}
+use Rattle.graph_reduce.proofs.lemmas.Longer.{HoldsEdge}
+
+-- the same ends, seen from the other edge
+ends_back : (x y : Edge) → HasEnds y x.a x.b → HasEnds x y.a y.b
+ends_back x y (inl is) = inl (sym is.0, sym is.1)
+ends_back x y (inr is) = inr (sym is.1, sym is.0)
+
+-- .. and of two edges with the ends of a third
+ends_same : (x y z : Edge) → HasEnds y x.a x.b → HasEnds z x.a x.b → HasEnds z y.a y.b
+ends_same x y z (inl y_is) (inl z_is) = inl (z_is.0 ∙ sym y_is.0, z_is.1 ∙ sym y_is.1)
+ends_same x y z (inl y_is) (inr z_is) = inr (z_is.0 ∙ sym y_is.1, z_is.1 ∙ sym y_is.0)
+ends_same x y z (inr y_is) (inl z_is) = inr (z_is.0 ∙ sym y_is.1, z_is.1 ∙ sym y_is.0)
+ends_same x y z (inr y_is) (inr z_is) = inl (z_is.0 ∙ sym y_is.0, z_is.1 ∙ sym y_is.1)
+
+-- an edge of which none has the ends
+pub not_alike : (s : State) (place n : ℕ) (e : Edge) → HoldsEdge s place e →
+    ((y : Bundle) → HasEdge s n y → ¬ HasEnds y.edge e.a e.b) → ¬ AreAlike s place n
+not_alike s place n e held none alike =
+    let (x, x_at, x_is) = held in
+    let same : alike.x.edge ≡ e = ap (λ b. b.edge) (same_edge s place alike.x x alike.at x_at) ∙ x_is in
+    none alike.y alike.other_at (subst (λ (d : Edge). HasEnds alike.y.edge d.a d.b) same alike.ends)
+
+pub alike_within : (s : State) (place n : ℕ) → AreAlike s place n → n < length s.edges
+alike_within s place n alike = slice_get_within s.edges n (Some alike.y) alike.other_at
+
+-- two places in order
+ordered : (n m : ℕ) → n ≢ m → (n < m) ⊎ (m < n)
+ordered n m apart = elim (cases_lt n m) [
+  | inl below ↦ inl below
+  | inr past ↦ inr (omega (arith, past, apart))
+]
+
+-- two edges that are alike are parallel, the earlier first
+parallel_after : (s : State) (place n : ℕ) (alike : AreAlike s place n) → place < n →
+    AreParallel s place n alike.x alike.y
+parallel_after s place n alike order = record {
+  order = order;
+  first_at = alike.at;
+  second_at = alike.other_at;
+  same_ends = alike.ends;
+}
+
+parallel_before : (s : State) (place n : ℕ) (alike : AreAlike s place n) → n < place →
+    AreParallel s n place alike.y alike.x
+parallel_before s place n alike order = record {
+  order = order;
+  first_at = alike.other_at;
+  second_at = alike.at;
+  same_ends = ends_back alike.x.edge alike.y.edge alike.ends;
+}
+
+-- .. and parallel edges are alike
+alike_first : (s : State) (n m : ℕ) (x y : Bundle) → AreParallel s n m x y → AreAlike s n m
+alike_first s n m x y are = record {
+  apart = λ same. let order = are.order in absurd (omega arith);
+  x = x;
+  y = y;
+  at = are.first_at;
+  other_at = are.second_at;
+  ends = are.same_ends;
+}
+
+alike_second : (s : State) (n m : ℕ) (x y : Bundle) → AreParallel s n m x y → AreAlike s m n
+alike_second s n m x y are = record {
+  apart = λ same. let order = are.order in absurd (omega arith);
+  x = y;
+  y = x;
+  at = are.second_at;
+  other_at = are.first_at;
+  ends = ends_back x.edge y.edge are.same_ends;
+}
+
+module _ (s : State) (place : ℕ) (tidy : IsTidyBut s place) where
+  -- two others are not both alike
+  one_alike : (n m : ℕ) → AreAlike s place n → AreAlike s place m → n ≡ m
+  one_alike n m first second = elim (cases_eq n m) [
+    | inl same ↦ same
+    | inr apart ↦ absurd (⊎_elim
+        (λ (order : n < m). tidy.parallels n m first.y second.y first.apart second.apart (record {
+          order = order;
+          first_at = first.other_at;
+          second_at = second.other_at;
+          same_ends = ends;
+        }))
+        (λ (order : m < n). tidy.parallels m n second.y first.y second.apart first.apart (record {
+          order = order;
+          first_at = second.other_at;
+          second_at = first.other_at;
+          same_ends = ends_back first.y.edge second.y.edge ends;
+        }))
+        (ordered n m apart))
+  ]
+    where
+      same_x : second.x ≡ first.x
+      same_x = same_edge s place second.x first.x second.at first.at
+
+      ends : HasEnds second.y.edge first.y.edge.a first.y.edge.b
+      ends = ends_same first.x.edge first.y.edge second.y.edge first.ends
+          (subst (λ (b : Bundle). HasEnds second.y.edge b.edge.a b.edge.b) same_x second.ends)
+
+  -- a parallel pair has the place in it
+  pair_with : (n m : ℕ) (x y : Bundle) → AreParallel s n m x y → (n ≡ place) ⊎ (m ≡ place)
+  pair_with n m x y are = elim (cases_eq n place) [
+    | inl is ↦ inl is
+    | inr n_apart ↦ elim (cases_eq m place) [
+      | inl is ↦ inr is
+      | inr m_apart ↦ absurd (tidy.parallels n m x y n_apart m_apart are)
+    ]
+  ]
+
+  loops_to : (end n : ℕ) (x : Bundle) → n < end → HasEdge s n x → x.edge.a ≢ x.edge.b
+  loops_to end n x below at = tidy.loops n x at
+
+  -- before the place
+  pub clear_before : (other : ℕ) → IsFirstAlike s place other → other < place → IsClearTo s (length s.edges) other place
+  clear_before other first order = record {
+    idle = tidy.idle;
+    loops = loops_to (length s.edges);
+    parallels = λ n m x y before are. ⊎_elim
+        (λ (is : n ≡ place). let lower = are.order in absurd (⊎_elim (λ (b : n < other). omega arith)
+        (λ (b : (n ≡ other) × (m < place)). omega (arith, b.0)) before))
+        (λ (is : m ≡ place). absurd (⊎_elim
+        (λ (b : n < other). first.none n b (subst (λ k. AreAlike s k n) is (alike_second s n m x y are)))
+        (λ (b : (n ≡ other) × (m < place)). let low = b.1 in omega arith) before))
+        (pair_with n m x y are);
+  }
+
+  -- after it
+  pub clear_after : (other : ℕ) → IsFirstAlike s place other → place ≤ other → IsClearTo s (length s.edges) place other
+  clear_after other first order = record {
+    idle = tidy.idle;
+    loops = loops_to (length s.edges);
+    parallels = λ n m x y before are. ⊎_elim
+        (λ (is : n ≡ place). absurd (⊎_elim (λ (b : n < place). omega arith)
+        (λ (b : (n ≡ place) × (m < other)).
+        first.none m b.1 (subst (λ k. AreAlike s k m) is (alike_first s n m x y are))) before))
+        (λ (is : m ≡ place). let lower = are.order in absurd (⊎_elim
+        (λ (b : n < place). first.none n (omega arith) (subst (λ k. AreAlike s k n) is (alike_second s n m x y are)))
+        (λ (b : (n ≡ place) × (m < other)). let same = b.0 in omega arith) before))
+        (pair_with n m x y are);
+  }
+
+  -- nothing is alike
+  pub tidy_none : ((n : ℕ) → ¬ AreAlike s place n) → IsTidy s
+  tidy_none none = record {
+    idle = tidy.idle;
+    loops = tidy.loops;
+    parallels = λ n m x y are. ⊎_elim
+        (λ (is : n ≡ place). none m (subst (λ k. AreAlike s k m) is (alike_first s n m x y are)))
+        (λ (is : m ≡ place). none n (subst (λ k. AreAlike s k n) is (alike_second s n m x y are)))
+        (pair_with n m x y are);
+  }
+
+  module _ (new : State) (other : ℕ) (within : IsWithin new s) (alike : AreAlike s place other) where
+    -- an edge that is alike afterwards was so before
+    alike_before : (n : ℕ) → AreAlike new place n → AreAlike s place n
+    alike_before n is = record {
+      apart = is.apart;
+      x = is.x;
+      y = is.y;
+      ends = is.ends;
+      at = within.edges place is.x is.at;
+      other_at = within.edges n is.y is.other_at;
+    }
+
+    parallel_old : (n m : ℕ) (x y : Bundle) → AreParallel new n m x y → AreParallel s n m x y
+    parallel_old n m x y are = record {
+      order = are.order;
+      same_ends = are.same_ends;
+      first_at = within.edges n x are.first_at;
+      second_at = within.edges m y are.second_at;
+    }
+
+    tidy_left : (length new.terminals ≡ 1 → ¬ ((n : ℕ) × (x : Bundle) × HasEdge new n x)) →
+        (AreAlike new place other → ⊥) → IsTidy new
+    tidy_left idle gone = record {
+      idle = idle;
+      loops = λ n x at. tidy.loops n x (within.edges n x at);
+      parallels = λ n m x y are. ⊎_elim
+          (λ (is : n ≡ place). by_other m (subst (λ k. AreAlike new k m) is (alike_first new n m x y are)))
+          (λ (is : m ≡ place). by_other n (subst (λ k. AreAlike new k n) is (alike_second new n m x y are)))
+          (pair_with n m x y (parallel_old n m x y are));
+    }
+      where
+        by_other : (n : ℕ) → AreAlike new place n → ⊥
+        by_other n is = gone (subst (AreAlike new place) (one_alike n other (alike_before n is) alike) is)
+
+    pub tidy_before : other < place → IsClearTo new (length new.edges) other (place + 1) → IsTidy new
+    tidy_before order clear = tidy_left clear.idle (λ is. clear.parallels other place is.y is.x
+        (inr (refl, omega arith)) (parallel_before new place other is order))
+
+    pub tidy_after : place ≤ other → IsClearTo new (length new.edges) place (other + 1) → IsTidy new
+    tidy_after order clear = tidy_left clear.idle (λ is. clear.parallels place other is.x is.y
+        (inr (refl, omega arith)) (parallel_after new place other is (omega (arith, order, is.apart))))

@@ -1,0 +1,231 @@
+-- Where no earlier rule applies, and what stays so where edges are dropped.
+use Rattle.std.specs.Prelude.{ℕ, zero, suc, ◌≡◌, ◌≢◌, ◌⊎◌, ◌+◌, ◌<◌, length, Some, None, if◌then◌else◌, nat_lt}
+use Rattle.std.proofs.Common.{refl, sym, ap, ◌∙◌, inl, inr, ⊎_elim, subst, arith, length-set}
+use Rattle.std.proofs.lemmas.Bool.{cases_eq}
+use Rattle.std.proofs.lemmas.List.{length-replicate}
+use Rattle.std.proofs.lemmas.Option.{slice_get_within}
+use Rattle.net_graph.specs.EntryLaws.{slice_get-replicate}
+use Rattle.graph_reduce.specs.State.{Bundle, State, HasEdge}
+use Rattle.graph_reduce.specs.Rules.{AreParallel, without_edge, without_edges}
+use Rattle.graph_reduce.specs.Step.{Applies, IsStep, AreSteps}
+use Rattle.graph_reduce.specs.Step.Rule.{OneTerminal, Loop, Parallel, Leaf, Passed, TerminalLeaf}
+use Rattle.graph_reduce.specs.Clear.{LeadsTo, HasSomeEdge, IsClearTo, IsTidy, IsWithin}
+use Rattle.graph_reduce.proofs.lemmas.Keeping.{found_before}
+use Rattle.graph_reduce.proofs.lemmas.Steps.{NoneBefore}
+
+-- ---- steps one after another
+
+pub no_steps : (s : State) → LeadsTo s s
+no_steps s = record { count = 0; steps = refl }
+
+pub one_step : (old new : State) → IsStep old new → LeadsTo old new
+one_step old new step = record { count = 1; steps = (old, refl, step) }
+
+more_steps : (one two three : State) (n m : ℕ) → AreSteps n one two → AreSteps m two three → LeadsTo one three
+more_steps one two three n zero first rest = record { count = n; steps = subst (AreSteps n one) rest first }
+more_steps one two three n (suc m) first (mid, rest, step) =
+    let before = more_steps one two mid n m first rest in
+    record { count = suc before.count; steps = (mid, before.steps, step) }
+
+pub then_steps : (one two three : State) → LeadsTo one two → LeadsTo two three → LeadsTo one three
+then_steps one two three first rest = more_steps one two three first.count rest.count first.steps rest.steps
+
+-- ---- fewer edges
+
+pub within_same : (s : State) → IsWithin s s
+within_same s = record { places = refl; edges = λ place x at. at }
+
+pub within_then : (one two three : State) → IsWithin one two → IsWithin two three → IsWithin one three
+within_then one two three first rest = record {
+  places = first.places ∙ rest.places;
+  edges = λ place x at. rest.edges place x (first.edges place x at);
+}
+
+pub within_without : (s : State) (place : ℕ) → IsWithin (without_edge s place) s
+within_without s place = record {
+  places = length-set s.edges place None;
+  edges = λ n x at. (found_before s.edges place n x at).1;
+}
+
+pub within_none : (s : State) → IsWithin (without_edges s) s
+within_none s = record {
+  places = length-replicate (length s.edges) None;
+  edges = λ n x at. let none : None ≡ Some x = slice_get-replicate (length s.edges) n None (Some x) at in absurd cc;
+}
+
+pub parallel_within : (new old : State) → IsWithin new old → (n m : ℕ) (x y : Bundle) → AreParallel new n m x y →
+    AreParallel old n m x y
+parallel_within new old within n m x y are = record {
+  order = are.order;
+  first_at = within.edges n x are.first_at;
+  second_at = within.edges m y are.second_at;
+  same_ends = are.same_ends;
+}
+
+pub clear_within : (new old : State) (end pair later : ℕ) → IsWithin new old → new.terminals ≡ old.terminals →
+    IsClearTo old end pair later → IsClearTo new end pair later
+clear_within new old end pair later within terminals clear = record {
+  idle = λ one (n, x, at). clear.idle (ap length (sym terminals) ∙ one) (n, x, within.edges n x at);
+  loops = λ n x below at. clear.loops n x below (within.edges n x at);
+  parallels = λ n m x y before are. clear.parallels n m x y before (parallel_within new old within n m x y are);
+}
+
+-- the place is empty afterwards
+pub none_at : (s : State) (place : ℕ) (x : Bundle) → ¬ HasEdge (without_edge s place) place x
+none_at s place x at = (found_before s.edges place place x at).0 refl
+
+-- ---- the first rule
+
+pub not_idle : (s : State) → (length s.terminals ≡ 1 → ¬ HasSomeEdge s) → (at : ℕ) → ¬ Applies s OneTerminal at
+not_idle s idle at (new, drops) = idle drops.one drops.some
+
+pub drops_idle : (s : State) → length s.terminals ≡ 1 → HasSomeEdge s → IsStep s (without_edges s)
+drops_idle s one some = record {
+  rule = OneTerminal;
+  at = 0;
+  takes = record { one = one; some = some; becomes = refl };
+  first = none;
+}
+  where
+    none : NoneBefore s OneTerminal 0
+    none OneTerminal there (inl before) = absurd (omega arith)
+    none OneTerminal there (inr before) = absurd (omega arith)
+    none Loop there (inl before) = absurd (omega arith)
+    none Loop there (inr before) = absurd (omega arith)
+    none Parallel there (inl before) = absurd (omega arith)
+    none Parallel there (inr before) = absurd (omega arith)
+    none Leaf there (inl before) = absurd (omega arith)
+    none Leaf there (inr before) = absurd (omega arith)
+    none Passed there (inl before) = absurd (omega arith)
+    none Passed there (inr before) = absurd (omega arith)
+    none TerminalLeaf there (inl before) = absurd (omega arith)
+    none TerminalLeaf there (inr before) = absurd (omega arith)
+
+pub none_idle : (s : State) → ¬ HasSomeEdge (without_edges s)
+none_idle s (n, x, at) = let none : None ≡ Some x = slice_get-replicate (length s.edges) n None (Some x) at in cc
+
+pub clear_from_idle : (s : State) → (length s.terminals ≡ 1 → ¬ HasSomeEdge s) → IsClearTo s 0 0 0
+clear_from_idle s idle = record {
+  idle = idle;
+  loops = λ n x below at. absurd (omega arith);
+  parallels = λ n m x y before. absurd (omega arith);
+}
+
+-- ---- loops
+
+pub drops_loop : (s : State) (place : ℕ) (x : Bundle) → IsClearTo s place 0 0 → HasEdge s place x →
+    x.edge.a ≡ x.edge.b → IsStep s (without_edge s place)
+drops_loop s place x clear at same = record {
+  rule = Loop;
+  at = place;
+  takes = record { loop = x; at = at; is_loop = same; becomes = refl };
+  first = none;
+}
+  where
+    none : NoneBefore s Loop place
+    none OneTerminal there before = not_idle s clear.idle there
+    none Loop there (inl before) = absurd (omega arith)
+    none Loop there (inr before) = λ (new, drops). clear.loops there drops.loop (omega arith) drops.at drops.is_loop
+    none Parallel there (inl before) = absurd (omega arith)
+    none Parallel there (inr before) = absurd (omega arith)
+    none Leaf there (inl before) = absurd (omega arith)
+    none Leaf there (inr before) = absurd (omega arith)
+    none Passed there (inl before) = absurd (omega arith)
+    none Passed there (inr before) = absurd (omega arith)
+    none TerminalLeaf there (inl before) = absurd (omega arith)
+    none TerminalLeaf there (inr before) = absurd (omega arith)
+
+-- one place more
+pub clear_more : (s : State) (place : ℕ) → IsClearTo s place 0 0 →
+    ((x : Bundle) → HasEdge s place x → x.edge.a ≢ x.edge.b) → IsClearTo s (place + 1) 0 0
+clear_more s place clear here = record {
+  idle = clear.idle;
+  loops = λ n x below at same. ⊎_elim
+      (λ (lower : n < place). clear.loops n x lower at same)
+      (λ (is : n ≡ place). here x (subst (λ m. HasEdge s m x) is at) same)
+      (let cases : (n < place) ⊎ (n ≡ place) = below_or_at n place below in cases);
+  parallels = clear.parallels;
+}
+  where
+    below_or_at : (n place : ℕ) → n < place + 1 → (n < place) ⊎ (n ≡ place)
+    below_or_at n place below = elim (cases_eq n place) [
+      | inl is ↦ inr is
+      | inr apart ↦ inl (omega (arith, apart))
+    ]
+
+-- ---- parallel edges
+
+pub drops_parallel : (s : State) (place later : ℕ) (x y : Bundle) → IsClearTo s (length s.edges) place later →
+    AreParallel s place later x y →
+    IsStep s (without_edge s (if nat_lt y.edge.length x.edge.length then place else later))
+drops_parallel s place later x y clear are = record {
+  rule = Parallel;
+  at = place;
+  takes = record {
+    later = later;
+    x = x;
+    y = y;
+    parallel = are;
+    becomes = refl;
+    next = λ between z below other. clear.parallels place between x z (inr (refl, below)) other;
+  };
+  first = none;
+}
+  where
+    none : NoneBefore s Parallel place
+    none OneTerminal there before = not_idle s clear.idle there
+    none Loop there before = λ (new, drops). clear.loops there drops.loop
+        (slice_get_within s.edges there (Some drops.loop) drops.at) drops.at drops.is_loop
+    none Parallel there (inl before) = absurd (omega arith)
+    none Parallel there (inr before) = λ (new, drops).
+        clear.parallels there drops.later drops.x drops.y (inl (omega arith)) drops.parallel
+    none Leaf there (inl before) = absurd (omega arith)
+    none Leaf there (inr before) = absurd (omega arith)
+    none Passed there (inl before) = absurd (omega arith)
+    none Passed there (inr before) = absurd (omega arith)
+    none TerminalLeaf there (inl before) = absurd (omega arith)
+    none TerminalLeaf there (inr before) = absurd (omega arith)
+
+-- one later place more
+pub clear_later : (s : State) (end place later : ℕ) → IsClearTo s end place later →
+    ((x y : Bundle) → ¬ AreParallel s place later x y) → IsClearTo s end place (later + 1)
+clear_later s end place later clear here = record {
+  idle = clear.idle;
+  loops = clear.loops;
+  parallels = λ n m x y before are. elim (cases_eq m later) [
+    | inl is ↦ ⊎_elim (λ (lower : n < place). clear.parallels n m x y (inl lower) are)
+        (λ (same : (n ≡ place) × (m < later + 1)). here x y (subst (λ k. AreParallel s k later x y) same.0
+        (subst (λ k. AreParallel s n k x y) is are))) before
+    | inr apart ↦ clear.parallels n m x y (⊎_elim (λ (lower : n < place). inl lower)
+        (λ (same : (n ≡ place) × (m < later + 1)). inr (same.0, omega (arith, same.1, apart))) before) are
+  ];
+}
+
+-- the next place
+pub clear_next : (s : State) (end place : ℕ) → IsClearTo s end place (length s.edges) → IsClearTo s end (place + 1) 0
+clear_next s end place clear = record {
+  idle = clear.idle;
+  loops = clear.loops;
+  parallels = λ n m x y before are. clear.parallels n m x y (elim (cases_eq n place) [
+    | inl is ↦ inr (is, slice_get_within s.edges m (Some y) are.second_at)
+    | inr apart ↦ inl (⊎_elim (λ (lower : n < place + 1). omega (arith, lower, apart))
+        (λ (same : (n ≡ place + 1) × (m < 0)). absurd (omega (arith, same.1))) before)
+  ]) are;
+}
+
+-- before any later place than the next
+pub clear_start : (s : State) (end place : ℕ) → IsClearTo s end place 0 → IsClearTo s end place (place + 1)
+clear_start s end place clear = record {
+  idle = clear.idle;
+  loops = clear.loops;
+  parallels = λ n m x y before are. ⊎_elim (λ (lower : n < place). clear.parallels n m x y (inl lower) are)
+      (λ (same : (n ≡ place) × (m < place + 1)). absurd (omega (arith, same.0, same.1, are.order))) before;
+}
+
+pub tidy_from_clear : (s : State) → IsClearTo s (length s.edges) (length s.edges) 0 → IsTidy s
+tidy_from_clear s clear = record {
+  idle = clear.idle;
+  loops = λ n x at. clear.loops n x (slice_get_within s.edges n (Some x) at) at;
+  parallels = λ n m x y are. clear.parallels n m x y
+      (inl (slice_get_within s.edges n (Some x) are.first_at)) are;
+}

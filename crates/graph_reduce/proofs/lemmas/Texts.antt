@@ -1,0 +1,59 @@
+-- Texts of lists and sets, item after item.
+use Rattle.std.specs.Prelude.{ℕ, zero, suc, ◌≡◌, ◌+◌, ◌<◌, Bool, true, false, List, [], ◌∷◌, ◌++◌, flat_map, length, take, slice_get, slice_index_or, Some, if◌then◌else◌}
+use Rattle.std.proofs.Common.{sym, ap, ◌∙◌, append_assoc, arith, length-append}
+use Rattle.std.proofs.lemmas.Grind.{flat_map-append}
+use Rattle.std.proofs.lemmas.List.{append-nil, take_more}
+use Rattle.std.proofs.lemmas.Option.{get_or_from_slice_get, same_Some, slice_get_within}
+use Rattle.net_graph.specs.declared.edge.Edge.{Edge}
+use Rattle.net_graph.specs.Flags.{has}
+use Rattle.net_graph.specs.Members.{members_of}
+use Rattle.net_graph.specs.MembersLaws.{members_of-more}
+use Rattle.graph_reduce.specs.Text.{left_line, left_lines, number_line}
+
+-- one flag more: the text of a number where it is set
+pub members_with : (f : ℕ → List ℕ) (set : List Bool) (n : ℕ) → n < length set → has set n ≡ true →
+    flat_map f (members_of (take n set)) ++ f n ≡ flat_map f (members_of (take (n + 1) set))
+members_with f set n below is = sym (ap (flat_map f) (members_of-more set n below
+    ∙ ap (λ b. members_of (take n set) ++ (if b then n ∷ [] else [])) is)
+    ∙ flat_map-append f (members_of (take n set)) (n ∷ [])
+    ∙ ap (λ more. flat_map f (members_of (take n set)) ++ more) (append-nil (f n)))
+
+pub members_without : (set : List Bool) (n : ℕ) → n < length set → has set n ≡ false →
+    members_of (take n set) ≡ members_of (take (n + 1) set)
+members_without set n below is = sym (members_of-more set n below
+    ∙ ap (λ b. members_of (take n set) ++ (if b then n ∷ [] else [])) is ∙ append-nil (members_of (take n set)))
+
+-- one edge more
+left_lines-suc : (edges : List Edge) (sets : List (List Bool)) (n : ℕ) (e : Edge) → slice_get edges n ≡ Some e →
+    n < length sets → left_lines (take n edges) (take n sets) ++ left_line e (slice_index_or sets n []) ≡
+    left_lines (take (suc n) edges) (take (suc n) sets)
+left_lines-suc [] sets n e at below = absurd cc
+left_lines-suc (d ∷ edges) [] n e at below = absurd (omega arith)
+left_lines-suc (d ∷ edges) (set ∷ sets) zero e at below =
+    ap (λ x. left_line x set) (sym (same_Some d e at)) ∙ sym (append-nil (left_line d set))
+left_lines-suc (d ∷ edges) (set ∷ sets) (suc n) e at below =
+    append_assoc (left_line d set) (left_lines (take n edges) (take n sets)) (left_line e (slice_index_or sets n []))
+    ∙ ap (λ more. left_line d set ++ more) (left_lines-suc edges sets n e at (omega arith))
+
+pub left_lines-more : (edges : List Edge) (sets : List (List Bool)) (n : ℕ) (e : Edge) → slice_get edges n ≡ Some e →
+    n < length sets → left_lines (take n edges) (take n sets) ++ left_line e (slice_index_or sets n []) ≡
+    left_lines (take (n + 1) edges) (take (n + 1) sets)
+left_lines-more edges sets n e at below = left_lines-suc edges sets n e at below
+    ∙ ap (λ m. left_lines (take m edges) (take m sets)) (let next : suc n ≡ n + 1 = omega arith in next)
+
+-- .. and how many there are
+pub count_with : (set : List Bool) (n : ℕ) → n < length set → has set n ≡ true →
+    length (members_of (take n set)) + 1 ≡ length (members_of (take (n + 1) set))
+count_with set n below is = omega (
+  arith,
+  ap length (members_of-more set n below ∙ ap (λ b. members_of (take n set) ++ (if b then n ∷ [] else [])) is),
+  length-append (members_of (take n set)) (n ∷ []),
+)
+
+-- one number more
+pub number_more : (ns : List ℕ) (k n : ℕ) → slice_get ns k ≡ Some n →
+    flat_map number_line (take k ns) ++ number_line n ≡ flat_map number_line (take (k + 1) ns)
+number_more ns k n at = sym (ap (flat_map number_line) (take_more ns k n (slice_get_within ns k n at)
+    ∙ ap (λ m. take k ns ++ m ∷ []) (get_or_from_slice_get ns k n n at))
+    ∙ flat_map-append number_line (take k ns) (n ∷ [])
+    ∙ ap (λ more. flat_map number_line (take k ns) ++ more) (append-nil (number_line n)))

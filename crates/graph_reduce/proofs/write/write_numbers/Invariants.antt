@@ -1,0 +1,8 @@
+use Rattle.std.proofs.Common.{take, flat_map}
+use Rattle.text_out.specs.Gathers.{Gathers}
+use Rattle.graph_reduce.specs.Text.{number_line}
+use Rattle.graph_reduce.proofs.write.write_numbers.Given as goal
+
+abbrev pub invariant-loop-n : goal.invariant-loop-n
+invariant-loop-n g l = Gathers (g.S.Sink.state l.initial.sink) l.initial.block
+    (flat_map number_line (take l.n-index l.numbers)) (g.S.Sink.state l.sink) l.block

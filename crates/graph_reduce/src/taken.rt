@@ -1,0 +1,104 @@
+//! The rules at nodes, taken.
+
+ghost use Rattle.std.specs.Prelude.{◌≡◌, ◌≢◌, ℕ, ◌<◌, length, MatchOption};
+ghost use Rattle.std.specs.Bool.{OnTrue, OnFalse};
+ghost use Rattle.net_graph.specs.Network.{HasEnds};
+ghost use Rattle.graph_reduce.specs.State.{Bundle, HasEdge, HasNode, IsTerminal};
+ghost use Rattle.graph_reduce.specs.Rules.{JoinsEdges, ForcesEdge};
+ghost use Rattle.graph_reduce.specs.Step.{Rule, Applies, Takes};
+ghost use Rattle.graph_reduce.specs.Step as step;
+ghost use Rattle.graph_reduce.specs.Survey.{IsSeenTo, HasOneBelow, HasTwoBelow};
+ghost use Rattle.graph_reduce.specs.Clear.{IsReached, LeadsTo, IsTidy, IsTidyBut, IsFirstAlike, AreAlike};
+
+use crate::ends::{have_same_ends, other_end};
+use crate::node_edges::NodeEdges;
+use crate::tidy::drop_longer;
+use crate::work::Work;
+use net_graph::Edge;
+
+/// Drops a node that is no terminal, with its edge where it has one.
+pub(crate) fn drop_leaf(work: &mut Work, v: u32, edges: NodeEdges)
+    requires applies { Applies work.old step.Leaf v }
+    requires seen { IsSeenTo work.old v (length work.old.edges) edges }
+    ensures { Takes step.Leaf v work.old work.new }
+{
+    work.drop_node(v);
+    if let NodeEdges::OneEdge(place) = edges {
+        work.drop_edge(place);
+    }
+}
+
+/// Joins the two edges of a node that is no terminal, and drops the node.
+pub(crate) fn join_edges(work: &mut Work, v: u32, earlier: u32, later: u32)
+    requires reached { IsReached work.old }
+    requires node { HasNode work.old v }
+    requires free { ¬ IsTerminal work.old v }
+    requires edges { HasTwoBelow work.old v (length work.old.edges) earlier later }
+    ensures { (joins : JoinsEdges v work.old work.new) × (joins.earlier ≡ earlier) }
+{
+    let x = work.edge_at(earlier);
+    let y = work.edge_at(later);
+    let edge = Edge {
+        a: other_end(x, v),
+        b: other_end(y, v),
+        length: x.length + y.length,
+    };
+    work.join_edges(earlier, later, edge);
+    work.drop_node(v);
+}
+
+/// Forces the edge of a terminal, and drops the terminal.
+pub(crate) fn force_edge(work: &mut Work, v: u32, place: u32)
+    requires reached { IsReached work.old }
+    requires terminal { IsTerminal work.old v }
+    requires edge { HasOneBelow work.old v (length work.old.edges) place }
+    ensures { ForcesEdge v work.old work.new }
+{
+    let x = work.edge_at(place);
+    let other = other_end(x, v);
+    work.force_edge(place, x.length);
+    work.move_terminal(v, other);
+    work.drop_node(v);
+}
+
+/// Drops the longer of the edge at the place and another with the same ends.
+pub(crate) fn drop_alike(work: &mut Work, place: u32)
+    requires edge { (x : Bundle) × HasEdge work.old place x }
+    requires tidy { IsTidyBut work.old place }
+    ensures leads { LeadsTo work.old work.new }
+    ensures tidy { IsTidy work.new }
+{
+    if let Some(other) = first_alike(work, place) {
+        if other < place {
+            drop_longer(work, other, place);
+        } else {
+            drop_longer(work, place, other);
+        }
+    }
+}
+
+// The first place whose edge has the same ends as that at the place.
+fn first_alike(work: &Work, place: u32) -> Option<u32>
+    requires { (x : Bundle) × HasEdge work.now place x }
+    ensures { MatchOption result ((n : ℕ) → ¬ AreAlike work.now place n) (IsFirstAlike work.now place) }
+{
+    let edge = work.edge_at(place);
+    for n in 0..work.place_count() {
+        if n != place && holds_alike(work, n, edge) {
+            return Some(n);
+        }
+    }
+    None
+}
+
+// Whether the place holds an edge with the same ends.
+fn holds_alike(work: &Work, n: u32, edge: Edge) -> bool
+    requires { n < length work.now.edges }
+    ensures yes { OnTrue result ((y : Bundle) × HasEdge work.now n y × HasEnds y.edge edge.a edge.b) }
+    ensures no { OnFalse result ((y : Bundle) → HasEdge work.now n y → ¬ HasEnds y.edge edge.a edge.b) }
+{
+    match work.edge(n) {
+        Some(other) => have_same_ends(edge, other),
+        None => false,
+    }
+}

@@ -1,0 +1,58 @@
+-- What `reduce` finds, by what it read.
+use Rattle.std.specs.Prelude.{ℕ, ◌≡◌, List, codes, Result, Ok, Err}
+use Rattle.net_graph.specs.Graph.{Graph}
+use Rattle.stp_format.specs.Value.{StpValue}
+use Rattle.graph_reduce.specs.Fitness.{IsFitFor}
+use Rattle.graph_reduce.specs.Lifting.{KeepsNetworks}
+use Rattle.graph_reduce.specs.Reduction.{Reduction, IsReductionOf}
+use Rattle.graph_reduce.specs.Text.{reduced_text}
+use Rattle.graph_solve.specs.Task.{graph_of_stp}
+use Rattle.frame.specs.declared.status.AnswerStatus.TheVariants.{Done}
+use Rattle.frame.specs.declared.take.TheConstants.{TEXT_LIMIT}
+use Rattle.frame.specs.Outside.{Outside}
+use Rattle.frame.specs.Ends.{Print, Ends}
+use Rattle.frame.specs.FaultTexts.{text_fault_text, text_fault_status}
+use Rattle.frame.specs.FromText.{FromText}
+use Rattle.frame.specs.Leaves.{LeavesShelf}
+use Rattle.graph_inputs.specs.declared.text_fault.GraphTextFault.{GraphTextFault}
+use Rattle.graph_inputs.specs.Reading.{IsTaskText, ReadsGraph, graph_fault_text, graph_fault_status}
+use Rattle.graph_tools.specs.declared.reduction.GraphReduction.{GraphReduction}
+
+-- This is the reduction of the graph, which is a graph again, and whose networks lift.
+pub record IsReduced (g : Graph) (r : Reduction) : Type 0 where
+  pub reduction : IsReductionOf g r
+  pub fits : IsFitFor g r
+  pub networks : KeepsNetworks g r
+
+-- What is found in the graph of the STP file that the bytes are; or why they give no Steiner problem.
+abbrev pub FindsInGraph : {A : Type 0} → (Graph → A → Type 0) → List ℕ → Result A GraphTextFault → Type 0
+FindsInGraph Is bytes (Ok found) = (file : StpValue) × IsTaskText bytes file × Is (graph_of_stp file) found
+FindsInGraph Is bytes (Err fault) = ReadsGraph bytes (Err fault)
+
+-- the text of a reduction
+abbrev pub reduction_text : GraphReduction → List ℕ
+reduction_text found = reduced_text found.reduced
+
+-- what is printed of a reduction
+abbrev pub reduction_print : Reduction → Print
+reduction_print r = record { text = reduced_text r; status = Done }
+
+-- What `reduce` finds in a text, before it writes.
+abbrev pub IsReductionFor : Graph → GraphReduction → Type 0
+IsReductionFor g found = IsReduced g found.reduced
+
+abbrev pub FindsReduction : List ℕ → Result GraphReduction GraphTextFault → Type 0
+FindsReduction = FindsInGraph IsReductionFor
+
+-- What it prints of a text: the reduction of the graph of the STP file that the text is.
+abbrev pub PrintsReduction : Graph → Print → Type 0
+PrintsReduction g print = (r : Reduction) × IsReduced g r × (print ≡ reduction_print r)
+
+abbrev pub ReducesGraph : List ℕ → Result Print GraphTextFault → Type 0
+ReducesGraph = FindsInGraph PrintsReduction
+
+-- A run of `reduce`.
+abbrev pub EndsReduce : Outside → Outside → ℕ → Type 0
+EndsReduce before after status =
+    Ends (text_fault_status graph_fault_status) (text_fault_text graph_fault_text) (codes "reduce")
+    (FromText TEXT_LIMIT ReducesGraph) LeavesShelf before after status

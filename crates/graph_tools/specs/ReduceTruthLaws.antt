@@ -1,0 +1,114 @@
+-- What follows of what `reduce` printed.
+use Rattle.std.proofs.Common.{ℕ, ◌≡◌, ◌+◌, Bool, true, false, List, codes, ◌⊎◌, inl, inr, subst, ap, ◌∙◌, arith}
+use Rattle.std.specs.Prelude.{◌==◌, ◌↔◌}
+use Rattle.std.proofs.lemmas.Bool.{eqb-true}
+use Rattle.std.proofs.lemmas.Bool.Decides.{eqb_tells}
+use Rattle.rst_outside.specs.Sink.{Appended}
+use Rattle.net_graph.specs.Graph.{Graph, total_of}
+use Rattle.net_graph.specs.Network.{length_of}
+use Rattle.cert_tree.specs.declared.split.SplitOn.{SplitOn}
+use Rattle.cert_tree.specs.Tree.{Tree}
+use Rattle.graph_reduce.specs.Reduction.{Reduction}
+use Rattle.graph_solve.specs.Task.{graph_of_stp}
+use Rattle.frame.specs.declared.status.AnswerStatus.{AnswerStatus}
+use Rattle.frame.specs.declared.status.AnswerStatus.TheVariants.{Done, Stopped}
+use Rattle.frame.specs.declared.take.TheConstants.{TEXT_LIMIT}
+use Rattle.frame.specs.Statuses.{answer_code}
+use Rattle.frame.specs.Outside.{Outside}
+use Rattle.frame.specs.Ends.{Print}
+use Rattle.frame.specs.EndLaws.{printed_ends}
+use Rattle.frame.specs.FaultTexts.{text_fault_text, text_fault_status}
+use Rattle.frame.specs.FromText.{FromText}
+use Rattle.frame.specs.Leaves.{LeavesShelf}
+use Rattle.graph_search.specs.Searched.{bound_of}
+use Rattle.graph_search.specs.TruthLaws.{ends_truly}
+use Rattle.graph_inputs.specs.Reading.{graph_fault_text, graph_fault_status}
+use Rattle.graph_tools.specs.Reduce.{IsReduced, EndsReduce, ReducesGraph}
+use Rattle.graph_tools.specs.Lifted.{EndsReduceAs, EndsReduceSolve, LiftsGraph, lifted_by, lifted_status, lifted_text}
+use Rattle.graph_tools.specs.ReduceTruth.{LiftsTruly, ReducesTruly}
+use Rattle.graph_tools.specs.Solution.{IsPermittedGraphAnswer}
+
+-- whether two numbers agree is whether they do with the offset
+agree_with_offset : (bound length offset : ℕ) → ((bound == length) ≡ true) ↔ (bound + offset ≡ length + offset)
+agree_with_offset bound length offset = (
+  λ holds. ap (λ n. n + offset) (eqb-true bound length holds),
+  λ same. elim (eqb_tells bound length) [
+    | inl (holds, equal) ↦ holds
+    | inr (fails, apart) ↦ absurd (apart (omega (arith, same)))
+  ],
+)
+
+-- What is told of a lifted network, with its status, is true.
+lifts_truly : (g : Graph) (r : Reduction) (network : List Bool) (tree : Tree SplitOn) (before after : Outside)
+    (status : ℕ) → IsReduced g r → IsPermittedGraphAnswer 100 r.graph network tree →
+    Appended before.written.out.taken (lifted_text (lifted_by r network tree)) after.written.out.taken →
+    status ≡ answer_code (lifted_status (lifted_by r network tree)) → LiftsTruly g before after status
+lifts_truly g r network tree before after status reduced permitted appended answers =
+    let bound = bound_of r.graph network tree in
+    let length = length_of r.graph network in
+    let ends = ends_truly r.graph 100 (total_of r.graph) network tree status permitted.searched answers in
+    let joins = permitted.searched.network_of.joins in record {
+      reduction = r;
+      network = network;
+      tree = tree;
+      reduced = reduced;
+      permitted = permitted;
+      printed = appended;
+      joins = reduced.networks.lifts network joins;
+      length = reduced.networks.length network joins;
+      bound = reduced.networks.bounds bound ends.bound;
+      optimal = agree_with_offset bound length r.offset;
+      agrees = (
+        λ zero. ap (λ n. n + r.offset) (ends.agrees.0 zero),
+        λ same. ends.agrees.1 (omega (arith, same)),
+      );
+      shortest = λ zero. reduced.networks.shortest network (ends.shortest zero);
+      stopped = ends.stopped;
+    }
+
+-- what was printed, with the status that the run ended with
+reduction_printed : (before after : Outside) (status : ℕ) (s : AnswerStatus) → status ≡ answer_code s →
+    EndsReduce before after status → ReducesTruly false before after status
+reduction_printed before after status s is ends =
+    let (print, (bytes, whole, (file, task, (r, reduced, of_file))), printed) =
+    printed_ends (text_fault_status graph_fault_status) (text_fault_text graph_fault_text) (codes "reduce")
+    (FromText TEXT_LIMIT ReducesGraph) LeavesShelf before after status s is ends in (
+      bytes,
+      file,
+      whole.came,
+      task,
+      (
+        r,
+        reduced,
+        printed.ends ∙ ap (λ (p : Print). answer_code p.status) of_file,
+        subst (λ (p : Print). Appended before.written.out.taken p.text after.written.out.taken) of_file
+            printed.wrote.appended,
+      ),
+    )
+
+lifted_printed : (before after : Outside) (status : ℕ) (s : AnswerStatus) → status ≡ answer_code s →
+    EndsReduceSolve before after status → ReducesTruly true before after status
+lifted_printed before after status s is ends =
+    let (print, (bytes, whole, (file, task, (r, network, tree, reduced, permitted, of_file))), printed) =
+    printed_ends (text_fault_status graph_fault_status) (text_fault_text graph_fault_text) (codes "reduce")
+    (FromText TEXT_LIMIT LiftsGraph) LeavesShelf before after status s is ends in (
+      bytes,
+      file,
+      whole.came,
+      task,
+      lifts_truly (graph_of_stp file) r network tree before after status reduced permitted
+          (subst (λ (p : Print). Appended before.written.out.taken p.text after.written.out.taken) of_file
+          printed.wrote.appended)
+          (printed.ends ∙ ap (λ (p : Print). answer_code p.status) of_file),
+    )
+
+reduces_with : (solve : Bool) (before after : Outside) (status : ℕ) (s : AnswerStatus) → status ≡ answer_code s →
+    EndsReduceAs solve before after status → ReducesTruly solve before after status
+reduces_with true before after status s is ends = lifted_printed before after status s is ends
+reduces_with false before after status s is ends = reduction_printed before after status s is ends
+
+-- What `reduce` printed is true.
+pub reduces_truly : (solve : Bool) (before after : Outside) (status : ℕ) → EndsReduceAs solve before after status →
+    (status ≡ 0) ⊎ (status ≡ 3) → ReducesTruly solve before after status
+reduces_truly solve before after status ends (inl zero) = reduces_with solve before after status Done zero ends
+reduces_truly solve before after status ends (inr three) = reduces_with solve before after status Stopped three ends

@@ -1,0 +1,43 @@
+//! The reduction of a graph, as the tool prints it.
+
+ghost use Rattle.std.specs.Prelude.{IfOk};
+ghost use Rattle.frame.specs.declared.status.AnswerStatus.TheVariants as status_of;
+ghost use Rattle.graph_tools.specs.Reduce.{IsReduced, reduction_text};
+
+use frame::{Answer, AnswerStatus};
+use graph_reduce::{Reduced, reduce, write_reduced};
+use net_graph::NetGraph;
+use rst_outside::{PutFault, Sink};
+use std::alloc::{AllocError, Global};
+
+/// The reduction of a graph.
+#[derive(Debug, Drop)]
+pub struct GraphReduction {
+    pub reduced: Reduced,
+}
+
+impl Answer for GraphReduction {
+    ghost text = { reduction_text };
+
+    ghost status = { λ _. status_of.Done };
+
+    ghost fits = { λ _. Unit {0} };
+
+    ghost told = { λ _. Unit {0} };
+
+    fn status(&self) -> AnswerStatus {
+        AnswerStatus::Done
+    }
+
+    fn write<O: Sink>(&self, out: &mut O) -> Result<(), PutFault> {
+        write_reduced(out, &self.reduced)
+    }
+}
+
+/// The reduction of a graph. An `Err` is want of memory.
+pub(crate) fn reduction_in(alloc: Global, graph: &NetGraph) -> Result<GraphReduction, AllocError>
+    ensures { IfOk result (λ found. IsReduced graph.now found.reduced) }
+{
+    let reduced = reduce(alloc, graph)?;
+    Ok(GraphReduction { reduced })
+}
