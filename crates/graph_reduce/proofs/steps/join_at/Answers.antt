@@ -1,11 +1,11 @@
-use Rattle.std.specs.Prelude.{◌≡◌, length}
-use Rattle.std.proofs.Common.{sym, subst}
+use Rattle.std.specs.Prelude.{length}
+use Rattle.std.proofs.Common.{subst}
 use Rattle.graph_reduce.specs.State.{HasEdge}
 use Rattle.graph_reduce.specs.Clear.{IsTidyBut}
-use Rattle.graph_reduce.specs.Survey.{IsSeenTo, AreBelow, HasTwoBelow}
+use Rattle.graph_reduce.specs.Survey.{AreBelow}
 use Rattle.graph_reduce.proofs.lemmas.Bounds.{reached_numbered}
 use Rattle.graph_reduce.proofs.lemmas.JoinedPlaces.{one}
-use Rattle.graph_reduce.proofs.lemmas.Nearby.{end_held, other_below, seen_below, places_kept, alike_nearby}
+use Rattle.graph_reduce.proofs.lemmas.Nearby.{other_below, seen_below, places_kept, alike_nearby}
 use Rattle.graph_reduce.proofs.lemmas.NodeRuleLaws.{passed_seen}
 use Rattle.graph_reduce.proofs.lemmas.Stepping.{passed_step, tidy_joined, joined_at}
 use Rattle.graph_reduce.proofs.steps.join_at.Goals as goal

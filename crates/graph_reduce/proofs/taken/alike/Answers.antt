@@ -1,4 +1,4 @@
-use Rattle.std.proofs.Common.{⊎_elim, subst, ◌≡◌}
+use Rattle.std.proofs.Common.{subst, ◌≡◌}
 use Rattle.graph_reduce.specs.Clear.{AreAlike}
 use Rattle.graph_reduce.specs.Survey.{IsAmong}
 use Rattle.graph_reduce.proofs.taken.alike.Goals as goal
