@@ -39,3 +39,4 @@ pub mod LeftLists
 pub mod LeftLaws
 pub mod Lifted
 pub mod Texts
+pub mod Nearby

@@ -55,11 +55,6 @@ pub record AreAlike (s : State) (place other : ℕ) : Type 0 where
   pub other_at : HasEdge s other y
   pub ends : HasEnds y.edge x.edge.a x.edge.b
 
--- the first place whose edge has the same ends
-pub record IsFirstAlike (s : State) (place other : ℕ) : Type 0 where
-  pub is : AreAlike s place other
-  pub none : (n : ℕ) → n < other → ¬ AreAlike s place n
-
 -- one step at least, and no edge is left to tidy up
 pub record GoesOn (old new : State) : Type 0 where
   pub next : State

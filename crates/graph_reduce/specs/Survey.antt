@@ -1,5 +1,5 @@
 -- What is seen of a state's nodes: their edges, as far as a rule wants them, and whether they are terminals.
-use Rattle.std.specs.Prelude.{ℕ, ◌≡◌, ◌≢◌, ◌<◌, Bool, true, List, length, slice_get, Some, All}
+use Rattle.std.specs.Prelude.{ℕ, ◌≡◌, ◌≢◌, ◌⊎◌, ◌<◌, Bool, true, List, length, slice_get, Some, All}
 use Rattle.net_graph.specs.Flags.{has}
 use Rattle.graph_reduce.specs.declared.node_edges.NodeEdges.{NodeEdges}
 use Rattle.graph_reduce.specs.declared.node_edges.NodeEdges.TheVariants.{NoEdge, OneEdge, TwoEdges, More}
@@ -48,6 +48,20 @@ IsSeenTo s v end NoEdge = (n : ℕ) → n < end → ¬ EndsIn s v n
 IsSeenTo s v end (OneEdge place) = HasOneBelow s v end place
 IsSeenTo s v end (TwoEdges one two) = HasTwoBelow s v end one two
 IsSeenTo s v end More = HasThree s v
+
+-- a place that may hold an edge of the node
+abbrev pub IsAmong : NodeEdges → ℕ → Type 0
+IsAmong NoEdge n = ⊥
+IsAmong (OneEdge place) n = n ≡ place
+IsAmong (TwoEdges one two) n = (n ≡ one) ⊎ (n ≡ two)
+IsAmong More n = Unit {0}
+
+-- these places are below an end
+abbrev pub AreBelow : ℕ → NodeEdges → Type 0
+AreBelow end NoEdge = Unit {0}
+AreBelow end (OneEdge place) = place < end
+AreBelow end (TwoEdges one two) = (one < end) × (two < end)
+AreBelow end More = Unit {0}
 
 -- so for each node
 abbrev pub AreSeenTo : State → ℕ → List NodeEdges → Type 0

@@ -9,6 +9,7 @@ ghost use Rattle.graph_reduce.specs.Survey.{IsSeenTo, IsSurvey};
 ghost use Rattle.graph_reduce.specs.NodeRules.{IsLowest};
 ghost use Rattle.graph_reduce.specs.Clear.{IsReached, IsTidy, GoesOn};
 
+use crate::ends::other_end;
 use crate::node_edges::NodeEdges;
 use crate::node_rules::{NodeRule, lowest};
 use crate::survey::Survey;
@@ -83,7 +84,7 @@ fn takes_passed(work: &mut Work, survey: &Survey) -> bool
 {
     match lowest(survey, work, NodeRule::Passed) {
         Some(v) => {
-            join_at(work, v, survey.edges_of(work, v));
+            join_at(work, survey, v);
             true
         }
         None => false,
@@ -91,18 +92,19 @@ fn takes_passed(work: &mut Work, survey: &Survey) -> bool
 }
 
 // Joins the edges of a node, and drops the longer of two that are parallel then.
-fn join_at(work: &mut Work, v: u32, edges: NodeEdges)
+fn join_at(work: &mut Work, survey: &Survey, v: u32)
     requires reached { IsReached work.old }
     requires tidy { IsTidy work.old }
+    requires survey { IsSurvey work.old survey.now.edges.items survey.now.terminals }
     requires leaves { (v : ℕ) → ¬ Applies work.old step.Leaf v }
     requires lowest { IsLowest work.old NodeRule.Passed v }
-    requires seen { IsSeenTo work.old v (length work.old.edges) edges }
     ensures { GoesOn work.old work.new }
 {
-    match edges {
+    match survey.edges_of(work, v) {
         NodeEdges::TwoEdges(earlier, later) => {
+            let nearby = survey.edges_of(work, other_end(work.edge_at(earlier), v));
             join_edges(work, v, earlier, later);
-            drop_alike(work, earlier);
+            drop_alike(work, earlier, nearby);
         }
         _ => unreachable!(),
     }

@@ -7,8 +7,8 @@ ghost use Rattle.graph_reduce.specs.State.{Bundle, HasEdge, HasNode, IsTerminal}
 ghost use Rattle.graph_reduce.specs.Rules.{JoinsEdges, ForcesEdge};
 ghost use Rattle.graph_reduce.specs.Step.{Rule, Applies, Takes};
 ghost use Rattle.graph_reduce.specs.Step as step;
-ghost use Rattle.graph_reduce.specs.Survey.{IsSeenTo, HasOneBelow, HasTwoBelow};
-ghost use Rattle.graph_reduce.specs.Clear.{IsReached, LeadsTo, IsTidy, IsTidyBut, IsFirstAlike, AreAlike};
+ghost use Rattle.graph_reduce.specs.Survey.{IsSeenTo, HasOneBelow, HasTwoBelow, IsAmong, AreBelow};
+ghost use Rattle.graph_reduce.specs.Clear.{IsReached, LeadsTo, IsTidy, IsTidyBut, AreAlike};
 
 use crate::ends::{have_same_ends, other_end};
 use crate::node_edges::NodeEdges;
@@ -61,14 +61,16 @@ pub(crate) fn force_edge(work: &mut Work, v: u32, place: u32)
     work.drop_node(v);
 }
 
-/// Drops the longer of the edge at the place and another with the same ends.
-pub(crate) fn drop_alike(work: &mut Work, place: u32)
+/// Drops the longer of the edge at the place and another with the same ends, which is among the places nearby.
+pub(crate) fn drop_alike(work: &mut Work, place: u32, nearby: NodeEdges)
     requires edge { (x : Bundle) × HasEdge work.old place x }
     requires tidy { IsTidyBut work.old place }
+    requires nearby { (n : ℕ) → AreAlike work.old place n → IsAmong nearby n }
+    requires below { AreBelow (length work.old.edges) nearby }
     ensures leads { LeadsTo work.old work.new }
     ensures tidy { IsTidy work.new }
 {
-    if let Some(other) = first_alike(work, place) {
+    if let Some(other) = alike(work, place, nearby) {
         if other < place {
             drop_longer(work, other, place);
         } else {
@@ -77,18 +79,56 @@ pub(crate) fn drop_alike(work: &mut Work, place: u32)
     }
 }
 
-// The first place whose edge has the same ends as that at the place.
-fn first_alike(work: &Work, place: u32) -> Option<u32>
-    requires { (x : Bundle) × HasEdge work.now place x }
-    ensures { MatchOption result ((n : ℕ) → ¬ AreAlike work.now place n) (IsFirstAlike work.now place) }
+// A place among those nearby whose edge has the same ends as that at the place.
+fn alike(work: &Work, place: u32, nearby: NodeEdges) -> Option<u32>
+    requires edge { (x : Bundle) × HasEdge work.now place x }
+    requires nearby { (n : ℕ) → AreAlike work.now place n → IsAmong nearby n }
+    requires below { AreBelow (length work.now.edges) nearby }
+    ensures { MatchOption result ((n : ℕ) → ¬ AreAlike work.now place n) (AreAlike work.now place) }
 {
-    let edge = work.edge_at(place);
+    match nearby {
+        NodeEdges::NoEdge => None,
+        NodeEdges::OneEdge(n) => {
+            if is_alike(work, place, n) {
+                Some(n)
+            } else {
+                None
+            }
+        }
+        NodeEdges::TwoEdges(one, two) => {
+            if is_alike(work, place, one) {
+                Some(one)
+            } else if is_alike(work, place, two) {
+                Some(two)
+            } else {
+                None
+            }
+        }
+        NodeEdges::More => alike_anywhere(work, place),
+    }
+}
+
+// A place whose edge has the same ends as that at the place.
+fn alike_anywhere(work: &Work, place: u32) -> Option<u32>
+    requires { (x : Bundle) × HasEdge work.now place x }
+    ensures { MatchOption result ((n : ℕ) → ¬ AreAlike work.now place n) (AreAlike work.now place) }
+{
     for n in 0..work.place_count() {
-        if n != place && holds_alike(work, n, edge) {
+        if is_alike(work, place, n) {
             return Some(n);
         }
     }
     None
+}
+
+// Whether another place holds an edge with the same ends as that at the place.
+fn is_alike(work: &Work, place: u32, n: u32) -> bool
+    requires edge { (x : Bundle) × HasEdge work.now place x }
+    requires other { n < length work.now.edges }
+    ensures yes { OnTrue result (AreAlike work.now place n) }
+    ensures no { OnFalse result (¬ AreAlike work.now place n) }
+{
+    n != place && holds_alike(work, n, work.edge_at(place))
 }
 
 // Whether the place holds an edge with the same ends.

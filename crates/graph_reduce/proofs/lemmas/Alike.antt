@@ -7,7 +7,7 @@ use Rattle.net_graph.specs.declared.edge.Edge.{Edge}
 use Rattle.net_graph.specs.Network.{HasEnds}
 use Rattle.graph_reduce.specs.State.{Bundle, State, HasEdge}
 use Rattle.graph_reduce.specs.Rules.{AreParallel}
-use Rattle.graph_reduce.specs.Clear.{IsClearTo, IsTidy, IsTidyBut, IsWithin, AreAlike, IsFirstAlike}
+use Rattle.graph_reduce.specs.Clear.{IsClearTo, IsTidy, IsTidyBut, IsWithin, AreAlike}
 use Rattle.graph_reduce.proofs.lemmas.Ends.{same_edge}
 use Rattle.graph_reduce.proofs.lemmas.Longer.{HoldsEdge}
 
@@ -123,7 +123,7 @@ module _ (s : State) (place : ℕ) (tidy : IsTidyBut s place) where
   loops_to end n x below at = tidy.loops n x at
 
   -- before the place
-  pub clear_before : (other : ℕ) → IsFirstAlike s place other → other < place → IsClearTo s (length s.edges) other place
+  pub clear_before : (other : ℕ) → AreAlike s place other → other < place → IsClearTo s (length s.edges) other place
   clear_before other first order = record {
     idle = tidy.idle;
     loops = loops_to (length s.edges);
@@ -131,22 +131,22 @@ module _ (s : State) (place : ℕ) (tidy : IsTidyBut s place) where
         (λ (is : n ≡ place). let lower = are.order in absurd (⊎_elim (λ (b : n < other). omega arith)
         (λ (b : (n ≡ other) × (m < place)). omega (arith, b.0)) before))
         (λ (is : m ≡ place). absurd (⊎_elim
-        (λ (b : n < other). first.none n b (subst (λ k. AreAlike s k n) is (alike_second s n m x y are)))
+        (λ (b : n < other). (let same = one_alike n other (subst (λ k. AreAlike s k n) is (alike_second s n m x y are)) first in omega (arith, b, same)))
         (λ (b : (n ≡ other) × (m < place)). let low = b.1 in omega arith) before))
         (pair_with n m x y are);
   }
 
   -- after it
-  pub clear_after : (other : ℕ) → IsFirstAlike s place other → place ≤ other → IsClearTo s (length s.edges) place other
+  pub clear_after : (other : ℕ) → AreAlike s place other → place ≤ other → IsClearTo s (length s.edges) place other
   clear_after other first order = record {
     idle = tidy.idle;
     loops = loops_to (length s.edges);
     parallels = λ n m x y before are. ⊎_elim
         (λ (is : n ≡ place). absurd (⊎_elim (λ (b : n < place). omega arith)
         (λ (b : (n ≡ place) × (m < other)).
-        first.none m b.1 (subst (λ k. AreAlike s k m) is (alike_first s n m x y are))) before))
+        (let same = one_alike m other (subst (λ k. AreAlike s k m) is (alike_first s n m x y are)) first in omega (arith, b.1, same))) before))
         (λ (is : m ≡ place). let lower = are.order in absurd (⊎_elim
-        (λ (b : n < place). first.none n (omega arith) (subst (λ k. AreAlike s k n) is (alike_second s n m x y are)))
+        (λ (b : n < place). (let same = one_alike n other (subst (λ k. AreAlike s k n) is (alike_second s n m x y are)) first in omega (arith, b, same, order)))
         (λ (b : (n ≡ place) × (m < other)). let same = b.0 in omega arith) before))
         (pair_with n m x y are);
   }

@@ -1,6 +1,4 @@
-use Rattle.std.proofs.Common.{take, flat_map}
 use Rattle.text_out.specs.GatherLaws.{gathers_two}
-use Rattle.graph_reduce.specs.Text.{number_line}
 use Rattle.graph_reduce.proofs.lemmas.Texts.{number_more}
 use Rattle.graph_reduce.proofs.write.write_terminals.Goals as goal
 
