@@ -94,8 +94,8 @@ impl EventReader {
     }
 
     /// Reads one more byte, and tells the event that it ends: an event ends with the line feed of its line, and that
-    /// of the head with the sixth, or with the fifth in a graph. An `Err` comes at the first byte with which no answer's
-    /// text begins, and for good from then on, with the same line.
+    /// of the head with the sixth, or with the fifth in a graph. An `Err` comes at the first byte with which no
+    /// answer's text begins, and for good from then on, with the same line.
     pub fn feed(&mut self, byte: u8) -> Result<Option<Event>, Spelling>
         requires { bytes_fed self.old < 2 ^ 32 - 1 }
         ensures fed { bytes_fed self.new ≡ bytes_fed self.old + 1 }

@@ -11,12 +11,13 @@ use net_graph::Edge;
 use points_in::Point;
 use std::alloc::{AllocError, Global};
 
-/// All edges, the horizontal ones first.
+/// All edges between neighbouring crossings of at most 100 lines each way, the horizontal ones first, each kind by row
+/// and then by column. An `Err` is want of memory.
 pub fn line_edges(alloc: Global, xs: &[i64], ys: &[i64]) -> Result<Vec<Edge>, AllocError>
     requires columns { 0 < length xs.now }
     requires rows { 0 < length ys.now }
-    requires few_columns { length xs.now ≤ 50 }
-    requires few_rows { length ys.now ≤ 50 }
+    requires few_columns { length xs.now ≤ 100 }
+    requires few_rows { length ys.now ≤ 100 }
     ensures { IfOk result (λ edges. edges.items ≡ edges_of_lines xs.now ys.now) }
 {
     let columns = xs.len();
@@ -31,8 +32,8 @@ pub fn line_edges(alloc: Global, xs: &[i64], ys: &[i64]) -> Result<Vec<Edge>, Al
 // Appends the horizontal edges, row by row.
 fn push_horizontals(edges: &mut Vec<Edge>, xs: &[i64], ys: &[i64])
     requires columns { 0 < length xs.now }
-    requires few_columns { length xs.now ≤ 50 }
-    requires few_rows { length ys.now ≤ 50 }
+    requires few_columns { length xs.now ≤ 100 }
+    requires few_rows { length ys.now ≤ 100 }
     requires room { vec_len edges.old + length ys.now * (length xs.now - 1)
         ≤ vec_capacity edges.old }
     ensures edges { edges.new.items ≡ edges.old.items ++ horizontals xs.now ys.now }
@@ -47,8 +48,8 @@ fn push_horizontals(edges: &mut Vec<Edge>, xs: &[i64], ys: &[i64])
 // Appends the horizontal edges of a row.
 fn push_horizontal_row(edges: &mut Vec<Edge>, xs: &[i64], row: u32)
     requires columns { 0 < length xs.now }
-    requires few_columns { length xs.now ≤ 50 }
-    requires few_rows { row < 50 }
+    requires few_columns { length xs.now ≤ 100 }
+    requires few_rows { row < 100 }
     requires room { vec_len edges.old + (length xs.now - 1) ≤ vec_capacity edges.old }
     ensures edges { edges.new.items
         ≡ edges.old.items ++ map (horizontal xs.now row) (range_with_len 0 (length xs.now - 1)) }
@@ -68,8 +69,8 @@ fn push_horizontal_row(edges: &mut Vec<Edge>, xs: &[i64], row: u32)
 // Appends the vertical edges, row by row.
 fn push_verticals(edges: &mut Vec<Edge>, xs: &[i64], ys: &[i64])
     requires rows { 0 < length ys.now }
-    requires few_columns { length xs.now ≤ 50 }
-    requires few_rows { length ys.now ≤ 50 }
+    requires few_columns { length xs.now ≤ 100 }
+    requires few_rows { length ys.now ≤ 100 }
     requires room { vec_len edges.old + (length ys.now - 1) * length xs.now
         ≤ vec_capacity edges.old }
     ensures edges { edges.new.items ≡ edges.old.items ++ verticals xs.now ys.now }
@@ -84,8 +85,8 @@ fn push_verticals(edges: &mut Vec<Edge>, xs: &[i64], ys: &[i64])
 // Appends the vertical edges from a row to the next one, where a row has `columns` crossings.
 fn push_vertical_row(edges: &mut Vec<Edge>, columns: u32, ys: &[i64], row: usize)
     requires row { row + 1 < length ys.now }
-    requires few_columns { columns ≤ 50 }
-    requires few_rows { length ys.now ≤ 50 }
+    requires few_columns { columns ≤ 100 }
+    requires few_rows { length ys.now ≤ 100 }
     requires room { vec_len edges.old + columns ≤ vec_capacity edges.old }
     ensures edges { edges.new.items
         ≡ edges.old.items ++ map (vertical columns ys.now row) (range_with_len 0 columns) }
@@ -103,7 +104,8 @@ fn push_vertical_row(edges: &mut Vec<Edge>, columns: u32, ys: &[i64], row: usize
     }
 }
 
-/// The vertex of each point, in order.
+/// The vertex of each point among the crossings of at most 100 lines each way, in order. A point whose coordinates are
+/// no lines gets the number that the lines below it make. An `Err` is want of memory.
 pub fn point_vertices(
     alloc: Global,
     xs: &[i64],
@@ -112,8 +114,8 @@ pub fn point_vertices(
 ) -> Result<Vec<u32>, AllocError>
     requires rising_columns { IsRising xs.now }
     requires rising_rows { IsRising ys.now }
-    requires few_columns { length xs.now ≤ 50 }
-    requires few_rows { length ys.now ≤ 50 }
+    requires few_columns { length xs.now ≤ 100 }
+    requires few_rows { length ys.now ≤ 100 }
     ensures { IfOk result (λ vertices. vertices.items ≡ map (vertex_of xs.now ys.now) points.now) }
 {
     let mut vertices = Vec::with_capacity(alloc, points.len())?;
@@ -127,8 +129,8 @@ pub fn point_vertices(
 pub fn point_vertex(xs: &[i64], ys: &[i64], point: Point) -> u32
     requires rising_columns { IsRising xs.now }
     requires rising_rows { IsRising ys.now }
-    requires few_columns { length xs.now ≤ 50 }
-    requires few_rows { length ys.now ≤ 50 }
+    requires few_columns { length xs.now ≤ 100 }
+    requires few_rows { length ys.now ≤ 100 }
     ensures { result ≡ vertex_of xs.now ys.now point }
 {
     place_in(ys, point.y) * xs.len() as u32 + place_in(xs, point.x)

@@ -8,7 +8,7 @@ ghost use Rattle.hanan_grid.specs.Grid.{xs_of, ys_of};
 use points_in::Point;
 use std::alloc::{AllocError, Global};
 
-/// The vertical lines of points.
+/// The vertical lines of points: their distinct x in ascending order (Hanan 1966). An `Err` is want of memory.
 pub fn x_lines(alloc: Global, points: &[Point]) -> Result<Vec<i64>, AllocError>
     ensures { IfOk result (λ lines. lines.items ≡ xs_of points.now) }
 {
@@ -19,7 +19,7 @@ pub fn x_lines(alloc: Global, points: &[Point]) -> Result<Vec<i64>, AllocError>
     Ok(lines_of(values))
 }
 
-/// The horizontal lines of points.
+/// The horizontal lines of points: their distinct y in ascending order (Hanan 1966). An `Err` is want of memory.
 pub fn y_lines(alloc: Global, points: &[Point]) -> Result<Vec<i64>, AllocError>
     ensures { IfOk result (λ lines. lines.items ≡ ys_of points.now) }
 {
@@ -42,7 +42,7 @@ fn lines_of(mut values: Vec<i64>) -> Vec<i64>
 /// How many of the lines are below a value.
 pub fn place_in(lines: &[i64], value: i64) -> u32
     requires rising { IsRising lines.now }
-    requires few { length lines.now ≤ 50 }
+    requires few { length lines.now ≤ 100 }
     ensures place { result ≡ place_of value lines.now }
     ensures within { result ≤ length lines.now }
 {
@@ -52,7 +52,7 @@ pub fn place_in(lines: &[i64], value: i64) -> u32
 /// The place of a value among the lines, where it is one.
 pub fn found_in(lines: &[i64], value: i64) -> Option<u32>
     requires rising { IsRising lines.now }
-    requires few { length lines.now ≤ 50 }
+    requires few { length lines.now ≤ 100 }
     ensures place { IfSome result (λ place. place < length lines.now) }
     ensures line { IfSome result (λ place. line_at lines.now place ≡ value) }
     ensures none { IfNone result (¬ Contains lines.now value) }

@@ -63,8 +63,7 @@ impl Source for SureSource {
     }
 }
 
-/// A sink that takes all bytes and keeps none. Its sure room is always 2^64 bytes, more than any slice has. No tool
-/// makes one.
+/// A sink that takes all bytes and keeps none. Its sure room is always 2^64 bytes, more than any slice has.
 #[derive(Drop)]
 pub struct SureSink;
 
