@@ -1,6 +1,6 @@
 //! Shorter networks that a search finds in its first leaf.
 
-ghost use Rattle.std.specs.Prelude.{◌≡◌, OnOk};
+ghost use Rattle.std.specs.Prelude.{◌≡◌, OnErr};
 
 use crate::raising::Raising;
 use branch::Search;
@@ -35,7 +35,8 @@ impl Raising for Shortening<'_> {
 
 /// Offers a search in a graph what a local search makes of the network that its first leaf shows, in at most so many
 /// descents. The nearer the packing comes to the least length, the more of a shortest network are its saturated arcs:
-/// there the local search finds what it misses where it begins with another network. An `Err` is want of memory.
+/// there the local search finds what it misses where it begins with another network. An `Err` is want of memory, and
+/// leaves the search as it was.
 pub fn offer_shorter<F: Rule, G: Rule>(
     alloc: Global,
     g: &NetGraph,
@@ -43,9 +44,10 @@ pub fn offer_shorter<F: Rule, G: Rule>(
     search: &mut Search<'_, F, G>,
 ) -> Result<(), AllocError>
     requires graph { g.now ≡ search.old.graph }
-    ensures graph { OnOk result (search.new.graph ≡ search.old.graph) }
-    ensures first { OnOk result (search.new.first_length ≡ search.old.first_length) }
-    ensures tree { OnOk result (search.new.tree ≡ search.old.tree) }
+    ensures graph { search.new.graph ≡ search.old.graph }
+    ensures first { search.new.first_length ≡ search.old.first_length }
+    ensures tree { search.new.tree ≡ search.old.tree }
+    ensures err { OnErr result (search.new ≡ search.old) }
 {
     if let Some(shown) = search.shown() {
         let shorter = shortened(alloc, g, shown, descents)?;

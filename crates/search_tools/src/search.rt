@@ -1,6 +1,6 @@
 //! The search on a grid that begins with a network.
 
-ghost use Rattle.std.specs.Prelude.{◌≡◌, ◌<◌, length, IsTrue, IfOk, IfSome, OnOk};
+ghost use Rattle.std.specs.Prelude.{◌≡◌, ◌<◌, length, IsTrue, IfOk, IfSome};
 ghost use Rattle.net_graph.specs.Network.{length_of};
 ghost use Rattle.hanan_grid.specs.Grid.{hanan_grid_of};
 ghost use Rattle.cert_tree.specs.Preorder.{split_count};
@@ -90,9 +90,9 @@ fn raise_by_exchange<F: Rule, G: Rule>(
     ensures further { IfOk result (λ further.
         length_of search.old.graph search.new.network < length_of search.old.graph search.old.network
         → IsTrue further) }
-    ensures graph { OnOk result (search.new.graph ≡ search.old.graph) }
-    ensures first { OnOk result (search.new.first_length ≡ search.old.first_length) }
-    ensures leaf { OnOk result (split_count search.new.tree ≡ 0) }
+    ensures graph { search.new.graph ≡ search.old.graph }
+    ensures first { search.new.first_length ≡ search.old.first_length }
+    ensures leaf { split_count search.new.tree ≡ 0 }
 {
     let before = length(grid.graph(), search.network());
     let ExchangeEnd { bound, is_spent } = exchanged(alloc, grid, search.network(), budget)?;

@@ -7,6 +7,6 @@ use Rattle.graph_search.proofs.search.searched_by.Goals as goal
 pub returns : goal.returns
 returns _ c =
     told_or_not c.args.g.now _ c.args.openings (length_of c.args.g.now c.args.first) _ c.solve.result
-    (c.in_ok-raise.ensures.graph ∙ c.in_ok-search.ensures.graph)
-    (c.in_ok-raise.ensures.first ∙ c.in_ok-search.ensures.first)
+    (c.raise.ensures.graph ∙ c.in_ok-search.ensures.graph)
+    (c.raise.ensures.first ∙ c.in_ok-search.ensures.first)
     c.solve.ensures.solved c.solve.ensures.few c.solve.ensures.stopped
