@@ -1,5 +1,3 @@
 pub mod SolveLaws
-pub mod SolutionLaws
-pub mod CheckLaws
 pub mod ReduceLaws
 pub mod LiftLaws

@@ -18,7 +18,7 @@ use Rattle.graph_tools.specs.declared.lifted.Lifted.{Lifted}
 use Rattle.graph_tools.specs.Lifted.{IsLiftedFor, lifted_by}
 use Rattle.graph_tools.specs.Reduce.{IsReduced}
 use Rattle.graph_tools.specs.Solution.{IsAnswerFor, IsSpelled}
-use Rattle.graph_tools.proofs.SolutionLaws.{permitted_answer}
+use Rattle.graph_tools.specs.SolutionLaws.{permitted_answer}
 
 -- each edge is one of all
 has_edge : (g : Graph) (e : ℕ) → e < length g.edges → slice_get (all_edges g) e ≡ Some true

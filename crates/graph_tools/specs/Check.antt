@@ -67,8 +67,8 @@ FileIsTask shelf name file =
     (bytes : List ℕ) × IsWholeFile TEXT_LIMIT shelf name bytes × IsTaskText bytes file
 
 -- Why the file of this name gives no Steiner problem.
-abbrev pub IsGraphFileFault : ShelfState → ShelfState → List ℕ → GraphTextFault → Type 0
-IsGraphFileFault shelf shelf' name fault =
+abbrev pub IsGraphFileFault : ShelfState → List ℕ → GraphTextFault → Type 0
+IsGraphFileFault shelf name fault =
     (bytes : List ℕ) × IsWholeFile TEXT_LIMIT shelf name bytes × ReadsGraph bytes (Err fault)
 
 -- Why an answer isn't judged, under the name of an STP file: the file isn't taken whole, or gives no Steiner problem,
@@ -77,7 +77,7 @@ abbrev pub IsCheckgraphFault : List ℕ → Readable → Readable → Checkgraph
 IsCheckgraphFault name before after (File fault) =
     IsFileFault TEXT_LIMIT before.shelf after.shelf name fault × (after.input ≡ before.input)
 IsCheckgraphFault name before after (OfGraph fault) =
-    IsGraphFileFault before.shelf after.shelf name fault × (after.input ≡ before.input)
+    IsGraphFileFault before.shelf name fault × (after.input ≡ before.input)
 IsCheckgraphFault name before after (Input fault) =
     ((file : StpValue) × FileIsTask before.shelf name file)
     × IsInputFault GRAPH_ANSWER_LIMIT before.input after.input fault
@@ -103,7 +103,7 @@ abbrev pub ReadsGraphFile : ShelfState → ShelfState → List ℕ → Result Gr
 ReadsGraphFile shelf shelf' name (Ok g) =
     (file : StpValue) × FileIsTask shelf name file × (g ≡ graph_of_stp file)
 ReadsGraphFile shelf shelf' name (Err (File fault)) = IsFileFault TEXT_LIMIT shelf shelf' name fault
-ReadsGraphFile shelf shelf' name (Err (OfGraph fault)) = IsGraphFileFault shelf shelf' name fault
+ReadsGraphFile shelf shelf' name (Err (OfGraph fault)) = IsGraphFileFault shelf name fault
 ReadsGraphFile shelf shelf' name (Err (Input fault)) = ⊥
 
 -- A run of `checkgraph` under the name of a file.

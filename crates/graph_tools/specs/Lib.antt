@@ -1,5 +1,8 @@
+pub mod Found
+pub mod FoundLaws
 pub mod Solution
 pub mod Solve
+pub mod SolutionLaws
 pub mod Check
 pub mod Truth
 pub mod TruthLaws

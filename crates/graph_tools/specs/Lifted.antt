@@ -18,9 +18,10 @@ use Rattle.frame.specs.FromText.{FromText}
 use Rattle.frame.specs.Leaves.{LeavesShelf}
 use Rattle.graph_search.specs.Searched.{bound_of}
 use Rattle.graph_inputs.specs.declared.text_fault.GraphTextFault.{GraphTextFault}
-use Rattle.graph_inputs.specs.Reading.{graph_fault_text, graph_fault_status}
+use Rattle.graph_inputs.specs.Reading.{ReadsGraph, graph_fault_text, graph_fault_status}
+use Rattle.graph_tools.specs.Found.{FindsIn}
 use Rattle.graph_tools.specs.declared.lifted.Lifted.{Lifted}
-use Rattle.graph_tools.specs.Reduce.{IsReduced, FindsInGraph, EndsReduce}
+use Rattle.graph_tools.specs.Reduce.{IsReduced, EndsReduce}
 use Rattle.graph_tools.specs.Solution.{IsPermittedGraphAnswer}
 
 -- the lines before the edges
@@ -66,7 +67,7 @@ IsLiftedFor g l = (r : Reduction) × (network : List Bool) × (tree : Tree Split
 
 -- What `reduce --solve` finds in a text, before it writes.
 abbrev pub FindsLifted : List ℕ → Result Lifted GraphTextFault → Type 0
-FindsLifted = FindsInGraph IsLiftedFor
+FindsLifted = FindsIn ReadsGraph IsLiftedFor
 
 -- What it prints of a text: the network of an answer that may be printed in the reduction of the graph of the STP file
 -- that the text is, lifted.
@@ -75,7 +76,7 @@ PrintsLifted g print = (r : Reduction) × (network : List Bool) × (tree : Tree 
     × IsPermittedGraphAnswer 100 r.graph network tree × (print ≡ lifted_print r network tree)
 
 abbrev pub LiftsGraph : List ℕ → Result Print GraphTextFault → Type 0
-LiftsGraph = FindsInGraph PrintsLifted
+LiftsGraph = FindsIn ReadsGraph PrintsLifted
 
 -- A run of `reduce --solve`.
 abbrev pub EndsReduceSolve : Outside → Outside → ℕ → Type 0

@@ -1,12 +1,10 @@
 -- What `reduce` finds, by what it read.
-use Rattle.std.specs.Prelude.{ℕ, ◌≡◌, List, codes, Result, Ok, Err}
+use Rattle.std.specs.Prelude.{ℕ, ◌≡◌, List, codes, Result}
 use Rattle.net_graph.specs.Graph.{Graph}
-use Rattle.stp_format.specs.Value.{StpValue}
 use Rattle.graph_reduce.specs.Fitness.{IsFitFor}
 use Rattle.graph_reduce.specs.Lifting.{KeepsNetworks}
 use Rattle.graph_reduce.specs.Reduction.{Reduction, IsReductionOf}
 use Rattle.graph_reduce.specs.Text.{reduced_text}
-use Rattle.graph_solve.specs.Task.{graph_of_stp}
 use Rattle.frame.specs.declared.status.AnswerStatus.TheVariants.{Done}
 use Rattle.frame.specs.declared.take.TheConstants.{TEXT_LIMIT}
 use Rattle.frame.specs.Outside.{Outside}
@@ -15,19 +13,15 @@ use Rattle.frame.specs.FaultTexts.{text_fault_text, text_fault_status}
 use Rattle.frame.specs.FromText.{FromText}
 use Rattle.frame.specs.Leaves.{LeavesShelf}
 use Rattle.graph_inputs.specs.declared.text_fault.GraphTextFault.{GraphTextFault}
-use Rattle.graph_inputs.specs.Reading.{IsTaskText, ReadsGraph, graph_fault_text, graph_fault_status}
+use Rattle.graph_inputs.specs.Reading.{ReadsGraph, graph_fault_text, graph_fault_status}
 use Rattle.graph_tools.specs.declared.reduction.GraphReduction.{GraphReduction}
+use Rattle.graph_tools.specs.Found.{FindsIn}
 
 -- This is the reduction of the graph, which is a graph again, and whose networks lift.
 pub record IsReduced (g : Graph) (r : Reduction) : Type 0 where
   pub reduction : IsReductionOf g r
   pub fits : IsFitFor g r
   pub networks : KeepsNetworks g r
-
--- What is found in the graph of the STP file that the bytes are; or why they give no Steiner problem.
-abbrev pub FindsInGraph : {A : Type 0} → (Graph → A → Type 0) → List ℕ → Result A GraphTextFault → Type 0
-FindsInGraph Is bytes (Ok found) = (file : StpValue) × IsTaskText bytes file × Is (graph_of_stp file) found
-FindsInGraph Is bytes (Err fault) = ReadsGraph bytes (Err fault)
 
 -- the text of a reduction
 abbrev pub reduction_text : GraphReduction → List ℕ
@@ -42,14 +36,14 @@ abbrev pub IsReductionFor : Graph → GraphReduction → Type 0
 IsReductionFor g found = IsReduced g found.reduced
 
 abbrev pub FindsReduction : List ℕ → Result GraphReduction GraphTextFault → Type 0
-FindsReduction = FindsInGraph IsReductionFor
+FindsReduction = FindsIn ReadsGraph IsReductionFor
 
 -- What it prints of a text: the reduction of the graph of the STP file that the text is.
 abbrev pub PrintsReduction : Graph → Print → Type 0
 PrintsReduction g print = (r : Reduction) × IsReduced g r × (print ≡ reduction_print r)
 
 abbrev pub ReducesGraph : List ℕ → Result Print GraphTextFault → Type 0
-ReducesGraph = FindsInGraph PrintsReduction
+ReducesGraph = FindsIn ReadsGraph PrintsReduction
 
 -- A run of `reduce`.
 abbrev pub EndsReduce : Outside → Outside → ℕ → Type 0

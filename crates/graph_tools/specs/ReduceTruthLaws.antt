@@ -9,7 +9,6 @@ use Rattle.net_graph.specs.Network.{length_of}
 use Rattle.cert_tree.specs.declared.split.SplitOn.{SplitOn}
 use Rattle.cert_tree.specs.Tree.{Tree}
 use Rattle.graph_reduce.specs.Reduction.{Reduction}
-use Rattle.graph_solve.specs.Task.{graph_of_stp}
 use Rattle.frame.specs.declared.status.AnswerStatus.{AnswerStatus}
 use Rattle.frame.specs.declared.status.AnswerStatus.TheVariants.{Done, Stopped}
 use Rattle.frame.specs.declared.take.TheConstants.{TEXT_LIMIT}
@@ -70,7 +69,7 @@ lifts_truly g r network tree before after status reduced permitted appended answ
 reduction_printed : (before after : Outside) (status : ℕ) (s : AnswerStatus) → status ≡ answer_code s →
     EndsReduce before after status → ReducesTruly false before after status
 reduction_printed before after status s is ends =
-    let (print, (bytes, whole, (file, task, (r, reduced, of_file))), printed) =
+    let (print, (bytes, whole, (g, (file, task, same), (r, reduced, of_graph))), printed) =
     printed_ends (text_fault_status graph_fault_status) (text_fault_text graph_fault_text) (codes "reduce")
     (FromText TEXT_LIMIT ReducesGraph) LeavesShelf before after status s is ends in (
       bytes,
@@ -79,9 +78,9 @@ reduction_printed before after status s is ends =
       task,
       (
         r,
-        reduced,
-        printed.ends ∙ ap (λ (p : Print). answer_code p.status) of_file,
-        subst (λ (p : Print). Appended before.written.out.taken p.text after.written.out.taken) of_file
+        subst (λ h. IsReduced h r) same reduced,
+        printed.ends ∙ ap (λ (p : Print). answer_code p.status) of_graph,
+        subst (λ (p : Print). Appended before.written.out.taken p.text after.written.out.taken) of_graph
             printed.wrote.appended,
       ),
     )
@@ -89,17 +88,18 @@ reduction_printed before after status s is ends =
 lifted_printed : (before after : Outside) (status : ℕ) (s : AnswerStatus) → status ≡ answer_code s →
     EndsReduceSolve before after status → ReducesTruly true before after status
 lifted_printed before after status s is ends =
-    let (print, (bytes, whole, (file, task, (r, network, tree, reduced, permitted, of_file))), printed) =
+    let (print, (bytes, whole, (g, (file, task, same), (r, network, tree, reduced, permitted, of_graph))), printed) =
     printed_ends (text_fault_status graph_fault_status) (text_fault_text graph_fault_text) (codes "reduce")
     (FromText TEXT_LIMIT LiftsGraph) LeavesShelf before after status s is ends in (
       bytes,
       file,
       whole.came,
       task,
-      lifts_truly (graph_of_stp file) r network tree before after status reduced permitted
-          (subst (λ (p : Print). Appended before.written.out.taken p.text after.written.out.taken) of_file
+      subst (λ h. LiftsTruly h before after status) same
+          (lifts_truly g r network tree before after status reduced permitted
+          (subst (λ (p : Print). Appended before.written.out.taken p.text after.written.out.taken) of_graph
           printed.wrote.appended)
-          (printed.ends ∙ ap (λ (p : Print). answer_code p.status) of_file),
+          (printed.ends ∙ ap (λ (p : Print). answer_code p.status) of_graph)),
     )
 
 reduces_with : (solve : Bool) (before after : Outside) (status : ℕ) (s : AnswerStatus) → status ≡ answer_code s →

@@ -1,9 +1,8 @@
 -- What `graph` finds, by what it read.
-use Rattle.std.specs.Prelude.{ℕ, ◌≡◌, Bool, List, codes, Result, Ok, Err}
-use Rattle.stp_format.specs.Value.{StpValue}
+use Rattle.std.specs.Prelude.{ℕ, ◌≡◌, Bool, List, codes, Result}
+use Rattle.net_graph.specs.Graph.{Graph}
 use Rattle.cert_tree.specs.declared.split.SplitOn.{SplitOn}
 use Rattle.cert_tree.specs.Tree.{Tree}
-use Rattle.graph_solve.specs.Task.{graph_of_stp}
 use Rattle.frame.specs.declared.take.TheConstants.{TEXT_LIMIT}
 use Rattle.frame.specs.Outside.{Outside}
 use Rattle.frame.specs.Ends.{Print, Ends}
@@ -12,23 +11,24 @@ use Rattle.frame.specs.FromText.{FromText}
 use Rattle.frame.specs.Leaves.{LeavesShelf}
 use Rattle.graph_inputs.specs.declared.text_fault.GraphTextFault.{GraphTextFault}
 use Rattle.graph_tools.specs.declared.solution.GraphSolution.{GraphSolution}
-use Rattle.graph_inputs.specs.Reading.{IsTaskText, ReadsGraph, graph_fault_text, graph_fault_status}
+use Rattle.graph_inputs.specs.Reading.{ReadsGraph, graph_fault_text, graph_fault_status}
+use Rattle.graph_tools.specs.Found.{FindsIn}
 use Rattle.graph_tools.specs.Solution.{IsFor, IsPermittedGraphAnswer, graph_print}
+
+-- What is printed of a network and a tree of cuts in a graph: an answer that may be printed there.
+abbrev pub PrintsAnswer : ℕ → Graph → Print → Type 0
+PrintsAnswer openings g print =
+    (network : List Bool) × (tree : Tree SplitOn) × IsPermittedGraphAnswer openings g network tree
+    × (print ≡ graph_print openings g network tree)
 
 -- What `graph` finds in a text, before it writes: an answer in the graph of the STP file that it is; or why it gives
 -- no Steiner problem.
 abbrev pub FindsAnswer : ℕ → List ℕ → Result GraphSolution GraphTextFault → Type 0
-FindsAnswer openings bytes (Ok s) =
-    (file : StpValue) × IsTaskText bytes file × IsFor openings (graph_of_stp file) s
-FindsAnswer openings bytes (Err fault) = ReadsGraph bytes (Err fault)
+FindsAnswer openings = FindsIn ReadsGraph (IsFor openings)
 
--- What it prints of a text: an answer that it may print in the graph of the STP file that the text is.
+-- What it prints of a text.
 abbrev pub SolvesGraph : ℕ → List ℕ → Result Print GraphTextFault → Type 0
-SolvesGraph openings bytes (Ok print) =
-    (file : StpValue) × (network : List Bool) × (tree : Tree SplitOn) × IsTaskText bytes file
-    × IsPermittedGraphAnswer openings (graph_of_stp file) network tree
-    × (print ≡ graph_print openings (graph_of_stp file) network tree)
-SolvesGraph openings bytes (Err fault) = ReadsGraph bytes (Err fault)
+SolvesGraph openings = FindsIn ReadsGraph (PrintsAnswer openings)
 
 -- A run of `graph` with so many openings allowed.
 abbrev pub EndsGraph : ℕ → Outside → Outside → ℕ → Type 0

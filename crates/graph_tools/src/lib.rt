@@ -13,5 +13,5 @@ pub use checking::{CheckgraphFault, GRAPH_ANSWER_LIMIT, checkgraph};
 pub use lifted::Lifted;
 pub use reducing::reduce;
 pub use reduction::GraphReduction;
-pub use solution::GraphSolution;
+pub use solution::{GraphSolution, solution_in};
 pub use solving::graph;

@@ -52,8 +52,9 @@ impl Answer for GraphSolution {
     }
 }
 
-/// The answer in a graph. An `Err` is want of memory.
-pub(crate) fn solution_in(
+/// The answer in a graph whose edges all together join its terminals: what a search finds that begins with a network
+/// which grows along shortest paths and is made short by local search. An `Err` is want of memory.
+pub fn solution_in(
     alloc: Global,
     graph: NetGraph,
     options: GraphOptions,

@@ -1,5 +1,5 @@
 -- What words ask of a tool, by what its command makes of them, and that numbers are within their limits.
-use Rattle.std.proofs.Common.{◌≡◌, ◌∙◌, ◌≤◌, ◌<◌, ◌^◌, ℕ, true, false, List, [], ◌∷◌, Option, Some, None, IfSome, map, refl, sym, ap, subst, arith, true≢false}
+use Rattle.std.proofs.Common.{◌≡◌, ◌∙◌, ◌≤◌, ◌<◌, ◌^◌, ℕ, Bool, true, false, List, [], ◌∷◌, Option, Some, None, IfSome, map, refl, sym, ap, subst, arith, true≢false}
 use Rattle.std.specs.Prelude.{codes, option_and_then, option_map, pos, slice_get, unwrap_or}
 use Rattle.std.specs.Option.{option_copied}
 use Rattle.std.specs.Borrow.{Bor}
@@ -60,6 +60,7 @@ commands_are_simple tool.Slack = refl
 commands_are_simple tool.Graph = refl
 commands_are_simple tool.Checkgraph = refl
 commands_are_simple tool.Reduce = refl
+commands_are_simple tool.Obstacles = refl
 
 -- the command took the words
 pub taken : (t : Tool) (words : List Text) (app : App) (rows : List Row) → app ≡ command_of t → fault_of app words ≡ [] → rows ≡ matches_of app words
@@ -177,6 +178,12 @@ solve_limits rows size concat = go (number_in 8 (codes "size") rows) refl
     go None e = tt
     go (Some n) e = mapped (search_in rows) (Request.Solve n) (λ s. s.concat ≤ 20000) (λ x f h. (size n e, h)) (if_some _ _ (search_limits rows concat))
 
+-- no number of a search in a graph has other limits than those of its width
+obstacles_limits : (o : Option Bool) (rows : List Row) →
+    IfSome (option_and_then (λ stp. option_map (Request.Obstacles stp) (graph_in rows)) o) IsWithinLimits
+obstacles_limits None rows = tt
+obstacles_limits (Some stp) rows = free (graph_in rows) (Request.Obstacles stp) (λ x. tt)
+
 pub limits : (t : Tool) (old : Command) (m : ArgMatches) → IsParsedFrom old m → app_of old ≡ command_of t → IfSome (request_by t (rows_of (found_of m))) IsWithinLimits
 limits tool.Points old m p is = drawing_limits (rows_of (found_of m)) Request.Points (λ d h. h) (count_within tool.Points old m p is count_parser)
 limits tool.Stp2points old m p is = tt
@@ -198,6 +205,7 @@ limits tool.Slack old m p is =
 limits tool.Graph old m p is = free (graph_in (rows_of (found_of m))) Request.Graph (λ x. tt)
 limits tool.Checkgraph old m p is = free (first_of (codes "stp") (rows_of (found_of m))) Request.Checkgraph (λ x. tt)
 limits tool.Reduce old m p is = free (truth_in (codes "solve") (rows_of (found_of m))) Request.Reduce (λ x. tt)
+limits tool.Obstacles old m p is = obstacles_limits (truth_in (codes "stp") (rows_of (found_of m))) (rows_of (found_of m))
 
 -- ---- what the code holds
 

@@ -28,11 +28,12 @@ name_of tool.Slack = codes "slack"
 name_of tool.Graph = codes "graph"
 name_of tool.Checkgraph = codes "checkgraph"
 name_of tool.Reduce = codes "reduce"
+name_of tool.Obstacles = codes "obstacles"
 
 abbrev pub all_tools : List Tool
 all_tools = tool.Points ∷ tool.Stp2points ∷ tool.Rfst ∷ tool.Prunefst ∷ tool.Bb ∷ tool.Solve ∷ tool.Check ∷ tool.Dumpfst
     ∷ tool.Fst2graph ∷ tool.Plot ∷ tool.Trial ∷ tool.Upgrade ∷ tool.Slack ∷ tool.Graph
-    ∷ tool.Checkgraph ∷ tool.Reduce ∷ []
+    ∷ tool.Checkgraph ∷ tool.Reduce ∷ tool.Obstacles ∷ []
 
 -- the tool of this name
 abbrev pub tool_named : Text → Option Tool
@@ -82,6 +83,10 @@ pieces_rule = record (new_rule (codes "pieces")) { long = Some (codes "pieces");
 abbrev pub solve_rule : Rule
 solve_rule = record (new_rule (codes "solve")) { long = Some (codes "solve"); action = Some SetTrue }
 
+-- the option `--stp`, nor does this one
+abbrev pub as_stp_rule : Rule
+as_stp_rule = record (new_rule (codes "stp")) { long = Some (codes "stp"); action = Some SetTrue }
+
 abbrev pub count_rule : Rule
 count_rule = record (operand_rule (codes "count")) { parser = whole_number 1 50 }
 
@@ -125,6 +130,7 @@ arguments_of tool.Slack = above_rule ∷ ascent_rule ∷ []
 arguments_of tool.Graph = graph_rules
 arguments_of tool.Checkgraph = stp_rule ∷ []
 arguments_of tool.Reduce = solve_rule ∷ []
+arguments_of tool.Obstacles = as_stp_rule ∷ graph_rules
 
 -- the command with further arguments
 abbrev pub with_rules : App → List Rule → App

@@ -35,6 +35,7 @@ pub data Request : Type 0 where
   Graph : GraphOptions → Request
   Checkgraph : (graph : Text) → Request
   Reduce : (solve : Bool) → Request
+  Obstacles : (stp : Bool) → GraphOptions → Request
 
 -- the request of the code, which holds a file's name by reference
 abbrev pub meaning : Asked → Request
@@ -54,6 +55,7 @@ meaning (asked.Slack above ascent) = Request.Slack above ascent
 meaning (asked.Graph choices) = Request.Graph choices
 meaning (asked.Checkgraph graph) = Request.Checkgraph graph.now
 meaning (asked.Reduce solve) = Request.Reduce solve
+meaning (asked.Obstacles stp search) = Request.Obstacles stp search
 
 -- ---- a tool's request, by the values of its arguments
 
@@ -103,6 +105,8 @@ request_by tool.Slack rows = option_map (Request.Slack (number_in 64 (codes "abo
 request_by tool.Graph rows = option_map Request.Graph (graph_in rows)
 request_by tool.Checkgraph rows = option_map Request.Checkgraph (first_of (codes "stp") rows)
 request_by tool.Reduce rows = option_map Request.Reduce (truth_in (codes "solve") rows)
+request_by tool.Obstacles rows = option_and_then (λ stp. option_map (Request.Obstacles stp) (graph_in rows))
+    (truth_in (codes "stp") rows)
 
 -- ---- the words
 

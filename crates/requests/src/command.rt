@@ -3,7 +3,7 @@
 ghost use Rattle.std.specs.Prelude.{◌≡◌, IfOk, false};
 ghost use Rattle.clap.specs.Words.{app_of, rule_of};
 ghost use Rattle.requests.specs.Commands.{command_of, count_rule, seed_rule, size_rule};
-ghost use Rattle.requests.specs.Commands.{openings_rule, concat_rule, ascent_rule, split_rule, pieces_rule, solve_rule};
+ghost use Rattle.requests.specs.Commands.{openings_rule, concat_rule, ascent_rule, split_rule, pieces_rule, solve_rule, as_stp_rule};
 ghost use Rattle.requests.specs.Commands.{above_rule, points_rule, stp_rule, option_rule, operand_rule};
 ghost use Rattle.requests.specs.Commands.{search_rules, choice_rules, with_rules};
 ghost use Rattle.requests.specs.declared.tool.Tool.TheVariants as tool;
@@ -129,6 +129,14 @@ pub(crate) fn reduce<'a>(alloc: Global) -> Result<Command<'a>, AllocError>
     Command::new(alloc, "reduce").arg(solving(alloc))
 }
 
+/// `obstacles [--stp] [--openings COUNT] [--ascent RULE] [--split RULE]`
+pub(crate) fn obstacles<'a>(alloc: Global) -> Result<Command<'a>, AllocError>
+    ensures { IfOk result (λ command. app_of command ≡ command_of tool.Obstacles) }
+{
+    let command = Command::new(alloc, "obstacles");
+    choosing(alloc, command.arg(as_stp(alloc))?.arg(openings(alloc))?)
+}
+
 // The command with the options of a search: `[--openings COUNT] [--concat COUNT] [--ascent RULE] [--split RULE]`.
 fn searching<'a>(alloc: Global, command: Command<'a>) -> Result<Command<'a>, AllocError>
     ensures { IfOk result (λ searching. app_of searching ≡ with_rules (app_of command.entry) search_rules) }
@@ -202,6 +210,15 @@ fn solving<'a>(alloc: Global) -> Arg<'a>
 {
     Arg::new(alloc, "solve")
         .long("solve")
+        .action(ArgAction::SetTrue)
+}
+
+fn as_stp<'a>(alloc: Global) -> Arg<'a>
+    ensures rule { rule_of result ≡ as_stp_rule }
+    ensures own { result.global ≡ false }
+{
+    Arg::new(alloc, "stp")
+        .long("stp")
         .action(ArgAction::SetTrue)
 }
 

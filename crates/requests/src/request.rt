@@ -60,6 +60,12 @@ pub enum Request<'a> {
     Reduce {
         solve: bool,
     },
+    /// Reads points and boxes and prints a network that joins the points around the boxes; where `stp` says so, the
+    /// graph that it is looked for in, as an STP file.
+    Obstacles {
+        stp: bool,
+        search: GraphOptions,
+    },
 }
 
 /// Points to draw.

@@ -29,6 +29,7 @@ pub(crate) enum Tool {
     Graph,
     Checkgraph,
     Reduce,
+    Obstacles,
 }
 
 impl Tool {
@@ -53,6 +54,7 @@ impl Tool {
             "graph" => Some(Tool::Graph),
             "checkgraph" => Some(Tool::Checkgraph),
             "reduce" => Some(Tool::Reduce),
+            "obstacles" => Some(Tool::Obstacles),
             _ => None,
         }
     }
@@ -78,6 +80,7 @@ impl Tool {
             Tool::Graph => command::graph(alloc),
             Tool::Checkgraph => command::checkgraph(alloc),
             Tool::Reduce => command::reduce(alloc),
+            Tool::Obstacles => command::obstacles(alloc),
         }
     }
 
@@ -121,6 +124,10 @@ impl Tool {
             },
             Tool::Reduce => Request::Reduce {
                 solve: value::flag(matches, "solve")?,
+            },
+            Tool::Obstacles => Request::Obstacles {
+                stp: value::flag(matches, "stp")?,
+                search: value::graph(matches)?,
             },
         })
     }

@@ -1,5 +1,5 @@
 -- From the code's request to the one that the words make.
-use Rattle.std.proofs.Common.{ℕ, ◌≡◌, Bool, true, false, List, Option, Some, sym, subst, None, inl, inr, arith}
+use Rattle.std.proofs.Common.{ℕ, ◌≡◌, Bool, true, false, not, List, Option, Some, sym, subst, None, inl, inr, arith}
 use Rattle.frame.specs.Outside.{Outside}
 use Rattle.judge_tools.specs.Check.{EndsCheck}
 use Rattle.judge_tools.specs.Plot.{EndsPlot}
@@ -20,10 +20,10 @@ use Rattle.search_rules.specs.declared.rules.AscentRule.{AscentRule}
 use Rattle.requests.specs.Requests.{Request}
 use Rattle.requests.specs.declared.request.Drawing.{Drawing}
 use Rattle.requests.specs.Requests.Request.{Points, Stp2points, Rfst, Prunefst, Bb, Solve, Check, Dumpfst, Fst2graph, Plot}
-use Rattle.requests.specs.Requests.Request.{Trial, Upgrade, Slack, Graph, Checkgraph, Reduce}
+use Rattle.requests.specs.Requests.Request.{Trial, Upgrade, Slack, Graph, Checkgraph, Reduce, Obstacles}
 use Rattle.suite.specs.Run.{IsShort, EndsAsAsked, IsRun}
 use Rattle.suite.specs.Headlines.{BuildHeadline, CheckHeadline, Headline, SlackHeadline, TrialHeadline}
-use Rattle.suite.specs.Headlines.{GraphHeadline, CheckgraphHeadline, ReduceHeadline}
+use Rattle.suite.specs.Headlines.{GraphHeadline, CheckgraphHeadline, ReduceHeadline, ObstaclesHeadline}
 use Rattle.suite.specs.Complete.{Completes, EndsComplete}
 use Rattle.suite.proofs.Heads.{solve_headline, bb_headline, check_headline, slack_headline, trial_headline}
 use Rattle.suite.proofs.Completeness.{solve_completes, bb_completes, check_completes, plot_completes, upgrade_completes, dump_completes, rfst_completes, prune_completes, graph_completes, points_completes, stp_completes, slack_completes, trial_completes}
@@ -174,9 +174,13 @@ module _ (request : Option Request) (before after : Outside) (status : ℕ) (sho
   short_reduce_headline solve is (inl zero) = absurd (omega (arith, short.ends))
   short_reduce_headline solve is (inr three) = absurd (omega (arith, short.ends))
 
-  short_reduce : (solve : Bool) → EndsComplete solve status
-  short_reduce true = inr short.ends
-  short_reduce false = inr short.ends
+  pub short_obstacles_headline : ObstaclesHeadline request before after status
+  short_obstacles_headline stp search is (inl zero) = absurd (omega (arith, short.ends))
+  short_obstacles_headline stp search is (inr three) = absurd (omega (arith, short.ends))
+
+  short_ends : (searches : Bool) → EndsComplete searches status
+  short_ends true = inr short.ends
+  short_ends false = inr short.ends
 
   short_of : (r : Option Request) → Completes r before after status
   short_of None = inr short.ends
@@ -195,7 +199,8 @@ module _ (request : Option Request) (before after : Outside) (status : ℕ) (sho
   short_of (Some (Slack above ascent)) = λ bytes ps has lists writes. inr short.ends
   short_of (Some (Graph options)) = λ bytes file has task writes. inr short.ends
   short_of (Some (Checkgraph name)) = λ text bytes file has task input writes. inr short.ends
-  short_of (Some (Reduce solve)) = λ bytes file has task writes. short_reduce solve
+  short_of (Some (Reduce solve)) = λ bytes file has task writes. short_ends solve
+  short_of (Some (Obstacles stp search)) = λ bytes o has task writes. short_ends (not stp)
 
   pub short_completes : Completes request before after status
   short_completes = short_of request

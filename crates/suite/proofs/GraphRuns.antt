@@ -24,9 +24,10 @@ use Rattle.graph_tools.specs.declared.checking.CheckgraphFault.TheVariants as ch
 use Rattle.graph_tools.specs.declared.checking.TheConstants.{GRAPH_ANSWER_LIMIT}
 use Rattle.graph_inputs.specs.declared.text_fault.GraphTextFault.{GraphTextFault}
 use Rattle.graph_inputs.specs.Reading.{IsTaskText, ReadsGraph, TaskHasNoFault, graph_fault_text, graph_fault_status}
-use Rattle.graph_tools.specs.Solve.{EndsGraph, SolvesGraph}
+use Rattle.graph_tools.specs.FoundLaws.{found_faultless}
+use Rattle.graph_tools.specs.Solve.{EndsGraph, PrintsAnswer, SolvesGraph}
 use Rattle.graph_tools.specs.Check.{ChecksGraph, EndsCheckgraph, checkgraph_fault_text, checkgraph_fault_status, line_of}
-use Rattle.graph_tools.specs.Truth.{ChecksGraphTruly}
+use Rattle.graph_tools.specs.Truth.{ChecksGraphTruly, SolvesTruly}
 use Rattle.graph_tools.specs.TruthLaws.{checks_graph_truly, solves_truly}
 use Rattle.search_rules.specs.declared.options.GraphOptions.{GraphOptions}
 use Rattle.requests.specs.Requests.{Request}
@@ -44,17 +45,18 @@ graph_printed : (options : GraphOptions) (before after : Outside) (status : ℕ)
 graph_printed options before after status s is ends = λ asked same ended.
     let of_options : options ≡ asked = cc in
     let run = subst (λ (q : GraphOptions). EndsGraph q.openings before after status) of_options ends in
-    let (print, (bytes, whole, (file, network, tree, task, permitted, of_file)), printed) =
+    let (print, (bytes, whole, (g, (file, task, in_graph), (network, tree, permitted, of_graph))), printed) =
     printed_ends (text_fault_status graph_fault_status) (text_fault_text graph_fault_text) (codes "graph")
     (FromText TEXT_LIMIT (SolvesGraph asked.openings)) LeavesShelf before after status s is run in (
       bytes,
       file,
       whole.came,
       task,
-      solves_truly asked.openings (graph_of_stp file) network tree before after status permitted
-          (subst (λ (p : Print). Appended before.written.out.taken p.text after.written.out.taken) of_file
+      subst (λ h. SolvesTruly asked.openings h before after status) in_graph
+          (solves_truly asked.openings g network tree before after status permitted
+          (subst (λ (p : Print). Appended before.written.out.taken p.text after.written.out.taken) of_graph
           printed.wrote.appended)
-          (printed.ends ∙ ap (λ (p : Print). answer_code p.status) of_file),
+          (printed.ends ∙ ap (λ (p : Print). answer_code p.status) of_graph)),
     )
 
 graph_headline : (options : GraphOptions) (before after : Outside) (status : ℕ) →
@@ -85,28 +87,17 @@ checkgraph_headline name before after status ends (inr one) =
 
 -- ---- a run that nothing troubles ends with an answer
 
--- an input that is a Steiner problem has no fault
-graph_faultless : TaskHasNoFault → (openings : ℕ) (before after : Readable) (bytes : List ℕ) (file : StpValue) →
-    HasInput TEXT_LIMIT before.input after.input bytes → IsTaskText bytes file →
-    (fault : TextFault GraphTextFault) → FromText TEXT_LIMIT (SolvesGraph openings) before after (Err fault) → ⊥
-graph_faultless law openings before after bytes file has task (text_fault.Input fault) is =
-    input_is_taken TEXT_LIMIT before.input after.input bytes fault has is
-graph_faultless law openings before after bytes file has task (text_fault.Text fault) (taken, whole, is) =
-    law bytes file fault task
-    (subst (λ b. ReadsGraph b (Err fault)) (whole_input_is TEXT_LIMIT before.input after.input bytes taken has whole)
-    is)
-
 graph_completes : TaskHasNoFault → (options : GraphOptions) (before after : Outside) (status : ℕ) →
     EndsGraph options.openings before after status → Completes (Some (Graph options)) before after status
 graph_completes law options before after status ends = λ bytes file has task writes.
     elim (complete_ends (text_fault_status graph_fault_status) (text_fault_text graph_fault_text) (codes "graph")
     (FromText TEXT_LIMIT (SolvesGraph options.openings)) LeavesShelf before after status
-    (graph_faultless law options.openings before.read after.read bytes file has task) writes ends) [
+    (found_faultless ReadsGraph (PrintsAnswer options.openings) before.read after.read bytes has
+    (λ fault. law bytes file fault task)) writes ends) [
       | inl seven ↦ inr seven
-      | inr (print, (taken, whole, (other, network, tree, is, permitted, of_file)), answers) ↦
-          let g = graph_of_stp other in
+      | inr (print, (taken, whole, (g, reads, (network, tree, permitted, of_graph))), answers) ↦
           inl (zero_or_three (bound_of g network tree) (length_of g network) status
-          (answers ∙ ap (λ (p : Print). answer_code p.status) of_file))
+          (answers ∙ ap (λ (p : Print). answer_code p.status) of_graph))
     ]
 
 -- a file that is a Steiner problem and an input within the limit have none

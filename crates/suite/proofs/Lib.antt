@@ -3,3 +3,4 @@ pub mod Completeness
 pub mod Asked
 pub mod GraphRuns
 pub mod ReduceRuns
+pub mod ObstacleRuns

@@ -1,24 +1,18 @@
 -- What `reduce` printed is true, and a run of it that nothing troubles ends with an answer.
-use Rattle.std.proofs.Common.{ℕ, ◌≡◌, Bool, true, false, List, codes, Option, Some, Err, inl, inr, sym, subst, ap, ◌∙◌}
-use Rattle.net_graph.specs.Graph.{Graph}
+use Rattle.std.proofs.Common.{ℕ, ◌≡◌, Bool, true, false, List, codes, Option, Some, inl, inr, sym, subst, ap, ◌∙◌}
 use Rattle.net_graph.specs.Network.{length_of}
-use Rattle.stp_format.specs.Value.{StpValue}
 use Rattle.frame.specs.declared.take.TheConstants.{TEXT_LIMIT}
-use Rattle.frame.specs.declared.text_fault.TextFault.{TextFault}
-use Rattle.frame.specs.declared.text_fault.TextFault.TheVariants as text_fault
 use Rattle.frame.specs.Statuses.{answer_code}
-use Rattle.frame.specs.Outside.{Readable, Outside}
+use Rattle.frame.specs.Outside.{Outside}
 use Rattle.frame.specs.Ends.{Print}
 use Rattle.frame.specs.EndLaws.{complete_ends}
 use Rattle.frame.specs.FaultTexts.{text_fault_text, text_fault_status}
 use Rattle.frame.specs.FromText.{FromText}
 use Rattle.frame.specs.Leaves.{LeavesShelf}
-use Rattle.frame.specs.Complete.{HasInput}
-use Rattle.frame.specs.TakingLaws.{input_is_taken, whole_input_is}
 use Rattle.graph_search.specs.Searched.{bound_of}
-use Rattle.graph_inputs.specs.declared.text_fault.GraphTextFault.{GraphTextFault}
-use Rattle.graph_inputs.specs.Reading.{IsTaskText, ReadsGraph, TaskHasNoFault, graph_fault_text, graph_fault_status}
-use Rattle.graph_tools.specs.Reduce.{EndsReduce, FindsInGraph, PrintsReduction, ReducesGraph}
+use Rattle.graph_inputs.specs.Reading.{ReadsGraph, TaskHasNoFault, graph_fault_text, graph_fault_status}
+use Rattle.graph_tools.specs.FoundLaws.{found_faultless}
+use Rattle.graph_tools.specs.Reduce.{EndsReduce, PrintsReduction, ReducesGraph}
 use Rattle.graph_tools.specs.Lifted.{EndsReduceAs, EndsReduceSolve, LiftsGraph, PrintsLifted}
 use Rattle.graph_tools.specs.ReduceTruthLaws.{reduces_truly}
 use Rattle.requests.specs.Requests.{Request}
@@ -27,28 +21,18 @@ use Rattle.suite.specs.Headlines.{ReduceHeadline}
 use Rattle.suite.specs.Complete.{Completes}
 use Rattle.suite.proofs.Completeness.{zero_or_three}
 
--- an input that is a Steiner problem has no fault
-reduce_faultless : TaskHasNoFault → (Is : Graph → Print → Type 0) (before after : Readable) (bytes : List ℕ)
-    (file : StpValue) → HasInput TEXT_LIMIT before.input after.input bytes → IsTaskText bytes file →
-    (fault : TextFault GraphTextFault) → FromText {V = Print} TEXT_LIMIT (FindsInGraph Is) before after (Err fault) → ⊥
-reduce_faultless law Is before after bytes file has task (text_fault.Input fault) is =
-    input_is_taken TEXT_LIMIT before.input after.input bytes fault has is
-reduce_faultless law Is before after bytes file has task (text_fault.Text fault) (taken, whole, is) =
-    law bytes file fault task
-    (subst (λ b. ReadsGraph b (Err fault)) (whole_input_is TEXT_LIMIT before.input after.input bytes taken has whole)
-    is)
-
 -- with the flag a run ends as its answer says
 solve_completes : TaskHasNoFault → (before after : Outside) (status : ℕ) → EndsReduceSolve before after status →
     Completes (Some (Reduce true)) before after status
 solve_completes law before after status ends = λ bytes file has task writes.
     elim (complete_ends (text_fault_status graph_fault_status) (text_fault_text graph_fault_text) (codes "reduce")
     (FromText TEXT_LIMIT LiftsGraph) LeavesShelf before after status
-    (reduce_faultless law PrintsLifted before.read after.read bytes file has task) writes ends) [
+    (found_faultless ReadsGraph PrintsLifted before.read after.read bytes has (λ fault. law bytes file fault task))
+    writes ends) [
       | inl seven ↦ inr seven
-      | inr (print, (taken, whole, (other, is, (r, network, tree, reduced, permitted, of_file))), answers) ↦
+      | inr (print, (taken, whole, (g, reads, (r, network, tree, reduced, permitted, of_graph))), answers) ↦
           inl (zero_or_three (bound_of r.graph network tree) (length_of r.graph network) status
-          (answers ∙ ap (λ (p : Print). answer_code p.status) of_file))
+          (answers ∙ ap (λ (p : Print). answer_code p.status) of_graph))
     ]
 
 -- and without it with status 0
@@ -57,10 +41,11 @@ plain_completes : TaskHasNoFault → (before after : Outside) (status : ℕ) →
 plain_completes law before after status ends = λ bytes file has task writes.
     elim (complete_ends (text_fault_status graph_fault_status) (text_fault_text graph_fault_text) (codes "reduce")
     (FromText TEXT_LIMIT ReducesGraph) LeavesShelf before after status
-    (reduce_faultless law PrintsReduction before.read after.read bytes file has task) writes ends) [
+    (found_faultless ReadsGraph PrintsReduction before.read after.read bytes has (λ fault. law bytes file fault task))
+    writes ends) [
       | inl seven ↦ inr seven
-      | inr (print, (taken, whole, (other, is, (r, reduced, of_file))), answers) ↦
-          inl (answers ∙ ap (λ (p : Print). answer_code p.status) of_file)
+      | inr (print, (taken, whole, (g, reads, (r, reduced, of_graph))), answers) ↦
+          inl (answers ∙ ap (λ (p : Print). answer_code p.status) of_graph)
     ]
 
 reduce_completes : TaskHasNoFault → (solve : Bool) (before after : Outside) (status : ℕ) →

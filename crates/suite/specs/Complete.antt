@@ -1,5 +1,5 @@
 -- How a run ends that nothing troubles.
-use Rattle.std.specs.Prelude.{ℕ, ◌≡◌, Bool, true, false, List, length, Option, Some, None, Ok, ◌⊎◌}
+use Rattle.std.specs.Prelude.{ℕ, ◌≡◌, Bool, true, false, not, List, length, Option, Some, None, Ok, ◌⊎◌}
 use Rattle.rst_outside.specs.Counts.{Rose}
 use Rattle.points_in.specs.declared.point.Point.{Point}
 use Rattle.frame.specs.declared.status.TheConstants.{MISUSED, NO_MEMORY}
@@ -23,14 +23,16 @@ use Rattle.requests.specs.Requests.{Request}
 use Rattle.stp_format.specs.Value.{StpValue}
 use Rattle.graph_tools.specs.declared.checking.TheConstants.{GRAPH_ANSWER_LIMIT}
 use Rattle.graph_inputs.specs.Reading.{IsTaskText}
+use Rattle.obstacles_in.specs.Obstacles.{ObstaclesValue}
+use Rattle.obstacle_tools.specs.Reading.{IsTaskText as IsAroundText}
 use Rattle.requests.specs.Requests.Request.{Points, Stp2points, Rfst, Prunefst, Bb, Solve, Check, Dumpfst, Fst2graph, Plot}
-use Rattle.requests.specs.Requests.Request.{Trial, Upgrade, Slack, Graph, Checkgraph, Reduce}
+use Rattle.requests.specs.Requests.Request.{Trial, Upgrade, Slack, Graph, Checkgraph, Reduce, Obstacles}
 
 -- no write to `out` fails
 abbrev pub IsWritable : Outside → Outside → Type 0
 IsWritable before after = Rose before.written.out.faults after.written.out.faults → ⊥
 
--- A reduction was printed, or a lifted network, which may be short of optimal; or memory was wanting.
+-- The text was printed, which may be short of optimal where a search was made; or memory was wanting.
 abbrev pub EndsComplete : Bool → ℕ → Type 0
 EndsComplete false status = (status ≡ 0) ⊎ (status ≡ NO_MEMORY)
 EndsComplete true status = ((status ≡ 0) ⊎ (status ≡ 3)) ⊎ (status ≡ NO_MEMORY)
@@ -102,4 +104,7 @@ Completes (Some (Checkgraph name)) before after status =
 Completes (Some (Reduce solve)) before after status =
     (bytes : List ℕ) (file : StpValue) → HasInput TEXT_LIMIT before.read.input after.read.input bytes →
     IsTaskText bytes file → IsWritable before after → EndsComplete solve status
+Completes (Some (Obstacles stp search)) before after status =
+    (bytes : List ℕ) (o : ObstaclesValue) → HasInput TEXT_LIMIT before.read.input after.read.input bytes →
+    IsAroundText bytes o → IsWritable before after → EndsComplete (not stp) status
 Completes None before after status = (status ≡ MISUSED) ⊎ (status ≡ NO_MEMORY)

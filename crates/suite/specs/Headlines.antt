@@ -20,11 +20,12 @@ use Rattle.graph_solve.specs.Task.{graph_of_stp}
 use Rattle.graph_inputs.specs.Reading.{IsTaskText}
 use Rattle.graph_tools.specs.Truth.{ChecksGraphTruly, SolvesTruly}
 use Rattle.graph_tools.specs.ReduceTruth.{ReducesTruly}
+use Rattle.obstacle_tools.specs.Truth.{ObstaclesTruly}
 use Rattle.search_rules.specs.declared.options.SearchOptions.{SearchOptions}
 use Rattle.search_rules.specs.declared.rules.AscentRule.{AscentRule}
 use Rattle.requests.specs.declared.request.Drawing.{Drawing}
 use Rattle.search_rules.specs.declared.options.GraphOptions.{GraphOptions}
-use Rattle.requests.specs.Requests.Request.{Bb, Solve, Check, Trial, Slack, Graph, Checkgraph, Reduce}
+use Rattle.requests.specs.Requests.Request.{Bb, Solve, Check, Trial, Slack, Graph, Checkgraph, Reduce, Obstacles}
 
 -- What `solve` printed is true: the input was read to its end, it is a text of points, and the bytes that went out are
 -- an answer that may be printed for its terminals and for the kept ones of their trees (`SearchesTruly`): the answer of
@@ -99,3 +100,11 @@ CheckgraphHeadline request before after status = (name : List ℕ) → request �
 abbrev pub ReduceHeadline : Option Request → Outside → Outside → ℕ → Type 0
 ReduceHeadline request before after status = (solve : Bool) → request ≡ Some (Reduce solve) →
     (status ≡ 0) ⊎ (status ≡ 3) → ReducesTruly solve before after status
+
+-- What `obstacles` printed is true: the input was read to its end, it spells points and boxes that are a Steiner
+-- problem, and the bytes that went out are an answer that may be printed in their graph, whose network joins the points
+-- and crosses the interior of no box (`SolvesAroundTruly`). With `--stp` they are that graph as an STP file.
+abbrev pub ObstaclesHeadline : Option Request → Outside → Outside → ℕ → Type 0
+ObstaclesHeadline request before after status = (stp : Bool) (search : GraphOptions) →
+    request ≡ Some (Obstacles stp search) →
+    (status ≡ 0) ⊎ (status ≡ 3) → ObstaclesTruly stp search.openings before after status

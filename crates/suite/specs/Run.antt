@@ -19,14 +19,15 @@ use Rattle.slack_tools.specs.Slack.{EndsSlack}
 use Rattle.graph_tools.specs.Solve.{EndsGraph}
 use Rattle.graph_tools.specs.Check.{EndsCheckgraph}
 use Rattle.graph_tools.specs.Lifted.{EndsReduceAs}
+use Rattle.obstacle_tools.specs.Around.{EndsObstacles}
 use Rattle.requests.specs.Requests.{Request}
 use Rattle.requests.specs.Requests.Request.{Points, Stp2points, Rfst, Prunefst, Bb, Solve, Check, Dumpfst, Fst2graph, Plot}
-use Rattle.requests.specs.Requests.Request.{Trial, Upgrade, Slack, Graph, Checkgraph, Reduce}
+use Rattle.requests.specs.Requests.Request.{Trial, Upgrade, Slack, Graph, Checkgraph, Reduce, Obstacles}
 
 -- the text on `err` where the words ask for nothing
 abbrev pub usage_line : List ℕ
 usage_line = codes "usage: rst points|stp2points|rfst|prunefst|bb|solve|check|dumpfst|fst2graph|plot"
-    ++ codes "|trial|upgrade|slack|graph|checkgraph|reduce [WORDS]\n"
+    ++ codes "|trial|upgrade|slack|graph|checkgraph|reduce|obstacles [WORDS]\n"
 
 -- Memory is wanting while the words are read: nothing is read or printed.
 pub record IsShort (before after : Outside) (status : ℕ) : Type 0 where
@@ -60,6 +61,7 @@ EndsAsAsked (Some (Slack above ascent)) before after status = EndsSlack above be
 EndsAsAsked (Some (Graph options)) before after status = EndsGraph options.openings before after status
 EndsAsAsked (Some (Checkgraph name)) before after status = EndsCheckgraph name before after status
 EndsAsAsked (Some (Reduce solve)) before after status = EndsReduceAs solve before after status
+EndsAsAsked (Some (Obstacles stp search)) before after status = EndsObstacles stp search.openings before after status
 EndsAsAsked None before after status = IsMisused before after status
 
 -- A run of the program with the request that its words make.

@@ -5,7 +5,7 @@ ghost use Rattle.frame.specs.Outside.{outside};
 ghost use Rattle.requests.specs.Requests.{request_of, meaning, IsWithinLimits};
 ghost use Rattle.suite.specs.Run.{IsRun};
 ghost use Rattle.suite.specs.Headlines.{Headline, BuildHeadline, CheckHeadline, TrialHeadline, SlackHeadline};
-ghost use Rattle.suite.specs.Headlines.{GraphHeadline, CheckgraphHeadline, ReduceHeadline};
+ghost use Rattle.suite.specs.Headlines.{GraphHeadline, CheckgraphHeadline, ReduceHeadline, ObstaclesHeadline};
 ghost use Rattle.suite.specs.Complete.{Completes};
 
 use crate::laws::trial_is_solve;
@@ -13,6 +13,8 @@ use frame::{MISUSED, NO_MEMORY, report};
 use graph_inputs::task_has_no_fault;
 use graph_tools::{checkgraph, graph, reduce};
 use judge_tools::{check, plot, upgrade};
+use obstacle_grid::no_edge_crosses;
+use obstacle_tools::{around_has_no_fault, obstacles};
 use point_tools::{located_has_no_fault, points, stp2points};
 use requests::{Request, request_in};
 use rst_outside::{Shelf, Sink, Source};
@@ -26,7 +28,7 @@ use trial_tools::trial;
 /// What is said where the words ask for no tool.
 const USAGE_LINE: &[u8] =
     b"usage: rst points|stp2points|rfst|prunefst|bb|solve|check|dumpfst|fst2graph|plot|trial\
-      |upgrade|slack|graph|checkgraph|reduce [WORDS]\n";
+      |upgrade|slack|graph|checkgraph|reduce|obstacles [WORDS]\n";
 
 /// Runs the tool that the words after the program's name ask for, and gives the status that the program ends with.
 ///
@@ -65,6 +67,9 @@ pub fn run<I: Source, O: Sink, R: Sink, S: Shelf>(
         (outside (I.state input.old) (O.state out.old) (R.state err.old) (S.state shelf.old))
         (outside (I.state input.new) (O.state out.new) (R.state err.new) (S.state shelf.new)) result }
     ensures reduced { ReduceHeadline (request_of (map string_bytes words.now))
+        (outside (I.state input.old) (O.state out.old) (R.state err.old) (S.state shelf.old))
+        (outside (I.state input.new) (O.state out.new) (R.state err.new) (S.state shelf.new)) result }
+    ensures routed { ObstaclesHeadline (request_of (map string_bytes words.now))
         (outside (I.state input.old) (O.state out.old) (R.state err.old) (S.state shelf.old))
         (outside (I.state input.new) (O.state out.new) (R.state err.new) (S.state shelf.new)) result }
     ensures complete { Completes (request_of (map string_bytes words.now))
@@ -117,6 +122,9 @@ fn answer<I: Source, O: Sink, R: Sink, S: Shelf>(
     ensures reduced { ReduceHeadline (option_map meaning request.entry)
         (outside (I.state input.old) (O.state out.old) (R.state err.old) (S.state shelf.old))
         (outside (I.state input.new) (O.state out.new) (R.state err.new) (S.state shelf.new)) result }
+    ensures routed { ObstaclesHeadline (option_map meaning request.entry)
+        (outside (I.state input.old) (O.state out.old) (R.state err.old) (S.state shelf.old))
+        (outside (I.state input.new) (O.state out.new) (R.state err.new) (S.state shelf.new)) result }
     ensures complete { Completes (option_map meaning request.entry)
         (outside (I.state input.old) (O.state out.old) (R.state err.old) (S.state shelf.old))
         (outside (I.state input.new) (O.state out.new) (R.state err.new) (S.state shelf.new)) result }
@@ -124,6 +132,8 @@ fn answer<I: Source, O: Sink, R: Sink, S: Shelf>(
     located_has_no_fault();
     spelled_has_no_fault();
     task_has_no_fault();
+    around_has_no_fault();
+    no_edge_crosses();
     trial_is_solve();
     match request {
         Some(Request::Points(drawing)) => points(alloc, drawing.count, drawing.seed, out, err),
@@ -142,6 +152,9 @@ fn answer<I: Source, O: Sink, R: Sink, S: Shelf>(
         Some(Request::Graph(options)) => graph(alloc, options, input, out, err),
         Some(Request::Checkgraph { graph }) => checkgraph(alloc, graph, input, out, err, shelf),
         Some(Request::Reduce { solve }) => reduce(alloc, solve, input, out, err),
+        Some(Request::Obstacles { stp, search }) => {
+            obstacles(alloc, stp, search, input, out, err)
+        }
         None => {
             report(err, USAGE_LINE);
             MISUSED

@@ -1,18 +1,21 @@
 -- What was found in the graph that was read was found in the text.
 use Rattle.std.proofs.Common.{subst}
 use Rattle.net_graph.specs.Graph.{Graph}
+use Rattle.net_graph.specs.Network.{IsNetwork}
 use Rattle.frame.specs.declared.take.TheConstants.{TEXT_LIMIT}
 use Rattle.frame.specs.Outside.{readable}
 use Rattle.frame.specs.FromText.{FromText}
 use Rattle.graph_inputs.specs.Reading.{ReadsGraph}
+use Rattle.graph_solve.specs.Task.{all_edges}
+use Rattle.graph_tools.specs.FoundLaws.{fault_in_text, found_in_text, read_holds}
 use Rattle.graph_tools.specs.Lifted.{IsLiftedFor}
-use Rattle.graph_tools.proofs.ReduceLaws.{fault_in_text, found_in_text}
-use Rattle.graph_tools.proofs.SolveLaws.{read_joined}
+use Rattle.graph_tools.proofs.SolveLaws.{reads_joined}
 use Rattle.graph_tools.proofs.reducing.find_lifted.Goals as goal
 
 pub lifted_in-requires : goal.lifted_in-requires
 lifted_in-requires g c =
-    read_joined (g.I.Source.state c.args.input.now) (g.I.Source.state c.take_graph.new.input) c.in-Ok.graph
+    read_holds ReadsGraph (λ (h : Graph). IsNetwork h (all_edges h)) reads_joined
+    (g.I.Source.state c.args.input.now) (g.I.Source.state c.take_graph.new.input) c.in-Ok.graph
     (λ shelf.
     subst (λ found. FromText {V = Graph} TEXT_LIMIT ReadsGraph (readable (g.I.Source.state c.args.input.now) shelf)
     (readable (g.I.Source.state c.take_graph.new.input) shelf) found)
@@ -22,7 +25,7 @@ pub returns-in_ok-lifted_in-in-Ok-clause-finds : goal.returns-in_ok-lifted_in-in
 returns-in_ok-lifted_in-in-Ok-clause-finds g c = λ shelf.
     let before = readable (g.I.Source.state c.args.input.now) shelf in
     let after = readable (g.I.Source.state c.take_graph.new.input) shelf in
-    found_in_text IsLiftedFor before after c.in-Ok.graph c.in_ok-lifted_in-in-Ok.field-0
+    found_in_text ReadsGraph IsLiftedFor before after c.in-Ok.graph c.in_ok-lifted_in-in-Ok.field-0
     (subst (λ found. FromText {V = Graph} TEXT_LIMIT ReadsGraph before after found) c.in-Ok.is
     (c.in_ok-graph.ensures.reads shelf))
     c.in_ok-lifted_in-in-Ok.ensures
@@ -31,6 +34,6 @@ pub returns-in-Err-clause-finds : goal.returns-in-Err-clause-finds
 returns-in-Err-clause-finds g c = λ shelf.
     let before = readable (g.I.Source.state c.args.input.now) shelf in
     let after = readable (g.I.Source.state c.take_graph.new.input) shelf in
-    fault_in_text IsLiftedFor before after c.in-Err.fault
+    fault_in_text ReadsGraph IsLiftedFor before after c.in-Err.fault
     (subst (λ found. FromText {V = Graph} TEXT_LIMIT ReadsGraph before after found) c.in-Err.is
     (c.in_ok-graph.ensures.reads shelf))

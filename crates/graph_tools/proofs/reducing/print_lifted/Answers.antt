@@ -6,9 +6,10 @@ use Rattle.frame.specs.EndLaws.{ends_with}
 use Rattle.frame.specs.FaultTexts.{text_fault_text, text_fault_status}
 use Rattle.frame.specs.FromText.{FromText}
 use Rattle.frame.specs.Leaves.{LeavesShelf}
-use Rattle.graph_inputs.specs.Reading.{graph_fault_text, graph_fault_status}
+use Rattle.graph_inputs.specs.Reading.{ReadsGraph, graph_fault_text, graph_fault_status}
+use Rattle.graph_tools.specs.FoundLaws.{printed_or_not}
 use Rattle.graph_tools.specs.Lifted.{IsLiftedFor, LiftsGraph, PrintsLifted, lifted_status, lifted_text}
-use Rattle.graph_tools.proofs.ReduceLaws.{lifted_printed, printed_or_not}
+use Rattle.graph_tools.proofs.ReduceLaws.{lifted_printed}
 use Rattle.graph_tools.proofs.reducing.print_lifted.Goals as goal
 
 pub returns : goal.returns
@@ -19,9 +20,9 @@ returns g c = λ shelf.
     (outside (g.I.Source.state c.find_lifted-found.new.input) (g.O.Sink.state c.conclude.new.out)
     (g.R.Sink.state c.conclude.new.err) shelf)
     c.conclude.result c.find_lifted-found.result
-    (printed_or_not IsLiftedFor PrintsLifted lifted_text lifted_status lifted_printed
+    (printed_or_not ReadsGraph IsLiftedFor (λ _. Unit {0}) PrintsLifted lifted_text lifted_status lifted_printed
     (readable (g.I.Source.state c.args.input.now) shelf)
     (readable (g.I.Source.state c.find_lifted-found.new.input) shelf)
-    c.find_lifted-found.result (c.find_lifted-found.ensures.finds shelf))
+    c.find_lifted-found.result (c.find_lifted-found.ensures.finds shelf) c.conclude.ensures.told)
     (record { input = c.find_lifted-found.ensures.takes; shelf = refl })
     c.conclude.ensures.concludes

@@ -7,9 +7,10 @@ use Rattle.frame.specs.EndLaws.{ends_with}
 use Rattle.frame.specs.FaultTexts.{text_fault_text, text_fault_status}
 use Rattle.frame.specs.FromText.{FromText}
 use Rattle.frame.specs.Leaves.{LeavesShelf}
-use Rattle.graph_inputs.specs.Reading.{graph_fault_text, graph_fault_status}
+use Rattle.graph_inputs.specs.Reading.{ReadsGraph, graph_fault_text, graph_fault_status}
+use Rattle.graph_tools.specs.FoundLaws.{printed_or_not}
 use Rattle.graph_tools.specs.Reduce.{IsReductionFor, PrintsReduction, ReducesGraph, reduction_text}
-use Rattle.graph_tools.proofs.ReduceLaws.{reduction_printed, printed_or_not}
+use Rattle.graph_tools.proofs.ReduceLaws.{reduction_printed}
 use Rattle.graph_tools.proofs.reducing.print_reduction.Goals as goal
 
 pub returns : goal.returns
@@ -20,9 +21,9 @@ returns g c = λ shelf.
     (outside (g.I.Source.state c.find_reduction-found.new.input) (g.O.Sink.state c.conclude.new.out)
     (g.R.Sink.state c.conclude.new.err) shelf)
     c.conclude.result c.find_reduction-found.result
-    (printed_or_not IsReductionFor PrintsReduction reduction_text (λ _. Done) reduction_printed
+    (printed_or_not ReadsGraph IsReductionFor (λ _. Unit {0}) PrintsReduction reduction_text (λ _. Done) reduction_printed
     (readable (g.I.Source.state c.args.input.now) shelf)
     (readable (g.I.Source.state c.find_reduction-found.new.input) shelf)
-    c.find_reduction-found.result (c.find_reduction-found.ensures.finds shelf))
+    c.find_reduction-found.result (c.find_reduction-found.ensures.finds shelf) c.conclude.ensures.told)
     (record { input = c.find_reduction-found.ensures.takes; shelf = refl })
     c.conclude.ensures.concludes

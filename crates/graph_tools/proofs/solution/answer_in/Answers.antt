@@ -3,7 +3,7 @@ use Rattle.std.proofs.Common.{◌≤◌, arith, subst, sym}
 use Rattle.net_graph.specs.Network.{length_of}
 use Rattle.cut_cert.specs.declared.answer.Answer.{Answer}
 use Rattle.graph_tools.specs.Solution.{IsAnswerFor}
-use Rattle.graph_tools.proofs.SolutionLaws.{is_for}
+use Rattle.graph_tools.specs.SolutionLaws.{is_for}
 use Rattle.graph_tools.proofs.solution.answer_in.Goals as goal
 
 pub returns : goal.returns

@@ -6,26 +6,31 @@ use Rattle.frame.specs.EndLaws.{ends_with}
 use Rattle.frame.specs.FaultTexts.{text_fault_text, text_fault_status}
 use Rattle.frame.specs.FromText.{FromText}
 use Rattle.frame.specs.Leaves.{LeavesShelf}
-use Rattle.graph_inputs.specs.Reading.{graph_fault_text, graph_fault_status}
-use Rattle.graph_tools.specs.Solution.{solution_text, solution_status}
-use Rattle.graph_tools.specs.Solve.{SolvesGraph}
-use Rattle.graph_tools.proofs.SolveLaws.{solved_or_not, solved_writable}
+use Rattle.graph_inputs.specs.Reading.{ReadsGraph, graph_fault_text, graph_fault_status}
+use Rattle.graph_tools.specs.FoundLaws.{all_found_holds, printed_or_not}
+use Rattle.graph_tools.specs.Solution.{IsFor, IsPrintable, IsSpelled, solution_text, solution_status}
+use Rattle.graph_tools.specs.Solve.{PrintsAnswer, SolvesGraph}
+use Rattle.graph_tools.specs.SolutionLaws.{answer_printed, for_fits}
 use Rattle.graph_tools.proofs.solving.graph.Goals as goal
 
 pub conclude-requires : goal.conclude-requires
 conclude-requires g c =
-    solved_writable c.args.options.openings (g.I.Source.state c.args.input.now)
-    (g.I.Source.state c.find-found.new.input) c.find-found.result c.find-found.ensures.finds
+    let openings = c.args.options.openings in
+    all_found_holds ReadsGraph (IsFor openings) IsPrintable (for_fits openings)
+    (g.I.Source.state c.args.input.now) (g.I.Source.state c.find-found.new.input) c.find-found.result
+    c.find-found.ensures.finds
 
 pub returns : goal.returns
 returns g c = λ shelf.
+    let openings = c.args.options.openings in
     let before = outside (g.I.Source.state c.args.input.now) (g.O.Sink.state c.args.out.now) (g.R.Sink.state c.args.err.now) shelf in
     let after = outside (g.I.Source.state c.find-found.new.input) (g.O.Sink.state c.conclude.new.out) (g.R.Sink.state c.conclude.new.err) shelf in
     ends_with solution_text solution_status (text_fault_status graph_fault_status) (text_fault_text graph_fault_text)
-    (codes "graph") (FromText TEXT_LIMIT (SolvesGraph c.args.options.openings)) LeavesShelf before after
+    (codes "graph") (FromText TEXT_LIMIT (SolvesGraph openings)) LeavesShelf before after
     c.conclude.result c.find-found.result
-    (solved_or_not c.args.options.openings (readable (g.I.Source.state c.args.input.now) shelf)
-    (readable (g.I.Source.state c.find-found.new.input) shelf)
+    (printed_or_not ReadsGraph (IsFor openings) IsSpelled (PrintsAnswer openings) solution_text solution_status
+    (answer_printed openings)
+    (readable (g.I.Source.state c.args.input.now) shelf) (readable (g.I.Source.state c.find-found.new.input) shelf)
     c.find-found.result (c.find-found.ensures.finds shelf) c.conclude.ensures.told)
     (record { input = c.find-found.ensures.takes; shelf = refl })
     c.conclude.ensures.concludes

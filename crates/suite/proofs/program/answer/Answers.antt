@@ -6,6 +6,7 @@ use Rattle.suite.proofs.Asked.{solve_asked_completes, bb_asked_completes, check_
 use Rattle.suite.proofs.GraphRuns.{checkgraph_asked_completes, checkgraph_asked_headline}
 use Rattle.suite.proofs.GraphRuns.{graph_asked_headline, graph_asked_completes as network_asked_completes}
 use Rattle.suite.proofs.ReduceRuns.{reduce_asked_completes, reduce_asked_headline}
+use Rattle.suite.proofs.ObstacleRuns.{obstacles_asked_completes, obstacles_asked_headline}
 use Rattle.suite.proofs.program.answer.Goals as goal
 
 pub returns-in-Some-Solve-clause-run : goal.returns-in-Some-Solve-clause-run
@@ -270,3 +271,23 @@ returns-in-Some-Reduce-clause-complete g c =
     (search rules)
     (c.reduce.ensures (g.S.Shelf.state c.args.shelf.now))
     c.task_has_no_fault.ensures
+
+pub returns-in-Some-Obstacles-clause-routed : goal.returns-in-Some-Obstacles-clause-routed
+returns-in-Some-Obstacles-clause-routed g c =
+    obstacles_asked_headline (option_map meaning c.args.request)
+    (outside (g.I.Source.state c.args.input.now) (g.O.Sink.state c.args.out.now) (g.R.Sink.state c.args.err.now) (g.S.Shelf.state c.args.shelf.now))
+    (outside (g.I.Source.state c.obstacles.new.input) (g.O.Sink.state c.obstacles.new.out) (g.R.Sink.state c.obstacles.new.err) (g.S.Shelf.state c.args.shelf.now))
+    c.obstacles.result c.in-Some-Obstacles.stp c.in-Some-Obstacles.search
+    (search rules)
+    (c.obstacles.ensures (g.S.Shelf.state c.args.shelf.now))
+    c.no_edge_crosses.ensures.none
+
+pub returns-in-Some-Obstacles-clause-complete : goal.returns-in-Some-Obstacles-clause-complete
+returns-in-Some-Obstacles-clause-complete g c =
+    obstacles_asked_completes (option_map meaning c.args.request)
+    (outside (g.I.Source.state c.args.input.now) (g.O.Sink.state c.args.out.now) (g.R.Sink.state c.args.err.now) (g.S.Shelf.state c.args.shelf.now))
+    (outside (g.I.Source.state c.obstacles.new.input) (g.O.Sink.state c.obstacles.new.out) (g.R.Sink.state c.obstacles.new.err) (g.S.Shelf.state c.args.shelf.now))
+    c.obstacles.result c.in-Some-Obstacles.stp c.in-Some-Obstacles.search
+    (search rules)
+    (c.obstacles.ensures (g.S.Shelf.state c.args.shelf.now))
+    c.around_has_no_fault.ensures

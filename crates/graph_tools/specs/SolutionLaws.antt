@@ -24,6 +24,7 @@ use Rattle.graph_solve.specs.Accepted.{IsGraphAccepted}
 use Rattle.graph_tools.specs.declared.solution.GraphSolution.{GraphSolution}
 use Rattle.graph_tools.specs.Solution.{IsFor, IsPermittedGraphAnswer, IsPrintable, IsSpelled, graph_solution, graph_text}
 use Rattle.graph_tools.specs.Solution.{graph_print, solution_status, solution_text}
+use Rattle.graph_tools.specs.Solve.{PrintsAnswer}
 
 -- The answer of a search that began with a network no longer than all edges together.
 pub is_for : (openings first_length : ℕ) (g : Graph) (s : Solved) → openings ≤ 255 → first_length ≤ total_of g →
@@ -92,10 +93,16 @@ permitted_answer openings g s is spells =
     }
 
 -- It is printed as the answer of the network and the tree.
-pub printed_answer : (openings : ℕ) (g : Graph) (s : GraphSolution) → IsFor openings g s →
+printed_answer : (openings : ℕ) (g : Graph) (s : GraphSolution) → IsFor openings g s →
     let print : Print = record { text = solution_text s; status = solution_status s } in
     print ≡ graph_print openings g s.answer.network s.answer.tree
 printed_answer openings g s is =
     let of_written : WrittenAnswer → Print =
     λ w. record { text = answer_text w; status = cond w.head.optimal Done Stopped } in
     ap of_written (told_value openings g s is)
+
+-- An answer in a graph is printed as one that may be printed there, once its text is known to spell it.
+pub answer_printed : (openings : ℕ) (g : Graph) (s : GraphSolution) → IsFor openings g s → IsSpelled s →
+    PrintsAnswer openings g (record { text = solution_text s; status = solution_status s })
+answer_printed openings g s is spells =
+    (s.answer.network, s.answer.tree, permitted_answer openings g s is spells, printed_answer openings g s is)

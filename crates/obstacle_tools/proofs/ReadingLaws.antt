@@ -1,0 +1,105 @@
+-- What readers of a text and takers of a task answer is what these come to, and a Steiner problem has no fault.
+use Rattle.std.proofs.Common.{ℕ, ◌≡◌, ◌<◌, List, [], ◌++◌, Some, Result, Ok, Err, IfOk, IfErr, OnOk}
+use Rattle.std.proofs.Common.{slice_get, sym, subst, ◌∙◌, arith}
+use Rattle.std.specs.Prelude.{All, ◌↔◌}
+use Rattle.std.proofs.lemmas.List.{append-nil}
+use Rattle.std.proofs.lemmas.Option.{get_or_from_slice_get, slice_get_within}
+use Rattle.net_graph.specs.Graph.{Graph}
+use Rattle.net_graph.specs.Network.{Reaches}
+use Rattle.obstacles_in.specs.declared.fault.ObstacleFault.{ObstacleFault}
+use Rattle.obstacles_in.specs.declared.fault.ObstacleFault.TheVariants as text
+use Rattle.obstacles_in.specs.Obstacles.{ObstaclesValue}
+use Rattle.obstacles_in.specs.Text.{SpellsObstacles}
+use Rattle.obstacles_in.specs.Judged.{IsOutcome, IsFirstFault as IsFirstFaultOfText}
+use Rattle.obstacles_in.specs.Said.{IsMemory as IsMemoryOfText}
+use Rattle.obstacle_grid.specs.declared.fault.ObstacleTaskFault.{ObstacleTaskFault}
+use Rattle.obstacle_grid.specs.declared.fault.ObstacleTaskFault.TheVariants as task
+use Rattle.obstacle_grid.specs.Grid.{obstacle_graph_of}
+use Rattle.obstacle_grid.specs.Fault.{IsTask, IsFirstFault}
+use Rattle.obstacle_grid.specs.Said.{IsMemory as IsMemoryOfTask}
+use Rattle.graph_solve.specs.Task.{all_edges}
+use Rattle.obstacle_tools.specs.declared.text_fault.ObstacleTextFault.TheVariants.{InText, InGraph}
+use Rattle.obstacle_tools.specs.Reading.{ReadsText, TakesTask, AroundHasNoFault}
+
+-- an answer of the reader that is no want of memory
+text_read : (bytes : List ℕ) (read found : Result ObstaclesValue ObstacleFault) →
+    IfOk read (SpellsObstacles bytes) → IfErr read (IsFirstFaultOfText bytes) → found ≡ read →
+    IfErr found (λ fault. IsMemoryOfText fault → ⊥) → ReadsText bytes found
+text_read bytes read (Ok o) spelled fault same told = subst (λ r. IfOk r (SpellsObstacles bytes)) (sym same) spelled
+text_read bytes read (Err why) spelled fault same told =
+    (subst (λ r. IfErr r (IsFirstFaultOfText bytes)) (sym same) fault, told)
+
+pub text_apart : {E : Type 0} (bytes : List ℕ) (read : Result ObstaclesValue ObstacleFault)
+    (result : Result (Result ObstaclesValue ObstacleFault) E) → IfOk read (SpellsObstacles bytes) →
+    IfErr read (IsFirstFaultOfText bytes) → IfOk result (λ found. found ≡ read) →
+    IfOk result (λ found. IfErr found (λ fault. IsMemoryOfText fault → ⊥)) → IfOk result (ReadsText bytes)
+text_apart bytes read (Ok answer) spelled fault same told = text_read bytes read answer spelled fault same told
+text_apart bytes read (Err error) spelled fault same told = tt
+
+-- the same of the graph of points and boxes
+task_read : (o : ObstaclesValue) (read found : Result Graph ObstacleTaskFault) →
+    IfOk read (λ g. g ≡ obstacle_graph_of o) → OnOk read (IsTask o) → IfErr read (IsFirstFault o) → found ≡ read →
+    IfErr found (λ fault. IsMemoryOfTask fault → ⊥) → TakesTask o found
+task_read o read (Ok g) graph is fault same told =
+    (subst (λ r. OnOk r (IsTask o)) (sym same) is, subst (λ r. IfOk r (λ h. h ≡ obstacle_graph_of o)) (sym same) graph)
+task_read o read (Err why) graph is fault same told =
+    (subst (λ r. IfErr r (IsFirstFault o)) (sym same) fault, told)
+
+pub task_apart : {E : Type 0} (o : ObstaclesValue) (read : Result Graph ObstacleTaskFault)
+    (result : Result (Result Graph ObstacleTaskFault) E) → IfOk read (λ g. g ≡ obstacle_graph_of o) →
+    OnOk read (IsTask o) → IfErr read (IsFirstFault o) → IfOk result (λ found. found ≡ read) →
+    IfOk result (λ found. IfErr found (λ fault. IsMemoryOfTask fault → ⊥)) → IfOk result (TakesTask o)
+task_apart o read (Ok answer) graph is fault same told = task_read o read answer graph is fault same told
+task_apart o read (Err error) graph is fault same told = tt
+
+-- what holds of each holds of the one at a place
+at_place : {X : Type 0} (P : X → Type 0) (xs : List X) (place : ℕ) (x : X) → All P xs → slice_get xs place ≡ Some x →
+    P x
+at_place P xs place x all at =
+    subst P (get_or_from_slice_get xs place x x at) (all place x (slice_get_within xs place x at))
+
+-- a Steiner problem has no first fault
+task_faultless : (o : ObstaclesValue) (fault : ObstacleTaskFault) → IsTask o → IsFirstFault o fault →
+    (IsMemoryOfTask fault → ⊥) → ⊥
+task_faultless o (task.TooLong total) is (same, long) told =
+    let short = is.total in omega (arith, short, same, long)
+task_faultless o (task.Apart place) is (short, apart) told =
+    let g = obstacle_graph_of o in
+    apart.apart (at_place (Reaches g (all_edges g)) g.terminals place apart.terminal is.joined apart.at)
+task_faultless o (task.Memory error) is fault told = told tt
+
+-- bytes come to one outcome at most
+abbrev pub OneOutcome : Type 0
+OneOutcome = (bytes : List ℕ) (o o' : Result ObstaclesValue ObstacleFault) → IsOutcome bytes o → IsOutcome bytes o' →
+    o ≡ o'
+
+-- and to a value where they spell it
+abbrev pub ValuesAreSpelled : Type 0
+ValuesAreSpelled =
+    (bytes : List ℕ) (v : ObstaclesValue) → IsOutcome bytes (Ok v) ↔ SpellsObstacles bytes v
+
+-- a fault that is no want of memory is the outcome
+fault_is_outcome : (bytes : List ℕ) (fault : ObstacleFault) → IsFirstFaultOfText bytes fault →
+    (IsMemoryOfText fault → ⊥) → IsOutcome bytes (Err fault)
+fault_is_outcome bytes (text.Memory error) is told = absurd (told tt)
+fault_is_outcome bytes (text.BadLine line) is told = is
+fault_is_outcome bytes (text.TooManyPoints line) is told = is
+fault_is_outcome bytes (text.RepeatedPoint line) is told = is
+fault_is_outcome bytes (text.TooManyBoxes line) is told = is
+fault_is_outcome bytes (text.BadBox line) is told = is
+fault_is_outcome bytes (text.PointInBox line) is told = is
+fault_is_outcome bytes (text.TooLarge vertices) is told = is
+
+-- one text is of one value
+same_value : OneOutcome → ValuesAreSpelled → (bytes : List ℕ) (o other : ObstaclesValue) → SpellsObstacles bytes o →
+    SpellsObstacles bytes other → o ≡ other
+same_value one spelled bytes o other is are =
+    let both = one bytes (Ok o) (Ok other) ((spelled bytes o).1 is) ((spelled bytes other).1 are) in cc
+
+pub no_fault : OneOutcome → ValuesAreSpelled → AroundHasNoFault
+no_fault one spelled bytes o (InText fault) is (first, told) =
+    let both = one bytes (Ok o) (Err fault) ((spelled bytes o).1 is.text) (fault_is_outcome bytes fault first told) in
+    absurd cc
+no_fault one spelled bytes o (InGraph fault) is (other, text, (first, told)) =
+    let same = same_value one spelled bytes other o text is.text in
+    task_faultless o fault is.task (subst (λ v. IsFirstFault v fault) same first) told

@@ -1,0 +1,39 @@
+-- What was found, and how the run then ended, are a run, whatever the shelf is.
+use Rattle.std.proofs.Common.{codes, refl}
+use Rattle.frame.specs.declared.take.TheConstants.{TEXT_LIMIT}
+use Rattle.frame.specs.Outside.{outside, readable}
+use Rattle.frame.specs.EndLaws.{ends_with}
+use Rattle.frame.specs.FaultTexts.{text_fault_text, text_fault_status}
+use Rattle.frame.specs.FromText.{FromText}
+use Rattle.frame.specs.Leaves.{LeavesShelf}
+use Rattle.graph_tools.specs.FoundLaws.{all_found_holds, printed_or_not}
+use Rattle.graph_tools.specs.Solution.{IsFor, IsPrintable, IsSpelled, solution_text, solution_status}
+use Rattle.graph_tools.specs.SolutionLaws.{answer_printed, for_fits}
+use Rattle.graph_tools.specs.Solve.{PrintsAnswer}
+use Rattle.obstacle_tools.specs.Around.{SolvesAround}
+use Rattle.obstacle_tools.specs.Reading.{ReadsAround, around_fault_text, around_fault_status}
+use Rattle.obstacle_tools.proofs.around.print_answer.Goals as goal
+
+pub conclude-requires : goal.conclude-requires
+conclude-requires g c =
+    let openings = c.args.options.openings in
+    all_found_holds ReadsAround (IsFor openings) IsPrintable (for_fits openings)
+    (g.I.Source.state c.args.input.now) (g.I.Source.state c.find_answer-found.new.input) c.find_answer-found.result
+    c.find_answer-found.ensures.finds
+
+pub returns : goal.returns
+returns g c = λ shelf.
+    let openings = c.args.options.openings in
+    ends_with solution_text solution_status (text_fault_status around_fault_status) (text_fault_text around_fault_text)
+    (codes "obstacles") (FromText TEXT_LIMIT (SolvesAround openings)) LeavesShelf
+    (outside (g.I.Source.state c.args.input.now) (g.O.Sink.state c.args.out.now) (g.R.Sink.state c.args.err.now) shelf)
+    (outside (g.I.Source.state c.find_answer-found.new.input) (g.O.Sink.state c.conclude.new.out)
+    (g.R.Sink.state c.conclude.new.err) shelf)
+    c.conclude.result c.find_answer-found.result
+    (printed_or_not ReadsAround (IsFor openings) IsSpelled (PrintsAnswer openings) solution_text solution_status
+    (answer_printed openings)
+    (readable (g.I.Source.state c.args.input.now) shelf)
+    (readable (g.I.Source.state c.find_answer-found.new.input) shelf)
+    c.find_answer-found.result (c.find_answer-found.ensures.finds shelf) c.conclude.ensures.told)
+    (record { input = c.find_answer-found.ensures.takes; shelf = refl })
+    c.conclude.ensures.concludes

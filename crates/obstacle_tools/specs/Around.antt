@@ -1,0 +1,63 @@
+-- What `obstacles` finds, by what it read.
+use Rattle.std.specs.Prelude.{ℕ, ◌≡◌, Bool, true, false, List, codes, Result}
+use Rattle.net_graph.specs.Graph.{Graph}
+use Rattle.obstacle_grid.specs.Text.{graph_stp_text}
+use Rattle.frame.specs.declared.status.AnswerStatus.TheVariants.{Done}
+use Rattle.frame.specs.declared.take.TheConstants.{TEXT_LIMIT}
+use Rattle.frame.specs.Outside.{Outside}
+use Rattle.frame.specs.Ends.{Print, Ends}
+use Rattle.frame.specs.FaultTexts.{text_fault_text, text_fault_status}
+use Rattle.frame.specs.FromText.{FromText}
+use Rattle.frame.specs.Leaves.{LeavesShelf}
+use Rattle.graph_tools.specs.declared.solution.GraphSolution.{GraphSolution}
+use Rattle.graph_tools.specs.Found.{FindsIn}
+use Rattle.graph_tools.specs.Solution.{IsFor}
+use Rattle.graph_tools.specs.Solve.{PrintsAnswer}
+use Rattle.obstacle_tools.specs.declared.graph_file.GraphFile.{GraphFile}
+use Rattle.obstacle_tools.specs.declared.text_fault.ObstacleTextFault.{ObstacleTextFault}
+use Rattle.obstacle_tools.specs.Reading.{ReadsAround, around_fault_text, around_fault_status}
+
+-- What `obstacles` finds in a text, before it writes: an answer in the graph of the points and boxes that it spells; or
+-- why it gives no Steiner problem.
+abbrev pub FindsAround : ℕ → List ℕ → Result GraphSolution ObstacleTextFault → Type 0
+FindsAround openings = FindsIn ReadsAround (IsFor openings)
+
+-- What it prints of a text.
+abbrev pub SolvesAround : ℕ → List ℕ → Result Print ObstacleTextFault → Type 0
+SolvesAround openings = FindsIn ReadsAround (PrintsAnswer openings)
+
+-- A run of `obstacles` that prints an answer, with so many openings allowed.
+abbrev pub EndsObstaclesSolve : ℕ → Outside → Outside → ℕ → Type 0
+EndsObstaclesSolve openings before after status =
+    Ends (text_fault_status around_fault_status) (text_fault_text around_fault_text) (codes "obstacles")
+    (FromText TEXT_LIMIT (SolvesAround openings)) LeavesShelf before after status
+
+-- the text of a graph as a file
+abbrev pub graph_file_text : GraphFile → List ℕ
+graph_file_text file = graph_stp_text file.graph
+
+-- the file is of this graph
+abbrev pub IsFileOf : Graph → GraphFile → Type 0
+IsFileOf g file = file.graph ≡ g
+
+-- What `obstacles --stp` finds in a text, before it writes: the graph of the points and boxes that it spells.
+abbrev pub FindsFile : List ℕ → Result GraphFile ObstacleTextFault → Type 0
+FindsFile = FindsIn ReadsAround IsFileOf
+
+-- What it prints of a graph: its text as an STP file.
+abbrev pub PrintsFile : Graph → Print → Type 0
+PrintsFile g print = print ≡ record { text = graph_stp_text g; status = Done }
+
+abbrev pub WritesGraph : List ℕ → Result Print ObstacleTextFault → Type 0
+WritesGraph = FindsIn ReadsAround PrintsFile
+
+-- A run of `obstacles --stp`.
+abbrev pub EndsObstaclesStp : Outside → Outside → ℕ → Type 0
+EndsObstaclesStp before after status =
+    Ends (text_fault_status around_fault_status) (text_fault_text around_fault_text) (codes "obstacles")
+    (FromText TEXT_LIMIT WritesGraph) LeavesShelf before after status
+
+-- A run of `obstacles`, with or without its flag.
+abbrev pub EndsObstacles : Bool → ℕ → Outside → Outside → ℕ → Type 0
+EndsObstacles true openings before after status = EndsObstaclesStp before after status
+EndsObstacles false openings before after status = EndsObstaclesSolve openings before after status

@@ -1,0 +1,4 @@
+pub mod Reading
+pub mod Around
+pub mod Truth
+pub mod TruthLaws

@@ -1,0 +1,44 @@
+-- What is true where `obstacles` printed.
+use Rattle.std.specs.Prelude.{ℕ, ◌≡◌, Bool, true, false, List, Some, slice_get}
+use Rattle.rst_outside.specs.Sink.{Appended}
+use Rattle.rst_outside.specs.Source.{CameToTheEnd}
+use Rattle.net_graph.specs.declared.edge.Edge.{Edge}
+use Rattle.net_graph.specs.Flags.{has}
+use Rattle.obstacles_in.specs.Obstacles.{ObstaclesValue}
+use Rattle.obstacle_grid.specs.Crossing.{CrossesNone}
+use Rattle.obstacle_grid.specs.Grid.{obstacle_graph_of}
+use Rattle.obstacle_grid.specs.Text.{graph_stp_text}
+use Rattle.frame.specs.Outside.{Outside}
+use Rattle.graph_tools.specs.Truth.{SolvesTruly}
+use Rattle.obstacle_tools.specs.Reading.{IsTaskText}
+
+-- No edge of the set crosses the interior of a box.
+abbrev pub AvoidsBoxes : ObstaclesValue → List Bool → Type 0
+AvoidsBoxes o network = (n : ℕ) (e : Edge) → has network n ≡ true → slice_get (obstacle_graph_of o).edges n ≡ Some e →
+    CrossesNone o e
+
+-- `out` gained an answer that may be printed in the graph of the points and boxes, and what it says is true of that
+-- graph (`SolvesTruly`). Its network crosses the interior of no box.
+pub record SolvesAroundTruly (o : ObstaclesValue) (openings : ℕ) (before after : Outside) (status : ℕ)
+    : Type 0 where
+  pub solves : SolvesTruly openings (obstacle_graph_of o) before after status
+  pub avoids : AvoidsBoxes o solves.network
+
+-- `out` gained the graph of the points and boxes as an STP file, and the status is 0.
+pub record WritesGraphTruly (o : ObstaclesValue) (before after : Outside) (status : ℕ) : Type 0 where
+  pub ends : status ≡ 0
+  pub printed : Appended before.written.out.taken (graph_stp_text (obstacle_graph_of o)) after.written.out.taken
+
+-- What was printed of points and boxes, with or without the flag, is true.
+abbrev pub PrintsTruly : Bool → ℕ → ObstaclesValue → Outside → Outside → ℕ → Type 0
+PrintsTruly true openings o before after status = WritesGraphTruly o before after status
+PrintsTruly false openings o before after status = SolvesAroundTruly o openings before after status
+
+-- The input was read to its end, it spells points and boxes that are a Steiner problem, and what was printed of them is
+-- true.
+abbrev pub ObstaclesTruly : Bool → ℕ → Outside → Outside → ℕ → Type 0
+ObstaclesTruly stp openings before after status =
+    (bytes : List ℕ) × (o : ObstaclesValue)
+    × CameToTheEnd before.read.input.rest bytes after.read.input.rest
+    × IsTaskText bytes o
+    × PrintsTruly stp openings o before after status

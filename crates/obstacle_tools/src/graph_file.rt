@@ -1,0 +1,33 @@
+//! A graph, as the tool prints it.
+
+ghost use Rattle.frame.specs.declared.status.AnswerStatus.TheVariants as status_of;
+ghost use Rattle.obstacle_tools.specs.Around.{graph_file_text};
+
+use frame::{Answer, AnswerStatus};
+use net_graph::NetGraph;
+use obstacle_grid::write_graph_stp;
+use rst_outside::{PutFault, Sink};
+
+/// A graph that is printed as an STP file.
+#[derive(Debug, Drop)]
+pub struct GraphFile {
+    pub graph: NetGraph,
+}
+
+impl Answer for GraphFile {
+    ghost text = { graph_file_text };
+
+    ghost status = { λ _. status_of.Done };
+
+    ghost fits = { λ _. Unit {0} };
+
+    ghost told = { λ _. Unit {0} };
+
+    fn status(&self) -> AnswerStatus {
+        AnswerStatus::Done
+    }
+
+    fn write<O: Sink>(&self, out: &mut O) -> Result<(), PutFault> {
+        write_graph_stp(out, &self.graph)
+    }
+}

@@ -1,0 +1,74 @@
+-- What `obstacles` printed is true, and a run of it that nothing troubles ends with an answer.
+use Rattle.std.proofs.Common.{ℕ, ◌≡◌, Bool, true, false, codes, Option, Some, inl, inr, sym, subst, ap, ◌∙◌}
+use Rattle.net_graph.specs.Network.{length_of}
+use Rattle.frame.specs.declared.take.TheConstants.{TEXT_LIMIT}
+use Rattle.frame.specs.Statuses.{answer_code}
+use Rattle.frame.specs.Outside.{Outside}
+use Rattle.frame.specs.Ends.{Print}
+use Rattle.frame.specs.EndLaws.{complete_ends}
+use Rattle.frame.specs.FaultTexts.{text_fault_text, text_fault_status}
+use Rattle.frame.specs.FromText.{FromText}
+use Rattle.frame.specs.Leaves.{LeavesShelf}
+use Rattle.graph_search.specs.Searched.{bound_of}
+use Rattle.graph_tools.specs.FoundLaws.{found_faultless}
+use Rattle.graph_tools.specs.Solve.{PrintsAnswer}
+use Rattle.obstacle_grid.specs.Crossing.{NoEdgeCrosses}
+use Rattle.obstacle_tools.specs.Reading.{AroundHasNoFault, ReadsAround, around_fault_text, around_fault_status}
+use Rattle.obstacle_tools.specs.Around.{EndsObstacles, EndsObstaclesSolve, EndsObstaclesStp, PrintsFile, SolvesAround}
+use Rattle.obstacle_tools.specs.Around.{WritesGraph}
+use Rattle.obstacle_tools.specs.TruthLaws.{obstacles_truly}
+use Rattle.search_rules.specs.declared.options.GraphOptions.{GraphOptions}
+use Rattle.requests.specs.Requests.{Request}
+use Rattle.requests.specs.Requests.Request.{Obstacles}
+use Rattle.suite.specs.Headlines.{ObstaclesHeadline}
+use Rattle.suite.specs.Complete.{Completes}
+use Rattle.suite.proofs.Completeness.{zero_or_three}
+
+-- with an answer a run ends as the answer says
+answer_completes : AroundHasNoFault → (search : GraphOptions) (before after : Outside) (status : ℕ) →
+    EndsObstaclesSolve search.openings before after status →
+    Completes (Some (Obstacles false search)) before after status
+answer_completes law search before after status ends = λ bytes o has task writes.
+    elim (complete_ends (text_fault_status around_fault_status) (text_fault_text around_fault_text) (codes "obstacles")
+    (FromText TEXT_LIMIT (SolvesAround search.openings)) LeavesShelf before after status
+    (found_faultless ReadsAround (PrintsAnswer search.openings) before.read after.read bytes has
+    (λ fault. law bytes o fault task)) writes ends) [
+      | inl seven ↦ inr seven
+      | inr (print, (taken, whole, (g, reads, (network, tree, permitted, of_graph))), answers) ↦
+          inl (zero_or_three (bound_of g network tree) (length_of g network) status
+          (answers ∙ ap (λ (p : Print). answer_code p.status) of_graph))
+    ]
+
+-- and with the graph with status 0
+graph_completes : AroundHasNoFault → (search : GraphOptions) (before after : Outside) (status : ℕ) →
+    EndsObstaclesStp before after status → Completes (Some (Obstacles true search)) before after status
+graph_completes law search before after status ends = λ bytes o has task writes.
+    elim (complete_ends (text_fault_status around_fault_status) (text_fault_text around_fault_text) (codes "obstacles")
+    (FromText TEXT_LIMIT WritesGraph) LeavesShelf before after status
+    (found_faultless ReadsAround PrintsFile before.read after.read bytes has (λ fault. law bytes o fault task))
+    writes ends) [
+      | inl seven ↦ inr seven
+      | inr (print, (taken, whole, (g, reads, of_graph)), answers) ↦
+          inl (answers ∙ ap (λ (p : Print). answer_code p.status) of_graph)
+    ]
+
+obstacles_completes : AroundHasNoFault → (stp : Bool) (search : GraphOptions) (before after : Outside) (status : ℕ) →
+    EndsObstacles stp search.openings before after status → Completes (Some (Obstacles stp search)) before after status
+obstacles_completes law true search before after status ends = graph_completes law search before after status ends
+obstacles_completes law false search before after status ends = answer_completes law search before after status ends
+
+-- ---- the same of what the words ask for
+
+module _ (request : Option Request) (before after : Outside) (status : ℕ) (stp : Bool) (search : GraphOptions)
+    (is : request ≡ Some (Obstacles stp search)) (ends : EndsObstacles stp search.openings before after status) where
+  pub obstacles_asked_headline : NoEdgeCrosses → ObstaclesHeadline request before after status
+  obstacles_asked_headline law = λ other choices asks ended.
+      let same : stp ≡ other = cc in
+      let chosen : search ≡ choices = cc in
+      obstacles_truly law other choices.openings before after status
+      (subst (λ (q : GraphOptions). EndsObstacles other q.openings before after status) chosen
+      (subst (λ s. EndsObstacles s search.openings before after status) same ends)) ended
+
+  pub obstacles_asked_completes : AroundHasNoFault → Completes request before after status
+  obstacles_asked_completes law =
+      subst (λ r. Completes r before after status) (sym is) (obstacles_completes law stp search before after status ends)
