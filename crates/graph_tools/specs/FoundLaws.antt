@@ -59,13 +59,13 @@ module _ {F : Type 0} (Reads : List ℕ → Result Graph F → Type 0) where
   -- what holds of every graph that is read holds of the one that was read
   pub read_holds : (Holds : Graph → Type 0) → ((bytes : List ℕ) (g : Graph) → Reads bytes (Ok g) → Holds g) →
       (input input' : SourceState) (g : Graph) →
-      ((shelf : ShelfState) → FromText {V = Graph} {F = F} TEXT_LIMIT Reads (readable input shelf) (readable input' shelf) (Ok g)) →
-      Holds g
+      ((shelf : ShelfState) →
+      FromText {V = Graph} {F = F} TEXT_LIMIT Reads (readable input shelf) (readable input' shelf) (Ok g)) → Holds g
   read_holds Holds each input input' g reads = let (bytes, whole, is) = reads no_shelf in each bytes g is
 
   -- what holds of all that is found in a graph
-  found_holds : {A : Type 0} (Is : Graph → A → Type 0) (Holds : A → Type 0) → ((g : Graph) (a : A) → Is g a → Holds a) →
-      (before after : Readable) (a : A) →
+  found_holds : {A : Type 0} (Is : Graph → A → Type 0) (Holds : A → Type 0) →
+      ((g : Graph) (a : A) → Is g a → Holds a) → (before after : Readable) (a : A) →
       FromText {V = A} {F = F} TEXT_LIMIT (FindsIn Reads Is) before after (Ok a) → Holds a
   found_holds Is Holds each before after a (bytes, whole, (g, reads, is)) = each g a is
 
@@ -73,14 +73,15 @@ module _ {F : Type 0} (Reads : List ℕ → Result Graph F → Type 0) where
   pub all_found_holds : {A : Type 0} {E : Type 0} (Is : Graph → A → Type 0) (Holds : A → Type 0) →
       ((g : Graph) (a : A) → Is g a → Holds a) →
       (input input' : SourceState) (found : Result (Result A (TextFault F)) E) →
-      ((shelf : ShelfState) → IfOk found (FromText TEXT_LIMIT (FindsIn Reads Is) (readable input shelf) (readable input' shelf))) →
+      ((shelf : ShelfState) →
+      IfOk found (FromText TEXT_LIMIT (FindsIn Reads Is) (readable input shelf) (readable input' shelf))) →
       ForOk found (λ r. ForOk r Holds)
   all_found_holds Is Holds each input input' found finds = λ r is a same.
-      let one =
-      subst (λ f. IfOk f (FromText TEXT_LIMIT (FindsIn Reads Is) (readable input no_shelf) (readable input' no_shelf))) is
-      (finds no_shelf) in
-      found_holds Is Holds each (readable input no_shelf) (readable input' no_shelf) a
-      (subst (λ f. FromText TEXT_LIMIT (FindsIn Reads Is) (readable input no_shelf) (readable input' no_shelf) f) same one)
+      let before = readable input no_shelf in
+      let after = readable input' no_shelf in
+      let one = subst (λ f. IfOk f (FromText TEXT_LIMIT (FindsIn Reads Is) before after)) is (finds no_shelf) in
+      found_holds Is Holds each before after a
+      (subst (λ f. FromText TEXT_LIMIT (FindsIn Reads Is) before after f) same one)
 
   -- No fault is found where the whole input has none.
   pub found_faultless : {A : Type 0} (Is : Graph → A → Type 0) (before after : Readable) (bytes : List ℕ) →

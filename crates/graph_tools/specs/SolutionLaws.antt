@@ -82,8 +82,10 @@ accepted_solution openings first_length g set tree spells searched nodes few = (
 pub permitted_answer : (openings : ℕ) (g : Graph) (s : GraphSolution) → IsFor openings g s → IsSpelled s →
     IsPermittedGraphAnswer openings g s.answer.network s.answer.tree
 permitted_answer openings g s is spells =
-    let spelled : SpellsAnswer (form.OfGraph (length g.edges) g.vertices) (answer_text (graph_value_of s.answer)) (graph_value_of s.answer) =
-    subst (λ (h : Graph). SpellsAnswer (form.OfGraph (length h.edges) h.vertices) (answer_text (graph_value_of s.answer)) (graph_value_of s.answer)) is.graph spells in record {
+    let value = graph_value_of s.answer in
+    let spelled : SpellsAnswer (form.OfGraph (length g.edges) g.vertices) (answer_text value) value =
+    subst (λ (h : Graph). SpellsAnswer (form.OfGraph (length h.edges) h.vertices) (answer_text value) value)
+    is.graph spells in record {
       accepted =
           accepted_solution openings (total_of g) g s.answer.network s.answer.tree
           (subst (λ (w : WrittenAnswer). SpellsAnswer (form.OfGraph (length g.edges) g.vertices) (answer_text w) w)

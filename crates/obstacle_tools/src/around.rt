@@ -1,4 +1,4 @@
-//! The tool `obstacles`: points and boxes come in, the answer of a network of their graph goes out, or the graph itself.
+//! The tool `obstacles`: points and boxes come in, the answer of a network of their graph goes out, or the graph.
 
 ghost use Rattle.std.specs.Prelude.{IfOk};
 ghost use Rattle.rst_outside.specs.Shelf.{ShelfState};
@@ -16,9 +16,9 @@ use rst_outside::{Sink, Source};
 use search_rules::GraphOptions;
 use std::alloc::{AllocError, Global};
 
-/// Runs `obstacles`: reads points and boxes from the input and prints the answer of a network of their graph, with edges
-/// and vertices by their numbers in it; where the graph itself is asked for, it as an STP file. Gives the status that
-/// the program ends with.
+/// Runs `obstacles`: reads points and boxes from the input and prints the answer of a network of their graph, with
+/// edges and vertices by their numbers in it; or that graph as an STP file, where it is asked for. Gives the status
+/// that the program ends with.
 pub fn obstacles<I: Source, O: Sink, R: Sink>(
     alloc: Global,
     stp: bool,
