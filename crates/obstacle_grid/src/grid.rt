@@ -49,6 +49,7 @@ impl<'a> ObstacleGrid<'a> {
     pub(crate) fn vertex_count(&self) -> u32
         ensures count { result ≡ (obstacle_grid_of self.now).vertices }
         ensures few { result ≤ 2500 }
+        ensures obstacles { AreObstacles self.now }
     {
         self.xs.len() as u32 * self.ys.len() as u32
     }
