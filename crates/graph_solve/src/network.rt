@@ -5,7 +5,7 @@ ghost use Rattle.net_graph.specs.Graph.{total_of};
 ghost use Rattle.net_graph.specs.Network.{IsNetwork, length_of};
 ghost use Rattle.graph_solve.specs.Task.{all_edges};
 
-use crate::every_edge::every_edge;
+use crate::whole_set::every_edge;
 use net_graph::{EdgeSet, NetGraph, joins};
 use network_judge::shortened;
 use network_search::propose_network;

@@ -7,8 +7,8 @@ ghost use Rattle.net_graph.specs.Network.{IsNetwork};
 ghost use Rattle.graph_solve.specs.Task.{edge_of, terminals_of, graph_of_stp, total_of_stp, all_edges};
 ghost use Rattle.graph_solve.specs.Fault.{HasTerminal, HasLengths, IsTask, IsFirstApartNode, IsFirstFault};
 
-use crate::every_edge::every_edge;
 use crate::fault::TaskFault;
+use crate::whole_set::every_edge;
 use item_list::ItemList;
 use net_graph::{Edge, EdgeList, GraphFault, NetGraph, VertexList, VertexSet, first_apart};
 use std::alloc::{AllocError, Global};

@@ -6,8 +6,8 @@ ghost use Rattle.graph_solve.specs.Task.{all_edges};
 use net_graph::{EdgeSet, NetGraph};
 use std::alloc::{AllocError, Global};
 
-// The set of all edges. An `Err` is want of memory.
-pub(crate) fn every_edge(alloc: Global, g: &NetGraph) -> Result<EdgeSet, AllocError>
+/// The set of all edges of a graph. An `Err` is want of memory.
+pub fn every_edge(alloc: Global, g: &NetGraph) -> Result<EdgeSet, AllocError>
     ensures { IfOk result (λ set. set ≡ all_edges g.now) }
 {
     let mut set = EdgeSet::empty(alloc, g.edge_count())?;

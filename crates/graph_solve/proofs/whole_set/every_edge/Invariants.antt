@@ -1,5 +1,5 @@
 use Rattle.std.proofs.Common.{◌≡◌, true, length, take, replicate}
-use Rattle.graph_solve.proofs.every_edge.every_edge.Given as goal
+use Rattle.graph_solve.proofs.whole_set.every_edge.Given as goal
 
 -- the edges so far are in the set
 abbrev pub invariant-loop-e : goal.invariant-loop-e

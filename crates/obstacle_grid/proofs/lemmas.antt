@@ -1,0 +1,6 @@
+pub mod Blocking
+pub mod Edges
+pub mod Crossings
+pub mod Sizes
+pub mod Texts
+pub mod Faults

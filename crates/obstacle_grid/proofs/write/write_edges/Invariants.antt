@@ -1,0 +1,9 @@
+use Rattle.std.proofs.Common.{take, flat_map}
+use Rattle.text_out.specs.Gathers.{Gathers}
+use Rattle.obstacle_grid.specs.Text.{edge_text}
+use Rattle.obstacle_grid.proofs.write.write_edges.Given as goal
+
+-- the lines of the edges passed
+abbrev pub invariant-loop-n : goal.invariant-loop-n
+invariant-loop-n g l = Gathers (g.S.Sink.state l.initial.sink) l.initial.block (flat_map edge_text (take l.n l.g.edges))
+    (g.S.Sink.state l.sink) l.block

@@ -1,0 +1,9 @@
+use Rattle.std.proofs.Common.{take, flat_map}
+use Rattle.text_out.specs.Gathers.{Gathers}
+use Rattle.obstacle_grid.specs.Text.{terminal_text}
+use Rattle.obstacle_grid.proofs.write.write_terminal_lines.Given as goal
+
+-- the lines of the terminals passed
+abbrev pub invariant-loop-place : goal.invariant-loop-place
+invariant-loop-place g l = Gathers (g.S.Sink.state l.initial.sink) l.initial.block
+    (flat_map terminal_text (take l.place l.g.terminals)) (g.S.Sink.state l.sink) l.block
