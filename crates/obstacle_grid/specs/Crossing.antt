@@ -1,5 +1,5 @@
 -- The laws of edges and boxes.
-use Rattle.std.specs.Prelude.{List, IsTrue, ◌↔◌, All, Contains}
+use Rattle.std.specs.Prelude.{IsTrue, ◌↔◌, All, Contains}
 use Rattle.points_in.specs.declared.point.Point.{Point}
 use Rattle.net_graph.specs.declared.edge.Edge.{Edge}
 use Rattle.obstacles_in.specs.declared.rectangle.Rectangle.{Rectangle}

@@ -1,6 +1,6 @@
 -- How many lines, crossings and edges there are.
-use Rattle.std.specs.Prelude.{ℕ, suc, ◌+◌, ◌-◌, ◌*◌, ◌≡◌, ◌≤◌, ◌<◌, List, [], ◌∷◌, ◌++◌, length, flat_map, filter, refl}
-use Rattle.std.proofs.Common.{zero, arith, sym, ap, ◌∙◌, inl, inr}
+use Rattle.std.specs.Prelude.{ℕ, ◌+◌, ◌-◌, ◌*◌, ◌≡◌, ◌≤◌, ◌<◌, List, [], ◌∷◌, length, flat_map, refl}
+use Rattle.std.proofs.Common.{arith, sym, ap, inl, inr}
 use Rattle.std.proofs.lemmas.Bool.{cases_lt}
 use Rattle.std.proofs.lemmas.List.{length-append}
 use Rattle.std.proofs.lemmas.Nat.{mul-le}

@@ -1,5 +1,5 @@
 -- The lines are those of the points and boxes, at most 100 each way.
-use Rattle.std.proofs.Common.{◌≤◌, arith, ap, sym, subst, ◌∙◌, length}
+use Rattle.std.proofs.Common.{◌≤◌, sym, subst, ◌∙◌, length}
 use Rattle.hanan_grid.specs.LinesLaws.{IsRising}
 use Rattle.hanan_grid.specs.GridLaws.{IsRising-xs_of, IsRising-ys_of}
 use Rattle.obstacles_in.specs.Obstacles.{marks_of}
