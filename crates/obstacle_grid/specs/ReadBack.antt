@@ -37,7 +37,8 @@ abbrev pub IsProblemOf : List ℕ → Graph → Type 0
 IsProblemOf bytes g =
     (file : StpValue) × (stp_of bytes ≡ Ok file) × (graph_of_stp file ≡ g) × problem.IsTask file
 
--- The text of the graph of points and boxes is read back word for word, since each of its edges has its lower end first.
+-- The text of the graph of points and boxes is read back word for word, since each of its edges has its lower end
+-- first.
 abbrev pub ObstaclesAreReadBack : Type 0
 ObstaclesAreReadBack = (o : ObstaclesValue) → AreObstacles o → IsTask o
     → IsProblemOf (graph_stp_text (obstacle_graph_of o)) (obstacle_graph_of o)

@@ -10,7 +10,8 @@ use Rattle.std.proofs.lemmas.Int.{ints, int_max_is, int_min_is}
 use Rattle.points_in.specs.declared.point.Point.{Point}
 use Rattle.obstacles_in.specs.declared.rectangle.Rectangle.{Rectangle}
 use Rattle.obstacle_grid.specs.Blocked.{HalfPoint, twice, IsAmid, IsWithin, IsBetween, IsOnHorizontal, IsOnVertical}
-use Rattle.obstacle_grid.specs.Blocked.{IsOnSegment, CrossesInterior, is_amid, overlap, blocks_level, blocks_upright, is_blocked_by}
+use Rattle.obstacle_grid.specs.Blocked.{IsOnSegment, CrossesInterior, is_amid, overlap}
+use Rattle.obstacle_grid.specs.Blocked.{blocks_level, blocks_upright, is_blocked_by}
 use Rattle.obstacle_grid.specs.Crossing.{BlockingIsCrossing}
 
 -- ---- on a line

@@ -12,7 +12,8 @@ use Rattle.net_graph.specs.Graph.{Graph, graph_of, HasEndsBelow}
 use Rattle.net_graph.specs.Fault.{IsFirst, IsFirstFault, HasSoundParts}
 use Rattle.net_graph.specs.Network.{IsNetwork, IsFirstApart}
 use Rattle.net_graph.specs.declared.graph.GraphFault.{GraphFault}
-use Rattle.net_graph.specs.declared.graph.GraphFault.TheVariants.{EndOutOfRange, ZeroLength, NoTerminal, TerminalOutOfRange, TooLong, Memory}
+use Rattle.net_graph.specs.declared.graph.GraphFault.TheVariants.{EndOutOfRange, ZeroLength, NoTerminal}
+use Rattle.net_graph.specs.declared.graph.GraphFault.TheVariants.{TerminalOutOfRange, TooLong, Memory}
 use Rattle.graph_solve.specs.Task.{all_edges}
 use Rattle.hanan_grid.specs.Grid.{vertex_of}
 use Rattle.hanan_grid.specs.Fault.{IsTotalOrMemory}

@@ -22,7 +22,8 @@ use Rattle.graph_solve.specs.Task.{vertex_of, edge_of, without_repeats, graph_of
 use Rattle.obstacle_grid.specs.ReadBack.{turned, with_edges_turned, AreDifferent, GraphsAreReadBack}
 use Rattle.obstacle_grid.specs.Text.{edge_text, graph_text, terminal_text, terminals_text, graph_stp_text}
 use Rattle.obstacle_grid.proofs.lemmas.Words.{lines_of-line}
-use Rattle.obstacle_grid.proofs.lemmas.Leads.{comes, LeadsOn, leads_nothing, leads_both, leads_same, leads_empty, leads_line}
+use Rattle.obstacle_grid.proofs.lemmas.Leads.{comes, LeadsOn, leads_nothing, leads_both, leads_same}
+use Rattle.obstacle_grid.proofs.lemmas.Leads.{leads_empty, leads_line}
 use Rattle.obstacle_grid.proofs.lemmas.Sections.{line_by_test, leads_section_end, stp_edge, leads_edge, leads_terminal}
 use Rattle.obstacle_grid.proofs.lemmas.Sections.{leads_graph_head, leads_terminals_head}
 
@@ -64,8 +65,8 @@ leads_edges s nodes due before (e ∷ edges) few ends fits =
     let sum = sum_by-cons (λ (x : Edge). x.length) e edges in
     let first = leads_edge s nodes due before (min e.a e.b + 1) (max e.a e.b + 1) e.length few (omega arith)
     (omega (arith, end.a, end.b)) (omega arith) (omega (arith, end.a, end.b)) (omega (arith, sum, fits)) in
-    let rest = leads_edges s nodes due (before ++ node_edge e ∷ []) edges few (All-tail (HasEndsBelow nodes) e edges ends)
-    (omega (arith, sum, fits)) in
+    let rest = leads_edges s nodes due (before ++ node_edge e ∷ []) edges few
+    (All-tail (HasEndsBelow nodes) e edges ends) (omega (arith, sum, fits)) in
     subst (λ es. LeadsOn (in_graph s (listing nodes due before)) (flat_map edge_text (e ∷ edges))
     (in_graph s (listing nodes due es))) (append_assoc before (node_edge e ∷ []) (map node_edge edges))
     (leads_both (in_graph s (listing nodes due before)) (in_graph s (listing nodes due (before ++ node_edge e ∷ [])))
@@ -87,7 +88,8 @@ leads_terminals s nodes due before (v ∷ vertices) few below =
     (All-tail (λ v. v < nodes) v vertices below) in
     subst (λ ns. LeadsOn (in_terminals s nodes (naming due before)) (flat_map terminal_text (v ∷ vertices))
     (in_terminals s nodes (naming due ns))) (append_assoc before (node_of v ∷ []) (map node_of vertices))
-    (leads_both (in_terminals s nodes (naming due before)) (in_terminals s nodes (naming due (before ++ node_of v ∷ [])))
+    (leads_both (in_terminals s nodes (naming due before))
+    (in_terminals s nodes (naming due (before ++ node_of v ∷ [])))
     (in_terminals s nodes (naming due ((before ++ node_of v ∷ []) ++ map node_of vertices))) (terminal_text v)
     (flat_map terminal_text vertices) first rest)
 
@@ -236,13 +238,15 @@ vertices_back (v ∷ vertices) =
 filter_all_pass : {X : Type 0} (p : X → Bool) (xs : List X) → All (λ x. p x ≡ true) xs → filter p xs ≡ xs
 filter_all_pass p [] all = refl
 filter_all_pass p (x ∷ xs) all =
-    rw (All-head (λ x. p x ≡ true) x xs all) (ap (λ ys. x ∷ ys) (filter_all_pass p xs (All-tail (λ x. p x ≡ true) x xs all)))
+    rw (All-head (λ x. p x ≡ true) x xs all)
+    (ap (λ ys. x ∷ ys) (filter_all_pass p xs (All-tail (λ x. p x ≡ true) x xs all)))
 
 -- different vertices have no repeats
 different_stay : (vertices : List ℕ) → AreDifferent vertices → without_repeats vertices ≡ vertices
 different_stay [] different = refl
 different_stay (v ∷ vertices) different =
-    let rest = different_stay vertices (λ i j d earlier inside. different (suc i) (suc j) d (omega arith) (omega arith)) in
+    let rest = different_stay vertices
+    (λ i j d earlier inside. different (suc i) (suc j) d (omega arith) (omega arith)) in
     let others : All (λ w. not (v == w) ≡ true) vertices =
     λ k d inside. ap not (ne_eqb v (get_or vertices k d) (different 0 (suc k) d (omega arith) (omega arith))) in
     ap (λ vs. v ∷ filter (λ w. not (v == w)) vs) rest ∙ ap (λ vs. v ∷ vs) (filter_all_pass _ vertices others)

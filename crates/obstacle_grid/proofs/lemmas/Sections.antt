@@ -1,6 +1,6 @@
 -- The sections of an STP file that was written, as they are read.
-use Rattle.std.specs.Prelude.{ℕ, ◌≡◌, ◌<◌, ◌≤◌, ◌^◌, ◌==◌, ◌&&◌, true, false, nat_lt, if◌then◌else◌, List, [], ◌∷◌, ◌++◌, length, slice_index}
-use Rattle.std.specs.Prelude.{All, codes, Some, None, is_some, Result, Ok, Err}
+use Rattle.std.specs.Prelude.{ℕ, ◌≡◌, ◌<◌, ◌≤◌, ◌^◌, ◌==◌, ◌&&◌, true, false, nat_lt, if◌then◌else◌, List, [], ◌∷◌}
+use Rattle.std.specs.Prelude.{◌++◌, length, slice_index, All, codes, Some, None, is_some, Result, Ok, Err}
 use Rattle.std.specs.Fmt.{decimal}
 use Rattle.std.specs.List.{list_all}
 use Rattle.std.proofs.Common.{arith, refl, sym, ap, ◌∙◌, append_assoc}
@@ -14,7 +14,7 @@ use Rattle.stp_format.specs.declared.fault.StpFault.TheVariants.{BadLine, NodeOu
 use Rattle.stp_format.specs.Lines.{words_of}
 use Rattle.stp_format.specs.Numbers.{number_in, count_of, weight_of}
 use Rattle.stp_format.specs.Reading.{next_line}
-use Rattle.stp_format.specs.Sections.{◌>>=◌, Sections, Reading, GraphSoFar, outside, in_graph, in_terminals, unsized, sized}
+use Rattle.stp_format.specs.Sections.{◌>>=◌, Sections, Reading, outside, in_graph, in_terminals, unsized, sized}
 use Rattle.stp_format.specs.Sections.{listing, uncounted, naming}
 use Rattle.stp_format.specs.Sections as reading
 use Rattle.stp_format.specs.Value.{StpGraph, is_node}
@@ -33,7 +33,8 @@ word_and_number word n plain fits =
 -- blanks between words stand on their line
 line_before : (word rest : List ℕ) → IsPlain word → IsOneLine rest → IsOneLine (word ++ 32 ∷ rest)
 line_before word rest plain is =
-    All-append (λ b. 13 < b) word (32 ∷ rest) (line_of_word word plain) (All-cons (λ b. 13 < b) 32 rest (omega arith) is)
+    All-append (λ b. 13 < b) word (32 ∷ rest) (line_of_word word plain)
+    (All-cons (λ b. 13 < b) 32 rest (omega arith) is)
 
 -- such a line leads on where its number does
 leads_number : (r r' : Reading) (keyword : List ℕ) (n : ℕ) → IsPlain keyword → n < 2 ^ 64
