@@ -4,3 +4,8 @@ pub mod Crossings
 pub mod Sizes
 pub mod Texts
 pub mod Faults
+pub mod Words
+pub mod Leads
+pub mod Sections
+pub mod ReadBack
+pub mod ObstaclesBack

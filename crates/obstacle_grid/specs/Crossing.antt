@@ -1,5 +1,5 @@
 -- The laws of edges and boxes.
-use Rattle.std.specs.Prelude.{List, IsTrue, ◌↔◌, All, Contains}
+use Rattle.std.specs.Prelude.{IsTrue, ◌↔◌, All, Contains}
 use Rattle.points_in.specs.declared.point.Point.{Point}
 use Rattle.net_graph.specs.declared.edge.Edge.{Edge}
 use Rattle.obstacles_in.specs.declared.rectangle.Rectangle.{Rectangle}
@@ -9,7 +9,8 @@ use Rattle.obstacle_grid.specs.Grid.{obstacle_grid_of, obstacle_graph_of, point_
 
 -- a box blocks exactly the segments that cross its interior
 abbrev pub BlockingIsCrossing : Type 0
-BlockingIsCrossing = (b : Rectangle) (p q : Point) → IsStraight p q → IsTrue (is_blocked_by b p q) ↔ CrossesInterior b p q
+BlockingIsCrossing = (b : Rectangle) (p q : Point) → IsStraight p q
+    → IsTrue (is_blocked_by b p q) ↔ CrossesInterior b p q
 
 -- the edge runs along an axis, from its first end on
 abbrev pub RunsStraight : ObstaclesValue → Edge → Type 0

@@ -13,8 +13,8 @@ pub record IsTask (o : ObstaclesValue) : Type 0 where
   pub total : total_of (obstacle_graph_of o) < 2 ^ 63
   pub joined : IsNetwork (obstacle_graph_of o) (all_edges (obstacle_graph_of o))
 
--- This fault is the first one; want of memory has no cause in the points and boxes. A point is named by its place, which
--- is that of its vertex among the terminals.
+-- This fault is the first one; want of memory has no cause in the points and boxes. A point is named by its place,
+-- which is that of its vertex among the terminals.
 abbrev pub IsFirstFault : ObstaclesValue → ObstacleTaskFault → Type 0
 IsFirstFault o (TooLong total) = (total ≡ total_of (obstacle_graph_of o)) × (2 ^ 63 ≤ total)
 IsFirstFault o (Apart place) =

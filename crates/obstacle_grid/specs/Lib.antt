@@ -5,3 +5,4 @@ pub mod Fault
 pub mod Said
 pub mod Text
 pub mod Crossing
+pub mod ReadBack

@@ -1,7 +1,7 @@
 //! The graph of points and boxes.
 
-ghost use Rattle.std.specs.Prelude.{◌≡◌, ◌<◌, ◌≤◌, ◌^◌, length, filter, All, IfOk, IfErr, OnOk};
-ghost use Rattle.net_graph.specs.Graph.{IsGraph, HasEndsBelow, total_of};
+ghost use Rattle.std.specs.Prelude.{◌≡◌, ◌<◌, ◌≤◌, ◌^◌, length, filter, IfOk, IfErr, OnOk};
+ghost use Rattle.net_graph.specs.Graph.{IsGraph, total_of};
 ghost use Rattle.net_graph.specs.Network.{IsNetwork};
 ghost use Rattle.graph_solve.specs.Task.{all_edges};
 ghost use Rattle.obstacle_grid.specs.Grid.{obstacle_grid_of, is_allowed, obstacle_graph_of};

@@ -14,8 +14,8 @@ use std::alloc::{AllocError, Global};
 use std::marker::Model;
 
 /// The grid of points and boxes: a line each way through each point and along each side of a box, with a vertex at
-/// each crossing and an edge between neighbours on a line. Contracts see the points and the boxes, since everything else
-/// is a function of them.
+/// each crossing and an edge between neighbours on a line. Contracts see the points and the boxes, since everything
+/// else is a function of them.
 #[derive(Drop)]
 pub(crate) struct ObstacleGrid<'a> {
     obstacles: &'a Obstacles,

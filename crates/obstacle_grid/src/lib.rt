@@ -11,5 +11,5 @@ mod write;
 
 pub use fault::ObstacleTaskFault;
 pub use graph::obstacle_graph;
-pub use laws::{blocking_is_crossing, no_edge_crosses};
+pub use laws::{blocking_is_crossing, graphs_are_read_back, no_edge_crosses};
 pub use write::write_graph_stp;

@@ -14,9 +14,9 @@ use stp_text::{
 };
 use text_out::{Block, finish};
 
-/// Writes the graph as an STP file without coordinates: node v + 1 is the vertex v, edges stand in ascending number with
-/// the end of the lower number first, and terminals in their order. It takes no memory; on an `Err` the sink failed, and
-/// the text was cut short.
+/// Writes the graph as an STP file without coordinates: node v + 1 is the vertex v, edges stand in ascending number
+/// with the end of the lower number first, and terminals in their order. It takes no memory; on an `Err` the sink
+/// failed, and the text was cut short.
 #[tactic(auto, using(text_out::specs::GatherLaws::pieces), unfolding(crate::specs::Text::graph_stp_text))]
 pub fn write_graph_stp<S: Sink>(sink: &mut S, g: &NetGraph) -> Result<(), PutFault>
     ensures { Writes (S.state sink.old) (graph_stp_text g.now) (S.state sink.new) result }

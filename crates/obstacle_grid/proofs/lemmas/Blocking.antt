@@ -1,16 +1,17 @@
 -- A box blocks exactly the segments along an axis that cross its interior.
-use Rattle.std.specs.Prelude.{◌≡◌, Bool, true, false, ◌&&◌, ℤ, ◌+ℤ◌, ◌<ℤ◌, int_lt, ◌⊎◌, ◌↔◌, IsTrue}
+use Rattle.std.specs.Prelude.{◌≡◌, true, false, ◌&&◌, ℤ, ◌+ℤ◌, ◌<ℤ◌, int_lt}
 use Rattle.std.specs.Bool.{Decides}
 use Rattle.std.specs.Int.{int_min, int_max}
 use Rattle.std.specs.Ordering.{int_eq}
-use Rattle.std.proofs.Common.{arith, refl, sym, ap, ◌∙◌, inl, inr}
-use Rattle.std.proofs.lemmas.Bool.Decides.{Decides-and, Decides-int_eq, not_from_Decides}
+use Rattle.std.proofs.Common.{arith, refl, sym, ◌∙◌, inl, inr}
+use Rattle.std.proofs.lemmas.Bool.Decides.{Decides-and, Decides-int_eq}
 use Rattle.std.proofs.lemmas.Bool.{cases_Bool}
 use Rattle.std.proofs.lemmas.Int.{ints, int_max_is, int_min_is}
 use Rattle.points_in.specs.declared.point.Point.{Point}
 use Rattle.obstacles_in.specs.declared.rectangle.Rectangle.{Rectangle}
 use Rattle.obstacle_grid.specs.Blocked.{HalfPoint, twice, IsAmid, IsWithin, IsBetween, IsOnHorizontal, IsOnVertical}
-use Rattle.obstacle_grid.specs.Blocked.{IsOnSegment, CrossesInterior, IsStraight, is_amid, overlap, blocks_level, blocks_upright, is_blocked_by}
+use Rattle.obstacle_grid.specs.Blocked.{IsOnSegment, CrossesInterior, is_amid, overlap}
+use Rattle.obstacle_grid.specs.Blocked.{blocks_level, blocks_upright, is_blocked_by}
 use Rattle.obstacle_grid.specs.Crossing.{BlockingIsCrossing}
 
 -- ---- on a line

@@ -1,17 +1,15 @@
 -- The graph has exactly those edges of the grid that cross no box.
-use Rattle.std.specs.Prelude.{ℕ, ◌≡◌, Bool, true, false, not, List, [], ◌∷◌, filter, get_or, All, Contains, ◌⊎◌}
-use Rattle.std.specs.List.{list_any}
-use Rattle.std.proofs.Common.{arith, sym, ap, subst, ◌∙◌, inl, inr}
+use Rattle.std.specs.Prelude.{◌≡◌, Bool, true, not, List, [], ◌∷◌, filter, get_or, Contains}
+use Rattle.std.proofs.Common.{sym, ap, subst, ◌∙◌, inl, inr}
 use Rattle.std.proofs.lemmas.Bool.{cases_Bool, false≢true}
 use Rattle.std.proofs.lemmas.List.Elements.{All-contains, All-filter, filter_passes}
-use Rattle.std.proofs.lemmas.List.Folds.{list_any_none, Any-from_list_any, list_any-from_Any}
+use Rattle.std.proofs.lemmas.List.Folds.{Any-from_list_any, list_any-from_Any}
 use Rattle.net_graph.specs.declared.edge.Edge.{Edge}
 use Rattle.hanan_grid.specs.ContainsLaws.{Contains-first, Contains-rest, Contains-cases, Contains-none}
-use Rattle.obstacles_in.specs.declared.rectangle.Rectangle.{Rectangle}
 use Rattle.obstacles_in.specs.Obstacles.{ObstaclesValue}
-use Rattle.obstacle_grid.specs.Blocked.{CrossesInterior, is_blocked_by}
+use Rattle.obstacle_grid.specs.Blocked.{is_blocked_by}
 use Rattle.obstacle_grid.specs.Crossing.{RunsStraight, CrossesNone, NoEdgeCrosses, OthersAreLeft}
-use Rattle.obstacle_grid.specs.Grid.{obstacle_grid_of, obstacle_graph_of, point_of, is_blocked, is_allowed}
+use Rattle.obstacle_grid.specs.Grid.{obstacle_grid_of, point_of, is_blocked, is_allowed}
 use Rattle.obstacle_grid.proofs.lemmas.Blocking.{blocking_is_crossing_lem}
 use Rattle.obstacle_grid.proofs.lemmas.Edges.{edges_run_straight_lem}
 

@@ -1,17 +1,16 @@
 -- The edges of lines run along an axis.
-use Rattle.std.specs.Prelude.{ℕ, ◌+◌, ◌-◌, ◌*◌, ◌≡◌, ◌<◌, ℤ, ◌<ℤ◌, List, ◌++◌, length, All}
-use Rattle.std.proofs.Common.{arith, refl, sym, ap, subst, ◌∙◌, inl, inr}
+use Rattle.std.specs.Prelude.{ℕ, ◌+◌, ◌-◌, ◌≡◌, ◌<◌, ℤ, List, length, All}
+use Rattle.std.proofs.Common.{arith, refl, inl, inr}
 use Rattle.std.proofs.lemmas.List.Elements.{All-append}
 use Rattle.points_in.specs.declared.point.Point.{Point}
 use Rattle.net_graph.specs.declared.edge.Edge.{Edge}
-use Rattle.hanan_grid.specs.Lines.{line_at}
-use Rattle.hanan_grid.specs.Grid.{vertex_number, horizontal, vertical, horizontals, verticals}
+use Rattle.hanan_grid.specs.Grid.{horizontal, vertical, horizontals, verticals}
 use Rattle.hanan_grid.specs.GridLaws.{edges_of_lines, IsRising-xs_of, IsRising-ys_of}
 use Rattle.hanan_grid.specs.LinesLaws.{IsRising, line_at-rises}
 use Rattle.hanan_grid.specs.Names.{crossing, point_of_vertex}
 use Rattle.hanan_grid.specs.NamesLaws.{point_of_vertex-at}
 use Rattle.hanan_grid.specs.Tables.{All-table_from}
-use Rattle.obstacles_in.specs.Obstacles.{ObstaclesValue, marks_of, columns_of, rows_of}
+use Rattle.obstacles_in.specs.Obstacles.{marks_of, columns_of, rows_of}
 use Rattle.obstacle_grid.specs.Blocked.{IsStraight}
 use Rattle.obstacle_grid.specs.Crossing.{EdgesRunStraight}
 

@@ -1,8 +1,8 @@
 -- The faults that the graph of points and boxes may have, and what its edges join.
-use Rattle.std.specs.Prelude.{ℕ, ◌*◌, ◌+◌, ◌≡◌, ◌<◌, ◌≤◌, Bool, not, List, ◌++◌, length, map, filter, flat_map, get_or, All}
+use Rattle.std.specs.Prelude.{ℕ, ◌*◌, ◌≡◌, ◌<◌, ◌≤◌, Bool, not, List, length, filter, flat_map, get_or, All}
 use Rattle.std.specs.Prelude.{Option, Some, None, IfSome, IfNone}
-use Rattle.std.proofs.Common.{refl, ap, sym, subst, ◌∙◌, arith}
-use Rattle.std.proofs.lemmas.List.{length-map, length-append, get_or_append_left}
+use Rattle.std.proofs.Common.{refl, ap, subst, arith}
+use Rattle.std.proofs.lemmas.List.{length-map, get_or_append_left}
 use Rattle.std.proofs.lemmas.List.Elements.{All-filter, All-map}
 use Rattle.std.proofs.lemmas.List.Filters.{length-filter_both}
 use Rattle.std.proofs.lemmas.Option.{slice_get_within, get_or_from_slice_get}
@@ -12,7 +12,8 @@ use Rattle.net_graph.specs.Graph.{Graph, graph_of, HasEndsBelow}
 use Rattle.net_graph.specs.Fault.{IsFirst, IsFirstFault, HasSoundParts}
 use Rattle.net_graph.specs.Network.{IsNetwork, IsFirstApart}
 use Rattle.net_graph.specs.declared.graph.GraphFault.{GraphFault}
-use Rattle.net_graph.specs.declared.graph.GraphFault.TheVariants.{EndOutOfRange, ZeroLength, NoTerminal, TerminalOutOfRange, TooLong, Memory}
+use Rattle.net_graph.specs.declared.graph.GraphFault.TheVariants.{EndOutOfRange, ZeroLength, NoTerminal}
+use Rattle.net_graph.specs.declared.graph.GraphFault.TheVariants.{TerminalOutOfRange, TooLong, Memory}
 use Rattle.graph_solve.specs.Task.{all_edges}
 use Rattle.hanan_grid.specs.Grid.{vertex_of}
 use Rattle.hanan_grid.specs.Fault.{IsTotalOrMemory}

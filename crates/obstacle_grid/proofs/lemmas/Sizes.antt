@@ -1,6 +1,6 @@
 -- How many lines, crossings and edges there are.
-use Rattle.std.specs.Prelude.{ℕ, suc, ◌+◌, ◌-◌, ◌*◌, ◌≡◌, ◌≤◌, ◌<◌, List, [], ◌∷◌, ◌++◌, length, flat_map, filter, refl}
-use Rattle.std.proofs.Common.{zero, arith, sym, ap, ◌∙◌, inl, inr}
+use Rattle.std.specs.Prelude.{ℕ, ◌+◌, ◌-◌, ◌*◌, ◌≡◌, ◌≤◌, ◌<◌, List, [], ◌∷◌, length, flat_map, refl}
+use Rattle.std.proofs.Common.{arith, sym, ap, inl, inr}
 use Rattle.std.proofs.lemmas.Bool.{cases_lt}
 use Rattle.std.proofs.lemmas.List.{length-append}
 use Rattle.std.proofs.lemmas.Nat.{mul-le}
@@ -14,7 +14,8 @@ use Rattle.hanan_grid.specs.GridLaws.{edges_of_lines, length-edges_of_lines}
 -- each box has two corners
 length-corners : (boxes : List Rectangle) → length (flat_map corners_of boxes) ≡ length boxes + length boxes
 length-corners [] = refl
-length-corners (b ∷ boxes) = omega (arith, length-append (corners_of b) (flat_map corners_of boxes), length-corners boxes)
+length-corners (b ∷ boxes) =
+    omega (arith, length-append (corners_of b) (flat_map corners_of boxes), length-corners boxes)
 
 -- how many marks there are
 pub length-marks : (o : ObstaclesValue) → length (marks_of o) ≡ length o.points + (length o.boxes + length o.boxes)
@@ -55,7 +56,8 @@ narrow a b sum small =
 narrow_either : (a b : ℕ) → a + b ≤ 97 → a * b ≤ 2352
 narrow_either a b sum = elim (cases_lt a 49) [
   | inl small ↦ narrow a b sum (omega arith)
-  | inr large ↦ let turned : a * b ≡ b * a = omega arith in omega (arith, turned, narrow b a (omega arith) (omega arith))
+  | inr large ↦ let turned : a * b ≡ b * a = omega arith in
+      omega (arith, turned, narrow b a (omega arith) (omega arith))
 ]
 
 -- at most 2,500 crossings of a + 1 and b + 1 lines make at most 4,900 edges

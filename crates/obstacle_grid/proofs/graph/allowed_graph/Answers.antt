@@ -1,7 +1,5 @@
 -- The parts of the graph have no fault but their total.
-use Rattle.std.proofs.Common.{◌≡◌, ◌∙◌}
-use Rattle.net_graph.specs.Graph.{graph_of}
-use Rattle.obstacle_grid.specs.Grid.{obstacle_graph_of}
+use Rattle.std.proofs.Common.{◌∙◌}
 use Rattle.obstacle_grid.proofs.lemmas.Faults.{graph_from_parts, known_fault_of_parts}
 use Rattle.obstacle_grid.proofs.graph.allowed_graph.Goals as goal
 

@@ -6,4 +6,5 @@ use Rattle.obstacle_grid.proofs.write.write_terminal_lines.Goals as goal
 pub loop-place-preserved : goal.loop-place-preserved
 loop-place-preserved g c =
     gathers_two _ _ _ _ _ _ _ _ _ c.loop-place.invariant c.write_terminal.ensures
-    (flat_map-take_more terminal_text c.args.g.now.terminals c.loop-place.place c.terminal.result c.terminal.ensures.vertex)
+    (flat_map-take_more terminal_text c.args.g.now.terminals c.loop-place.place c.terminal.result
+    c.terminal.ensures.vertex)

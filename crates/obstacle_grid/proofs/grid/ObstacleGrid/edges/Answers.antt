@@ -1,5 +1,5 @@
 -- The lines are those of the points and boxes, 1 to 100 each way.
-use Rattle.std.proofs.Common.{◌≡◌, ◌*◌, ◌≤◌, ◌<◌, arith, ap, sym, subst, ◌∙◌, length}
+use Rattle.std.proofs.Common.{◌≡◌, ◌*◌, ◌≤◌, ◌<◌, ap, sym, subst, ◌∙◌, length}
 use Rattle.std.specs.Prelude.{All}
 use Rattle.std.proofs.lemmas.Result.{IfOk-weaker}
 use Rattle.net_graph.specs.Graph.{HasEndsBelow}

@@ -1,5 +1,5 @@
 -- There are at most 100 lines each way, and at most 2,500 crossings.
-use Rattle.std.proofs.Common.{arith, ap, ◌∙◌, length}
+use Rattle.std.proofs.Common.{arith, ap, length}
 use Rattle.obstacle_grid.proofs.lemmas.Sizes.{few_columns, few_rows}
 use Rattle.obstacle_grid.proofs.grid.ObstacleGrid.vertex_count.Goals as goal
 
