@@ -7,6 +7,7 @@ use Rattle.net_graph.specs.Flags.{has}
 use Rattle.obstacles_in.specs.Obstacles.{ObstaclesValue}
 use Rattle.obstacle_grid.specs.Crossing.{CrossesNone}
 use Rattle.obstacle_grid.specs.Grid.{obstacle_graph_of}
+use Rattle.obstacle_grid.specs.ReadBack.{IsProblemOf}
 use Rattle.obstacle_grid.specs.Text.{graph_stp_text}
 use Rattle.frame.specs.Outside.{Outside}
 use Rattle.graph_tools.specs.Truth.{SolvesTruly}
@@ -17,17 +18,24 @@ abbrev pub AvoidsBoxes : ObstaclesValue → List Bool → Type 0
 AvoidsBoxes o network = (n : ℕ) (e : Edge) → has network n ≡ true → slice_get (obstacle_graph_of o).edges n ≡ Some e →
     CrossesNone o e
 
+-- the text that `obstacles --stp` prints of points and boxes is an STP file, a Steiner problem, and its graph is theirs
+abbrev pub IsPrintedGraph : ObstaclesValue → Type 0
+IsPrintedGraph o = IsProblemOf (graph_stp_text (obstacle_graph_of o)) (obstacle_graph_of o)
+
 -- `out` gained an answer that may be printed in the graph of the points and boxes, and what it says is true of that
--- graph (`SolvesTruly`). Its network crosses the interior of no box.
+-- graph (`SolvesTruly`), which is the one that `--stp` prints: so the answer is accepted beside that file. Its network
+-- crosses the interior of no box.
 pub record SolvesAroundTruly (o : ObstaclesValue) (openings : ℕ) (before after : Outside) (status : ℕ)
     : Type 0 where
   pub solves : SolvesTruly openings (obstacle_graph_of o) before after status
   pub avoids : AvoidsBoxes o solves.network
+  pub stp : IsPrintedGraph o
 
--- `out` gained the graph of the points and boxes as an STP file, and the status is 0.
+-- `out` gained the graph of the points and boxes as an STP file, which is read back as this graph, and the status is 0.
 pub record WritesGraphTruly (o : ObstaclesValue) (before after : Outside) (status : ℕ) : Type 0 where
   pub ends : status ≡ 0
   pub printed : Appended before.written.out.taken (graph_stp_text (obstacle_graph_of o)) after.written.out.taken
+  pub stp : IsPrintedGraph o
 
 -- What was printed of points and boxes, with or without the flag, is true.
 abbrev pub PrintsTruly : Bool → ℕ → ObstaclesValue → Outside → Outside → ℕ → Type 0

@@ -6,6 +6,7 @@ use Rattle.rst_outside.specs.Sink.{Appended}
 use Rattle.obstacles_in.specs.Obstacles.{ObstaclesValue}
 use Rattle.obstacle_grid.specs.Crossing.{CrossesNone, NoEdgeCrosses}
 use Rattle.obstacle_grid.specs.Grid.{obstacle_graph_of}
+use Rattle.obstacle_grid.specs.ReadBack.{ObstaclesAreReadBack}
 use Rattle.obstacle_grid.specs.Text.{graph_stp_text}
 use Rattle.frame.specs.declared.status.AnswerStatus.{AnswerStatus}
 use Rattle.frame.specs.declared.status.AnswerStatus.TheVariants.{Done, Stopped}
@@ -30,10 +31,10 @@ avoids_boxes law o network = λ n e member at.
     subst (CrossesNone o) (get_or_from_slice_get edges n e e at) (law o n e (slice_get_within edges n e at))
 
 -- an answer that was printed, with the status that the run ended with
-answer_printed : NoEdgeCrosses → (openings : ℕ) (before after : Outside) (status : ℕ) (s : AnswerStatus) →
+answer_printed : NoEdgeCrosses → ObstaclesAreReadBack → (openings : ℕ) (before after : Outside) (status : ℕ) (s : AnswerStatus) →
     status ≡ answer_code s → EndsObstaclesSolve openings before after status →
     ObstaclesTruly false openings before after status
-answer_printed law openings before after status s is ends =
+answer_printed law read openings before after status s is ends =
     let (print, (bytes, whole, (g, (o, task, same), (network, tree, permitted, of_graph))), printed) =
     printed_ends (text_fault_status around_fault_status) (text_fault_text around_fault_text) (codes "obstacles")
     (FromText TEXT_LIMIT (SolvesAround openings)) LeavesShelf before after status s is ends in
@@ -47,13 +48,17 @@ answer_printed law openings before after status s is ends =
       o,
       whole.came,
       task,
-      record { solves = solves; avoids = avoids_boxes law o solves.network },
+      record {
+        solves = solves;
+        avoids = avoids_boxes law o solves.network;
+        stp = read o task.text.value task.task;
+      },
     )
 
 -- a graph that was printed
-graph_printed : (openings : ℕ) (before after : Outside) (status : ℕ) (s : AnswerStatus) → status ≡ answer_code s →
-    EndsObstaclesStp before after status → ObstaclesTruly true openings before after status
-graph_printed openings before after status s is ends =
+graph_printed : ObstaclesAreReadBack → (openings : ℕ) (before after : Outside) (status : ℕ) (s : AnswerStatus) →
+    status ≡ answer_code s → EndsObstaclesStp before after status → ObstaclesTruly true openings before after status
+graph_printed read openings before after status s is ends =
     let (print, (bytes, whole, (g, (o, task, same), of_graph)), printed) =
     printed_ends (text_fault_status around_fault_status) (text_fault_text around_fault_text) (codes "obstacles")
     (FromText TEXT_LIMIT WritesGraph) LeavesShelf before after status s is ends in
@@ -68,20 +73,23 @@ graph_printed openings before after status s is ends =
             subst (λ h. Appended before.written.out.taken (graph_stp_text h) after.written.out.taken) same
             (subst (λ (p : Print). Appended before.written.out.taken p.text after.written.out.taken) of_graph
             printed.wrote.appended);
+        stp = read o task.text.value task.task;
       },
     )
 
-prints_with : NoEdgeCrosses → (stp : Bool) (openings : ℕ) (before after : Outside) (status : ℕ) (s : AnswerStatus) →
-    status ≡ answer_code s → EndsObstacles stp openings before after status →
+prints_with : NoEdgeCrosses → ObstaclesAreReadBack → (stp : Bool) (openings : ℕ) (before after : Outside)
+    (status : ℕ) (s : AnswerStatus) → status ≡ answer_code s → EndsObstacles stp openings before after status →
     ObstaclesTruly stp openings before after status
-prints_with law true openings before after status s is ends = graph_printed openings before after status s is ends
-prints_with law false openings before after status s is ends = answer_printed law openings before after status s is ends
+prints_with law read true openings before after status s is ends =
+    graph_printed read openings before after status s is ends
+prints_with law read false openings before after status s is ends =
+    answer_printed law read openings before after status s is ends
 
 -- What `obstacles` printed is true.
-pub obstacles_truly : NoEdgeCrosses → (stp : Bool) (openings : ℕ) (before after : Outside) (status : ℕ) →
-    EndsObstacles stp openings before after status → (status ≡ 0) ⊎ (status ≡ 3) →
+pub obstacles_truly : NoEdgeCrosses → ObstaclesAreReadBack → (stp : Bool) (openings : ℕ) (before after : Outside)
+    (status : ℕ) → EndsObstacles stp openings before after status → (status ≡ 0) ⊎ (status ≡ 3) →
     ObstaclesTruly stp openings before after status
-obstacles_truly law stp openings before after status ends (inl zero) =
-    prints_with law stp openings before after status Done zero ends
-obstacles_truly law stp openings before after status ends (inr three) =
-    prints_with law stp openings before after status Stopped three ends
+obstacles_truly law read stp openings before after status ends (inl zero) =
+    prints_with law read stp openings before after status Done zero ends
+obstacles_truly law read stp openings before after status ends (inr three) =
+    prints_with law read stp openings before after status Stopped three ends

@@ -13,6 +13,7 @@ use Rattle.graph_search.specs.Searched.{bound_of}
 use Rattle.graph_tools.specs.FoundLaws.{found_faultless}
 use Rattle.graph_tools.specs.Solve.{PrintsAnswer}
 use Rattle.obstacle_grid.specs.Crossing.{NoEdgeCrosses}
+use Rattle.obstacle_grid.specs.ReadBack.{ObstaclesAreReadBack}
 use Rattle.obstacle_tools.specs.Reading.{AroundHasNoFault, ReadsAround, around_fault_text, around_fault_status}
 use Rattle.obstacle_tools.specs.Around.{EndsObstacles, EndsObstaclesSolve, EndsObstaclesStp, PrintsFile, SolvesAround}
 use Rattle.obstacle_tools.specs.Around.{WritesGraph}
@@ -61,11 +62,11 @@ obstacles_completes law false search before after status ends = answer_completes
 
 module _ (request : Option Request) (before after : Outside) (status : ℕ) (stp : Bool) (search : GraphOptions)
     (is : request ≡ Some (Obstacles stp search)) (ends : EndsObstacles stp search.openings before after status) where
-  pub obstacles_asked_headline : NoEdgeCrosses → ObstaclesHeadline request before after status
-  obstacles_asked_headline law = λ other choices asks ended.
+  pub obstacles_asked_headline : NoEdgeCrosses → ObstaclesAreReadBack → ObstaclesHeadline request before after status
+  obstacles_asked_headline law read = λ other choices asks ended.
       let same : stp ≡ other = cc in
       let chosen : search ≡ choices = cc in
-      obstacles_truly law other choices.openings before after status
+      obstacles_truly law read other choices.openings before after status
       (subst (λ (q : GraphOptions). EndsObstacles other q.openings before after status) chosen
       (subst (λ s. EndsObstacles s search.openings before after status) same ends)) ended
 

@@ -103,7 +103,8 @@ ReduceHeadline request before after status = (solve : Bool) → request ≡ Some
 
 -- What `obstacles` printed is true: the input was read to its end, it spells points and boxes that are a Steiner
 -- problem, and the bytes that went out are an answer that may be printed in their graph, whose network joins the points
--- and crosses the interior of no box (`SolvesAroundTruly`). With `--stp` they are that graph as an STP file.
+-- and crosses the interior of no box (`SolvesAroundTruly`). With `--stp` they are that graph as an STP file, beside
+-- which such an answer is accepted.
 abbrev pub ObstaclesHeadline : Option Request → Outside → Outside → ℕ → Type 0
 ObstaclesHeadline request before after status = (stp : Bool) (search : GraphOptions) →
     request ≡ Some (Obstacles stp search) →

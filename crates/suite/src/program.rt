@@ -13,7 +13,7 @@ use frame::{MISUSED, NO_MEMORY, report};
 use graph_inputs::task_has_no_fault;
 use graph_tools::{checkgraph, graph, reduce};
 use judge_tools::{check, plot, upgrade};
-use obstacle_grid::no_edge_crosses;
+use obstacle_grid::{graphs_are_read_back, no_edge_crosses};
 use obstacle_tools::{around_has_no_fault, obstacles};
 use point_tools::{located_has_no_fault, points, stp2points};
 use requests::{Request, request_in};
@@ -134,6 +134,7 @@ fn answer<I: Source, O: Sink, R: Sink, S: Shelf>(
     task_has_no_fault();
     around_has_no_fault();
     no_edge_crosses();
+    graphs_are_read_back();
     trial_is_solve();
     match request {
         Some(Request::Points(drawing)) => points(alloc, drawing.count, drawing.seed, out, err),

@@ -280,7 +280,7 @@ returns-in-Some-Obstacles-clause-routed g c =
     c.obstacles.result c.in-Some-Obstacles.stp c.in-Some-Obstacles.search
     (search rules)
     (c.obstacles.ensures (g.S.Shelf.state c.args.shelf.now))
-    c.no_edge_crosses.ensures.none
+    c.no_edge_crosses.ensures.none c.graphs_are_read_back.ensures.obstacles
 
 pub returns-in-Some-Obstacles-clause-complete : goal.returns-in-Some-Obstacles-clause-complete
 returns-in-Some-Obstacles-clause-complete g c =
