@@ -23,14 +23,6 @@ ends_same x y z (inl y_is) (inr z_is) = inr (z_is.0 ∙ sym y_is.1, z_is.1 ∙ s
 ends_same x y z (inr y_is) (inl z_is) = inr (z_is.0 ∙ sym y_is.1, z_is.1 ∙ sym y_is.0)
 ends_same x y z (inr y_is) (inr z_is) = inl (z_is.0 ∙ sym y_is.0, z_is.1 ∙ sym y_is.1)
 
--- an edge of which none has the ends
-pub not_alike : (s : State) (place n : ℕ) (e : Edge) → HoldsEdge s place e →
-    ((y : Bundle) → HasEdge s n y → ¬ HasEnds y.edge e.a e.b) → ¬ AreAlike s place n
-not_alike s place n e held none alike =
-    let (x, x_at, x_is) = held in
-    let same : alike.x.edge ≡ e = ap (λ b. b.edge) (same_edge s place alike.x x alike.at x_at) ∙ x_is in
-    none alike.y alike.other_at (subst (λ (d : Edge). HasEnds alike.y.edge d.a d.b) same alike.ends)
-
 pub alike_within : (s : State) (place n : ℕ) → AreAlike s place n → n < length s.edges
 alike_within s place n alike = slice_get_within s.edges n (Some alike.y) alike.other_at
 

@@ -16,13 +16,6 @@ use Rattle.graph_reduce.proofs.lemmas.Soundness.{IsSound, IsSound-start}
 use Rattle.graph_reduce.proofs.lemmas.Steps.{steps_keep, steps_fit}
 use Rattle.graph_reduce.proofs.lemmas.Terminals.{In-from_Contains}
 
-pub reached_then : (old new : State) → IsReached old → LeadsTo old new → IsReached new
-reached_then old new reached leads = record {
-  graph = reached.graph;
-  sound = reached.sound;
-  from_start = then_steps (start_of reached.graph) old new reached.from_start leads;
-}
-
 module _ (s : State) (reached : IsReached s) where
   sound : IsSound s
   sound = (steps_keep reached.from_start.count (start_of reached.graph) s (IsSound-start reached.graph reached.sound)

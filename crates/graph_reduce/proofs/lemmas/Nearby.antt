@@ -22,11 +22,6 @@ other_is e v u w (inl p) (inr q) = sym p.1 ∙ q.1 ∙ sym p.0 ∙ q.0
 other_is e v u w (inr p) (inl q) = sym p.0 ∙ q.0 ∙ sym p.1 ∙ q.1
 other_is e v u w (inr p) (inr q) = sym p.0 ∙ q.0
 
--- the node is an end of the edge that the place holds
-pub end_held : (s : State) (v place : ℕ) (e : Edge) → EndsIn s v place → HoldsEdge s place e → (e.a ≡ v) ⊎ (e.b ≡ v)
-end_held s v place e (x, x_at, ends) (y, y_at, is) =
-    subst (λ (d : Edge). (d.a ≡ v) ⊎ (d.b ≡ v)) (ap (λ b. b.edge) (same_edge s place x y x_at y_at) ∙ is) ends
-
 -- the other end is the number of a node
 pub other_below : (s : State) (v u place : ℕ) (e : Edge) → IsNumbered s → HoldsEdge s place e → HasEnds e v u →
     u < length s.nodes

@@ -118,12 +118,6 @@ module _ (s : State) (place : ℕ) (x : Bundle) (at : HasEdge s place x) (seen :
       (not_end v neither.0 (λ is. neither.0 (is ∙ same))) (are v edges neither.1))
       (set_cases seen x.edge.a v first edges found)
 
--- nothing is seen before the first place
-pub seen_at_first : (s : State) (seen : List NodeEdges) →
-    ((v : ℕ) (edges : NodeEdges) → slice_get seen v ≡ Some edges → edges ≡ NoEdge) → AreSeenTo s 0 seen
-seen_at_first s seen none v edges at =
-    subst (IsSeenTo s v 0) (sym (none v edges at)) (λ n below. absurd (omega arith))
-
 -- .. so of an edge that the place is known to hold
 module _ (s : State) (place : ℕ) (e : Edge) (holds : HoldsEdge s place e) (seen : List NodeEdges)
     (are : AreSeenTo s place seen) where
