@@ -1,12 +1,15 @@
 //! Reductions of Steiner problems in graphs: smaller graphs whose networks lift.
 #![tactic(auto)]
 
+mod due;
 mod ends;
 mod laws;
 mod left;
 mod node_edges;
 mod node_rules;
+mod number_sets;
 mod numbers;
+mod places;
 mod reduction;
 mod start;
 mod steps;

@@ -20,15 +20,19 @@ pub(crate) fn tidy(work: &mut Work)
     drop_parallels(work);
 }
 
-/// Drops all edges where there is one terminal.
-pub(crate) fn drop_idle_edges(work: &mut Work)
+/// Drops all edges where there is one terminal; tells whether it did.
+pub(crate) fn drop_idle_edges(work: &mut Work) -> bool
     ensures leads { LeadsTo work.old work.new }
     ensures within { IsWithin work.new work.old }
     ensures idle { length work.new.terminals ≡ 1 → ¬ HasSomeEdge work.new }
+    ensures rest { (work.new.nodes ≡ work.old.nodes) × (work.new.terminals ≡ work.old.terminals) }
+    ensures same { OnFalse result (work.new ≡ work.old) }
 {
     if work.terminals().len() == 1 && has_edge(work) {
         work.drop_edges();
+        return true;
     }
+    false
 }
 
 // Whether an edge is left.
@@ -103,6 +107,8 @@ pub(crate) fn drop_longer(work: &mut Work, place: u32, later: u32)
     ensures leads { LeadsTo work.old work.new }
     ensures within { IsWithin work.new work.old }
     ensures clear { IsClearTo work.new (length work.new.edges) place (later + 1) }
+    ensures others { (n : ℕ) (z : Bundle) → n ≢ place → n ≢ later → HasEdge work.old n z → HasEdge work.new n z }
+    ensures rest { (work.new.nodes ≡ work.old.nodes) × (work.new.terminals ≡ work.old.terminals) }
 {
     if let (Some(x), Some(y)) = (work.edge(place), work.edge(later)) {
         if have_same_ends(x, y) {

@@ -1,15 +1,15 @@
 -- The one edge that may be parallel to another, and what is left where the longer of both is dropped.
 use Rattle.std.specs.Prelude.{ℕ, ◌≡◌, ◌≢◌, ◌⊎◌, ◌+◌, ◌<◌, ◌≤◌, length, Some}
-use Rattle.std.proofs.Common.{refl, sym, ap, ◌∙◌, inl, inr, ⊎_elim, subst, arith}
+use Rattle.std.proofs.Common.{refl, sym, ◌∙◌, inl, inr, ⊎_elim, subst, arith}
 use Rattle.std.proofs.lemmas.Bool.{cases_eq, cases_lt}
 use Rattle.std.proofs.lemmas.Option.{slice_get_within}
 use Rattle.net_graph.specs.declared.edge.Edge.{Edge}
 use Rattle.net_graph.specs.Network.{HasEnds}
-use Rattle.graph_reduce.specs.State.{Bundle, State, HasEdge}
+use Rattle.graph_reduce.specs.State.{Bundle, State, HasEdge, EndsIn}
+use Rattle.graph_reduce.specs.Survey.{IsNextEnd}
 use Rattle.graph_reduce.specs.Rules.{AreParallel}
 use Rattle.graph_reduce.specs.Clear.{IsClearTo, IsTidy, IsTidyBut, IsWithin, AreAlike}
 use Rattle.graph_reduce.proofs.lemmas.Ends.{same_edge}
-use Rattle.graph_reduce.proofs.lemmas.Longer.{HoldsEdge}
 
 -- the same ends, seen from the other edge
 ends_back : (x y : Edge) → HasEnds y x.a x.b → HasEnds x y.a y.b
@@ -25,6 +25,37 @@ ends_same x y z (inr y_is) (inr z_is) = inl (z_is.0 ∙ sym y_is.0, z_is.1 ∙ s
 
 pub alike_within : (s : State) (place n : ℕ) → AreAlike s place n → n < length s.edges
 alike_within s place n alike = slice_get_within s.edges n (Some alike.y) alike.other_at
+
+-- an end of the one edge is an end of the other
+pub alike_end : (s : State) (place n : ℕ) (alike : AreAlike s place n) (v : ℕ) → EndsIn s v place → EndsIn s v n
+alike_end s place n alike v (x, at, ends) = by_ends alike.ends
+    (subst (λ (b : Bundle). (b.edge.a ≡ v) ⊎ (b.edge.b ≡ v)) (same_edge s place x alike.x at alike.at) ends)
+  where
+    by_ends : HasEnds alike.y.edge alike.x.edge.a alike.x.edge.b → (alike.x.edge.a ≡ v) ⊎ (alike.x.edge.b ≡ v) →
+        EndsIn s v n
+    by_ends (inl p) (inl is) = (alike.y, alike.other_at, inl (p.0 ∙ is))
+    by_ends (inl p) (inr is) = (alike.y, alike.other_at, inr (p.1 ∙ is))
+    by_ends (inr p) (inl is) = (alike.y, alike.other_at, inr (p.1 ∙ is))
+    by_ends (inr p) (inr is) = (alike.y, alike.other_at, inl (p.0 ∙ is))
+
+-- nothing below a place of the node's edges is alike, nor is this one: nothing below the next is
+pub none_alike : (s : State) (place v from n : ℕ) → EndsIn s v place → ((k : ℕ) → k < from → ¬ AreAlike s place k) →
+    IsNextEnd s v from n → ¬ AreAlike s place n → (k : ℕ) → k < n + 1 → ¬ AreAlike s place k
+none_alike s place v from n end lower next not k below alike = elim (cases_lt k from) [
+  | inl low ↦ lower k low alike
+  | inr least ↦ elim (cases_eq k n) [
+    | inl same ↦ not (subst (AreAlike s place) same alike)
+    | inr apart ↦ next.none k least (omega (arith, below, apart)) (alike_end s place k alike v end)
+  ]
+]
+
+pub none_alike_left : (s : State) (place v from : ℕ) → EndsIn s v place →
+    ((k : ℕ) → k < from → ¬ AreAlike s place k) → ((k : ℕ) → from ≤ k → ¬ EndsIn s v k) → (k : ℕ) →
+    ¬ AreAlike s place k
+none_alike_left s place v from end lower none k alike = elim (cases_lt k from) [
+  | inl low ↦ lower k low alike
+  | inr least ↦ none k least (alike_end s place k alike v end)
+]
 
 -- two places in order
 ordered : (n m : ℕ) → n ≢ m → (n < m) ⊎ (m < n)

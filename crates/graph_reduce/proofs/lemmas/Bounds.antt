@@ -47,6 +47,13 @@ module _ (s : State) (reached : IsReached s) where
       (slice_get-set_other s.edges n m None (λ same. apart (sym same)) ∙ y_at) (λ k other. refl) in
       omega (arith, here, there, fits.total, reached.sound.total)
 
+pub reached_then : (old new : State) → IsReached old → LeadsTo old new → IsReached new
+reached_then old new reached leads = record {
+  graph = reached.graph;
+  sound = reached.sound;
+  from_start = then_steps (start_of reached.graph) old new reached.from_start leads;
+}
+
 -- ---- from the first state of a graph
 
 module _ (g : Graph) (graph : IsGraph g) (s : State) (leads : LeadsTo (start_of g) s) where

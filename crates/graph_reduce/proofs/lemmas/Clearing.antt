@@ -1,12 +1,10 @@
 -- Where no earlier rule applies, and what stays so where edges are dropped.
-use Rattle.std.specs.Prelude.{ℕ, zero, suc, ◌≡◌, ◌≢◌, ◌⊎◌, ◌+◌, ◌<◌, length, Some, None, if◌then◌else◌, nat_lt}
+use Rattle.std.specs.Prelude.{ℕ, zero, suc, ◌≡◌, ◌+◌, ◌<◌, length, Some, None, if◌then◌else◌, nat_lt}
 use Rattle.std.proofs.Common.{refl, sym, ap, ◌∙◌, inl, inr, ⊎_elim, subst, arith, length-set}
 use Rattle.std.proofs.lemmas.Bool.{cases_eq}
-use Rattle.std.proofs.lemmas.List.{length-replicate}
 use Rattle.std.proofs.lemmas.Option.{slice_get_within}
-use Rattle.net_graph.specs.EntryLaws.{slice_get-replicate}
 use Rattle.graph_reduce.specs.State.{Bundle, State, HasEdge}
-use Rattle.graph_reduce.specs.Rules.{AreParallel, without_edge, without_edges}
+use Rattle.graph_reduce.specs.Rules.{AreParallel, without_edge}
 use Rattle.graph_reduce.specs.Step.{Applies, IsStep, AreSteps}
 use Rattle.graph_reduce.specs.Step.Rule.{OneTerminal, Loop, Parallel, Leaf, Passed, TerminalLeaf}
 use Rattle.graph_reduce.specs.Clear.{LeadsTo, HasSomeEdge, IsClearTo, IsTidy, IsWithin}
