@@ -28,8 +28,8 @@ pub(crate) fn edges_at(work: &Work, places: &mut BTreeSet<u32>, v: u32) -> NodeE
     }
 }
 
-/// The lowest place from a number on that holds an edge of the node, all of whose places are in the set. Others that are
-/// met are taken out.
+/// The lowest place from a number on that holds an edge of the node, all of whose places are in the set. Others that
+/// are met are taken out.
 pub(crate) fn next_end(work: &Work, places: &mut BTreeSet<u32>, v: u32, from: u32) -> Option<u32>
     requires { HasPlacesOf work.now v places.old }
     ensures places { HasPlacesOf work.now v places.new }
