@@ -9,7 +9,7 @@ ghost use Rattle.graph_reduce.specs.Survey.{IsNumbered};
 ghost use Rattle.graph_reduce.specs.NodeRules.{IsLowest};
 ghost use Rattle.graph_reduce.specs.Due.{AreDue};
 ghost use Rattle.graph_reduce.specs.UpToDate.{IsUpToDate};
-ghost use Rattle.graph_reduce.specs.Clear.{IsReached, LeadsTo, HasSomeEdge, IsTidy, IsWithin, GoesOn};
+ghost use Rattle.graph_reduce.specs.Clear.{IsReached, LeadsTo, HasSomeEdge, IsClearTo, IsTidy, IsWithin, GoesOn};
 ghost use Rattle.graph_reduce.specs.State.{start_of};
 
 use crate::due::Due;
@@ -18,7 +18,7 @@ use crate::node_edges::NodeEdges;
 use crate::node_rules::{NodeRule, lowest};
 use crate::survey::Survey;
 use crate::taken::{drop_alike, drop_leaf, force_edge, join_edges};
-use crate::tidy::{drop_idle_edges, tidy};
+use crate::tidy::{drop_idle_and_loops, drop_idle_edges, drop_parallels};
 use crate::work::Work;
 use net_graph::NetGraph;
 use std::alloc::{AllocError, Global};
@@ -28,22 +28,23 @@ pub(crate) fn reduced_state(alloc: Global, g: &NetGraph) -> Result<Work, AllocEr
     ensures reduced { IfOk result (IsReducedTo g.now) }
     ensures graph { OnOk result (IsGraph g.now) }
 {
-    let mut work = tidied_state(alloc, g)?;
+    let mut work = loopless_state(alloc, g)?;
     let mut survey = Survey::of(alloc, &work)?;
+    drop_parallels(&mut work, &mut survey);
     let mut due = Due::all(alloc, work.node_count())?;
     while goes_on(&mut work, &mut survey, &mut due)? {}
     Ok(work)
 }
 
-// The state after the first three rules were taken until none of them applies. An `Err` is want of memory.
-fn tidied_state(alloc: Global, g: &NetGraph) -> Result<Work, AllocError>
+// The state after the first two rules were taken until neither applies. An `Err` is want of memory.
+fn loopless_state(alloc: Global, g: &NetGraph) -> Result<Work, AllocError>
     ensures graph { OnOk result (IsGraph g.now) }
     ensures leads { IfOk result (LeadsTo (start_of g.now)) }
-    ensures tidy { IfOk result IsTidy }
+    ensures clear { IfOk result (λ work. IsClearTo work (length work.edges) 0 0) }
 {
     let _vertices = g.vertex_count();
     let mut work = Work::of_graph(alloc, g)?;
-    tidy(&mut work);
+    drop_idle_and_loops(&mut work);
     Ok(work)
 }
 

@@ -104,6 +104,22 @@ alike_second s n m x y are = record {
   ends = ends_back x.edge y.edge are.same_ends;
 }
 
+-- what is parallel to an edge of a node is an edge of the node too
+pub clear_past : (s : State) (end place from n v : ℕ) →
+    ((x : Bundle) → HasEdge s place x → (x.edge.a ≡ v) ⊎ (x.edge.b ≡ v)) →
+    ((k : ℕ) → from ≤ k → k < n → ¬ EndsIn s v k) → IsClearTo s end place from → IsClearTo s end place n
+clear_past s end place from n v ends none clear = record {
+  idle = clear.idle;
+  loops = clear.loops;
+  parallels = λ p q x y before are. ⊎_elim (λ (low : p < place). clear.parallels p q x y (inl low) are)
+      (λ (same : (p ≡ place) × (q < n)). elim (cases_lt q from) [
+        | inl lower ↦ clear.parallels p q x y (inr (same.0, lower)) are
+        | inr least ↦ (let here = subst (λ k. AreParallel s k q x y) same.0 are in
+            none q least same.1
+            (alike_end s place q (alike_first s place q x y here) v (x, here.first_at, ends x here.first_at)))
+      ]) before;
+}
+
 module _ (s : State) (place : ℕ) (tidy : IsTidyBut s place) where
   -- two others are not both alike
   one_alike : (n m : ℕ) → AreAlike s place n → AreAlike s place m → n ≡ m

@@ -128,6 +128,28 @@ clear_next s end place clear = record {
   ]) are;
 }
 
+-- before any later place than the next
+pub clear_start : (s : State) (end place : ℕ) → IsClearTo s end place 0 → IsClearTo s end place (place + 1)
+clear_start s end place clear = record {
+  idle = clear.idle;
+  loops = clear.loops;
+  parallels = λ n m x y before are. ⊎_elim (λ (lower : n < place). clear.parallels n m x y (inl lower) are)
+      (λ (same : (n ≡ place) × (m < place + 1)). absurd (omega (arith, same.0, same.1, are.order))) before;
+}
+
+-- the next place, where this one holds no edge
+pub clear_gone : (s : State) (end place later : ℕ) → ((x : Bundle) → ¬ HasEdge s place x) →
+    IsClearTo s end place later → IsClearTo s end (place + 1) 0
+clear_gone s end place later none clear = record {
+  idle = clear.idle;
+  loops = clear.loops;
+  parallels = λ n m x y before are. clear.parallels n m x y (elim (cases_eq n place) [
+    | inl is ↦ absurd (none x (subst (λ k. HasEdge s k x) is are.first_at))
+    | inr apart ↦ inl (⊎_elim (λ (lower : n < place + 1). omega (arith, lower, apart))
+        (λ (same : (n ≡ place + 1) × (m < 0)). absurd (omega (arith, same.1))) before)
+  ]) are;
+}
+
 pub tidy_from_clear : (s : State) → IsClearTo s (length s.edges) (length s.edges) 0 → IsTidy s
 tidy_from_clear s clear = record {
   idle = clear.idle;

@@ -1,5 +1,5 @@
 -- What is known beside a state, after a step.
-use Rattle.std.specs.Prelude.{ℕ, ◌≡◌, ◌≢◌, ◌⊎◌, ◌<◌, Bool, true, false, List, length, slice_get, slice_set, Some, None}
+use Rattle.std.specs.Prelude.{ℕ, ◌≡◌, ◌≢◌, ◌⊎◌, ◌<◌, Bool, true, false, List, length, slice_get, slice_set, Some, None, All}
 use Rattle.std.specs.BTreeSet.{BTreeSet}
 use Rattle.std.specs.List.{Contains}
 use Rattle.std.proofs.Common.{refl, sym, ap, ◌∙◌, inl, inr, ⊎_elim, subst, arith, length-set}
@@ -320,3 +320,21 @@ joined_other v old new joins later e o here (x, at, is) ends =
     let ends_x = subst (λ (d : Edge). HasEnds d v o) (sym is) ends in
     let same = same_edge old joins.later x joins.y (subst (λ n. HasEdge old n x) (sym here) at) joins.later_at in
     other_is joins.y.edge v joins.w o joins.later_ends (subst (λ (b : Bundle). HasEnds b.edge v o) same ends_x)
+
+-- fewer edges have numbers of nodes
+pub numbered_within : (old new : State) → IsNumbered old → IsWithin new old → new.nodes ≡ old.nodes →
+    new.terminals ≡ old.terminals → IsNumbered new
+numbered_within old new numbered within nodes terminals = record {
+  ends = λ n x at. subst (λ ns. (x.edge.a < length ns) × (x.edge.b < length ns)) (sym nodes)
+      (numbered.ends n x (within.edges n x at));
+  terminals = subst (λ ns. All (λ t. t < length ns) new.terminals) (sym nodes)
+      (subst (All (λ t. t < length old.nodes)) (sym terminals) numbered.terminals);
+}
+
+-- an end of an edge is the number of a node
+pub end_below : (s : State) (place : ℕ) (e : Edge) (v : ℕ) → IsNumbered s → HoldsEdge s place e →
+    (v ≡ e.a) ⊎ (v ≡ e.b) → v < length s.nodes
+end_below s place e v numbered (x, at, is) end =
+    let both = numbered.ends place x at in
+    ⊎_elim (λ (p : v ≡ e.a). subst (λ n. n < length s.nodes) (ap (λ (d : Edge). d.a) is ∙ sym p) both.0)
+    (λ (p : v ≡ e.b). subst (λ n. n < length s.nodes) (ap (λ (d : Edge). d.b) is ∙ sym p) both.1) end

@@ -10,17 +10,24 @@ pub of-requires : goal.of-requires
 of-requires c = reached_numbered c.in_ok-work.work
     (reached_from c.args.g.now c.in_ok-work.ensures.graph c.in_ok-work.work c.in_ok-work.ensures.leads)
 
+pub drop_parallels-requires-clause-numbered : goal.drop_parallels-requires-clause-numbered
+drop_parallels-requires-clause-numbered c = reached_numbered c.in_ok-work.work
+    (reached_from c.args.g.now c.in_ok-work.ensures.graph c.in_ok-work.work c.in_ok-work.ensures.leads)
+
 pub loop-due-init : goal.loop-due-init
 loop-due-init c =
-    let numbered = reached_numbered c.in_ok-work.work
-    (reached_from c.args.g.now c.in_ok-work.ensures.graph c.in_ok-work.work c.in_ok-work.ensures.leads) in
+    let leads = then_steps (start_of c.args.g.now) c.in_ok-work.work c.drop_parallels.new.work c.in_ok-work.ensures.leads
+    c.drop_parallels.ensures.leads in
+    let numbered = reached_numbered c.drop_parallels.new.work
+    (reached_from c.args.g.now c.in_ok-work.ensures.graph c.drop_parallels.new.work leads) in
     record {
-      leads = c.in_ok-work.ensures.leads;
-      tidy = c.in_ok-work.ensures.tidy;
+      leads = leads;
+      tidy = c.drop_parallels.ensures.tidy;
       index = record {
-        seen = c.in_ok-survey.ensures;
+        seen = c.drop_parallels.ensures.survey;
         all = λ rule v applies. c.in_ok-due.ensures v
-            (let below = kind_below c.in_ok-work.work v rule numbered (kind_from c.in_ok-work.work v rule applies) in
+            (let below = kind_below c.drop_parallels.new.work v rule numbered
+            (kind_from c.drop_parallels.new.work v rule applies) in
             omega (arith, below, c.node_count.ensures)) rule;
       };
     }

@@ -4,28 +4,21 @@ use Rattle.net_graph.specs.declared.edge.Edge.{Edge}
 use Rattle.graph_reduce.specs.State.{State}
 use Rattle.graph_reduce.specs.Survey.{IsNumbered}
 use Rattle.graph_reduce.proofs.lemmas.Longer.{HoldsEdge}
+use Rattle.graph_reduce.proofs.lemmas.Renewing.{end_below}
 use Rattle.graph_reduce.proofs.lemmas.SurveyLaws.{set_has, set_written}
 use Rattle.graph_reduce.proofs.taken.alike.Goals as goal
-
--- the node has a number
-below : (s : State) (place : ℕ) (e : Edge) (v : ℕ) → IsNumbered s → HoldsEdge s place e → (v ≡ e.a) ⊎ (v ≡ e.b) →
-    v < length s.nodes
-below s place e v numbered (x, at, is) end =
-    let both = numbered.ends place x at in
-    ⊎_elim (λ (p : v ≡ e.a). subst (λ n. n < length s.nodes) (ap (λ (d : Edge). d.a) is ∙ sym p) both.0)
-    (λ (p : v ≡ e.b). subst (λ n. n < length s.nodes) (ap (λ (d : Edge). d.b) is ∙ sym p) both.1) end
 
 pub alike_at-requires-clause-places : goal.alike_at-requires-clause-places
 alike_at-requires-clause-places c = set_has c.args.work.now c.args.survey.now.places.items c.less_listed-node.result
     c.index_mut.result.now c.requires.survey.places
-    (below c.args.work.now c.args.place c.edge_at-edge.result c.less_listed-node.result c.requires.numbered
+    (end_below c.args.work.now c.args.place c.edge_at-edge.result c.less_listed-node.result c.requires.numbered
     c.edge_at-edge.ensures c.less_listed-node.ensures) c.index_mut.ensures.value
 
 pub returns-clause-survey : goal.returns-clause-survey
 returns-clause-survey c = record {
   places = set_written c.args.work.now (length c.args.work.now.edges) c.args.survey.now.places.items
       c.less_listed-node.result c.alike_at.new.places c.requires.survey.places
-      (below c.args.work.now c.args.place c.edge_at-edge.result c.less_listed-node.result c.requires.numbered
+      (end_below c.args.work.now c.args.place c.edge_at-edge.result c.less_listed-node.result c.requires.numbered
       c.edge_at-edge.ensures c.less_listed-node.ensures) c.alike_at.ensures.places;
   terminals = c.requires.survey.terminals;
 }
