@@ -7,8 +7,11 @@ pub mod Fitness
 pub mod Ending
 pub mod Held
 pub mod Clear
+pub mod NumberSets
 pub mod Survey
 pub mod NodeRules
+pub mod Due
+pub mod UpToDate
 pub mod Left
 pub mod LeftArrays
 pub mod Text

@@ -14,6 +14,10 @@ count_line word count = word ++ decimal count ++ 10 ∷ []
 abbrev pub number_line : ℕ → List ℕ
 number_line n = decimal (n + 1) ++ 10 ∷ []
 
+-- the line of a set, which has a word and how many are in it, and the lines of its members, ascending
+abbrev pub set_text : List ℕ → List Bool → List ℕ
+set_text word set = count_line word (length (members_of set)) ++ flat_map number_line (members_of set)
+
 -- a number behind others
 abbrev pub next_number : ℕ → List ℕ
 next_number n = 32 ∷ decimal (n + 1)
@@ -32,7 +36,7 @@ left_lines (e ∷ edges) (set ∷ sets) = left_line e set ++ left_lines edges se
 -- the first lines: the offset, and the forced edges, ascending
 abbrev pub forced_text : Reduction → List ℕ
 forced_text r = codes "rst reduced 1\n" ++ count_line (codes "offset ") r.offset
-    ++ count_line (codes "forced ") (length (members_of r.forced)) ++ flat_map number_line (members_of r.forced)
+    ++ set_text (codes "forced ") r.forced
 
 -- the lines of the nodes: which nodes of the original graph they were
 abbrev pub nodes_text : Reduction → List ℕ

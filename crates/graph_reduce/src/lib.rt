@@ -1,13 +1,17 @@
 //! Reductions of Steiner problems in graphs: smaller graphs whose networks lift.
 #![tactic(auto)]
 
+mod due;
 mod ends;
 mod laws;
 mod left;
 mod node_edges;
 mod node_rules;
+mod number_sets;
 mod numbers;
+mod places;
 mod reduction;
+mod set_lines;
 mod start;
 mod steps;
 mod survey;
@@ -18,4 +22,5 @@ mod write;
 
 pub use laws::{lifting_keeps_length, reductions_end, reductions_fit};
 pub use reduction::{Reduced, reduce};
+pub use set_lines::{write_count, write_set};
 pub use write::write_reduced;

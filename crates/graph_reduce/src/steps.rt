@@ -5,16 +5,20 @@ ghost use Rattle.std.specs.Bool.{OnTrue, OnFalse};
 ghost use Rattle.net_graph.specs.Graph.{IsGraph};
 ghost use Rattle.graph_reduce.specs.Step.{Rule, Applies, IsReducedTo};
 ghost use Rattle.graph_reduce.specs.Step as step;
-ghost use Rattle.graph_reduce.specs.Survey.{IsSeenTo, IsSurvey};
+ghost use Rattle.graph_reduce.specs.Survey.{IsNumbered};
 ghost use Rattle.graph_reduce.specs.NodeRules.{IsLowest};
-ghost use Rattle.graph_reduce.specs.Clear.{IsReached, IsTidy, GoesOn};
+ghost use Rattle.graph_reduce.specs.Due.{AreDue};
+ghost use Rattle.graph_reduce.specs.UpToDate.{IsUpToDate};
+ghost use Rattle.graph_reduce.specs.Clear.{IsReached, LeadsTo, HasSomeEdge, IsClearTo, IsTidy, IsWithin, GoesOn};
+ghost use Rattle.graph_reduce.specs.State.{start_of};
 
+use crate::due::Due;
 use crate::ends::other_end;
 use crate::node_edges::NodeEdges;
 use crate::node_rules::{NodeRule, lowest};
 use crate::survey::Survey;
 use crate::taken::{drop_alike, drop_leaf, force_edge, join_edges};
-use crate::tidy::{drop_idle_edges, tidy};
+use crate::tidy::{drop_idle_and_loops, drop_idle_edges, drop_parallels};
 use crate::work::Work;
 use net_graph::NetGraph;
 use std::alloc::{AllocError, Global};
@@ -24,127 +28,164 @@ pub(crate) fn reduced_state(alloc: Global, g: &NetGraph) -> Result<Work, AllocEr
     ensures reduced { IfOk result (IsReducedTo g.now) }
     ensures graph { OnOk result (IsGraph g.now) }
 {
-    let vertices = g.vertex_count();
-    let mut work = Work::of_graph(alloc, g)?;
-    let mut survey = Survey::room(alloc, vertices)?;
-    tidy(&mut work);
-    while goes_on(&mut work, &mut survey) {}
+    let mut work = loopless_state(alloc, g)?;
+    let mut survey = Survey::of(alloc, &work)?;
+    drop_parallels(&mut work, &mut survey);
+    let mut due = Due::all(alloc, work.node_count())?;
+    while goes_on(&mut work, &mut survey, &mut due)? {}
     Ok(work)
 }
 
-// Takes the next rule, if there is one, and tidies up.
-fn goes_on(work: &mut Work, survey: &mut Survey) -> bool
-    requires reached { IsReached work.old }
-    requires tidy { IsTidy work.old }
-    requires edges { length survey.old.edges.items ≡ length work.old.nodes }
-    requires terminals { length survey.old.terminals ≡ length work.old.nodes }
-    ensures more { OnTrue result (GoesOn work.old work.new) }
-    ensures same { OnFalse result (work.new ≡ work.old) }
-    ensures done { OnFalse result ((rule : Rule) (at : ℕ) → ¬ Applies work.new rule at) }
-    ensures edges { length survey.new.edges.items ≡ length work.old.nodes }
-    ensures terminals { length survey.new.terminals ≡ length work.old.nodes }
+// The state after the first two rules were taken until neither applies. An `Err` is want of memory.
+fn loopless_state(alloc: Global, g: &NetGraph) -> Result<Work, AllocError>
+    ensures graph { OnOk result (IsGraph g.now) }
+    ensures leads { IfOk result (LeadsTo (start_of g.now)) }
+    ensures clear { IfOk result (λ work. IsClearTo work (length work.edges) 0 0) }
 {
-    survey.see(work);
-    if takes_leaf(work, survey) {
-        return true;
-    }
-    if takes_passed(work, survey) {
-        return true;
-    }
-    takes_terminal(work, survey)
+    let _vertices = g.vertex_count();
+    let mut work = Work::of_graph(alloc, g)?;
+    drop_idle_and_loops(&mut work);
+    Ok(work)
 }
 
-// Drops the lowest leaf, if there is one.
-fn takes_leaf(work: &mut Work, survey: &Survey) -> bool
+// Takes the next rule, if there is one, and tidies up. An `Err` is want of memory.
+fn goes_on(work: &mut Work, survey: &mut Survey, due: &mut Due) -> Result<bool, AllocError>
     requires reached { IsReached work.old }
     requires tidy { IsTidy work.old }
-    requires survey { IsSurvey work.old survey.now.edges.items survey.now.terminals }
-    ensures more { OnTrue result (GoesOn work.old work.new) }
-    ensures same { OnFalse result (work.new ≡ work.old) }
-    ensures none { OnFalse result ((v : ℕ) → ¬ Applies work.new step.Leaf v) }
+    requires index { IsUpToDate work.old survey.old due.old }
+    ensures more { IfOk result (λ more. OnTrue more (GoesOn work.old work.new)) }
+    ensures same { IfOk result (λ more. OnFalse more (work.new ≡ work.old)) }
+    ensures done { IfOk result (λ more. OnFalse more ((rule : Rule) (at : ℕ) → ¬ Applies work.new rule at)) }
+    ensures index { OnOk result (IsUpToDate work.new survey.new due.new) }
 {
-    match lowest(survey, work, NodeRule::Leaf) {
+    if takes_leaf(work, survey, due)? {
+        return Ok(true);
+    }
+    if takes_passed(work, survey, due)? {
+        return Ok(true);
+    }
+    takes_terminal(work, survey, due)
+}
+
+// Drops the lowest leaf, if there is one. An `Err` is want of memory.
+fn takes_leaf(work: &mut Work, survey: &mut Survey, due: &mut Due) -> Result<bool, AllocError>
+    requires reached { IsReached work.old }
+    requires tidy { IsTidy work.old }
+    requires index { IsUpToDate work.old survey.old due.old }
+    ensures more { IfOk result (λ more. OnTrue more (GoesOn work.old work.new)) }
+    ensures same { IfOk result (λ more. OnFalse more (work.new ≡ work.old)) }
+    ensures none { IfOk result (λ more. OnFalse more ((v : ℕ) → ¬ Applies work.new step.Leaf v)) }
+    ensures index { OnOk result (IsUpToDate work.new survey.new due.new) }
+{
+    match lowest(work, survey, &mut due.leaves, NodeRule::Leaf) {
         Some(v) => {
-            drop_leaf(work, v, survey.edges_of(work, v));
-            true
+            let edges = survey.edges_of(work, v);
+            due.add_ends_of(work, edges)?;
+            drop_leaf(work, v, edges);
+            Ok(true)
         }
-        None => false,
+        None => Ok(false),
     }
 }
 
-// Joins the edges of the lowest node that has two and is no terminal, if there is one.
-fn takes_passed(work: &mut Work, survey: &Survey) -> bool
+// Joins the edges of the lowest node that has two and is no terminal, if there is one. An `Err` is want of memory.
+fn takes_passed(work: &mut Work, survey: &mut Survey, due: &mut Due) -> Result<bool, AllocError>
     requires reached { IsReached work.old }
     requires tidy { IsTidy work.old }
-    requires survey { IsSurvey work.old survey.now.edges.items survey.now.terminals }
+    requires index { IsUpToDate work.old survey.old due.old }
     requires leaves { (v : ℕ) → ¬ Applies work.old step.Leaf v }
-    ensures more { OnTrue result (GoesOn work.old work.new) }
-    ensures same { OnFalse result (work.new ≡ work.old) }
-    ensures none { OnFalse result ((v : ℕ) → ¬ Applies work.new step.Passed v) }
+    ensures more { IfOk result (λ more. OnTrue more (GoesOn work.old work.new)) }
+    ensures same { IfOk result (λ more. OnFalse more (work.new ≡ work.old)) }
+    ensures none { IfOk result (λ more. OnFalse more ((v : ℕ) → ¬ Applies work.new step.Passed v)) }
+    ensures index { OnOk result (IsUpToDate work.new survey.new due.new) }
 {
-    match lowest(survey, work, NodeRule::Passed) {
+    match lowest(work, survey, &mut due.passed, NodeRule::Passed) {
         Some(v) => {
-            join_at(work, survey, v);
-            true
+            join_at(work, survey, due, v)?;
+            Ok(true)
         }
-        None => false,
+        None => Ok(false),
     }
 }
 
-// Joins the edges of a node, and drops the longer of two that are parallel then.
-fn join_at(work: &mut Work, survey: &Survey, v: u32)
+// Joins the edges of a node, and drops the longer of two that are parallel then. An `Err` is want of memory.
+fn join_at(work: &mut Work, survey: &mut Survey, due: &mut Due, v: u32) -> Result<(), AllocError>
     requires reached { IsReached work.old }
     requires tidy { IsTidy work.old }
-    requires survey { IsSurvey work.old survey.now.edges.items survey.now.terminals }
+    requires index { IsUpToDate work.old survey.old due.old }
     requires leaves { (v : ℕ) → ¬ Applies work.old step.Leaf v }
     requires lowest { IsLowest work.old NodeRule.Passed v }
-    ensures { GoesOn work.old work.new }
+    ensures more { OnOk result (GoesOn work.old work.new) }
+    ensures index { OnOk result (IsUpToDate work.new survey.new due.new) }
 {
-    match survey.edges_of(work, v) {
+    let edges = survey.edges_of(work, v);
+    due.add_ends_of(work, edges)?;
+    match edges {
         NodeEdges::TwoEdges(earlier, later) => {
-            let nearby = survey.edges_of(work, other_end(work.edge_at(earlier), v));
+            survey.list(other_end(work.edge_at(later), v), earlier)?;
             join_edges(work, v, earlier, later);
-            drop_alike(work, earlier, nearby);
+            drop_alike(work, survey, due, earlier)
         }
         _ => unreachable!(),
     }
 }
 
-// Forces the edge of the lowest terminal that has one, if there is one.
-fn takes_terminal(work: &mut Work, survey: &Survey) -> bool
+// Forces the edge of the lowest terminal that has one, if there is one. An `Err` is want of memory.
+fn takes_terminal(work: &mut Work, survey: &mut Survey, due: &mut Due) -> Result<bool, AllocError>
     requires reached { IsReached work.old }
     requires tidy { IsTidy work.old }
-    requires survey { IsSurvey work.old survey.now.edges.items survey.now.terminals }
+    requires index { IsUpToDate work.old survey.old due.old }
     requires leaves { (v : ℕ) → ¬ Applies work.old step.Leaf v }
     requires passed { (v : ℕ) → ¬ Applies work.old step.Passed v }
-    ensures more { OnTrue result (GoesOn work.old work.new) }
-    ensures same { OnFalse result (work.new ≡ work.old) }
-    ensures none { OnFalse result ((v : ℕ) → ¬ Applies work.new step.TerminalLeaf v) }
+    ensures more { IfOk result (λ more. OnTrue more (GoesOn work.old work.new)) }
+    ensures same { IfOk result (λ more. OnFalse more (work.new ≡ work.old)) }
+    ensures none { IfOk result (λ more. OnFalse more ((v : ℕ) → ¬ Applies work.new step.TerminalLeaf v)) }
+    ensures index { OnOk result (IsUpToDate work.new survey.new due.new) }
 {
-    match lowest(survey, work, NodeRule::TerminalLeaf) {
+    match lowest(work, survey, &mut due.terminals, NodeRule::TerminalLeaf) {
         Some(v) => {
-            force_at(work, v, survey.edges_of(work, v));
-            true
+            force_at(work, survey, due, v)?;
+            Ok(true)
         }
-        None => false,
+        None => Ok(false),
     }
 }
 
-// Forces the edge of a terminal, and drops all edges where one terminal is left.
-fn force_at(work: &mut Work, v: u32, edges: NodeEdges)
+// Forces the edge of a terminal, and drops all edges where one terminal is left. An `Err` is want of memory.
+fn force_at(work: &mut Work, survey: &mut Survey, due: &mut Due, v: u32) -> Result<(), AllocError>
     requires reached { IsReached work.old }
     requires tidy { IsTidy work.old }
+    requires index { IsUpToDate work.old survey.old due.old }
     requires leaves { (v : ℕ) → ¬ Applies work.old step.Leaf v }
     requires passed { (v : ℕ) → ¬ Applies work.old step.Passed v }
     requires lowest { IsLowest work.old NodeRule.TerminalLeaf v }
-    requires seen { IsSeenTo work.old v (length work.old.edges) edges }
-    ensures { GoesOn work.old work.new }
+    ensures more { OnOk result (GoesOn work.old work.new) }
+    ensures index { OnOk result (IsUpToDate work.new survey.new due.new) }
 {
+    let edges = survey.edges_of(work, v);
+    due.add_ends_of(work, edges)?;
     match edges {
         NodeEdges::OneEdge(place) => {
+            survey.move_terminal(v, other_end(work.edge_at(place), v));
             force_edge(work, v, place);
-            drop_idle_edges(work);
+            drop_idle(work, due)
         }
         _ => unreachable!(),
     }
+}
+
+// Drops all edges where one terminal is left; each node is due then. An `Err` is want of memory.
+fn drop_idle(work: &mut Work, due: &mut Due) -> Result<(), AllocError>
+    requires due { AreDue work.old due.old }
+    requires numbered { IsNumbered work.old }
+    ensures leads { OnOk result (LeadsTo work.old work.new) }
+    ensures within { IsWithin work.new work.old }
+    ensures idle { length work.new.terminals ≡ 1 → ¬ HasSomeEdge work.new }
+    ensures rest { (work.new.nodes ≡ work.old.nodes) × (work.new.terminals ≡ work.old.terminals) }
+    ensures due { OnOk result (AreDue work.new due.new) }
+{
+    if drop_idle_edges(work) {
+        return due.add_all(work.node_count());
+    }
+    Ok(())
 }

@@ -1,90 +1,128 @@
 //! What is seen of the nodes of a state.
 
-ghost use Rattle.std.specs.Prelude.{◌≡◌, ℕ, ◌+◌, ◌<◌, length, slice_get, Some, IfOk};
-ghost use Rattle.graph_reduce.specs.State.{Bundle, HasEdge};
-ghost use Rattle.graph_reduce.specs.Survey.{IsNumbered, IsSeenTo, AreSeenTo, AreMarked, IsSurvey};
-ghost use Rattle.graph_reduce.specs.declared.node_edges.NodeEdges.{NodeEdges};
+ghost use Rattle.std.specs.Prelude.{◌≡◌, ℕ, ◌+◌, ◌<◌, ◌⊎◌, false, true, length, slice_set, IfOk, OnOk};
+ghost use Rattle.graph_reduce.specs.Survey.{IsNumbered, IsListed, IsSeenTo, AreListedTo, AreMarked, IsSurvey};
 
 use crate::node_edges::NodeEdges;
+use crate::number_sets::put;
+use crate::places::edges_at;
 use crate::work::Work;
-use net_graph::{Edge, VertexSet};
+use net_graph::VertexSet;
 use std::alloc::{AllocError, Global};
+use std::collections::BTreeSet;
 
-/// The nodes of a state: their edges, and marks of those that are terminals.
+/// The nodes of a state: where their edges are, and marks of those that are terminals.
 #[derive(Debug, Drop)]
 pub(crate) struct Survey {
-    pub edges: Vec<NodeEdges>,
+    /// For each node places among which are those of its edges. A place whose edge is dropped or gets other ends is
+    /// taken out where it is met.
+    pub places: Vec<BTreeSet<u32>>,
     pub terminals: VertexSet,
 }
 
 impl Survey {
-    /// Room for so many nodes. An `Err` is want of memory.
-    pub fn room(alloc: Global, count: u32) -> Result<Survey, AllocError>
-        ensures edges { IfOk result (λ s. length s.edges.items ≡ count) }
-        ensures terminals { IfOk result (λ s. length s.terminals ≡ count) }
+    /// The nodes of the state. An `Err` is want of memory.
+    pub fn of(alloc: Global, work: &Work) -> Result<Survey, AllocError>
+        requires { IsNumbered work.now }
+        ensures { IfOk result (λ s. IsSurvey work.now s.places.items s.terminals) }
     {
-        Ok(Survey {
-            edges: vec![in alloc; NodeEdges::NoEdge; count as usize]?,
-            terminals: VertexSet::empty(alloc, count)?,
-        })
-    }
-
-    /// Sees the nodes of the state.
-    pub fn see(&mut self, work: &Work)
-        requires edges { length self.old.edges.items ≡ length work.now.nodes }
-        requires terminals { length self.old.terminals ≡ length work.now.nodes }
-        requires numbered { IsNumbered work.now }
-        ensures { IsSurvey work.now self.new.edges.items self.new.terminals }
-    {
-        see_edges(work, &mut self.edges);
-        mark_terminals(work, &mut self.terminals);
+        let places = listed_places(alloc, work)?;
+        let mut terminals = VertexSet::empty(alloc, work.node_count())?;
+        mark_terminals(work, &mut terminals);
+        Ok(Survey { places, terminals })
     }
 
     /// The edges of a node of the state.
-    pub fn edges_of(&self, _work: &Work, v: u32) -> NodeEdges
-        requires survey { IsSurvey _work.now self.now.edges.items self.now.terminals }
-        requires node { v < length _work.now.nodes }
-        ensures { IsSeenTo _work.now v (length _work.now.edges) result }
+    pub fn edges_of(&mut self, work: &Work, v: u32) -> NodeEdges
+        requires survey { IsSurvey work.now self.old.places.items self.old.terminals }
+        requires node { v < length work.now.nodes }
+        ensures seen { IsSeenTo work.now v (length work.now.edges) result }
+        ensures survey { IsSurvey work.now self.new.places.items self.new.terminals }
     {
-        self.edges[v as usize]
+        edges_at(work, &mut self.places[v as usize], v)
     }
-}
 
-// Sees the edges of each node.
-fn see_edges(work: &Work, seen: &mut [NodeEdges])
-    requires count { length seen.old ≡ length work.now.nodes }
-    requires numbered { IsNumbered work.now }
-    ensures { AreSeenTo work.now (length work.now.edges) seen.new }
-{
-    see_none(seen);
-    for place in 0..work.place_count() {
-        if let Some(edge) = work.edge(place) {
-            see_edge(work, seen, place, edge);
+    /// That of two nodes for which fewer places are listed.
+    pub fn less_listed(&self, u: u32, v: u32) -> u32
+        requires one { u < length self.now.places.items }
+        requires other { v < length self.now.places.items }
+        ensures { (result ≡ u) ⊎ (result ≡ v) }
+    {
+        if self.places[v as usize].len() < self.places[u as usize].len() {
+            v
+        } else {
+            u
         }
     }
-}
 
-// No edge is seen yet.
-fn see_none(seen: &mut [NodeEdges])
-    ensures { (v : ℕ) (edges : NodeEdges) → slice_get seen.new v ≡ Some edges → edges ≡ NodeEdges.NoEdge }
-{
-    for edges in seen.iter_mut() {
-        *edges = NodeEdges::NoEdge;
+    /// Lists a place for a node. An `Err` is want of memory.
+    pub fn list(&mut self, v: u32, place: u32) -> Result<(), AllocError>
+        requires { v < length self.old.places.items }
+        ensures size { length self.new.places.items ≡ length self.old.places.items }
+        ensures listed { OnOk result (IsListed self.new.places.items v place) }
+        ensures kept { (u n : ℕ) → IsListed self.old.places.items u n → IsListed self.new.places.items u n }
+        ensures terminals { self.new.terminals ≡ self.old.terminals }
+    {
+        put(&mut self.places[v as usize], place)
+    }
+
+    /// Marks another node in a terminal's place.
+    pub fn move_terminal(&mut self, from: u32, to: u32)
+        requires from { from < length self.old.terminals }
+        requires to { to < length self.old.terminals }
+        ensures places { self.new.places ≡ self.old.places }
+        ensures terminals { self.new.terminals ≡ slice_set (slice_set self.old.terminals from false) to true }
+    {
+        self.terminals.remove(from);
+        self.terminals.add(to);
     }
 }
 
-// Sees the edge at the place at both of its ends.
-fn see_edge(_work: &Work, seen: &mut [NodeEdges], place: u32, edge: Edge)
-    requires edge { (x : Bundle) × HasEdge _work.now place x × (x.edge ≡ edge) }
-    requires a { edge.a < length seen.old }
-    requires b { edge.b < length seen.old }
-    requires seen { AreSeenTo _work.now place seen.old }
-    ensures { AreSeenTo _work.now (place + 1) seen.new }
+// The places of each node's edges. An `Err` is want of memory.
+fn listed_places(alloc: Global, work: &Work) -> Result<Vec<BTreeSet<u32>>, AllocError>
+    requires { IsNumbered work.now }
+    ensures { IfOk result (λ v. AreListedTo work.now (length work.now.edges) v.items) }
 {
-    seen[edge.a as usize] = seen[edge.a as usize].with(place);
-    if edge.b != edge.a {
-        seen[edge.b as usize] = seen[edge.b as usize].with(place);
+    let mut places = no_places(alloc, work.node_count())?;
+    for place in 0..work.place_count() {
+        list_ends(work, &mut places, place)?;
     }
+    Ok(places)
+}
+
+// Lists the place for both ends of its edge, where it holds one. An `Err` is want of memory.
+fn list_ends(work: &Work, places: &mut [BTreeSet<u32>], place: u32) -> Result<(), AllocError>
+    requires numbered { IsNumbered work.now }
+    requires place { place < length work.now.edges }
+    requires listed { AreListedTo work.now place places.old }
+    ensures { OnOk result (AreListedTo work.now (place + 1) places.new) }
+{
+    if let Some(edge) = work.edge(place) {
+        list(places, edge.a, place)?;
+        list(places, edge.b, place)?;
+    }
+    Ok(())
+}
+
+// No place for any of so many nodes. An `Err` is want of memory.
+fn no_places(alloc: Global, count: u32) -> Result<Vec<BTreeSet<u32>>, AllocError>
+    ensures { IfOk result (λ v. length v.items ≡ count) }
+{
+    let mut places = Vec::with_capacity(alloc, count as usize)?;
+    for _ in 0..count {
+        places.push(BTreeSet::new(alloc))?;
+    }
+    Ok(places)
+}
+
+// Lists a place for a node. An `Err` is want of memory.
+fn list(places: &mut [BTreeSet<u32>], v: u32, place: u32) -> Result<(), AllocError>
+    requires { v < length places.old }
+    ensures size { length places.new ≡ length places.old }
+    ensures listed { OnOk result (IsListed places.new v place) }
+    ensures kept { (u n : ℕ) → IsListed places.old u n → IsListed places.new u n }
+{
+    put(&mut places[v as usize], place)
 }
 
 // Marks the terminals.

@@ -6,11 +6,12 @@ ghost use Rattle.rst_outside.specs.Sink.{Writes};
 ghost use Rattle.text_out.specs.Gathers.{Gathers};
 ghost use Rattle.net_graph.specs.Graph.{HasEndsBelow};
 ghost use Rattle.net_graph.specs.Members.{members_of};
-ghost use Rattle.graph_reduce.specs.Text.{count_line, number_line, next_number, left_line, left_lines, forced_text, nodes_text, edges_text, end_text, left_text, reduced_text};
+ghost use Rattle.graph_reduce.specs.Text.{number_line, next_number, left_line, left_lines, forced_text, nodes_text, edges_text, end_text, left_text, reduced_text};
 ghost use Rattle.graph_reduce.specs.Left.{originals_at};
 
 use crate::reduction::Reduced;
-use net_graph::{Edge, EdgeSet, NetGraph};
+use crate::set_lines::{write_count, write_number, write_set};
+use net_graph::{Edge, NetGraph};
 use rst_outside::{PutFault, Sink};
 use text_out::{Block, finish, literal, number};
 
@@ -33,13 +34,7 @@ fn write_forced<S: Sink>(block: &mut Block, sink: &mut S, reduced: &Reduced)
 {
     literal(block, sink, b"rst reduced 1\n");
     write_count(block, sink, b"offset ", reduced.offset());
-    write_count(
-        block,
-        sink,
-        b"forced ",
-        u64::from(count_of(reduced.forced())),
-    );
-    write_members(block, sink, reduced.forced());
+    write_set(block, sink, b"forced ", reduced.forced());
 }
 
 // The lines of what is left.
@@ -85,26 +80,6 @@ fn write_end<S: Sink>(block: &mut Block, sink: &mut S, graph: &NetGraph)
     literal(block, sink, b"end\n");
 }
 
-// A line of a word and how many there are.
-#[tactic(auto, using(text_out::specs::GatherLaws::pieces))]
-fn write_count<S: Sink>(block: &mut Block, sink: &mut S, word: &[u8], count: u64)
-    ensures { Gathers (S.state sink.old) block.old (count_line word.now count) (S.state sink.new) block.new }
-{
-    literal(block, sink, word);
-    number(block, sink, count);
-    literal(block, sink, b"\n");
-}
-
-// The line of a number.
-#[tactic(auto, using(text_out::specs::GatherLaws::pieces))]
-fn write_number<S: Sink>(block: &mut Block, sink: &mut S, n: u32)
-    requires { n < 4900 }
-    ensures { Gathers (S.state sink.old) block.old (number_line n) (S.state sink.new) block.new }
-{
-    number(block, sink, n + 1);
-    literal(block, sink, b"\n");
-}
-
 // The lines of numbers.
 #[tactic(auto, using(text_out::specs::GatherLaws::pieces))]
 fn write_numbers<S: Sink>(block: &mut Block, sink: &mut S, numbers: &[u32])
@@ -124,32 +99,6 @@ fn write_terminals<S: Sink>(block: &mut Block, sink: &mut S, graph: &NetGraph)
     for place in 0..graph.terminal_count() {
         write_number(block, sink, graph.terminal(place));
     }
-}
-
-// The lines of a set's numbers, ascending.
-fn write_members<S: Sink>(block: &mut Block, sink: &mut S, set: &EdgeSet)
-    requires { length set.now ≤ 4900 }
-    ensures { Gathers (S.state sink.old) block.old (flat_map number_line (members_of set.now))
-        (S.state sink.new) block.new }
-{
-    for e in 0..set.len() {
-        if set.has(e) {
-            write_number(block, sink, e);
-        }
-    }
-}
-
-// How many numbers are in the set.
-fn count_of(set: &EdgeSet) -> u32
-    ensures { result ≡ length (members_of set.now) }
-{
-    let mut count = 0;
-    for e in 0..set.len() {
-        if set.has(e) {
-            count += 1;
-        }
-    }
-    count
 }
 
 // The lines of the edges.

@@ -1,13 +1,12 @@
 -- What `reduce` finds where it is to solve.
-use Rattle.std.specs.Prelude.{ℕ, ◌≡◌, ◌+◌, ◌==◌, Bool, true, false, List, ◌++◌, codes, flat_map, length, Result, if◌then◌else◌}
+use Rattle.std.specs.Prelude.{ℕ, ◌≡◌, ◌+◌, ◌==◌, Bool, true, false, List, ◌++◌, codes, Result, if◌then◌else◌}
 use Rattle.net_graph.specs.Graph.{Graph}
-use Rattle.net_graph.specs.Members.{members_of}
 use Rattle.net_graph.specs.Network.{length_of}
 use Rattle.cert_tree.specs.declared.split.SplitOn.{SplitOn}
 use Rattle.cert_tree.specs.Tree.{Tree}
 use Rattle.cut_cert.specs.Text.{status_word}
 use Rattle.graph_reduce.specs.Reduction.{Reduction, lift_of}
-use Rattle.graph_reduce.specs.Text.{count_line, number_line}
+use Rattle.graph_reduce.specs.Text.{count_line, set_text}
 use Rattle.frame.specs.declared.status.AnswerStatus.{AnswerStatus}
 use Rattle.frame.specs.declared.status.AnswerStatus.TheVariants.{Done, Stopped}
 use Rattle.frame.specs.declared.take.TheConstants.{TEXT_LIMIT}
@@ -31,8 +30,7 @@ head_text l = codes "rst lifted 1\n" ++ count_line (codes "length ") l.length ++
 
 -- the lines of the edges, whose numbers count from 1, and the last line
 abbrev pub edges_text : List Bool → List ℕ
-edges_text network = count_line (codes "edges ") (length (members_of network))
-    ++ flat_map number_line (members_of network) ++ codes "end\n"
+edges_text network = set_text (codes "edges ") network ++ codes "end\n"
 
 -- the text of a lifted network
 abbrev pub lifted_text : Lifted → List ℕ

@@ -1,16 +1,14 @@
 //! The text of a network that was found in a reduced graph and lifted.
 
-ghost use Rattle.std.specs.Prelude.{◌≡◌, ◌<◌, ◌-◌, ◌^◌, length, flat_map};
 ghost use Rattle.text_out.specs.Gathers.{Gathers};
-ghost use Rattle.net_graph.specs.Members.{members_of};
-ghost use Rattle.graph_reduce.specs.Text.{count_line, number_line};
 ghost use Rattle.graph_tools.specs.Lifted.{edges_text, head_text, lifted_status, lifted_text};
 
 use cut_cert::status_word;
 use frame::{Answer, AnswerStatus};
+use graph_reduce::{write_count, write_set};
 use net_graph::EdgeSet;
 use rst_outside::{PutFault, Sink};
-use text_out::{Block, finish, literal, number};
+use text_out::{Block, finish, literal};
 
 /// A network of a graph, lifted from its reduction: its edges and its length, a bound below which no network of the
 /// graph falls, and whether the search in the reduced graph proved its network a shortest one.
@@ -66,52 +64,6 @@ fn write_head<S: Sink>(block: &mut Block, sink: &mut S, lifted: &Lifted)
 fn write_edges<S: Sink>(block: &mut Block, sink: &mut S, network: &EdgeSet)
     ensures { Gathers (S.state sink.old) block.old (edges_text network.now) (S.state sink.new) block.new }
 {
-    write_count(block, sink, b"edges ", u64::from(count_of(network)));
-    write_members(block, sink, network);
+    write_set(block, sink, b"edges ", network);
     literal(block, sink, b"end\n");
-}
-
-// A line of a word and how many there are.
-#[tactic(auto, using(text_out::specs::GatherLaws::pieces))]
-fn write_count<S: Sink>(block: &mut Block, sink: &mut S, word: &[u8], count: u64)
-    ensures { Gathers (S.state sink.old) block.old (count_line word.now count) (S.state sink.new) block.new }
-{
-    literal(block, sink, word);
-    number(block, sink, count);
-    literal(block, sink, b"\n");
-}
-
-// The line of an edge's number, which counts from 1.
-#[tactic(auto, using(text_out::specs::GatherLaws::pieces))]
-fn write_number<S: Sink>(block: &mut Block, sink: &mut S, e: u32)
-    requires { e < 2 ^ 32 - 1 }
-    ensures { Gathers (S.state sink.old) block.old (number_line e) (S.state sink.new) block.new }
-{
-    number(block, sink, e + 1);
-    literal(block, sink, b"\n");
-}
-
-// The lines of a set's numbers, ascending.
-fn write_members<S: Sink>(block: &mut Block, sink: &mut S, set: &EdgeSet)
-    ensures { Gathers (S.state sink.old) block.old (flat_map number_line (members_of set.now))
-        (S.state sink.new) block.new }
-{
-    for e in 0..set.len() {
-        if set.has(e) {
-            write_number(block, sink, e);
-        }
-    }
-}
-
-// How many numbers are in the set.
-fn count_of(set: &EdgeSet) -> u32
-    ensures { result ≡ length (members_of set.now) }
-{
-    let mut count = 0;
-    for e in 0..set.len() {
-        if set.has(e) {
-            count += 1;
-        }
-    }
-    count
 }

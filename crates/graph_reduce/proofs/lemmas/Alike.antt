@@ -1,15 +1,15 @@
 -- The one edge that may be parallel to another, and what is left where the longer of both is dropped.
 use Rattle.std.specs.Prelude.{ℕ, ◌≡◌, ◌≢◌, ◌⊎◌, ◌+◌, ◌<◌, ◌≤◌, length, Some}
-use Rattle.std.proofs.Common.{refl, sym, ap, ◌∙◌, inl, inr, ⊎_elim, subst, arith}
+use Rattle.std.proofs.Common.{refl, sym, ◌∙◌, inl, inr, ⊎_elim, subst, arith}
 use Rattle.std.proofs.lemmas.Bool.{cases_eq, cases_lt}
 use Rattle.std.proofs.lemmas.Option.{slice_get_within}
 use Rattle.net_graph.specs.declared.edge.Edge.{Edge}
 use Rattle.net_graph.specs.Network.{HasEnds}
-use Rattle.graph_reduce.specs.State.{Bundle, State, HasEdge}
+use Rattle.graph_reduce.specs.State.{Bundle, State, HasEdge, EndsIn}
+use Rattle.graph_reduce.specs.Survey.{IsNextEnd}
 use Rattle.graph_reduce.specs.Rules.{AreParallel}
 use Rattle.graph_reduce.specs.Clear.{IsClearTo, IsTidy, IsTidyBut, IsWithin, AreAlike}
 use Rattle.graph_reduce.proofs.lemmas.Ends.{same_edge}
-use Rattle.graph_reduce.proofs.lemmas.Longer.{HoldsEdge}
 
 -- the same ends, seen from the other edge
 ends_back : (x y : Edge) → HasEnds y x.a x.b → HasEnds x y.a y.b
@@ -23,16 +23,39 @@ ends_same x y z (inl y_is) (inr z_is) = inr (z_is.0 ∙ sym y_is.1, z_is.1 ∙ s
 ends_same x y z (inr y_is) (inl z_is) = inr (z_is.0 ∙ sym y_is.1, z_is.1 ∙ sym y_is.0)
 ends_same x y z (inr y_is) (inr z_is) = inl (z_is.0 ∙ sym y_is.0, z_is.1 ∙ sym y_is.1)
 
--- an edge of which none has the ends
-pub not_alike : (s : State) (place n : ℕ) (e : Edge) → HoldsEdge s place e →
-    ((y : Bundle) → HasEdge s n y → ¬ HasEnds y.edge e.a e.b) → ¬ AreAlike s place n
-not_alike s place n e held none alike =
-    let (x, x_at, x_is) = held in
-    let same : alike.x.edge ≡ e = ap (λ b. b.edge) (same_edge s place alike.x x alike.at x_at) ∙ x_is in
-    none alike.y alike.other_at (subst (λ (d : Edge). HasEnds alike.y.edge d.a d.b) same alike.ends)
-
 pub alike_within : (s : State) (place n : ℕ) → AreAlike s place n → n < length s.edges
 alike_within s place n alike = slice_get_within s.edges n (Some alike.y) alike.other_at
+
+-- an end of the one edge is an end of the other
+pub alike_end : (s : State) (place n : ℕ) (alike : AreAlike s place n) (v : ℕ) → EndsIn s v place → EndsIn s v n
+alike_end s place n alike v (x, at, ends) = by_ends alike.ends
+    (subst (λ (b : Bundle). (b.edge.a ≡ v) ⊎ (b.edge.b ≡ v)) (same_edge s place x alike.x at alike.at) ends)
+  where
+    by_ends : HasEnds alike.y.edge alike.x.edge.a alike.x.edge.b → (alike.x.edge.a ≡ v) ⊎ (alike.x.edge.b ≡ v) →
+        EndsIn s v n
+    by_ends (inl p) (inl is) = (alike.y, alike.other_at, inl (p.0 ∙ is))
+    by_ends (inl p) (inr is) = (alike.y, alike.other_at, inr (p.1 ∙ is))
+    by_ends (inr p) (inl is) = (alike.y, alike.other_at, inr (p.1 ∙ is))
+    by_ends (inr p) (inr is) = (alike.y, alike.other_at, inl (p.0 ∙ is))
+
+-- nothing below a place of the node's edges is alike, nor is this one: nothing below the next is
+pub none_alike : (s : State) (place v from n : ℕ) → EndsIn s v place → ((k : ℕ) → k < from → ¬ AreAlike s place k) →
+    IsNextEnd s v from n → ¬ AreAlike s place n → (k : ℕ) → k < n + 1 → ¬ AreAlike s place k
+none_alike s place v from n end lower next not k below alike = elim (cases_lt k from) [
+  | inl low ↦ lower k low alike
+  | inr least ↦ elim (cases_eq k n) [
+    | inl same ↦ not (subst (AreAlike s place) same alike)
+    | inr apart ↦ next.none k least (omega (arith, below, apart)) (alike_end s place k alike v end)
+  ]
+]
+
+pub none_alike_left : (s : State) (place v from : ℕ) → EndsIn s v place →
+    ((k : ℕ) → k < from → ¬ AreAlike s place k) → ((k : ℕ) → from ≤ k → ¬ EndsIn s v k) → (k : ℕ) →
+    ¬ AreAlike s place k
+none_alike_left s place v from end lower none k alike = elim (cases_lt k from) [
+  | inl low ↦ lower k low alike
+  | inr least ↦ none k least (alike_end s place k alike v end)
+]
 
 -- two places in order
 ordered : (n m : ℕ) → n ≢ m → (n < m) ⊎ (m < n)
@@ -79,6 +102,22 @@ alike_second s n m x y are = record {
   at = are.second_at;
   other_at = are.first_at;
   ends = ends_back x.edge y.edge are.same_ends;
+}
+
+-- what is parallel to an edge of a node is an edge of the node too
+pub clear_past : (s : State) (end place from n v : ℕ) →
+    ((x : Bundle) → HasEdge s place x → (x.edge.a ≡ v) ⊎ (x.edge.b ≡ v)) →
+    ((k : ℕ) → from ≤ k → k < n → ¬ EndsIn s v k) → IsClearTo s end place from → IsClearTo s end place n
+clear_past s end place from n v ends none clear = record {
+  idle = clear.idle;
+  loops = clear.loops;
+  parallels = λ p q x y before are. ⊎_elim (λ (low : p < place). clear.parallels p q x y (inl low) are)
+      (λ (same : (p ≡ place) × (q < n)). elim (cases_lt q from) [
+        | inl lower ↦ clear.parallels p q x y (inr (same.0, lower)) are
+        | inr least ↦ (let here = subst (λ k. AreParallel s k q x y) same.0 are in
+            none q least same.1
+            (alike_end s place q (alike_first s place q x y here) v (x, here.first_at, ends x here.first_at)))
+      ]) before;
 }
 
 module _ (s : State) (place : ℕ) (tidy : IsTidyBut s place) where

@@ -16,13 +16,6 @@ use Rattle.graph_reduce.proofs.lemmas.Soundness.{IsSound, IsSound-start}
 use Rattle.graph_reduce.proofs.lemmas.Steps.{steps_keep, steps_fit}
 use Rattle.graph_reduce.proofs.lemmas.Terminals.{In-from_Contains}
 
-pub reached_then : (old new : State) → IsReached old → LeadsTo old new → IsReached new
-reached_then old new reached leads = record {
-  graph = reached.graph;
-  sound = reached.sound;
-  from_start = then_steps (start_of reached.graph) old new reached.from_start leads;
-}
-
 module _ (s : State) (reached : IsReached s) where
   sound : IsSound s
   sound = (steps_keep reached.from_start.count (start_of reached.graph) s (IsSound-start reached.graph reached.sound)
@@ -53,6 +46,13 @@ module _ (s : State) (reached : IsReached s) where
       let there = length_in-set (slice_set s.edges n None) m (Some y) None all all
       (slice_get-set_other s.edges n m None (λ same. apart (sym same)) ∙ y_at) (λ k other. refl) in
       omega (arith, here, there, fits.total, reached.sound.total)
+
+pub reached_then : (old new : State) → IsReached old → LeadsTo old new → IsReached new
+reached_then old new reached leads = record {
+  graph = reached.graph;
+  sound = reached.sound;
+  from_start = then_steps (start_of reached.graph) old new reached.from_start leads;
+}
 
 -- ---- from the first state of a graph
 

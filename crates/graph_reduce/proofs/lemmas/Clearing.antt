@@ -1,12 +1,10 @@
 -- Where no earlier rule applies, and what stays so where edges are dropped.
-use Rattle.std.specs.Prelude.{ℕ, zero, suc, ◌≡◌, ◌≢◌, ◌⊎◌, ◌+◌, ◌<◌, length, Some, None, if◌then◌else◌, nat_lt}
+use Rattle.std.specs.Prelude.{ℕ, zero, suc, ◌≡◌, ◌+◌, ◌<◌, length, Some, None, if◌then◌else◌, nat_lt}
 use Rattle.std.proofs.Common.{refl, sym, ap, ◌∙◌, inl, inr, ⊎_elim, subst, arith, length-set}
 use Rattle.std.proofs.lemmas.Bool.{cases_eq}
-use Rattle.std.proofs.lemmas.List.{length-replicate}
 use Rattle.std.proofs.lemmas.Option.{slice_get_within}
-use Rattle.net_graph.specs.EntryLaws.{slice_get-replicate}
 use Rattle.graph_reduce.specs.State.{Bundle, State, HasEdge}
-use Rattle.graph_reduce.specs.Rules.{AreParallel, without_edge, without_edges}
+use Rattle.graph_reduce.specs.Rules.{AreParallel, without_edge}
 use Rattle.graph_reduce.specs.Step.{Applies, IsStep, AreSteps}
 use Rattle.graph_reduce.specs.Step.Rule.{OneTerminal, Loop, Parallel, Leaf, Passed, TerminalLeaf}
 use Rattle.graph_reduce.specs.Clear.{LeadsTo, HasSomeEdge, IsClearTo, IsTidy, IsWithin}
@@ -32,9 +30,6 @@ then_steps one two three first rest = more_steps one two three first.count rest.
 
 -- ---- fewer edges
 
-pub within_same : (s : State) → IsWithin s s
-within_same s = record { places = refl; edges = λ place x at. at }
-
 pub within_then : (one two three : State) → IsWithin one two → IsWithin two three → IsWithin one three
 within_then one two three first rest = record {
   places = first.places ∙ rest.places;
@@ -45,12 +40,6 @@ pub within_without : (s : State) (place : ℕ) → IsWithin (without_edge s plac
 within_without s place = record {
   places = length-set s.edges place None;
   edges = λ n x at. (found_before s.edges place n x at).1;
-}
-
-pub within_none : (s : State) → IsWithin (without_edges s) s
-within_none s = record {
-  places = length-replicate (length s.edges) None;
-  edges = λ n x at. let none : None ≡ Some x = slice_get-replicate (length s.edges) n None (Some x) at in absurd cc;
 }
 
 pub parallel_within : (new old : State) → IsWithin new old → (n m : ℕ) (x y : Bundle) → AreParallel new n m x y →
@@ -78,80 +67,6 @@ none_at s place x at = (found_before s.edges place place x at).0 refl
 
 pub not_idle : (s : State) → (length s.terminals ≡ 1 → ¬ HasSomeEdge s) → (at : ℕ) → ¬ Applies s OneTerminal at
 not_idle s idle at (new, drops) = idle drops.one drops.some
-
-pub drops_idle : (s : State) → length s.terminals ≡ 1 → HasSomeEdge s → IsStep s (without_edges s)
-drops_idle s one some = record {
-  rule = OneTerminal;
-  at = 0;
-  takes = record { one = one; some = some; becomes = refl };
-  first = none;
-}
-  where
-    none : NoneBefore s OneTerminal 0
-    none OneTerminal there (inl before) = absurd (omega arith)
-    none OneTerminal there (inr before) = absurd (omega arith)
-    none Loop there (inl before) = absurd (omega arith)
-    none Loop there (inr before) = absurd (omega arith)
-    none Parallel there (inl before) = absurd (omega arith)
-    none Parallel there (inr before) = absurd (omega arith)
-    none Leaf there (inl before) = absurd (omega arith)
-    none Leaf there (inr before) = absurd (omega arith)
-    none Passed there (inl before) = absurd (omega arith)
-    none Passed there (inr before) = absurd (omega arith)
-    none TerminalLeaf there (inl before) = absurd (omega arith)
-    none TerminalLeaf there (inr before) = absurd (omega arith)
-
-pub none_idle : (s : State) → ¬ HasSomeEdge (without_edges s)
-none_idle s (n, x, at) = let none : None ≡ Some x = slice_get-replicate (length s.edges) n None (Some x) at in cc
-
-pub clear_from_idle : (s : State) → (length s.terminals ≡ 1 → ¬ HasSomeEdge s) → IsClearTo s 0 0 0
-clear_from_idle s idle = record {
-  idle = idle;
-  loops = λ n x below at. absurd (omega arith);
-  parallels = λ n m x y before. absurd (omega arith);
-}
-
--- ---- loops
-
-pub drops_loop : (s : State) (place : ℕ) (x : Bundle) → IsClearTo s place 0 0 → HasEdge s place x →
-    x.edge.a ≡ x.edge.b → IsStep s (without_edge s place)
-drops_loop s place x clear at same = record {
-  rule = Loop;
-  at = place;
-  takes = record { loop = x; at = at; is_loop = same; becomes = refl };
-  first = none;
-}
-  where
-    none : NoneBefore s Loop place
-    none OneTerminal there before = not_idle s clear.idle there
-    none Loop there (inl before) = absurd (omega arith)
-    none Loop there (inr before) = λ (new, drops). clear.loops there drops.loop (omega arith) drops.at drops.is_loop
-    none Parallel there (inl before) = absurd (omega arith)
-    none Parallel there (inr before) = absurd (omega arith)
-    none Leaf there (inl before) = absurd (omega arith)
-    none Leaf there (inr before) = absurd (omega arith)
-    none Passed there (inl before) = absurd (omega arith)
-    none Passed there (inr before) = absurd (omega arith)
-    none TerminalLeaf there (inl before) = absurd (omega arith)
-    none TerminalLeaf there (inr before) = absurd (omega arith)
-
--- one place more
-pub clear_more : (s : State) (place : ℕ) → IsClearTo s place 0 0 →
-    ((x : Bundle) → HasEdge s place x → x.edge.a ≢ x.edge.b) → IsClearTo s (place + 1) 0 0
-clear_more s place clear here = record {
-  idle = clear.idle;
-  loops = λ n x below at same. ⊎_elim
-      (λ (lower : n < place). clear.loops n x lower at same)
-      (λ (is : n ≡ place). here x (subst (λ m. HasEdge s m x) is at) same)
-      (let cases : (n < place) ⊎ (n ≡ place) = below_or_at n place below in cases);
-  parallels = clear.parallels;
-}
-  where
-    below_or_at : (n place : ℕ) → n < place + 1 → (n < place) ⊎ (n ≡ place)
-    below_or_at n place below = elim (cases_eq n place) [
-      | inl is ↦ inr is
-      | inr apart ↦ inl (omega (arith, apart))
-    ]
 
 -- ---- parallel edges
 
@@ -220,6 +135,19 @@ clear_start s end place clear = record {
   loops = clear.loops;
   parallels = λ n m x y before are. ⊎_elim (λ (lower : n < place). clear.parallels n m x y (inl lower) are)
       (λ (same : (n ≡ place) × (m < place + 1)). absurd (omega (arith, same.0, same.1, are.order))) before;
+}
+
+-- the next place, where this one holds no edge
+pub clear_gone : (s : State) (end place later : ℕ) → ((x : Bundle) → ¬ HasEdge s place x) →
+    IsClearTo s end place later → IsClearTo s end (place + 1) 0
+clear_gone s end place later none clear = record {
+  idle = clear.idle;
+  loops = clear.loops;
+  parallels = λ n m x y before are. clear.parallels n m x y (elim (cases_eq n place) [
+    | inl is ↦ absurd (none x (subst (λ k. HasEdge s k x) is are.first_at))
+    | inr apart ↦ inl (⊎_elim (λ (lower : n < place + 1). omega (arith, lower, apart))
+        (λ (same : (n ≡ place + 1) × (m < 0)). absurd (omega (arith, same.1))) before)
+  ]) are;
 }
 
 pub tidy_from_clear : (s : State) → IsClearTo s (length s.edges) (length s.edges) 0 → IsTidy s

@@ -3,6 +3,7 @@ use Rattle.std.specs.Prelude.{ℕ, ◌≡◌, ◌⊎◌, ◌==◌, Some, if◌th
 use Rattle.std.proofs.Common.{sym, ap, ◌∙◌, inl, inr}
 use Rattle.std.proofs.lemmas.Bool.{cases_eq, eq-eqb, ne_eqb}
 use Rattle.std.proofs.lemmas.Option.{same_Some}
+use Rattle.net_graph.specs.declared.edge.Edge.{Edge}
 use Rattle.net_graph.specs.Network.{HasEnds}
 use Rattle.graph_reduce.specs.State.{Bundle, State, HasEdge}
 
@@ -42,3 +43,15 @@ seen_ends x v other a b ends step = by_ends (ends_are x v other a b ends step)
     by_ends : ((a ≡ v) × (b ≡ other)) ⊎ ((a ≡ other) × (b ≡ v)) → seen_at v other a ≡ seen_at v other b
     by_ends (inl is) = seen_same v other a is.0 ∙ sym (ap (seen_at v other) is.1 ∙ seen_end v other)
     by_ends (inr is) = ap (seen_at v other) is.0 ∙ seen_end v other ∙ sym (seen_same v other b is.1)
+
+-- an edge has one other end
+pub other_is : (e : Edge) (v u w : ℕ) → HasEnds e v u → HasEnds e v w → u ≡ w
+other_is e v u w (inl p) (inl q) = sym p.1 ∙ q.1
+other_is e v u w (inl p) (inr q) = sym p.1 ∙ q.1 ∙ sym p.0 ∙ q.0
+other_is e v u w (inr p) (inl q) = sym p.0 ∙ q.0 ∙ sym p.1 ∙ q.1
+other_is e v u w (inr p) (inr q) = sym p.0 ∙ q.0
+
+-- an end of an edge
+pub first_end : (x : Bundle) (v u : ℕ) → HasEnds x.edge v u → (x.edge.a ≡ v) ⊎ (x.edge.b ≡ v)
+first_end x v u (inl is) = inl is.0
+first_end x v u (inr is) = inr is.1

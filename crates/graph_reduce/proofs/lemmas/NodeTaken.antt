@@ -46,7 +46,7 @@ module _ (s new : State) (v : ℕ) where
           originals = union x.originals y.originals;
         }))) later None;
       }) →
-      new ≡ without_node mid v → (joins : JoinsEdges v s new) × (joins.earlier ≡ earlier)
+      new ≡ without_node mid v → (joins : JoinsEdges v s new) × (joins.earlier ≡ earlier) × (joins.later ≡ later)
   edges_joined_at mid earlier later u w e f node free two e_held f_held e_ends f_ends changed is =
       let (x, x_at, x_is) = e_held in
       let (y, y_at, y_is) = f_held in (
@@ -69,6 +69,7 @@ module _ (s new : State) (v : ℕ) where
               ∙ ap (after x y) (ap (λ (d : Edge). d.length + f.length) (sym x_is)
               ∙ ap (λ (d : Edge). x.edge.length + d.length) (sym y_is));
         },
+        refl,
         refl,
       )
     where

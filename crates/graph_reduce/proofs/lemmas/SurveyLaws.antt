@@ -1,14 +1,60 @@
--- What a survey says of a node.
-use Rattle.std.specs.Prelude.{ℕ, ◌≡◌, ◌<◌, Bool, List, length, slice_index_or, Some}
-use Rattle.std.proofs.Common.{sym, ap, ◌∙◌, arith}
-use Rattle.std.proofs.lemmas.Option.{slice_get-get_or}
-use Rattle.graph_reduce.specs.declared.node_edges.NodeEdges.{NodeEdges}
-use Rattle.graph_reduce.specs.State.{State}
-use Rattle.graph_reduce.specs.Survey.{IsSeenTo, IsSurvey}
+-- The places that are listed for each node.
+use Rattle.std.specs.Prelude.{ℕ, ◌≡◌, ◌+◌, ◌<◌, List, length, slice_get, slice_set, slice_index_or, Some}
+use Rattle.std.specs.BTreeSet.{BTreeSet}
+use Rattle.std.proofs.Common.{sym, ap, ◌∙◌, inl, inr, ⊎_elim, subst, arith, length-set}
+use Rattle.std.proofs.lemmas.Bool.{cases_eq}
+use Rattle.std.proofs.lemmas.Option.{slice_get-get_or, same_Some}
+use Rattle.net_graph.specs.EntryLaws.{slice_get-set_same, slice_get-set_other}
+use Rattle.net_graph.specs.declared.edge.Edge.{Edge}
+use Rattle.graph_reduce.specs.NumberSets.{IsIn}
+use Rattle.graph_reduce.specs.State.{State, EndsIn}
+use Rattle.graph_reduce.specs.Survey.{IsListed, HasPlacesOf, AreListedTo}
+use Rattle.graph_reduce.proofs.lemmas.Ends.{same_edge}
+use Rattle.graph_reduce.proofs.lemmas.Longer.{HoldsEdge}
+use Rattle.graph_reduce.proofs.lemmas.NodeKinds.{below_end}
 
--- the edges that are seen of a node
-pub seen_of : (s : State) (seen : List NodeEdges) (marks : List Bool) (v : ℕ) (edges : NodeEdges) →
-    IsSurvey s seen marks → v < length s.nodes → edges ≡ slice_index_or seen v edges →
-    IsSeenTo s v (length s.edges) edges
-seen_of s seen marks v edges survey below is =
-    survey.edges v edges (slice_get-get_or seen v edges (omega (arith, survey.size)) ∙ ap Some (sym is))
+-- the set that is read for a node has its places
+pub set_has : (s : State) (listed : List (BTreeSet ℕ)) (v : ℕ) (set : BTreeSet ℕ) →
+    AreListedTo s (length s.edges) listed → v < length s.nodes → set ≡ slice_index_or listed v set →
+    HasPlacesOf s v set
+set_has s listed v set are below is n ends =
+    let (other, at, member) = are.listed v n (below_end s v n ends) ends in
+    let here = slice_get-get_or listed v set (omega (arith, are.size)) ∙ ap Some (sym is) in
+    subst (λ t. IsIn t n) (same_Some other set (sym at ∙ here)) member
+
+-- .. and so has the one that is written
+pub set_written : (s : State) (end : ℕ) (listed : List (BTreeSet ℕ)) (v : ℕ) (set : BTreeSet ℕ) →
+    AreListedTo s end listed → v < length s.nodes → HasPlacesOf s v set → AreListedTo s end (slice_set listed v set)
+set_written s end listed v set are below has = record {
+  size = length-set listed v set ∙ are.size;
+  listed = λ u n within ends. elim (cases_eq u v) [
+    | inl same ↦ (
+      set,
+      subst (λ k. slice_get (slice_set listed v set) k ≡ Some set) (sym same)
+          (slice_get-set_same listed v set (omega (arith, are.size))),
+      has n (subst (λ k. EndsIn s k n) same ends),
+    )
+    | inr apart ↦ (let (other, at, member) = are.listed u n within ends in
+        (other, slice_get-set_other listed v u set apart ∙ at, member))
+  ];
+}
+
+-- one place more
+module _ (s : State) (place : ℕ) (old new : List (BTreeSet ℕ)) (are : AreListedTo s place old)
+    (size : length new ≡ length old) (kept : (u n : ℕ) → IsListed old u n → IsListed new u n) where
+  pub listed_more : ((v : ℕ) → EndsIn s v place → IsListed new v place) → AreListedTo s (place + 1) new
+  listed_more here = record {
+    size = size ∙ are.size;
+    listed = λ v n below ends. elim (cases_eq n place) [
+      | inl same ↦ subst (IsListed new v) (sym same) (here v (subst (EndsIn s v) same ends))
+      | inr apart ↦ kept v n (are.listed v n (omega (arith, below, apart)) ends)
+    ];
+  }
+
+  pub listed_edge : (e : Edge) → HoldsEdge s place e → IsListed new e.a place → IsListed new e.b place →
+      AreListedTo s (place + 1) new
+  listed_edge e (x, at, is) a b = listed_more (λ v (y, y_at, ends). let same = same_edge s place y x y_at at in
+      ⊎_elim (λ (end : y.edge.a ≡ v). subst (λ u. IsListed new u place)
+      (sym (ap (λ (d : Edge). d.a) (ap (λ z. z.edge) same ∙ is)) ∙ end) a)
+      (λ (end : y.edge.b ≡ v). subst (λ u. IsListed new u place)
+      (sym (ap (λ (d : Edge). d.b) (ap (λ z. z.edge) same ∙ is)) ∙ end) b) ends)

@@ -1,14 +1,11 @@
-use Rattle.std.proofs.Common.{◌∙◌, sym}
-use Rattle.std.proofs.lemmas.Bool.{OnTrue_from, OnTrue_at, OnFalse_from}
-use Rattle.graph_reduce.proofs.lemmas.NodeRuleLaws.{suits_from, applies_from}
+use Rattle.std.proofs.Common.{arith}
+use Rattle.std.proofs.lemmas.Bool.{OnFalse_from}
+use Rattle.std.specs.Prelude.{nat_lt}
+use Rattle.graph_reduce.proofs.lemmas.NodeRuleLaws.{kind_from, kind_below}
 use Rattle.graph_reduce.proofs.node_rules.applies.Goals as goal
 
-pub returns-then-suits-clause-yes : goal.returns-then-suits-clause-yes
-returns-then-suits-clause-yes c = OnTrue_from c.is_of_kind.result _ (λ yes.
-    applies_from c.args.work.now c.args.v c.args.rule c.edges_of.result c.edges_of.ensures
-    (OnTrue_at yes c.is_of_kind.ensures.yes) (sym c.suits.ensures ∙ c.if-suits.true))
-
-pub returns-else-suits-clause-no : goal.returns-else-suits-clause-no
-returns-else-suits-clause-no c = OnFalse_from c.suits.result _ (λ no applies.
-    let suit = suits_from c.args.work.now c.args.v c.args.rule c.edges_of.result c.edges_of.ensures applies in
-    let both = sym no ∙ c.suits.ensures ∙ suit in cc)
+pub returns-else-v-node_count-clause-no : goal.returns-else-v-node_count-clause-no
+returns-else-v-node_count-clause-no c = OnFalse_from (nat_lt c.args.v c.node_count.result) _ (λ no applies.
+    let below = kind_below c.args.work.now c.args.v c.args.rule c.requires.numbered
+    (kind_from c.args.work.now c.args.v c.args.rule applies) in
+    let bad : ⊥ = omega (arith, c.node_count.ensures, c.if-v-node_count.false) in bad)

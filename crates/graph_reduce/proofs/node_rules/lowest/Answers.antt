@@ -1,15 +1,14 @@
-use Rattle.std.proofs.Common.{below_more, arith}
-use Rattle.graph_reduce.specs.Step.{Applies}
-use Rattle.graph_reduce.specs.NodeRules.{rule_of}
-use Rattle.graph_reduce.proofs.lemmas.NodeRuleLaws.{kind_from, kind_below}
+use Rattle.std.proofs.Common.{arith}
 use Rattle.graph_reduce.proofs.node_rules.lowest.Goals as goal
 
-pub loop-v-preserved : goal.loop-v-preserved
-loop-v-preserved c = below_more (λ u. ¬ Applies c.args.work.now (rule_of c.args.rule) u) _ c.loop-v.invariant
-    c.if-applies.ensures.no
+pub returns-then-applies-clause-lowest : goal.returns-then-applies-clause-lowest
+returns-then-applies-clause-lowest c = record {
+  node = c.if-applies.ensures.node;
+  applies = c.if-applies.ensures.yes;
+  none = λ u below is.
+      let least = c.in-Some.ensures.least u (omega arith) (c.loop-v.invariant.due u is) in
+      let bad : ⊥ = omega (arith, least, below) in bad;
+}
 
-pub returns : goal.returns
-returns c v applies =
-    let below = kind_below c.args.work.now v c.args.rule c.requires.numbered
-    (kind_from c.args.work.now v c.args.rule applies) in
-    c.loop-v.invariant v (omega arith) applies
+pub returns-clause-lowest : goal.returns-clause-lowest
+returns-clause-lowest c = λ v is. c.in_default.ensures v (omega arith) (c.loop-v.invariant.due v is)

@@ -1,52 +1,72 @@
-use Rattle.std.specs.Prelude.{length}
-use Rattle.std.proofs.Common.{subst}
+use Rattle.std.specs.Prelude.{OnOk}
+use Rattle.std.specs.Prelude.{Result}
+use Rattle.std.proofs.Common.{sym, subst, arith, Ok, Err}
+use Rattle.graph_reduce.specs.declared.node_rules.NodeRule.TheVariants.{Passed}
 use Rattle.graph_reduce.specs.State.{HasEdge}
+use Rattle.graph_reduce.specs.Survey.{IsListed}
 use Rattle.graph_reduce.specs.Clear.{IsTidyBut}
-use Rattle.graph_reduce.specs.Survey.{AreBelow}
-use Rattle.graph_reduce.proofs.lemmas.Bounds.{reached_numbered}
+use Rattle.graph_reduce.proofs.lemmas.Bounds.{reached_numbered, reached_then}
+use Rattle.graph_reduce.proofs.lemmas.Clearing.{one_step}
 use Rattle.graph_reduce.proofs.lemmas.JoinedPlaces.{one}
-use Rattle.graph_reduce.proofs.lemmas.Nearby.{other_below, seen_below, places_kept, alike_nearby}
 use Rattle.graph_reduce.proofs.lemmas.NodeRuleLaws.{passed_seen}
+use Rattle.graph_reduce.proofs.lemmas.Renewing.{all_told, due_more, joined_other, other_below, renewed_joined, survey_more}
 use Rattle.graph_reduce.proofs.lemmas.Stepping.{passed_step, tidy_joined, joined_at}
 use Rattle.graph_reduce.proofs.steps.join_at.Goals as goal
 
-pub edges_of-nearby-requires-clause-node : goal.edges_of-nearby-requires-clause-node
-edges_of-nearby-requires-clause-node c = other_below c.args.work.now c.args.v c.other_end.result c.in-TwoEdges.earlier
-    c.edge_at.result (reached_numbered c.args.work.now c.requires.reached) c.edge_at.ensures c.other_end.ensures
+pub list-requires : goal.list-requires
+list-requires c =
+    let below = other_below c.args.work.now c.args.v c.other_end.result c.in-TwoEdges.later c.edge_at.result
+    (reached_numbered c.args.work.now c.requires.reached) c.edge_at.ensures c.other_end.ensures in
+    omega (arith, below, c.edges_of-edges.ensures.survey.places.size)
 
 pub drop_alike-requires-clause-edge : goal.drop_alike-requires-clause-edge
-drop_alike-requires-clause-edge c = let (joins, is) = c.join_edges.ensures in (
+drop_alike-requires-clause-edge c = let (joins, is, later) = c.join_edges.ensures in (
   one c.args.v c.args.work.now c.join_edges.new.work joins,
   subst (λ n. HasEdge c.join_edges.new.work n (one c.args.v c.args.work.now c.join_edges.new.work joins)) is
       (joined_at c.args.v c.args.work.now c.join_edges.new.work c.requires.tidy joins),
 )
 
 pub drop_alike-requires-clause-tidy : goal.drop_alike-requires-clause-tidy
-drop_alike-requires-clause-tidy c = let (joins, is) = c.join_edges.ensures in
+drop_alike-requires-clause-tidy c = let (joins, is, later) = c.join_edges.ensures in
     subst (IsTidyBut c.join_edges.new.work) is
     (tidy_joined c.args.v c.args.work.now c.join_edges.new.work c.requires.tidy joins)
 
-pub drop_alike-requires-clause-nearby : goal.drop_alike-requires-clause-nearby
-drop_alike-requires-clause-nearby c = let (joins, is) = c.join_edges.ensures in
-    alike_nearby c.args.v c.args.work.now c.join_edges.new.work joins c.in-TwoEdges.earlier is c.edge_at.result
-    c.other_end.result c.edges_of-nearby.result c.edge_at.ensures c.other_end.ensures c.edges_of-nearby.ensures
+pub drop_alike-requires-clause-numbered : goal.drop_alike-requires-clause-numbered
+drop_alike-requires-clause-numbered c = let (joins, is, later) = c.join_edges.ensures in
+    reached_numbered c.join_edges.new.work
+    (reached_then c.args.work.now c.join_edges.new.work c.requires.reached
+    (one_step c.args.work.now c.join_edges.new.work (passed_step c.args.work.now c.requires.tidy c.requires.leaves
+    c.args.v c.join_edges.new.work c.requires.lowest joins)))
 
-pub drop_alike-requires-clause-below : goal.drop_alike-requires-clause-below
-drop_alike-requires-clause-below c = let (joins, is) = c.join_edges.ensures in
-    subst (λ n. AreBelow n c.edges_of-nearby.result)
-    (places_kept c.args.v c.args.work.now c.join_edges.new.work joins c.in-TwoEdges.earlier is)
-    (seen_below c.args.work.now c.other_end.result (length c.args.work.now.edges) c.edges_of-nearby.result
-    c.edges_of-nearby.ensures)
+pub drop_alike-requires-clause-index : goal.drop_alike-requires-clause-index
+drop_alike-requires-clause-index c = let (joins, is, later) = c.join_edges.ensures in
+    let other = joined_other c.args.v c.args.work.now c.join_edges.new.work joins c.in-TwoEdges.later c.edge_at.result
+    c.other_end.result later c.edge_at.ensures c.other_end.ensures in
+    let told = all_told c.args.work.now c.args.v Passed c.edges_of-edges.result c.add_ends_of.new.self
+    c.requires.lowest.applies c.edges_of-edges.ensures.seen c.in_ok-add_ends_of.ensures.due in
+    let survey = survey_more c.args.work.now c.edges_of-edges.new.self c.list.new.self c.list.ensures.size
+    c.list.ensures.kept c.list.ensures.terminals c.edges_of-edges.ensures.survey in
+    renewed_joined c.args.v c.args.work.now c.join_edges.new.work joins c.list.new.self c.add_ends_of.new.self survey
+    (due_more c.args.work.now c.args.due.now c.add_ends_of.new.self c.requires.index.all c.add_ends_of.ensures.stays)
+    (subst (λ n. IsListed c.list.new.self.places.items n joins.earlier) (sym other)
+    (subst (IsListed c.list.new.self.places.items c.other_end.result) (sym is) c.in_ok-list-in-TwoEdges.ensures.listed))
+    told
 
 pub unreachable-requires : goal.unreachable-requires
-unreachable-requires c = passed_seen c.args.work.now c.args.v c.edges_of.result c.edges_of.ensures
+unreachable-requires c = passed_seen c.args.work.now c.args.v c.edges_of-edges.result c.edges_of-edges.ensures.seen
     c.requires.lowest.applies c.in_default.not-TwoEdges
 
-pub returns : goal.returns
-returns c = let (joins, is) = c.join_edges.ensures in record {
-  next = c.join_edges.new.work;
-  step = passed_step c.args.work.now c.requires.tidy c.requires.leaves c.args.v c.join_edges.new.work c.requires.lowest
-      joins;
-  rest = c.drop_alike.ensures.leads;
-  tidy = c.drop_alike.ensures.tidy;
-}
+-- what follows from two clauses of a call that went well
+both_ok : {T E P Q R : Type 0} (r : Result T E) → (P → Q → R) → OnOk r P → OnOk r Q → OnOk r R
+both_ok (Ok x) both p q = both p q
+both_ok (Err e) both p q = tt
+
+pub returns-clause-more : goal.returns-clause-more
+returns-clause-more c = let (joins, is, later) = c.join_edges.ensures in
+    both_ok c.drop_alike.result (λ leads tidy. record {
+      next = c.join_edges.new.work;
+      step = passed_step c.args.work.now c.requires.tidy c.requires.leaves c.args.v c.join_edges.new.work
+          c.requires.lowest joins;
+      rest = leads;
+      tidy = tidy;
+    }) c.drop_alike.ensures.leads c.drop_alike.ensures.tidy

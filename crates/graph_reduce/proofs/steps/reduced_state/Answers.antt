@@ -1,35 +1,47 @@
-use Rattle.std.proofs.Common.{◌∙◌, sym, subst}
+use Rattle.std.proofs.Common.{arith}
+use Rattle.std.proofs.lemmas.Bool.{OnTrue_at}
 use Rattle.graph_reduce.specs.State.{start_of}
-use Rattle.graph_reduce.specs.Clear.{LeadsTo}
-use Rattle.graph_reduce.proofs.lemmas.Bounds.{nodes_from, leads_on, smaller_on}
+use Rattle.graph_reduce.proofs.lemmas.Bounds.{reached_from, reached_numbered, leads_on, smaller_on}
 use Rattle.graph_reduce.proofs.lemmas.Clearing.{then_steps}
+use Rattle.graph_reduce.proofs.lemmas.NodeRuleLaws.{kind_from, kind_below}
 use Rattle.graph_reduce.proofs.steps.reduced_state.Goals as goal
 
-pub loop-init : goal.loop-init
-loop-init c =
-    let leads = subst (λ s. LeadsTo s c.tidy.new.work) c.in_ok-work.ensures c.tidy.ensures.leads in
-    let nodes = nodes_from c.args.g.now c.vertex_count-vertices.ensures.graph c.tidy.new.work leads in
+pub of-requires : goal.of-requires
+of-requires c = reached_numbered c.in_ok-work.work
+    (reached_from c.args.g.now c.in_ok-work.ensures.graph c.in_ok-work.work c.in_ok-work.ensures.leads)
+
+pub drop_parallels-requires-clause-numbered : goal.drop_parallels-requires-clause-numbered
+drop_parallels-requires-clause-numbered c = reached_numbered c.in_ok-work.work
+    (reached_from c.args.g.now c.in_ok-work.ensures.graph c.in_ok-work.work c.in_ok-work.ensures.leads)
+
+pub loop-due-init : goal.loop-due-init
+loop-due-init c =
+    let leads = then_steps (start_of c.args.g.now) c.in_ok-work.work c.drop_parallels.new.work c.in_ok-work.ensures.leads
+    c.drop_parallels.ensures.leads in
+    let numbered = reached_numbered c.drop_parallels.new.work
+    (reached_from c.args.g.now c.in_ok-work.ensures.graph c.drop_parallels.new.work leads) in
     record {
       leads = leads;
-      tidy = c.tidy.ensures.tidy;
-      edges = c.in_ok-survey.ensures.edges ∙ c.vertex_count-vertices.ensures.count ∙ sym nodes;
-      terminals = c.in_ok-survey.ensures.terminals ∙ c.vertex_count-vertices.ensures.count ∙ sym nodes;
+      tidy = c.drop_parallels.ensures.tidy;
+      index = record {
+        seen = c.drop_parallels.ensures.survey;
+        all = λ rule v applies. c.in_ok-due.ensures v
+            (let below = kind_below c.drop_parallels.new.work v rule numbered
+            (kind_from c.drop_parallels.new.work v rule applies) in
+            omega (arith, below, c.node_count.ensures)) rule;
+      };
     }
 
-pub loop-smaller : goal.loop-smaller
-loop-smaller c = smaller_on c.loop.work c.goes_on.new.work c.loop-test.ensures.more
+pub loop-due-smaller : goal.loop-due-smaller
+loop-due-smaller c = smaller_on c.loop-due.work c.goes_on.new.work
+    (OnTrue_at c.if-branch.true c.in_ok-goes_on.ensures.more)
 
-pub loop-preserved : goal.loop-preserved
-loop-preserved c =
-    let more = c.loop-test.ensures.more in
-    let leads = then_steps (start_of c.args.g.now) c.loop.work c.goes_on.new.work c.loop.invariant.leads
-    (leads_on c.loop.work c.goes_on.new.work more) in
-    let graph = c.vertex_count-vertices.ensures.graph in
-    let same = nodes_from c.args.g.now graph c.loop.work c.loop.invariant.leads
-    ∙ sym (nodes_from c.args.g.now graph c.goes_on.new.work leads) in
+pub loop-due-preserved : goal.loop-due-preserved
+loop-due-preserved c =
+    let more = OnTrue_at c.if-branch.true c.in_ok-goes_on.ensures.more in
     record {
-      leads = leads;
+      leads = then_steps (start_of c.args.g.now) c.loop-due.work c.goes_on.new.work c.loop-due.invariant.leads
+          (leads_on c.loop-due.work c.goes_on.new.work more);
       tidy = more.tidy;
-      edges = c.goes_on.ensures.edges ∙ same;
-      terminals = c.goes_on.ensures.terminals ∙ same;
+      index = c.in_ok-goes_on.ensures.index;
     }

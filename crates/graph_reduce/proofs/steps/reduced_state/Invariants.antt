@@ -1,16 +1,15 @@
-use Rattle.std.specs.Prelude.{◌≡◌, length}
 use Rattle.graph_reduce.specs.State.{start_of}
 use Rattle.graph_reduce.specs.Clear.{LeadsTo, IsTidy}
+use Rattle.graph_reduce.specs.UpToDate.{IsUpToDate}
 use Rattle.graph_reduce.proofs.lemmas.Sizes.{size_of}
 use Rattle.graph_reduce.proofs.steps.reduced_state.Given as goal
 
-abbrev pub invariant-loop : goal.invariant-loop
-invariant-loop l = record {
+abbrev pub invariant-loop-due : goal.invariant-loop-due
+invariant-loop-due l = record {
   leads : LeadsTo (start_of l.g) l.work;
   tidy : IsTidy l.work;
-  edges : length l.survey.edges.items ≡ length l.work.nodes;
-  terminals : length l.survey.terminals ≡ length l.work.nodes;
+  index : IsUpToDate l.work l.survey l.due;
 }
 
-abbrev pub decreases-loop : goal.decreases-loop
-decreases-loop l = size_of l.work
+abbrev pub decreases-loop-due : goal.decreases-loop-due
+decreases-loop-due l = size_of l.work

@@ -1,5 +1,22 @@
+use Rattle.graph_reduce.specs.declared.node_rules.NodeRule.TheVariants.{Passed}
 use Rattle.graph_reduce.proofs.lemmas.Bounds.{reached_numbered}
+use Rattle.graph_reduce.proofs.lemmas.Renewing.{due_passed}
 use Rattle.graph_reduce.proofs.steps.takes_passed.Goals as goal
 
 pub lowest-requires-clause-numbered : goal.lowest-requires-clause-numbered
 lowest-requires-clause-numbered c = reached_numbered c.args.work.now c.requires.reached
+
+pub lowest-requires-clause-due : goal.lowest-requires-clause-due
+lowest-requires-clause-due c = c.requires.index.all Passed
+
+pub returns-in-None-clause-index : goal.returns-in-None-clause-index
+returns-in-None-clause-index c = record {
+  seen = c.lowest.ensures.survey;
+  all = due_passed c.args.work.now c.args.due.now c.lowest.new.due c.requires.index.all c.lowest.ensures.due;
+}
+
+pub join_at-requires-clause-index : goal.join_at-requires-clause-index
+join_at-requires-clause-index c = record {
+  seen = c.lowest.ensures.survey;
+  all = due_passed c.args.work.now c.args.due.now c.lowest.new.due c.requires.index.all c.lowest.ensures.due;
+}

@@ -1,12 +1,24 @@
-use Rattle.std.proofs.Common.{subst, ◌≡◌}
-use Rattle.graph_reduce.specs.Clear.{AreAlike}
-use Rattle.graph_reduce.specs.Survey.{IsAmong}
+use Rattle.std.specs.Prelude.{ℕ, ◌≡◌, ◌⊎◌, ◌<◌, length}
+use Rattle.std.proofs.Common.{sym, ap, ◌∙◌, subst, ⊎_elim}
+use Rattle.net_graph.specs.declared.edge.Edge.{Edge}
+use Rattle.graph_reduce.specs.State.{State}
+use Rattle.graph_reduce.specs.Survey.{IsNumbered}
+use Rattle.graph_reduce.proofs.lemmas.Longer.{HoldsEdge}
+use Rattle.graph_reduce.proofs.lemmas.Renewing.{end_below}
+use Rattle.graph_reduce.proofs.lemmas.SurveyLaws.{set_has, set_written}
 use Rattle.graph_reduce.proofs.taken.alike.Goals as goal
 
-pub returns-in-NoEdge : goal.returns-in-NoEdge
-returns-in-NoEdge c = λ n alike. subst (λ near. IsAmong near n) c.in-NoEdge.is (c.requires.nearby n alike)
+pub alike_at-requires-clause-places : goal.alike_at-requires-clause-places
+alike_at-requires-clause-places c = set_has c.args.work.now c.args.survey.now.places.items c.less_listed-node.result
+    c.index_mut.result.now c.requires.survey.places
+    (end_below c.args.work.now c.args.place c.edge_at-edge.result c.less_listed-node.result c.requires.numbered
+    c.edge_at-edge.ensures c.less_listed-node.ensures) c.index_mut.ensures.value
 
-pub returns-else-is_alike : goal.returns-else-is_alike
-returns-else-is_alike c = λ n alike.
-    let is : n ≡ c.in-OneEdge.n = subst (λ near. IsAmong near n) c.in-OneEdge.is (c.requires.nearby n alike) in
-    c.if-is_alike.ensures.no (subst (AreAlike c.args.work.now c.args.place) is alike)
+pub returns-clause-survey : goal.returns-clause-survey
+returns-clause-survey c = record {
+  places = set_written c.args.work.now (length c.args.work.now.edges) c.args.survey.now.places.items
+      c.less_listed-node.result c.alike_at.new.places c.requires.survey.places
+      (end_below c.args.work.now c.args.place c.edge_at-edge.result c.less_listed-node.result c.requires.numbered
+      c.edge_at-edge.ensures c.less_listed-node.ensures) c.alike_at.ensures.places;
+  terminals = c.requires.survey.terminals;
+}

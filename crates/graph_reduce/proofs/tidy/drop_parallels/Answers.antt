@@ -2,14 +2,18 @@ use Rattle.std.specs.Prelude.{◌≡◌, length}
 use Rattle.std.proofs.Common.{◌∙◌, subst, arith}
 use Rattle.graph_reduce.specs.Clear.{IsClearTo}
 use Rattle.graph_reduce.proofs.lemmas.Clearing.{then_steps, tidy_from_clear}
+use Rattle.graph_reduce.proofs.lemmas.Renewing.{numbered_within}
 use Rattle.graph_reduce.proofs.tidy.drop_parallels.Goals as goal
 
 pub loop-place-preserved : goal.loop-place-preserved
 loop-place-preserved c = record {
-  leads = then_steps c.args.work.now c.loop-place.work c.drop_parallels_of.new.work c.loop-place.invariant.leads
-      c.drop_parallels_of.ensures.leads;
-  places = c.drop_parallels_of.ensures.places ∙ c.loop-place.invariant.places;
-  clear = c.drop_parallels_of.ensures.clear;
+  leads = then_steps c.args.work.now c.loop-place.work c.drop_parallels_at.new.work c.loop-place.invariant.leads
+      c.drop_parallels_at.ensures.leads;
+  places = c.drop_parallels_at.ensures.within.places ∙ c.loop-place.invariant.places;
+  clear = c.drop_parallels_at.ensures.clear;
+  numbered = numbered_within c.loop-place.work c.drop_parallels_at.new.work c.loop-place.invariant.numbered
+      c.drop_parallels_at.ensures.within c.drop_parallels_at.ensures.rest.0 c.drop_parallels_at.ensures.rest.1;
+  survey = c.drop_parallels_at.ensures.survey;
 }
 
 pub returns-clause-tidy : goal.returns-clause-tidy

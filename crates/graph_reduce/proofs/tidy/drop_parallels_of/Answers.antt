@@ -1,25 +1,74 @@
-use Rattle.std.specs.Prelude.{◌≡◌, length}
-use Rattle.std.proofs.Common.{◌∙◌, subst, arith}
-use Rattle.graph_reduce.specs.Clear.{IsClearTo}
-use Rattle.graph_reduce.proofs.lemmas.Clearing.{then_steps, clear_next}
+use Rattle.std.specs.Prelude.{◌≡◌, ◌⊎◌, ◌+◌, length, None, Some}
+use Rattle.std.proofs.Common.{refl, sym, ap, ◌∙◌, subst, arith}
+use Rattle.std.proofs.lemmas.Option.{same_Some}
+use Rattle.graph_reduce.specs.State.{Bundle}
+use Rattle.graph_reduce.proofs.lemmas.Alike.{clear_past}
+use Rattle.graph_reduce.proofs.lemmas.Clearing.{no_steps, then_steps, within_then, clear_start, clear_gone, clear_next}
+use Rattle.graph_reduce.proofs.lemmas.Ends.{same_edge}
+use Rattle.graph_reduce.proofs.lemmas.NodeKinds.{below_end}
 use Rattle.graph_reduce.proofs.tidy.drop_parallels_of.Goals as goal
 
-pub loop-later-preserved : goal.loop-later-preserved
-loop-later-preserved c = record {
-  leads = then_steps c.args.work.now c.loop-later.work c.drop_longer.new.work c.loop-later.invariant.leads
+pub overflow_add-later : goal.overflow_add-later
+overflow_add-later c = omega (arith, c.requires.few)
+
+pub loop-n-init : goal.loop-n-init
+loop-n-init c = record {
+  past = omega arith;
+  few = omega (arith, c.requires.few);
+  leads = no_steps c.args.work.now;
+  within = record { places = refl; edges = λ n x at. at };
+  rest = (refl, refl);
+  end = λ x at. let (y, y_at, ends) = c.requires.end in
+      subst (λ (b : Bundle). (b.edge.a ≡ c.args.node) ⊎ (b.edge.b ≡ c.args.node))
+      (same_edge c.args.work.now c.args.place y x y_at at) ends;
+  clear = clear_start c.args.work.now (length c.args.work.now.edges) c.args.place c.requires.clear;
+  places = c.requires.places;
+}
+
+pub drop_longer-requires-clause-later : goal.drop_longer-requires-clause-later
+drop_longer-requires-clause-later c = below_end c.loop-n.work c.args.node c.in-Some.n c.in-Some.ensures.next.ends
+
+pub drop_longer-requires-clause-clear : goal.drop_longer-requires-clause-clear
+drop_longer-requires-clause-clear c = clear_past c.loop-n.work (length c.loop-n.work.edges) c.args.place c.loop-n.later
+    c.in-Some.n c.args.node c.loop-n.invariant.end c.in-Some.ensures.next.none c.loop-n.invariant.clear
+
+pub edge-requires : goal.edge-requires
+edge-requires c =
+    let below = below_end c.args.work.now c.args.node c.args.place c.requires.end in
+    omega (arith, below, c.loop-n.invariant.within.places, c.drop_longer.ensures.within.places)
+
+pub returns-in_default-edge-clause-leads : goal.returns-in_default-edge-clause-leads
+returns-in_default-edge-clause-leads c = then_steps c.args.work.now c.loop-n.work c.drop_longer.new.work
+    c.loop-n.invariant.leads c.drop_longer.ensures.leads
+
+pub returns-in_default-edge-clause-clear : goal.returns-in_default-edge-clause-clear
+returns-in_default-edge-clause-clear c = clear_gone c.drop_longer.new.work (length c.drop_longer.new.work.edges)
+    c.args.place (c.in-Some.n + 1)
+    (λ x at. let none : None ≡ Some x = same_Some None (Some x) (sym c.in_default-edge.ensures ∙ at) in cc)
+    c.drop_longer.ensures.clear
+
+pub returns-in_default-edge-clause-places : goal.returns-in_default-edge-clause-places
+returns-in_default-edge-clause-places c = λ n (x, at, ends).
+    c.next_end.ensures.places n (x, c.drop_longer.ensures.within.edges n x at, ends)
+
+pub loop-n-preserved : goal.loop-n-preserved
+loop-n-preserved c = record {
+  past = (let past = c.loop-n.invariant.past in let from = c.in-Some.ensures.next.from in omega arith);
+  few = omega (arith, c.in-Some.ensures.below);
+  leads = then_steps c.args.work.now c.loop-n.work c.drop_longer.new.work c.loop-n.invariant.leads
       c.drop_longer.ensures.leads;
-  places = c.drop_longer.ensures.within.places ∙ c.loop-later.invariant.places;
+  within = within_then c.drop_longer.new.work c.loop-n.work c.args.work.now c.drop_longer.ensures.within
+      c.loop-n.invariant.within;
+  rest = (
+    c.drop_longer.ensures.rest.0 ∙ c.loop-n.invariant.rest.0,
+    c.drop_longer.ensures.rest.1 ∙ c.loop-n.invariant.rest.1,
+  );
+  end = λ x at. c.loop-n.invariant.end x (c.drop_longer.ensures.within.edges c.args.place x at);
   clear = c.drop_longer.ensures.clear;
+  places = λ n (x, at, ends). c.next_end.ensures.places n (x, c.drop_longer.ensures.within.edges n x at, ends);
 }
 
 pub returns-clause-clear : goal.returns-clause-clear
-returns-clause-clear c =
-    let same : c.loop-later.later ≡ length c.loop-later.work.edges = omega (
-      arith,
-      c.place_count-end.ensures.count,
-      c.loop-later.invariant.places,
-      c.loop-later.auto.later-end,
-    ) in
-    clear_next c.loop-later.work (length c.loop-later.work.edges) c.args.place
-    (subst (IsClearTo c.loop-later.work
-    (length c.loop-later.work.edges) c.args.place) same c.loop-later.invariant.clear)
+returns-clause-clear c = clear_next c.loop-n.work (length c.loop-n.work.edges) c.args.place
+    (clear_past c.loop-n.work (length c.loop-n.work.edges) c.args.place c.loop-n.later (length c.loop-n.work.edges)
+    c.args.node c.loop-n.invariant.end (λ k from below. c.in_default.ensures.next k from) c.loop-n.invariant.clear)

@@ -1,8 +1,0 @@
-use Rattle.graph_reduce.proofs.lemmas.Clearing.{then_steps}
-use Rattle.graph_reduce.proofs.tidy.tidy.Goals as goal
-
-pub returns-clause-leads : goal.returns-clause-leads
-returns-clause-leads c = then_steps c.args.work.now c.drop_idle_edges.new.work c.drop_parallels.new.work
-    c.drop_idle_edges.ensures.leads
-    (then_steps c.drop_idle_edges.new.work c.drop_loops.new.work c.drop_parallels.new.work
-    c.drop_loops.ensures.leads c.drop_parallels.ensures.leads)

@@ -1,7 +1,0 @@
-use Rattle.std.proofs.Common.{◌≡◌, length, take}
-use Rattle.net_graph.specs.Members.{members_of}
-use Rattle.graph_tools.proofs.lifted.count_of.Given as goal
-
--- how many of the numbers passed are members
-abbrev pub invariant-loop-e : goal.invariant-loop-e
-invariant-loop-e l = l.count ≡ length (members_of (take l.e l.set))
