@@ -40,4 +40,7 @@ pub trait CutFinder {
         wanted: Wanted,
         entered: &mut Vec<u32>,
     ) -> Result<bool, AllocError>;
+
+    /// How many arcs it has looked at so far; 0 where it doesn't count them.
+    fn looks(&self) -> u64;
 }

@@ -16,6 +16,8 @@ pub struct Flow {
     changed: Vec<u32>,
     // The places of the arcs on the way that is tried, from the inside.
     way: Vec<u32>,
+    // How many arcs were looked at.
+    looks: u64,
 }
 
 impl Flow {
@@ -26,6 +28,7 @@ impl Flow {
             amounts: vec![in alloc; 0; arcs]?,
             changed: Vec::new(alloc),
             way: Vec::new(alloc),
+            looks: 0,
         })
     }
 
@@ -123,6 +126,7 @@ impl Flow {
         let end = steps.first(vertex.wrapping_add(1));
         for place in mark.place..end {
             let step = steps.step(place);
+            self.looks = self.looks.wrapping_add(1);
             if self.levels.follows(step.tail, mark) && query.room(step, &self.amounts) > 0 {
                 self.levels.set_place(vertex, place);
                 return Some(step);
@@ -152,6 +156,11 @@ impl Flow {
             least = least.min(query.room(steps.step(*place), &self.amounts));
         }
         least
+    }
+
+    /// How many arcs were looked at so far.
+    pub fn looks(&self) -> u64 {
+        self.looks.wrapping_add(self.levels.looks)
     }
 
     /// What flows along the arcs, less what flows back.

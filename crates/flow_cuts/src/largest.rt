@@ -12,6 +12,8 @@ pub struct Largest {
     marks: Vec<u64>,
     search: u64,
     reached: Vec<u32>,
+    /// How many arcs were looked at.
+    pub looks: u64,
 }
 
 impl Largest {
@@ -21,6 +23,7 @@ impl Largest {
             marks: vec![in alloc; 0; vertices as usize]?,
             search: 0,
             reached: Vec::new(alloc),
+            looks: 0,
         })
     }
 
@@ -91,7 +94,9 @@ impl Largest {
         flow: &[i64],
         vertex: u32,
     ) -> Result<(), AllocError> {
-        for step in steps.entering(vertex) {
+        let entering = steps.entering(vertex);
+        self.looks = self.looks.wrapping_add(entering.len() as u64);
+        for step in entering {
             if !self.has(step.tail) && query.room_back(*step, flow) > 0 {
                 self.reach(step.tail)?;
             }
@@ -118,7 +123,9 @@ impl Largest {
         vertex: u32,
         entered: &mut Vec<u32>,
     ) -> Result<(), AllocError> {
-        for step in steps.entering(vertex) {
+        let entering = steps.entering(vertex);
+        self.looks = self.looks.wrapping_add(entering.len() as u64);
+        for step in entering {
             if at(&self.marks, step.tail, 0) == self.search.wrapping_sub(1) {
                 if !step.on_tree {
                     entered.push(step.arc)?;

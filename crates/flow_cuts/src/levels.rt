@@ -31,6 +31,8 @@ pub struct Levels {
     pub reached: Vec<u32>,
     // The level at which the outside was reached, or `NONE`.
     end: u32,
+    /// How many arcs were looked at.
+    pub looks: u64,
 }
 
 impl Levels {
@@ -41,6 +43,7 @@ impl Levels {
             search: 0,
             reached: Vec::new(alloc),
             end: NONE,
+            looks: 0,
         })
     }
 
@@ -85,7 +88,9 @@ impl Levels {
         vertex: u32,
     ) -> Result<(), AllocError> {
         let level = self.level(vertex).wrapping_add(1);
-        for step in steps.entering(vertex) {
+        let entering = steps.entering(vertex);
+        self.looks = self.looks.wrapping_add(entering.len() as u64);
+        for step in entering {
             if self.has(step.tail) || query.room(*step, flow) <= 0 {
                 continue;
             }

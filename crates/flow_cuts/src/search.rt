@@ -104,4 +104,8 @@ impl CutFinder for FlowCuts {
             .list(&self.steps, query, self.flow.amounts(), entered)?;
         Ok(true)
     }
+
+    fn looks(&self) -> u64 {
+        self.flow.looks().wrapping_add(self.largest.looks)
+    }
 }

@@ -1,6 +1,6 @@
 //! What is done with a search before its first split.
 
-ghost use Rattle.std.specs.Prelude.{◌≡◌, OnOk};
+ghost use Rattle.std.specs.Prelude.{◌≡◌};
 ghost use Rattle.net_graph.specs.Graph.{Graph};
 ghost use Rattle.cert_tree.specs.Preorder.{split_count};
 
@@ -21,7 +21,7 @@ pub trait Raising {
     ) -> Result<(), AllocError>
         requires graph { is_for self.now search.old.graph }
         requires leaf { split_count search.old.tree ≡ 0 }
-        ensures graph { OnOk result (search.new.graph ≡ search.old.graph) }
-        ensures first { OnOk result (search.new.first_length ≡ search.old.first_length) }
-        ensures leaf { OnOk result (split_count search.new.tree ≡ 0) };
+        ensures graph { search.new.graph ≡ search.old.graph }
+        ensures first { search.new.first_length ≡ search.old.first_length }
+        ensures leaf { split_count search.new.tree ≡ 0 };
 }

@@ -1,6 +1,6 @@
 //! Shorter networks that a search finds in its first leaf.
 
-ghost use Rattle.std.specs.Prelude.{◌≡◌, OnOk};
+ghost use Rattle.std.specs.Prelude.{◌≡◌};
 
 use crate::raising::Raising;
 use branch::Search;
@@ -43,9 +43,9 @@ pub fn offer_shorter<F: Rule, G: Rule>(
     search: &mut Search<'_, F, G>,
 ) -> Result<(), AllocError>
     requires graph { g.now ≡ search.old.graph }
-    ensures graph { OnOk result (search.new.graph ≡ search.old.graph) }
-    ensures first { OnOk result (search.new.first_length ≡ search.old.first_length) }
-    ensures tree { OnOk result (search.new.tree ≡ search.old.tree) }
+    ensures graph { search.new.graph ≡ search.old.graph }
+    ensures first { search.new.first_length ≡ search.old.first_length }
+    ensures tree { search.new.tree ≡ search.old.tree }
 {
     if let Some(shown) = search.shown() {
         let shorter = shortened(alloc, g, shown, descents)?;

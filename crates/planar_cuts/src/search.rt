@@ -101,6 +101,10 @@ impl CutFinder for PlanarCuts {
     ) -> Result<bool, AllocError> {
         Ok(false)
     }
+
+    fn looks(&self) -> u64 {
+        0
+    }
 }
 
 // The faces beside an arc.
