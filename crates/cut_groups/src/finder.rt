@@ -29,4 +29,18 @@ pub trait CutFinder {
         wanted: Wanted,
         entered: &mut Vec<u32>,
     ) -> Result<Option<i64>, AllocError>;
+
+    /// Another cheapest cut, where the finder has one at hand: the largest. The arguments are those of the last call of
+    /// `cheapest`, which found one; `entered` becomes the list of its arcs. Whether there is one. An `Err` is want of
+    /// memory.
+    fn largest(
+        &mut self,
+        tree: &Tree,
+        prices: &[i64],
+        wanted: Wanted,
+        entered: &mut Vec<u32>,
+    ) -> Result<bool, AllocError>;
+
+    /// How many arcs it has looked at so far; 0 where it doesn't count them.
+    fn looks(&self) -> u64;
 }

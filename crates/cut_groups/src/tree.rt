@@ -118,6 +118,15 @@ impl Tree {
             && !(outer.enter <= lower.enter && lower.enter < outer.leave)
     }
 
+    /// Whether the tree has a vertex, neither at another one nor below it.
+    #[inline]
+    pub fn is_beside(&self, vertex: u32, head: u32) -> bool {
+        let span = at(&self.spans, vertex, NO_SPAN);
+        let upper = at(&self.spans, head, NO_SPAN);
+        let is_below = upper.enter <= span.enter && span.enter < upper.leave;
+        span.enter < span.leave && !is_below
+    }
+
     // Numbers a vertex, and makes the group of the arc into it; `numbers` has its size, then the next number of one
     // below it. An `Err` is want of memory.
     fn number(

@@ -3,11 +3,13 @@
 #![tactic(auto)]
 
 mod answering;
+mod exchanging;
 mod raising;
 mod search;
 mod shortening;
 
 pub use answering::answer_with;
+pub use exchanging::{Exchanger, Exchanges};
 pub use raising::Raising;
 pub use search::searched;
 pub use shortening::{Shortening, offer_shorter};

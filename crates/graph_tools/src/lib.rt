@@ -2,6 +2,7 @@
 #![tactic(auto)]
 
 mod checking;
+mod ladder;
 mod lifted;
 mod lifting;
 mod reducing;

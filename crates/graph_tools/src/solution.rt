@@ -5,17 +5,15 @@ ghost use Rattle.net_graph.specs.Network.{IsNetwork};
 ghost use Rattle.graph_solve.specs.Task.{all_edges};
 ghost use Rattle.graph_tools.specs.Solution.{IsAnswerFor, IsFor, IsPrintable, IsSpelled, solution_status, solution_text};
 
+use crate::ladder::Ladder;
 use cut_cert::{Answer as CutAnswer, ConcatNote, write_graph_answer};
 use frame::{Answer, AnswerStatus};
-use graph_search::{Shortening, answer_with, searched};
+use graph_search::{answer_with, searched};
 use graph_solve::first_network;
 use net_graph::NetGraph;
 use rst_outside::{PutFault, Sink};
 use search_rules::GraphOptions;
 use std::alloc::{AllocError, Global};
-
-// In how many descents of local search the network that the first leaf shows is made shorter at most.
-const DESCENTS: u32 = 20;
 
 // Nothing is told of a concatenation.
 const NO_NOTE: ConcatNote = ConcatNote {
@@ -67,7 +65,7 @@ pub fn solution_in(
 }
 
 /// What is answered in a graph: what a search finds that begins with a network which grows along shortest paths and is
-/// made short by local search. An `Err` is want of memory.
+/// made short by local search, and that is raised by exchanges. An `Err` is want of memory.
 pub(crate) fn answer_in(
     alloc: Global,
     graph: &NetGraph,
@@ -77,10 +75,6 @@ pub(crate) fn answer_in(
     ensures { IfOk result (IsAnswerFor options.openings graph.now) }
 {
     let first = first_network(alloc, graph)?;
-    let shortening = Shortening {
-        graph,
-        descents: DESCENTS,
-    };
-    let solved = searched(alloc, graph, first, options, &shortening)?;
+    let solved = searched(alloc, graph, first, options, &Ladder { graph })?;
     Ok(answer_with(options.openings, NO_NOTE, solved))
 }

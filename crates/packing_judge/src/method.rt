@@ -1,17 +1,18 @@
 //! The exchange method, of which the result is judged.
 
-ghost use Rattle.std.specs.Prelude.{◌≡◌, length, IfOk};
+ghost use Rattle.std.specs.Prelude.{◌≡◌, ◌≤◌, ◌^◌, length, IfOk, IfErr};
 ghost use Rattle.net_graph.specs.Network.{length_of};
 ghost use Rattle.hanan_grid.specs.Grid.{hanan_grid_of};
 ghost use Rattle.packing_judge.specs.Outcome.{IsOutcomeFor};
 
 use crate::bound::{Bound, judged};
-use cut_groups::Tree;
+use cut_groups::{CutFinder, Tree};
+use flow_cuts::FlowCuts;
 use hanan_grid::Grid;
-use net_graph::{EdgeSet, length};
+use net_graph::{EdgeSet, NetGraph, length};
 use planar_cuts::PlanarCuts;
 use std::alloc::{AllocError, Global};
-use tight_packing::{Budget, Proposal, propose};
+use tight_packing::{Budget, Proposal, Settings, propose};
 
 // Longer networks are refused.
 const MAX_LENGTH: u64 = 1 << 42;
@@ -43,15 +44,75 @@ pub fn exchange(
         (IsOutcomeFor (hanan_grid_of grid.now) (length_of (hanan_grid_of grid.now) network.now)) }
 {
     let graph = grid.graph();
+    let aim = match aim_of(alloc, graph, network)? {
+        Ok(aim) => aim,
+        Err(outcome) => return Ok(outcome),
+    };
+    let finder = PlanarCuts::new(alloc, grid, &aim.tree)?;
+    exchanged(alloc, graph, aim, finder, Settings::GRIDS, budget)
+}
+
+/// The same for a network of any graph.
+pub fn exchange_in(
+    alloc: Global,
+    graph: &NetGraph,
+    network: &EdgeSet,
+    budget: Budget,
+) -> Result<Outcome, AllocError>
+    requires { length network.now ≡ length graph.now.edges }
+    ensures { IfOk result (IsOutcomeFor graph.now (length_of graph.now network.now)) }
+{
+    let aim = match aim_of(alloc, graph, network)? {
+        Ok(aim) => aim,
+        Err(outcome) => return Ok(outcome),
+    };
+    let finder = FlowCuts::new(alloc, graph, &aim.tree)?;
+    exchanged(alloc, graph, aim, finder, Settings::GRAPHS, budget)
+}
+
+// What an exchange aims at: the tree of a network, and the network's length.
+#[derive(Drop)]
+struct Aim {
+    tree: Tree,
+    length: u64,
+}
+
+// What an exchange against a network aims at, or how it ends at once. An `Err` is want of memory.
+fn aim_of(
+    alloc: Global,
+    graph: &NetGraph,
+    network: &EdgeSet,
+) -> Result<Result<Aim, Outcome>, AllocError>
+    requires { length network.now ≡ length graph.now.edges }
+    ensures length { IfOk result (λ found. IfOk found (λ aim. aim.length ≡ length_of graph.now network.now)) }
+    ensures short { IfOk result (λ found. IfOk found (λ aim. aim.length ≤ 2 ^ 42)) }
+    ensures ends { IfOk result (λ found. IfErr found (IsOutcomeFor graph.now (length_of graph.now network.now))) }
+{
     let length = length(graph, network);
     if length > MAX_LENGTH {
-        return Ok(Outcome::TooLong);
+        return Ok(Err(Outcome::TooLong));
     }
-    let Some(tree) = Tree::of(alloc, graph, network)? else {
-        return Ok(Outcome::Exhausted(None));
-    };
-    let mut finder = PlanarCuts::new(alloc, grid, &tree)?;
-    let proposal = propose(alloc, graph, tree, length, &mut finder, budget)?;
+    match Tree::of(alloc, graph, network)? {
+        Some(tree) => Ok(Ok(Aim { tree, length })),
+        None => Ok(Err(Outcome::Exhausted(None))),
+    }
+}
+
+// How an exchange ends that has this aim. An `Err` is want of memory.
+fn exchanged<F: CutFinder + Drop>(
+    alloc: Global,
+    graph: &NetGraph,
+    aim: Aim,
+    finder: F,
+    settings: Settings,
+    budget: Budget,
+) -> Result<Outcome, AllocError>
+    requires { aim.length ≤ 2 ^ 42 }
+    ensures { IfOk result (IsOutcomeFor graph.now aim.length) }
+{
+    let Aim { tree, length } = aim;
+    let mut finder = finder;
+    let proposal = propose(alloc, graph, tree, length, &mut finder, settings, budget)?;
     let Proposal {
         packing,
         is_impossible,

@@ -91,6 +91,20 @@ impl CutFinder for PlanarCuts {
         self.back.trace(meeting.face, self.searches, entered)?;
         Ok(Some(meeting.bound))
     }
+
+    fn largest(
+        &mut self,
+        _tree: &Tree,
+        _prices: &[i64],
+        _wanted: Wanted,
+        _entered: &mut Vec<u32>,
+    ) -> Result<bool, AllocError> {
+        Ok(false)
+    }
+
+    fn looks(&self) -> u64 {
+        0
+    }
 }
 
 // The faces beside an arc.

@@ -7,6 +7,8 @@ pub struct Budget {
     pub rounds: u32,
     /// Searches for a new cut.
     pub searches: u32,
+    /// Arcs that the finder of cuts looks at, where it counts them.
+    pub looks: u64,
     /// Moves of weight from one cut to another.
     pub moves: u32,
     /// The seed of the drawn numbers: another seed is another attempt.
@@ -18,6 +20,7 @@ impl Budget {
     pub const USUAL: Budget = Budget {
         rounds: 250,
         searches: 400_000,
+        looks: u64::MAX,
         moves: 4_000_000,
         seed: 20240607,
     };

@@ -77,11 +77,19 @@ impl State {
                 limit,
             };
             if self.search(finder, wanted)?.is_some() {
-                let offered = self.pool.offer(group, &self.found)?;
-                found |= matches!(offered, Offered::Taken(_));
+                found |= self.offer_found(group)?;
+                if finder.largest(&self.tree, self.loads.prices(), wanted, &mut self.found)? {
+                    found |= self.offer_found(group)?;
+                }
             }
         }
         Ok(found)
+    }
+
+    // Offers the pool the cut that was found last, and tells whether it is new. An `Err` is want of memory.
+    fn offer_found(&mut self, group: u32) -> Result<bool, AllocError> {
+        let offered = self.pool.offer(group, &self.found)?;
+        Ok(matches!(offered, Offered::Taken(_)))
     }
 
     /// Searches a cheapest cut in the prices by overload; `found` is then its list. An `Err` is want of memory.

@@ -17,6 +17,7 @@ mod random;
 mod rounding;
 mod rounds;
 mod scale;
+mod settings;
 mod start;
 mod state;
 mod sweep;
@@ -28,3 +29,4 @@ mod users;
 
 pub use budget::Budget;
 pub use method::{Proposal, propose};
+pub use settings::Settings;

@@ -1,5 +1,6 @@
 //! The loads of the arcs, what is above their thresholds, and the prices that follow from it.
 
+use crate::settings::Settings;
 use cut_groups::{BLOCKED, Tree, at, count, set};
 use net_graph::NetGraph;
 use std::alloc::{AllocError, Global};
@@ -9,9 +10,6 @@ pub const PARTS: i64 = 16;
 
 /// What an arc costs is this times its overload, and a small charge.
 pub const OVER_FACTOR: i64 = 16;
-
-// Units kept free on each arc at first; the rounding spends them.
-const RESERVE: i64 = 4;
 
 /// The limits of an arc, in parts.
 #[derive(Clone, Copy)]
@@ -34,6 +32,7 @@ pub struct Loads {
     prices: Vec<i64>,
     // Thresholds are not lowered below this.
     lowest: i64,
+    settings: Settings,
 }
 
 /// The limits of no arc.
@@ -50,6 +49,7 @@ impl Loads {
         graph: &NetGraph,
         tree: &Tree,
         unit: u64,
+        settings: Settings,
     ) -> Result<Loads, AllocError> {
         let arcs = graph.edges().len().saturating_mul(2);
         let mut loads = Loads {
@@ -58,6 +58,7 @@ impl Loads {
             charges: vec![in alloc; 1; arcs]?,
             prices: vec![in alloc; 1; arcs]?,
             lowest: 0,
+            settings,
         };
         for edge in graph.edges() {
             let units = edge.length.checked_div(unit).unwrap_or(0);
@@ -78,7 +79,8 @@ impl Loads {
     // Appends an arc of a length in units. An `Err` is want of memory.
     fn push(&mut self, length: i64) -> Result<(), AllocError> {
         let capacity = length.wrapping_mul(PARTS);
-        let reserve = (RESERVE * PARTS).min(capacity.wrapping_shr(1));
+        let kept = self.settings.reserve.wrapping_mul(PARTS);
+        let reserve = kept.min(capacity.wrapping_shr(1));
         let threshold = capacity.wrapping_sub(reserve);
         self.limits.push(Limit {
             capacity,
@@ -140,7 +142,12 @@ impl Loads {
     #[inline]
     fn price_anew(&mut self, arc: u32) {
         let over = self.over(arc).wrapping_mul(OVER_FACTOR);
-        let price = at(&self.charges, arc, BLOCKED).wrapping_add(over);
+        let charge = at(&self.charges, arc, BLOCKED);
+        let price = if over == 0 && charge < BLOCKED && !self.settings.charges_all {
+            0
+        } else {
+            charge.wrapping_add(over)
+        };
         set(&mut self.prices, arc, price.min(BLOCKED));
     }
 

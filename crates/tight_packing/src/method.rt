@@ -6,6 +6,7 @@ use crate::budget::Budget;
 use crate::flood::Flood;
 use crate::rounds::{Ending, Rounds};
 use crate::scale::unit_for;
+use crate::settings::Settings;
 use crate::state::State;
 use cut_groups::{CutFinder, Tree};
 use net_graph::{Cut, NetGraph, Packing};
@@ -29,16 +30,17 @@ pub fn propose<F: CutFinder>(
     tree: Tree,
     aim: u64,
     finder: &mut F,
+    settings: Settings,
     budget: Budget,
 ) -> Result<Proposal, AllocError>
     ensures { IfOk result (λ proposal.
         All (λ c. length c.members ≡ graph.now.vertices) proposal.packing) }
 {
     let unit = unit_for(graph, aim);
-    let mut state = State::along(alloc, graph, tree, unit, budget.seed)?;
+    let mut state = State::along(alloc, graph, tree, unit, settings, budget.seed)?;
     state.start(finder)?;
     let terminals = graph.terminals().len();
-    let ending = Rounds::new(terminals).play(&mut state, finder, budget)?;
+    let ending = Rounds::new(terminals, settings).play(&mut state, finder, budget)?;
     state.kept.relieve(alloc, &state.loads)?;
     let packing = packing_of(alloc, graph, &state, unit)?;
     Ok(Proposal {

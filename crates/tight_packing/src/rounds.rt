@@ -2,6 +2,7 @@
 
 use crate::budget::Budget;
 use crate::loads::PARTS;
+use crate::settings::Settings;
 use crate::state::State;
 use crate::unit_search::UnitLimits;
 use cut_groups::CutFinder;
@@ -19,22 +20,11 @@ const FIRST_ROUNDS: u32 = 4;
 // Rounds with multipliers after which the groups are rounded, however great the overload.
 const FINE_ROUNDS: u32 = 100;
 
-// The least rounds of a later fine phase.
-const LEAST_FINE_ROUNDS: u32 = 10;
-
-// In each round of the rounding so many parts of the groups become whole: all are after so many rounds.
-const ROUNDING_ROUNDS: u32 = 10;
-
-// Rounds in which all groups are whole; then it is back to the fine phase.
-const WHOLE_ROUNDS: u32 = 30;
-
 // The overload in units at which the rounding begins shrinks by this with each return to the fine phase, to no less
 // than the least.
 const SHRINKING_BY: i64 = 2;
 
 const SHRINKING_OF: i64 = 5;
-
-const LEAST_FINE_EXCESS: i64 = 10;
 
 // A unit search is tried at this overload in units, or after so many whole rounds; so many rounds
 // are between two.
@@ -81,6 +71,7 @@ enum Phase {
 /// Where the rounds stand.
 #[derive(Clone, Copy)]
 pub struct Rounds {
+    settings: Settings,
     phase: Phase,
     // The round in which the phase began, and how often the fine phase was come back to.
     phase_since: u32,
@@ -101,12 +92,13 @@ pub struct Rounds {
 
 impl Rounds {
     /// Before the first round, for so many terminals.
-    pub fn new(terminals: usize) -> Rounds {
+    pub fn new(terminals: usize, settings: Settings) -> Rounds {
         Rounds {
+            settings,
             phase: Phase::Fine,
             phase_since: 0,
             returns: 0,
-            fine_excess: first_fine_excess(terminals),
+            fine_excess: first_fine_excess(terminals).min(settings.most_excess),
             whole: 0,
             last_potential: None,
             is_stagnant: false,
@@ -149,8 +141,7 @@ impl Rounds {
         budget: Budget,
     ) -> Result<Ending, AllocError> {
         for _ in 0..budget.rounds {
-            let work = state.work;
-            if work.searches >= budget.searches || work.moves >= budget.moves {
+            if state.work.is_past(budget) || finder.looks() >= budget.looks {
                 break;
             }
             if let Some(ending) = self.round(state, finder)? {
@@ -212,7 +203,8 @@ impl Rounds {
             None => false,
         };
         let is_small = state.loads.true_excess() <= self.fine_excess.wrapping_mul(PARTS)
-            && (self.returns == 0 || round.wrapping_sub(self.phase_since) >= LEAST_FINE_ROUNDS);
+            && (self.returns == 0
+                || round.wrapping_sub(self.phase_since) >= self.settings.fine_rounds);
         if self.phase == Phase::Fine && (is_small || is_long) {
             self.phase = Phase::Rounding;
             self.phase_since = round;
@@ -233,7 +225,8 @@ impl Rounds {
         if self.whole >= state.tree.groups() && self.try_units(state, finder, stay)? {
             return Ok(true);
         }
-        if stay >= ROUNDING_ROUNDS + WHOLE_ROUNDS {
+        let rounding = self.settings.rounding_rounds;
+        if stay >= rounding.saturating_add(self.settings.whole_rounds) {
             self.refine(state);
         }
         Ok(false)
@@ -242,7 +235,7 @@ impl Rounds {
     // Makes some groups whole. An `Err` is want of memory.
     fn round_groups(&mut self, state: &mut State, stay: u32) -> Result<(), AllocError> {
         let groups = state.tree.groups();
-        let share = groups.div_ceil(ROUNDING_ROUNDS);
+        let share = groups.div_ceil(self.settings.rounding_rounds.max(1));
         let aim = share.saturating_mul(stay.saturating_add(1)).min(groups);
         for place in self.whole..aim {
             let group = state.group_to_round(place);
@@ -261,7 +254,8 @@ impl Rounds {
     ) -> Result<bool, AllocError> {
         let excess = state.loads.true_excess();
         let round = state.work.rounds;
-        let is_ripe = excess <= UNIT_EXCESS * PARTS || stay >= ROUNDING_ROUNDS + UNIT_WAIT;
+        let wait = self.settings.rounding_rounds.saturating_add(UNIT_WAIT);
+        let is_ripe = excess <= UNIT_EXCESS * PARTS || stay >= wait;
         if excess != 0 && !(is_ripe && is_past(self.last_unit_search, round, UNIT_GAP)) {
             return Ok(false);
         }
@@ -283,7 +277,7 @@ impl Rounds {
         self.multiplying_since = Some(state.work.rounds);
         self.returns = self.returns.saturating_add(1);
         let excess = self.fine_excess.wrapping_mul(SHRINKING_BY) / SHRINKING_OF;
-        self.fine_excess = excess.max(LEAST_FINE_EXCESS);
+        self.fine_excess = excess.max(self.settings.least_excess);
         self.double_unit_steps();
         self.whole = 0;
         state.refine_all();

@@ -1,10 +1,12 @@
 //! What the exchange works with.
 
+use crate::budget::Budget;
 use crate::kept::Kept;
 use crate::line::Line;
 use crate::loads::Loads;
 use crate::pool::Pool;
 use crate::random::Random;
+use crate::settings::Settings;
 use crate::tidy::Tidier;
 use crate::units::Units;
 use cut_groups::Tree;
@@ -18,6 +20,13 @@ pub struct Work {
     pub sweeps: u32,
     pub searches: u32,
     pub moves: u32,
+}
+
+impl Work {
+    /// Whether it has spent the searches or the moves of a budget.
+    pub fn is_past(self, budget: Budget) -> bool {
+        self.searches >= budget.searches || self.moves >= budget.moves
+    }
 }
 
 /// A tree, a pool of cuts along it, and the work space.
@@ -54,10 +63,11 @@ impl State {
         graph: &NetGraph,
         tree: Tree,
         unit: u64,
+        settings: Settings,
         seed: u64,
     ) -> Result<State, AllocError> {
         let groups = tree.groups();
-        let loads = Loads::none(alloc, graph, &tree, unit)?;
+        let loads = Loads::none(alloc, graph, &tree, unit, settings)?;
         let arcs = loads.len();
         Ok(State {
             pool: Pool::empty(alloc, groups)?,

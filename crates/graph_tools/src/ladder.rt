@@ -1,0 +1,86 @@
+//! What is done with a search in a graph before its first split.
+
+ghost use Rattle.std.specs.Prelude.{◌≡◌};
+
+use branch::Search;
+use dual_ascent::Rule;
+use graph_search::{Exchanger, Exchanges, Raising, Shortening};
+use net_graph::{EdgeSet, NetGraph};
+use packing_judge::{Outcome, exchange_in};
+use std::alloc::{AllocError, Global};
+use tight_packing::Budget;
+
+// In how many descents of local search a network that the first leaf shows is made shorter at most.
+const DESCENTS: u32 = 20;
+
+// What the first exchange may do, and each other one. The looks keep the largest graphs to some seconds: a hundred
+// million take about one.
+const FIRST_BUDGET: Budget = Budget {
+    rounds: 250,
+    searches: 200_000,
+    looks: 250_000_000,
+    moves: 2_000_000,
+    seed: 20240607,
+};
+
+const FURTHER_BUDGET: Budget = Budget {
+    rounds: 200,
+    searches: 100_000,
+    looks: 125_000_000,
+    moves: 1_000_000,
+    seed: 20240608,
+};
+
+/// The steps that raise a search in a graph, each where the ones before didn't settle it: a local search makes the
+/// network that the first leaf shows shorter; then cuts are exchanged.
+#[derive(Clone, Copy)]
+pub(crate) struct Ladder<'a> {
+    pub graph: &'a NetGraph,
+}
+
+impl Raising for Ladder<'_> {
+    ghost is_for = { λ ladder g. ladder.graph.now ≡ g };
+
+    fn raise<F: Rule, G: Rule>(
+        &self,
+        alloc: Global,
+        search: &mut Search<'_, F, G>,
+    ) -> Result<(), AllocError> {
+        let graph = self.graph;
+        let shortening = Shortening {
+            graph,
+            descents: DESCENTS,
+        };
+        shortening.raise(alloc, search)?;
+        let exchanges = Exchanges {
+            exchanger: InGraph { graph },
+            first: FIRST_BUDGET,
+            further: FURTHER_BUDGET,
+            descents: DESCENTS,
+        };
+        exchanges.raise(alloc, search)
+    }
+}
+
+// What makes exchanges in a graph.
+#[derive(Drop)]
+struct InGraph<'a> {
+    graph: &'a NetGraph,
+}
+
+impl Exchanger for InGraph<'_> {
+    ghost graph = { λ place. place.graph.now };
+
+    fn graph(&self) -> &NetGraph {
+        self.graph
+    }
+
+    fn exchange(
+        &self,
+        alloc: Global,
+        network: &EdgeSet,
+        budget: Budget,
+    ) -> Result<Outcome, AllocError> {
+        exchange_in(alloc, self.graph, network, budget)
+    }
+}

@@ -1,0 +1,45 @@
+//! How an exchange goes.
+
+/// How an exchange goes on grids, and how in other graphs.
+#[derive(Clone, Copy, Debug)]
+pub struct Settings {
+    /// Units kept free on each arc at first, of at most half its length; the rounding spends them.
+    pub reserve: i64,
+    /// Whether an arc that isn't overloaded is charged by how full it is.
+    pub charges_all: bool,
+    /// The rounding first begins at no greater an overload in units.
+    pub most_excess: i64,
+    /// Later roundings begin at this overload in units, or before.
+    pub least_excess: i64,
+    /// In each round of the rounding so many parts of the groups become whole: all are after so many rounds.
+    pub rounding_rounds: u32,
+    /// Rounds in which all groups are whole; then it is back to the fine phase.
+    pub whole_rounds: u32,
+    /// The least rounds of a later fine phase.
+    pub fine_rounds: u32,
+}
+
+impl Settings {
+    /// On grids, whose edges are many units long.
+    pub const GRIDS: Settings = Settings {
+        reserve: 4,
+        charges_all: true,
+        most_excess: i64::MAX,
+        least_excess: 10,
+        rounding_rounds: 10,
+        whole_rounds: 30,
+        fine_rounds: 10,
+    };
+
+    /// In other graphs: an edge may be one unit long, and where nothing is charged a flow lives on overloaded arcs
+    /// alone.
+    pub const GRAPHS: Settings = Settings {
+        reserve: 0,
+        charges_all: false,
+        most_excess: 2,
+        least_excess: 2,
+        rounding_rounds: 1,
+        whole_rounds: 15,
+        fine_rounds: 30,
+    };
+}
