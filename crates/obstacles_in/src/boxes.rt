@@ -101,7 +101,8 @@ pub(crate) fn read_boxes(
 {
     let mut boxes = Vec::with_capacity(alloc, count as usize)?;
     for _told in 0..count {
-        boxes.push_reserved(next_box(text, points)?);
+        let rectangle = next_box(text, points)?;
+        boxes.push_reserved(rectangle);
     }
     Ok(boxes)
 }

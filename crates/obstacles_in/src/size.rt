@@ -1,7 +1,6 @@
 //! How many vertices the grid of points and boxes has.
 
-ghost use Rattle.std.specs.Prelude.{◌≡◌, ◌≤◌, length, IfOk, IfErr};
-ghost use Rattle.std.specs.Prelude.{Ok};
+ghost use Rattle.std.specs.Prelude.{◌≡◌, ◌≤◌, length, IfOk, IfErr, Ok};
 ghost use Rattle.obstacles_in.specs.Obstacles.{marks_of, crossing_count};
 ghost use Rattle.obstacles_in.specs.Judged.{value_of, JudgesSize};
 ghost use Rattle.obstacles_in.specs.Left.{IsSizeFault, AreBoxesAround};
@@ -10,7 +9,7 @@ use crate::fault::ObstacleFault;
 use crate::obstacles::Obstacles;
 use crate::rectangle::Rectangle;
 use hanan_grid::{x_lines, y_lines};
-use points_in::{Point, Points};
+use points_in::{MAX_POINTS, Point, Points};
 use std::alloc::{AllocError, Global};
 
 // How many vertices the grid has at most.
@@ -57,6 +56,8 @@ pub(crate) fn sized(
     ensures ok { IfOk result (λ obstacles. JudgesSize (value_of points boxes.items) (Ok obstacles)) }
     ensures err { IfErr result (IsSizeFault (value_of points boxes.items)) }
 {
+    let count = points.len();
+    prove!(count <= MAX_POINTS);
     let vertices = crossings(alloc, points.as_slice(), boxes.as_slice())?;
     if vertices > MAX_VERTICES {
         return Err(ObstacleFault::TooLarge { vertices });
