@@ -5,5 +5,6 @@ pub mod Sound
 pub mod Complete
 pub mod LineWords
 pub mod Whole
+pub mod Reading
 pub mod Coordinates
 pub mod Marks

@@ -1,12 +1,12 @@
 -- A text comes to one outcome.
-use Rattle.std.specs.Prelude.{ℕ, zero, suc, ◌≡◌, ◌+◌, List, [], ◌∷◌, Any, Contains, Result, Err}
+use Rattle.std.specs.Prelude.{ℕ, zero, suc, ◌≡◌, ◌+◌, ◌<◌, ◌≤◌, List, [], ◌∷◌, Any, Contains, Result, Err}
 use Rattle.std.proofs.Common.{arith, sym, ap, ◌∙◌, subst, inl, inr}
 use Rattle.points_in.specs.declared.point.Point.{Point}
 use Rattle.obstacles_in.specs.declared.rectangle.Rectangle.{Rectangle}
 use Rattle.obstacles_in.specs.declared.fault.ObstacleFault.{ObstacleFault}
-use Rattle.obstacles_in.specs.Obstacles.{ObstaclesValue, IsBox, IsInside}
+use Rattle.obstacles_in.specs.Obstacles.{ObstaclesValue, IsBox, IsInside, crossing_count}
 use Rattle.obstacles_in.specs.Faults.{Told, nothing, title, points, boxes, ended, Passes, Fails, IsBoxFault, IsClear}
-use Rattle.obstacles_in.specs.Judged.{Judges, Ends, JudgesSize}
+use Rattle.obstacles_in.specs.Judged.{Judges, Ends, JudgesSize, value_of}
 use Rattle.obstacles_in.proofs.Unique.{point_one, points_one, boxes_one, coordinates_one}
 
 -- one thing is told with a line that passes
@@ -80,11 +80,15 @@ fails_one (boxes ps (suc due) bs) n words f g (inr (b, sb, wrong)) (inr (c, sc, 
     box_fault_one ps n c f g (subst (λ d. IsBoxFault ps n d f) (coordinates_one words b c sb sc) wrong) wrong'
 fails_one (ended ps bs) n words f g e e' = e ∙ sym e'
 
+-- few are not many
+apart : (n : ℕ) → n ≤ 2500 → 2500 < n → ⊥
+apart n few many = omega arith
+
 -- a value that was read whole comes to one outcome
 pub size_one : (v : ObstaclesValue) (o o' : Result ObstaclesValue ObstacleFault) → JudgesSize v o → JudgesSize v o' → o ≡ o'
 size_one v o o' (inl (few, e)) (inl (few', e')) = e ∙ sym e'
-size_one v o o' (inl (few, e)) (inr (many, e')) = absurd (omega arith)
-size_one v o o' (inr (many, e)) (inl (few, e')) = absurd (omega arith)
+size_one v o o' (inl (few, e)) (inr (many, e')) = absurd (apart (crossing_count v) few many)
+size_one v o o' (inr (many, e)) (inl (few, e')) = absurd (apart (crossing_count v) few many)
 size_one v o o' (inr (many, e)) (inr (many', e')) = e ∙ sym e'
 
 -- the end comes to one outcome
@@ -93,7 +97,7 @@ ends_one nothing n last o o' e e' = e ∙ sym e'
 ends_one title n last o o' e e' = e ∙ sym e'
 ends_one (points due ps) n last o o' e e' = e ∙ sym e'
 ends_one (boxes ps due bs) n last o o' e e' = e ∙ sym e'
-ends_one (ended ps bs) n last o o' (inl (x, sized)) (inl (y, sized')) = size_one (record { points = ps; boxes = bs }) o o' sized sized'
+ends_one (ended ps bs) n last o o' (inl (x, sized)) (inl (y, sized')) = size_one (value_of ps bs) o o' sized sized'
 ends_one (ended ps bs) n last o o' (inl (x, sized)) (inr (other, e')) = absurd (other x)
 ends_one (ended ps bs) n last o o' (inr (other, e)) (inl (y, sized)) = absurd (other y)
 ends_one (ended ps bs) n last o o' (inr (other, e)) (inr (other', e')) = e ∙ sym e'
