@@ -1,5 +1,6 @@
 -- Bytes that spell a value come to it.
-use Rattle.std.specs.Prelude.{ℕ, zero, suc, ◌≡◌, ◌+◌, ◌<◌, ◌≤◌, ◌⊎◌, List, [], ◌∷◌, ◌++◌, length, map, All, Contains, Result, Ok, Err}
+use Rattle.std.specs.Prelude.{ℕ, zero, suc, ◌≡◌, ◌+◌, ◌<◌, ◌≤◌, ◌⊎◌, List, [], ◌∷◌, ◌++◌, length, map, All, Contains}
+use Rattle.std.specs.Prelude.{Result, Ok, Err}
 use Rattle.std.proofs.Common.{arith, refl, sym, ◌∙◌, ap, subst, inl, inr}
 use Rattle.std.proofs.lemmas.List.{append_assoc, append-nil, length-append}
 use Rattle.std.proofs.Math.ListN.{get_or-append}
@@ -23,7 +24,8 @@ abbrev pub Comes : (Result ObstaclesValue ObstacleFault → Type 0) → Told →
 Comes P t ls = (n : ℕ) → (o : Result ObstaclesValue ObstacleFault) × Judges t n ls o × P o
 
 -- one line that passes
-comes_pass : (P : Result ObstaclesValue ObstacleFault → Type 0) (t t' : Told) (words : List (List ℕ)) (ls : List (List (List ℕ))) → 0 < length ls
+comes_pass : (P : Result ObstaclesValue ObstacleFault → Type 0) (t t' : Told) (words : List (List ℕ))
+    (ls : List (List (List ℕ))) → 0 < length ls
     → Passes t words t' → Comes P t' ls → Comes P t (words ∷ ls)
 comes_pass P t t' words ls more passes come = λ n.
     let rest = come (n + 1) in
@@ -45,7 +47,8 @@ holds_next P told rest x all =
     subst P (get_or-append_seam told x rest x) (all (length told) x (omega (arith, length-append told (x ∷ rest))))
 
 -- the lines of points
-points_come : (P : Result ObstaclesValue ObstacleFault → Type 0) (rest told all : List Point) (tail : List (List (List ℕ))) → 0 < length tail
+points_come : (P : Result ObstaclesValue ObstacleFault → Type 0) (rest told all : List Point)
+    (tail : List (List (List ℕ))) → 0 < length tail
     → all ≡ told ++ rest → AreDistinct all → All IsPoint all → Comes P (points zero all) tail
     → Comes P (points (length rest) told) (map point_words rest ++ tail)
 points_come P [] told all tail more is distinct are come =
@@ -53,7 +56,8 @@ points_come P [] told all tail more is distinct are come =
     subst (λ ps. Comes P (points zero ps) tail) same come
 points_come P (p ∷ rest) told all tail more is distinct are come =
     let next : all ≡ (told ++ p ∷ []) ++ rest = is ∙ sym (append_assoc told (p ∷ []) rest) in
-    comes_pass P (points (suc (length rest)) told) (points (length rest) (told ++ p ∷ [])) (point_words p) (map point_words rest ++ tail)
+    comes_pass P (points (suc (length rest)) told) (points (length rest) (told ++ p ∷ [])) (point_words p)
+    (map point_words rest ++ tail)
     (some_lines (map point_words rest) tail more) (
       p,
       record { fits = holds_next IsPoint told rest p (subst (All IsPoint) is are); words_are = refl },
@@ -67,7 +71,8 @@ coordinates_of : (b : Rectangle) → IsBox b → HasCoordinates b
 coordinates_of b is = record { x1 = is.left; y1 = is.lower; x2 = is.right; y2 = is.upper }
 
 -- the lines of boxes
-boxes_come : (P : Result ObstaclesValue ObstacleFault → Type 0) (ps : List Point) (rest told all : List Rectangle) (tail : List (List (List ℕ)))
+boxes_come : (P : Result ObstaclesValue ObstacleFault → Type 0) (ps : List Point) (rest told all : List Rectangle)
+    (tail : List (List (List ℕ)))
     → 0 < length tail → all ≡ told ++ rest → All IsBox all → All (IsClear ps) all → Comes P (boxes ps zero all) tail
     → Comes P (boxes ps (length rest) told) (map box_words rest ++ tail)
 boxes_come P ps [] told all tail more is are clear come =
@@ -76,7 +81,8 @@ boxes_come P ps [] told all tail more is are clear come =
 boxes_come P ps (b ∷ rest) told all tail more is are clear come =
     let next : all ≡ (told ++ b ∷ []) ++ rest = is ∙ sym (append_assoc told (b ∷ []) rest) in
     let here : IsBox b = holds_next IsBox told rest b (subst (All IsBox) is are) in
-    comes_pass P (boxes ps (suc (length rest)) told) (boxes ps (length rest) (told ++ b ∷ [])) (box_words b) (map box_words rest ++ tail)
+    comes_pass P (boxes ps (suc (length rest)) told) (boxes ps (length rest) (told ++ b ∷ [])) (box_words b)
+    (map box_words rest ++ tail)
     (some_lines (map box_words rest) tail more) (
       b,
       record { fits = coordinates_of b here; words_are = refl },
@@ -92,11 +98,14 @@ lines_before : (v : ObstaclesValue) (tail : List (List (List ℕ))) → obstacle
     ++ (boxes_words (length v.boxes) ∷ (map box_words v.boxes ++ (end_words ∷ tail))))
 lines_before v tail =
     ap (λ l. title_words ∷ points_words (length v.points) ∷ l)
-    (append_assoc (map point_words v.points) (boxes_words (length v.boxes) ∷ map box_words v.boxes ++ end_words ∷ []) tail
-    ∙ ap (λ l. map point_words v.points ++ (boxes_words (length v.boxes) ∷ l)) (append_assoc (map box_words v.boxes) (end_words ∷ []) tail))
+    (append_assoc (map point_words v.points)
+    (boxes_words (length v.boxes) ∷ map box_words v.boxes ++ end_words ∷ []) tail
+    ∙ ap (λ l. map point_words v.points ++ (boxes_words (length v.boxes) ∷ l))
+    (append_assoc (map box_words v.boxes) (end_words ∷ []) tail))
 
 -- they lead to the end
-pub text_comes : (P : Result ObstaclesValue ObstacleFault → Type 0) (v : ObstaclesValue) (tail : List (List (List ℕ))) → 0 < length tail → AreObstacles v
+pub text_comes : (P : Result ObstaclesValue ObstacleFault → Type 0) (v : ObstaclesValue) (tail : List (List (List ℕ)))
+    → 0 < length tail → AreObstacles v
     → Comes P (ended v.points v.boxes) tail → Comes P nothing (obstacles_lines v ++ tail)
 text_comes P v tail more is come =
     let ps = v.points in
@@ -106,21 +115,28 @@ text_comes P v tail more is come =
     let few_boxes = is.few in
     let last = comes_pass P (boxes ps zero bs) (ended ps bs) end_words tail more (refl, refl) come in
     let listed = boxes_come P ps bs [] bs (end_words ∷ tail) (omega arith) refl is.boxes is.outside last in
-    let counted = comes_pass P (points zero ps) (boxes ps (length bs) []) (boxes_words (length bs)) (map box_words bs ++ (end_words ∷ tail))
+    let counted =
+    comes_pass P (points zero ps) (boxes ps (length bs) []) (boxes_words (length bs))
+    (map box_words bs ++ (end_words ∷ tail))
     (some_lines (map box_words bs) (end_words ∷ tail) (omega arith))
     (length bs, record { fits = omega arith; words_are = refl }, few_boxes, refl) listed in
-    let pointed = points_come P ps [] ps (boxes_words (length bs) ∷ (map box_words bs ++ (end_words ∷ tail))) (omega arith) refl
+    let pointed =
+    points_come P ps [] ps (boxes_words (length bs) ∷ (map box_words bs ++ (end_words ∷ tail))) (omega arith) refl
     is.points.distinct is.points.points counted in
-    let begun = comes_pass P title (points (length ps) []) (points_words (length ps)) (map point_words ps ++ (boxes_words (length bs) ∷ (map box_words bs ++ (end_words ∷ tail))))
+    let begun = comes_pass P title (points (length ps) []) (points_words (length ps))
+    (map point_words ps ++ (boxes_words (length bs) ∷ (map box_words bs ++ (end_words ∷ tail))))
     (some_lines (map point_words ps) (boxes_words (length bs) ∷ (map box_words bs ++ (end_words ∷ tail))) (omega arith))
     (length ps, record { fits = omega arith; words_are = refl }, some, few, refl) pointed in
-    let whole = comes_pass P nothing title title_words (points_words (length ps) ∷ (map point_words ps ++ (boxes_words (length bs) ∷ (map box_words bs ++ (end_words ∷ tail)))))
+    let whole = comes_pass P nothing title title_words
+    (points_words (length ps)
+    ∷ (map point_words ps ++ (boxes_words (length bs) ∷ (map box_words bs ++ (end_words ∷ tail)))))
     (omega arith) (refl, refl) begun in
     subst (Comes P nothing) (sym (lines_before v tail)) whole
 
 -- what stands behind the end decides
 pub behind_end : (v : ObstaclesValue) (ls : List (List (List ℕ))) → crossing_count v ≤ 2500 → 0 < length ls
-    → Comes (λ o. ((ls ≡ empty_line ∷ []) × (o ≡ Ok v)) ⊎ ((f : ObstacleFault) × (o ≡ Err f))) (ended v.points v.boxes) ls
+    → Comes (λ o. ((ls ≡ empty_line ∷ []) × (o ≡ Ok v)) ⊎ ((f : ObstacleFault) × (o ≡ Err f)))
+    (ended v.points v.boxes) ls
 behind_end v [] small some = absurd (omega arith)
 behind_end v (([] ∷ []) ∷ []) small some = λ n. (Ok v, inl (refl, inl (small, refl)), inl (refl, refl))
 behind_end v ([] ∷ []) small some = λ n. (Err (BadLine n), inr (λ e. cc, refl), inr (BadLine n, refl))

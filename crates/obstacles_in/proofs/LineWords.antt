@@ -17,10 +17,17 @@ use Rattle.obstacles_in.specs.Text.{obstacles_lines}
 -- bytes above the blank are a word
 lacks_low : (word : List ℕ) (low : ℕ) → low < 33 → AllByRecursion (λ b. 32 < b) word → Lacks word low
 lacks_low [] low is all = All-nil (λ b. b ≢ low)
-lacks_low (b ∷ word) low is all = let here = all.0 in All-cons (λ b. b ≢ low) b word (omega arith) (lacks_low word low is all.1)
+lacks_low (b ∷ word) low is all =
+    let here = all.0 in
+    All-cons (λ b. b ≢ low) b word (omega arith) (lacks_low word low is all.1)
 
 plain : (word : List ℕ) → 0 < length word → AllByRecursion (λ b. 32 < b) word → IsWord word
-plain word some all = record { some = some; no_blank = lacks_low word 32 (omega arith) all; no_line_feed = lacks_low word 10 (omega arith) all }
+plain word some all =
+    record {
+      some = some;
+      no_blank = lacks_low word 32 (omega arith) all;
+      no_line_feed = lacks_low word 10 (omega arith) all;
+    }
 
 end_line : IsLineOfWords end_words
 end_line = (omega arith, (plain (codes "end") (omega arith) (omega arith, (omega arith, (omega arith, tt))), tt))
@@ -30,7 +37,10 @@ box_line b is = (
   omega arith,
   (
     signed_decimal_is_word b.x1 is.left,
-    (signed_decimal_is_word b.y1 is.lower, (signed_decimal_is_word b.x2 is.right, (signed_decimal_is_word b.y2 is.upper, tt))),
+    (
+      signed_decimal_is_word b.y1 is.lower,
+      (signed_decimal_is_word b.x2 is.right, (signed_decimal_is_word b.y2 is.upper, tt)),
+    ),
   ),
 )
 
@@ -38,16 +48,24 @@ box_lines : (bs : List Rectangle) → All IsBox bs → AllByRecursion IsLineOfWo
 box_lines [] all = (end_line, tt)
 box_lines (b ∷ bs) all = (box_line b (All-head IsBox b bs all), box_lines bs (All-tail IsBox b bs all))
 
-point_lines : (ps : List Point) (more : List (List (List ℕ))) → All IsPoint ps → AllByRecursion IsLineOfWords more → AllByRecursion IsLineOfWords (map point_words ps ++ more)
+point_lines : (ps : List Point) (more : List (List (List ℕ))) → All IsPoint ps → AllByRecursion IsLineOfWords more
+    → AllByRecursion IsLineOfWords (map point_words ps ++ more)
 point_lines [] more all are = are
 point_lines (p ∷ ps) more all are =
-    let is = All-head IsPoint p ps all in
-    ((omega arith, (signed_decimal_is_word p.x is.x, (signed_decimal_is_word p.y is.y, tt))), point_lines ps more (All-tail IsPoint p ps all) are)
+    let is = All-head IsPoint p ps all in (
+      (omega arith, (signed_decimal_is_word p.x is.x, (signed_decimal_is_word p.y is.y, tt))),
+      point_lines ps more (All-tail IsPoint p ps all) are,
+    )
 
 obstacles_word : IsWord (codes "obstacles")
 obstacles_word =
-    plain (codes "obstacles") (omega arith)
-    (omega arith, (omega arith, (omega arith, (omega arith, (omega arith, (omega arith, (omega arith, (omega arith, (omega arith, tt)))))))))
+    plain (codes "obstacles") (omega arith) (
+      omega arith,
+      (
+        omega arith,
+        (omega arith, (omega arith, (omega arith, (omega arith, (omega arith, (omega arith, (omega arith, tt))))))),
+      ),
+    )
 
 title : IsLineOfWords title_words
 title = (
@@ -65,8 +83,12 @@ pub value_lines : (v : ObstaclesValue) → AreObstacles v → AllByRecursion IsL
 value_lines v is =
     let few = is.points.few in
     let few_boxes = is.few in
-    let points_word = plain (codes "points") (omega arith) (omega arith, (omega arith, (omega arith, (omega arith, (omega arith, (omega arith, tt)))))) in
-    let boxes_word = plain (codes "boxes") (omega arith) (omega arith, (omega arith, (omega arith, (omega arith, (omega arith, tt))))) in (
+    let points_word =
+    plain (codes "points") (omega arith)
+    (omega arith, (omega arith, (omega arith, (omega arith, (omega arith, (omega arith, tt)))))) in
+    let boxes_word =
+    plain (codes "boxes") (omega arith)
+    (omega arith, (omega arith, (omega arith, (omega arith, (omega arith, tt))))) in (
       title,
       (
         count (codes "points") (length v.points) points_word (omega arith),

@@ -13,12 +13,16 @@ length-corners : (bs : List Rectangle) → length (flat_map corners_of bs) ≡ l
 length-corners [] = refl
 length-corners (b ∷ bs) = omega (arith, length-corners bs)
 
-few_marks : (ps : List Point) (bs : List Rectangle) → length ps ≤ 50 → length bs ≤ 25 → length (marks_of (value_of ps bs)) ≤ 100
+few_marks : (ps : List Point) (bs : List Rectangle) → length ps ≤ 50 → length bs ≤ 25
+    → length (marks_of (value_of ps bs)) ≤ 100
 few_marks ps bs few few_boxes = omega (arith, length-append ps (flat_map corners_of bs), length-corners bs)
 
 -- so there are at most 100 lines in each direction
-pub few_columns : (ps : List Point) (bs : List Rectangle) → length ps ≤ 50 → length bs ≤ 25 → length (columns_of (value_of ps bs)) ≤ 100
-few_columns ps bs few few_boxes = omega (arith, few_marks ps bs few few_boxes, length-xs_of-le (marks_of (value_of ps bs)))
+pub few_columns : (ps : List Point) (bs : List Rectangle) → length ps ≤ 50 → length bs ≤ 25
+    → length (columns_of (value_of ps bs)) ≤ 100
+few_columns ps bs few few_boxes =
+    omega (arith, few_marks ps bs few few_boxes, length-xs_of-le (marks_of (value_of ps bs)))
 
-pub few_rows : (ps : List Point) (bs : List Rectangle) → length ps ≤ 50 → length bs ≤ 25 → length (rows_of (value_of ps bs)) ≤ 100
+pub few_rows : (ps : List Point) (bs : List Rectangle) → length ps ≤ 50 → length bs ≤ 25
+    → length (rows_of (value_of ps bs)) ≤ 100
 few_rows ps bs few few_boxes = omega (arith, few_marks ps bs few few_boxes, length-ys_of-le (marks_of (value_of ps bs)))

@@ -5,7 +5,9 @@ use Rattle.points_in.specs.declared.point.Point.{Point}
 use Rattle.text_lines.specs.Lines.{lines_of, LinesLeft}
 use Rattle.obstacles_in.specs.declared.rectangle.Rectangle.{Rectangle}
 use Rattle.obstacles_in.specs.declared.fault.ObstacleFault.{ObstacleFault}
-use Rattle.obstacles_in.specs.declared.fault.ObstacleFault.TheVariants.{BadLine, TooManyPoints, RepeatedPoint, TooManyBoxes, BadBox, PointInBox, TooLarge, Memory}
+use Rattle.obstacles_in.specs.declared.fault.ObstacleFault.TheVariants.{BadLine, TooManyPoints, RepeatedPoint}
+use Rattle.obstacles_in.specs.declared.fault.ObstacleFault.TheVariants.{TooManyBoxes, BadBox, PointInBox, TooLarge}
+use Rattle.obstacles_in.specs.declared.fault.ObstacleFault.TheVariants.{Memory}
 use Rattle.obstacles_in.specs.Obstacles.{ObstaclesValue}
 use Rattle.obstacles_in.specs.Faults.{nothing, title, points, boxes}
 use Rattle.obstacles_in.specs.Judged.{Judges, JudgesSize, IsOutcome, IsFirstFault, value_of}
@@ -15,14 +17,16 @@ use Rattle.obstacles_in.specs.Left.{JudgesLeft, LeadsTo, IsSizeFault}
 abbrev pub DecidesBytes : List ℕ → ObstaclesValue → Type 0
 DecidesBytes bytes v = (o : Result ObstaclesValue ObstacleFault) → JudgesSize v o → IsOutcome bytes o
 
-pub read_whole : (bytes : List ℕ) (t0 t1 t2 t3 t4 t5 : LinesLeft) (count many : ℕ) (ps : List Point) (bs : List Rectangle)
+pub read_whole : (bytes : List ℕ) (t0 t1 t2 t3 t4 t5 : LinesLeft) (count many : ℕ) (ps : List Point)
+    (bs : List Rectangle)
     → t0.lines ≡ lines_of bytes → t0.number ≡ 1 → LeadsTo nothing t0 title t1 → LeadsTo title t1 (points count []) t2
     → LeadsTo (points count []) t2 (points zero ps) t3 → LeadsTo (points zero ps) t3 (boxes ps many []) t4
     → LeadsTo (boxes ps many []) t4 (boxes ps zero bs) t5
     → ((o : Result ObstaclesValue ObstacleFault) → JudgesSize (value_of ps bs) o → JudgesLeft (boxes ps zero bs) t5 o)
     → DecidesBytes bytes (value_of ps bs)
 read_whole bytes t0 t1 t2 t3 t4 t5 count many ps bs lines first titled counted pointed listed boxed last = λ o sized.
-    let begun : Judges nothing t0.number t0.lines o = titled o (counted o (pointed o (listed o (boxed o (last o sized))))) in
+    let begun : Judges nothing t0.number t0.lines o =
+    titled o (counted o (pointed o (listed o (boxed o (last o sized))))) in
     subst (λ n. Judges nothing n (lines_of bytes) o) first (subst (λ ls. Judges nothing t0.number ls o) lines begun)
 
 -- the value

@@ -1,5 +1,6 @@
 -- Bytes that come to a value spell it.
-use Rattle.std.specs.Prelude.{ℕ, zero, suc, ◌≡◌, ◌≢◌, ◌+◌, ◌<◌, ◌≤◌, List, [], ◌∷◌, ◌++◌, length, map, All, Contains, Ok}
+use Rattle.std.specs.Prelude.{ℕ, zero, suc, ◌≡◌, ◌≢◌, ◌+◌, ◌<◌, ◌≤◌, List, [], ◌∷◌, ◌++◌, length, map, All, Contains}
+use Rattle.std.specs.Prelude.{Ok}
 use Rattle.std.proofs.Common.{arith, refl, sym, ap, ◌∙◌, subst, inl, inr}
 use Rattle.std.proofs.lemmas.List.{append_assoc, length_push, map-append, get_or_default}
 use Rattle.std.proofs.lemmas.List.Elements.{All-nil, All-push}
@@ -42,7 +43,8 @@ IsRight (boxes ps due bs) = BoxesRight ps due bs
 IsRight (ended ps bs) = AllRight ps bs
 
 -- points and boxes that are right are a value, where their lines cross in few places
-pub obstacles_of : (ps : List Point) (bs : List Rectangle) → ArePoints ps → AreBoxesAround ps bs → crossing_count (value_of ps bs) ≤ 2500
+pub obstacles_of : (ps : List Point) (bs : List Rectangle) → ArePoints ps → AreBoxesAround ps bs
+    → crossing_count (value_of ps bs) ≤ 2500
     → AreObstacles (value_of ps bs)
 obstacles_of ps bs are around small = record {
   points = are;
@@ -71,39 +73,57 @@ abbrev Tells : Told → List (List ℕ) → Told → Type 0
 Tells t words t' = IsRight t' × (lines_told t' ≡ lines_told t ++ words ∷ [])
 
 -- the lines of the points, with one more of them
-head_push : (due : ℕ) (ps : List Point) (p : Point) → head_lines (length (ps ++ p ∷ []) + due) (ps ++ p ∷ []) ≡ head_lines (length ps + suc due) ps ++ point_words p ∷ []
+head_push : (due : ℕ) (ps : List Point) (p : Point)
+    → head_lines (length (ps ++ p ∷ []) + due) (ps ++ p ∷ []) ≡ head_lines (length ps + suc due) ps
+    ++ point_words p ∷ []
 head_push due ps p =
     let count : length (ps ++ p ∷ []) + due ≡ length ps + suc due = omega (arith, length_push ps p) in
-    ap (λ n. head_lines n (ps ++ p ∷ [])) count ∙ ap (λ l. title_words ∷ points_words (length ps + suc due) ∷ l) (map-append point_words ps (p ∷ []))
+    ap (λ n. head_lines n (ps ++ p ∷ [])) count
+    ∙ ap (λ l. title_words ∷ points_words (length ps + suc due) ∷ l) (map-append point_words ps (p ∷ []))
 
 -- the lines of the boxes, with one more of them
-box_push : (ps : List Point) (due : ℕ) (bs : List Rectangle) (b : Rectangle) → box_lines ps (length (bs ++ b ∷ []) + due) (bs ++ b ∷ []) ≡ box_lines ps (length bs + suc due) bs ++ box_words b ∷ []
+box_push : (ps : List Point) (due : ℕ) (bs : List Rectangle) (b : Rectangle)
+    → box_lines ps (length (bs ++ b ∷ []) + due) (bs ++ b ∷ []) ≡ box_lines ps (length bs + suc due) bs
+    ++ box_words b ∷ []
 box_push ps due bs b =
     let count : length (bs ++ b ∷ []) + due ≡ length bs + suc due = omega (arith, length_push bs b) in
     ap (λ n. box_lines ps n (bs ++ b ∷ [])) count
     ∙ ap (λ l. head_lines (length ps) ps ++ (boxes_words (length bs + suc due) ∷ l)) (map-append box_words bs (b ∷ []))
-    ∙ sym (append_assoc (head_lines (length ps) ps) (boxes_words (length bs + suc due) ∷ map box_words bs) (box_words b ∷ []))
+    ∙ sym (append_assoc (head_lines (length ps) ps) (boxes_words (length bs + suc due) ∷ map box_words bs)
+    (box_words b ∷ []))
 
 -- one more point among distinct ones
 distinct_push : (ps : List Point) (p : Point) → AreDistinct ps → ¬ Contains ps p → AreDistinct (ps ++ p ∷ [])
 distinct_push ps p distinct new =
-    all_pairs_push (λ q r. q ≢ r) ps p distinct (λ k d within same. new (k, within, get_or_default ps k p d within ∙ same))
+    all_pairs_push (λ q r. q ≢ r) ps p distinct
+    (λ k d within same. new (k, within, get_or_default ps k p d within ∙ same))
 
 tells : (t t' : Told) (words : List (List ℕ)) → IsRight t → Passes t words t' → Tells t words t'
 tells nothing t' words right (e, is) = subst (Tells nothing words) (sym is) (tt, ap (λ w. w ∷ []) (sym e))
 tells title t' words right (count, spells, some, few, is) = subst (Tells title words) (sym is) (
-  record { some = omega arith; few = omega arith; distinct = λ i j d before within. absurd (omega arith); are = All-nil IsPoint },
+  record {
+    some = omega arith;
+    few = omega arith;
+    distinct = λ i j d before within. absurd (omega arith);
+    are = All-nil IsPoint;
+  },
   ap (λ n. title_words ∷ points_words n ∷ []) (omega arith) ∙ ap (λ w. title_words ∷ w ∷ []) (sym spells.words_are),
 )
 tells (points zero ps) t' words right (count, spells, few, is) = subst (Tells (points zero ps) words) (sym is) (
   record {
-    are = record { some = let some = right.some in omega arith; few = let few = right.few in omega arith; distinct = right.distinct; points = right.are };
+    are = record {
+      some = let some = right.some in omega arith;
+      few = let few = right.few in omega arith;
+      distinct = right.distinct;
+      points = right.are;
+    };
     few = omega arith;
     right = All-nil IsBox;
     clear = All-nil (IsClear ps);
   },
   let counted : length ps ≡ length ps + 0 = omega arith in
-      ap (λ n. head_lines n ps ++ (boxes_words (0 + count) ∷ [])) counted ∙ ap (λ w. head_lines (length ps + 0) ps ++ w ∷ []) (ap boxes_words (omega arith) ∙ sym spells.words_are),
+      ap (λ n. head_lines n ps ++ (boxes_words (0 + count) ∷ [])) counted
+      ∙ ap (λ w. head_lines (length ps + 0) ps ++ w ∷ []) (ap boxes_words (omega arith) ∙ sym spells.words_are),
 )
 tells (points (suc due) ps) t' words right (p, spells, new, is) = subst (Tells (points (suc due) ps) words) (sym is) (
   record {
@@ -121,17 +141,19 @@ tells (boxes ps zero bs) t' words right (e, is) = subst (Tells (boxes ps zero bs
   },
   let counted : length bs ≡ length bs + 0 = omega arith in
       sym (append_assoc (head_lines (length ps) ps) (boxes_words (length bs) ∷ map box_words bs) (end_words ∷ []))
-      ∙ ap (λ n. box_lines ps n bs ++ end_words ∷ []) counted ∙ ap (λ w. box_lines ps (length bs + 0) bs ++ w ∷ []) (sym e),
+      ∙ ap (λ n. box_lines ps n bs ++ end_words ∷ []) counted
+      ∙ ap (λ w. box_lines ps (length bs + 0) bs ++ w ∷ []) (sym e),
 )
-tells (boxes ps (suc due) bs) t' words right (b, spells, is_box, clear, is) = subst (Tells (boxes ps (suc due) bs) words) (sym is) (
-  record {
-    are = right.are;
-    few = let few = right.few in omega (arith, length_push bs b);
-    right = All-push IsBox bs b right.right is_box;
-    clear = All-push (IsClear ps) bs b right.clear clear;
-  },
-  box_push ps due bs b ∙ ap (λ w. box_lines ps (length bs + suc due) bs ++ w ∷ []) (sym spells.words_are),
-)
+tells (boxes ps (suc due) bs) t' words right (b, spells, is_box, clear, is) =
+    subst (Tells (boxes ps (suc due) bs) words) (sym is) (
+      record {
+        are = right.are;
+        few = let few = right.few in omega (arith, length_push bs b);
+        right = All-push IsBox bs b right.right is_box;
+        clear = All-push (IsClear ps) bs b right.clear clear;
+      },
+      box_push ps due bs b ∙ ap (λ w. box_lines ps (length bs + suc due) bs ++ w ∷ []) (sym spells.words_are),
+    )
 tells (ended ps bs) t' words right passes = absurd passes
 
 -- the end of a text that comes to a value
@@ -150,12 +172,15 @@ ends_told (ended ps bs) n last v right (inl (empty, inr (large, e))) = cc
 ends_told (ended ps bs) n last v right (inr (other, e)) = cc
 
 -- the lines of a text that comes to a value
-pub judged_lines : (t : Told) (n : ℕ) (ls : List (List (List ℕ))) (v : ObstaclesValue) → IsRight t → Judges t n ls (Ok v)
+pub judged_lines : (t : Told) (n : ℕ) (ls : List (List (List ℕ))) (v : ObstaclesValue) → IsRight t
+    → Judges t n ls (Ok v)
     → AreObstacles v × (lines_told t ++ ls ≡ obstacles_lines v ++ empty_line ∷ [])
 judged_lines t n [] v right j = absurd j
 judged_lines t n (last ∷ []) v right j = ends_told t n last v right j
 judged_lines t n (words ∷ next ∷ more) v right (inl (f, fails, e)) = cc
 judged_lines t n (words ∷ next ∷ more) v right (inr (t', passes, j)) =
     let told = tells t t' words right passes in
-    let rest = judged_lines t' (n + 1) (next ∷ more) v told.0 j in
-    (rest.0, sym (append_assoc (lines_told t) (words ∷ []) (next ∷ more)) ∙ ap (λ l. l ++ (next ∷ more)) (sym told.1) ∙ rest.1)
+    let rest = judged_lines t' (n + 1) (next ∷ more) v told.0 j in (
+      rest.0,
+      sym (append_assoc (lines_told t) (words ∷ []) (next ∷ more)) ∙ ap (λ l. l ++ next ∷ more) (sym told.1) ∙ rest.1,
+    )

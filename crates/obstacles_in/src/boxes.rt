@@ -1,10 +1,12 @@
 //! The boxes of a text.
 
-ghost use Rattle.std.specs.Prelude.{◌≤◌, ◌↔◌, ℕ, suc, List, [], ◌∷◌, ◌++◌, Any, IsTrue, IfOk, IfErr, IfSome, IfNone, Err};
+ghost use Rattle.std.specs.Prelude.{◌≤◌, ◌↔◌, ℕ, suc, List, [], ◌∷◌, ◌++◌, Any, IsTrue, IfOk, IfErr, IfSome, IfNone};
+ghost use Rattle.std.specs.Prelude.{Err};
 ghost use Rattle.std.specs.Bool.{OnTrue, OnFalse};
 ghost use Rattle.obstacles_in.specs.declared.rectangle.Rectangle.{Rectangle};
 ghost use Rattle.obstacles_in.specs.Obstacles.{IsBox, IsInside};
-ghost use Rattle.obstacles_in.specs.Faults.{SpellsCoordinates, SpellsNoCoordinates, HasCoordinates, IsClear, IsBoxFault};
+ghost use Rattle.obstacles_in.specs.Faults.{SpellsCoordinates, SpellsNoCoordinates, HasCoordinates, IsClear};
+ghost use Rattle.obstacles_in.specs.Faults.{IsBoxFault};
 ghost use Rattle.obstacles_in.specs.Faults.{boxes as boxes_told};
 ghost use Rattle.obstacles_in.specs.Left.{JudgesLeft, IsFaultLeft, LeadsTo, AreBoxesAround};
 

@@ -7,9 +7,10 @@ use crate::rectangle::Rectangle;
 use points_in::Points;
 use std::marker::Model;
 
-/// 1 to 50 distinct points, and at most 25 boxes of some width and height, with no point strictly inside a box. Boxes may
-/// overlap, touch and contain one another. The lines through the points and along the sides of the boxes cross in at most
-/// 2,500 places. Contracts see the list of the points and the list of the boxes. It is made by `read_obstacles` alone.
+/// 1 to 50 distinct points, and at most 25 boxes of some width and height, with no point strictly inside a box. Boxes
+/// may overlap, touch and contain one another. The lines through the points and along the sides of the boxes cross in
+/// at most 2,500 places. Contracts see the list of the points and the list of the boxes. It is made by
+/// `read_obstacles` alone.
 #[derive(Debug, Drop)]
 pub struct Obstacles {
     pub(crate) points: Points,

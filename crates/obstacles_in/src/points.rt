@@ -1,6 +1,7 @@
 //! The points of a text.
 
-ghost use Rattle.std.specs.Prelude.{◌≡◌, ◌+◌, ◌<◌, ◌≤◌, ℕ, suc, List, [], length, IfOk, IfErr, OnOk, IfSome, IfNone, Err};
+ghost use Rattle.std.specs.Prelude.{◌≡◌, ◌+◌, ◌<◌, ◌≤◌, ℕ, suc, List, [], length, IfOk, IfErr, OnOk, IfSome, IfNone};
+ghost use Rattle.std.specs.Prelude.{Err};
 ghost use Rattle.points_in.specs.declared.point.Point.{Point};
 ghost use Rattle.obstacles_in.specs.Faults.{SpellsPoint, SpellsNoPoint, points as points_told};
 ghost use Rattle.obstacles_in.specs.Left.{TakesLine, JudgesLeft, IsFaultLeft, LeadsTo};

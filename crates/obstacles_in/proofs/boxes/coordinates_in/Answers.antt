@@ -8,4 +8,5 @@ returns-in_err-x2-clause-none c = rw c.from_residual-in_err-x2.ensures
 
 pub returns-in_err-y2-clause-none : goal.returns-in_err-y2-clause-none
 returns-in_err-y2-clause-none c = rw c.from_residual-in_err-y2.ensures
-    (no_upper _ _ _ _ _ _ _ c.in_ok-x1.ensures.found c.in_ok-y1.ensures.found c.in_ok-x2.ensures.found c.in_err-y2.ensures.none)
+    (no_upper _ _ _ _ _ _ _ c.in_ok-x1.ensures.found c.in_ok-y1.ensures.found c.in_ok-x2.ensures.found
+    c.in_err-y2.ensures.none)

@@ -15,9 +15,12 @@ returns-in_err-rectangle-clause-err c =
     let p = err_from_is_err_and c.from_residual-in_err-rectangle.result c.from_residual-in_err-rectangle.ensures.1 in
     let due = c.args.count - (c.loop-told._told + 1) in
     let now = boxes c.args.points.now (suc due) c.loop-told.boxes.items in
-    rw (p.1, p.2) (leads_fault (boxes c.args.points.now c.args.count []) now c.args.text.now c.loop-told.text c.in_err-rectangle.field-0.0
+    rw (p.1, p.2)
+    (leads_fault (boxes c.args.points.now c.args.count []) now c.args.text.now c.loop-told.text
+    c.in_err-rectangle.field-0.0
     (c.loop-told.invariant.leads (suc due) (omega arith))
-    (fault_left now c.loop-told.text c.in_err-rectangle.field-0.0 (c.in_err-rectangle.ensures.err due c.loop-told.boxes.items)))
+    (fault_left now c.loop-told.text c.in_err-rectangle.field-0.0
+    (c.in_err-rectangle.ensures.err due c.loop-told.boxes.items)))
 
 pub loop-told-preserved : goal.loop-told-preserved
 loop-told-preserved c =
@@ -26,10 +29,14 @@ loop-told-preserved c =
     let b = c.in_ok-rectangle.rectangle in
     let pushed = sym c.push_reserved.ensures.items in
     record {
-      count_is = omega (arith, ap length c.push_reserved.ensures.items, length_push bs b, c.loop-told.invariant.count_is);
+      count_is = omega
+          (arith, ap length c.push_reserved.ensures.items, length_push bs b, c.loop-told.invariant.count_is);
       room = omega (arith, c.push_reserved.ensures.capacity, c.loop-told.invariant.room);
-      right = subst (All IsBox) pushed (All-push IsBox bs b c.loop-told.invariant.right c.in_ok-rectangle.ensures.is_box);
-      clear = subst (All (IsClear ps)) pushed (All-push (IsClear ps) bs b c.loop-told.invariant.clear c.in_ok-rectangle.ensures.clear);
+      right = subst (All IsBox) pushed
+          (All-push IsBox bs b c.loop-told.invariant.right c.in_ok-rectangle.ensures.is_box);
+      clear = subst (All (IsClear ps)) pushed
+          (All-push (IsClear ps) bs b c.loop-told.invariant.clear c.in_ok-rectangle.ensures.clear);
       leads = λ due is o judged. c.loop-told.invariant.leads (suc due) (omega arith) o
-          (c.in_ok-rectangle.ensures.ok due bs o (subst (λ us. JudgesLeft (boxes ps due us) c.next_box.new.text o) c.push_reserved.ensures.items judged));
+          (c.in_ok-rectangle.ensures.ok due bs o
+          (subst (λ us. JudgesLeft (boxes ps due us) c.next_box.new.text o) c.push_reserved.ensures.items judged));
     }

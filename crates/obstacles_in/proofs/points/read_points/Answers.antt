@@ -10,7 +10,8 @@ use Rattle.obstacles_in.proofs.Steps.{fault_left, leads_fault}
 use Rattle.obstacles_in.proofs.points.read_points.Goals as goal
 
 -- the first point is wrong
-no_point : (count : ℕ) (left : LinesLeft) (f : ObstacleFault) → 0 < count → ((due : ℕ) → JudgesLeft (points (suc due) []) left (Err f))
+no_point : (count : ℕ) (left : LinesLeft) (f : ObstacleFault) → 0 < count
+    → ((due : ℕ) → JudgesLeft (points (suc due) []) left (Err f))
     → IsFaultLeft (points count []) left f
 no_point zero left f some judged = absurd (omega arith)
 no_point (suc due) left f some judged = fault_left (points (suc due) []) left f (judged due)
@@ -18,13 +19,17 @@ no_point (suc due) left f some judged = fault_left (points (suc due) []) left f 
 pub returns-in_err-first-clause-err : goal.returns-in_err-first-clause-err
 returns-in_err-first-clause-err c =
     let p = err_from_is_err_and c.from_residual.result c.from_residual.ensures.1 in
-    rw (p.1, p.2) (no_point c.args.count c.args.text.now c.in_err-first.field-0.0 c.requires.some (λ due. c.in_err-first.ensures.err due []))
+    rw (p.1, p.2)
+    (no_point c.args.count c.args.text.now c.in_err-first.field-0.0 c.requires.some
+    (λ due. c.in_err-first.ensures.err due []))
 
 pub returns-in_err-add_next-clause-err : goal.returns-in_err-add_next-clause-err
 returns-in_err-add_next-clause-err c =
     let p = err_from_is_err_and c.from_residual-in_err-add_next.result c.from_residual-in_err-add_next.ensures.1 in
     let due = c.args.count - (c.loop-told._told + 1) in
-    rw (p.1, p.2) (leads_fault (points c.args.count []) (points (suc due) c.loop-told.points) c.args.text.now c.loop-told.text c.in_err-add_next.field-0.0
+    rw (p.1, p.2)
+    (leads_fault (points c.args.count []) (points (suc due) c.loop-told.points) c.args.text.now c.loop-told.text
+    c.in_err-add_next.field-0.0
     (c.loop-told.invariant.leads (suc due) (omega arith)) (c.in_err-add_next.ensures.err due))
 
 pub loop-told-preserved : goal.loop-told-preserved

@@ -8,7 +8,8 @@ returns-clause-spelled c = value_spelled c.args.bytes.now c.read_lines.result c.
 
 pub returns-clause-only : goal.returns-clause-only
 returns-clause-only c = λ v spelled.
-    answers c.args.bytes.now c.read_lines.result (Ok v) c.read_lines.ensures.ok c.read_lines.ensures.err (comes_to c.args.bytes.now v spelled)
+    answers c.args.bytes.now c.read_lines.result (Ok v) c.read_lines.ensures.ok c.read_lines.ensures.err
+    (comes_to c.args.bytes.now v spelled)
 
 pub returns-clause-only_fault : goal.returns-clause-only_fault
 returns-clause-only_fault c = λ f first.
