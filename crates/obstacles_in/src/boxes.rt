@@ -1,6 +1,7 @@
 //! The boxes of a text.
 
-ghost use Rattle.std.specs.Prelude.{◌≤◌, ◌↔◌, ℕ, suc, List, [], ◌∷◌, ◌++◌, Any, IsTrue, IfOk, IfErr, IfSome, IfNone};
+ghost use Rattle.std.specs.Prelude.{◌≤◌, ◌<ℤ◌, ◌↔◌, ℕ, suc, List, [], ◌∷◌, ◌++◌, Any, IsTrue, IfOk, IfErr, IfSome};
+ghost use Rattle.std.specs.Prelude.{IfNone};
 ghost use Rattle.std.specs.Prelude.{Err};
 ghost use Rattle.std.specs.Bool.{OnTrue, OnFalse};
 ghost use Rattle.obstacles_in.specs.declared.rectangle.Rectangle.{Rectangle};
@@ -37,10 +38,15 @@ fn coordinates_in(words: &mut LineWords<'_>) -> Option<Rectangle>
 fn is_inside(rectangle: Rectangle, point: Point) -> bool
     ensures { IsTrue result ↔ IsInside rectangle point }
 {
-    rectangle.x1 < point.x
-        && point.x < rectangle.x2
-        && rectangle.y1 < point.y
-        && point.y < rectangle.y2
+    is_between(rectangle.x1, point.x, rectangle.x2)
+        && is_between(rectangle.y1, point.y, rectangle.y2)
+}
+
+// Whether a number lies strictly between two others.
+fn is_between(low: i64, number: i64, high: i64) -> bool
+    ensures { IsTrue result ↔ ((low <ℤ number) × (number <ℤ high)) }
+{
+    low < number && number < high
 }
 
 // Whether a point lies strictly inside a box.

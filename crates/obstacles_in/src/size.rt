@@ -1,7 +1,7 @@
 //! How many vertices the grid of points and boxes has.
 
-ghost use Rattle.std.specs.Prelude.{◌≡◌, ◌≤◌, length, IfOk, IfErr, Ok};
-ghost use Rattle.obstacles_in.specs.Obstacles.{marks_of, crossing_count};
+ghost use Rattle.std.specs.Prelude.{◌≡◌, ◌≤◌, ◌++◌, length, IfOk, IfErr, OnOk, Ok};
+ghost use Rattle.obstacles_in.specs.Obstacles.{corners_of, marks_of, crossing_count};
 ghost use Rattle.obstacles_in.specs.Judged.{value_of, JudgesSize};
 ghost use Rattle.obstacles_in.specs.Left.{IsSizeFault, AreBoxesAround};
 
@@ -22,16 +22,24 @@ fn marks(alloc: Global, points: &[Point], boxes: &[Rectangle]) -> Result<Vec<Poi
     let mut marks = Vec::new(alloc);
     marks.extend_from_slice(points)?;
     for sides in boxes {
-        marks.push(Point {
-            x: sides.x1,
-            y: sides.y1,
-        })?;
-        marks.push(Point {
-            x: sides.x2,
-            y: sides.y2,
-        })?;
+        add_corners(&mut marks, sides)?;
     }
     Ok(marks)
+}
+
+// Appends two corners of a box.
+fn add_corners(marks: &mut Vec<Point>, sides: &Rectangle) -> Result<(), AllocError>
+    ensures { OnOk result (marks.new.items ≡ marks.old.items ++ corners_of sides.now) }
+{
+    marks.push(Point {
+        x: sides.x1,
+        y: sides.y1,
+    })?;
+    marks.push(Point {
+        x: sides.x2,
+        y: sides.y2,
+    })?;
+    Ok(())
 }
 
 // In how many places the lines through the points and along the sides of the boxes cross.
