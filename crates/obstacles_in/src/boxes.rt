@@ -38,15 +38,21 @@ fn coordinates_in(words: &mut LineWords<'_>) -> Option<Rectangle>
 fn is_inside(rectangle: Rectangle, point: Point) -> bool
     ensures { IsTrue result ↔ IsInside rectangle point }
 {
-    is_between(rectangle.x1, point.x, rectangle.x2)
-        && is_between(rectangle.y1, point.y, rectangle.y2)
+    is_in_width(rectangle, point) && is_in_height(rectangle, point)
 }
 
-// Whether a number lies strictly between two others.
-fn is_between(low: i64, number: i64, high: i64) -> bool
-    ensures { IsTrue result ↔ ((low <ℤ number) × (number <ℤ high)) }
+// Whether a point lies strictly between the left and the right side of a box.
+fn is_in_width(rectangle: Rectangle, point: Point) -> bool
+    ensures { IsTrue result ↔ ((rectangle.x1 <ℤ point.x) × (point.x <ℤ rectangle.x2)) }
 {
-    low < number && number < high
+    rectangle.x1 < point.x && point.x < rectangle.x2
+}
+
+// Whether a point lies strictly between the lower and the upper side of a box.
+fn is_in_height(rectangle: Rectangle, point: Point) -> bool
+    ensures { IsTrue result ↔ ((rectangle.y1 <ℤ point.y) × (point.y <ℤ rectangle.y2)) }
+{
+    rectangle.y1 < point.y && point.y < rectangle.y2
 }
 
 // Whether a point lies strictly inside a box.
