@@ -23,11 +23,3 @@ pub no_upper : (words w1 w2 w3 : List (List ℕ)) (a b d : List ℕ) → words �
 no_upper words w1 w2 w3 a b d e1 e2 e3 none r spells =
     let here : w3 ≡ signed_decimal r.y2 ∷ [] = cc (spells.words_are) in
     none r.y2 [] spells.fits.y2 here
-
--- more than four words
-pub none_behind : (words w1 w2 w3 w4 : List (List ℕ)) (a b d e : List ℕ) → words ≡ a ∷ w1 → w1 ≡ b ∷ w2 → w2 ≡ d ∷ w3
-    → w3 ≡ e ∷ w4
-    → (w4 ≡ [] → ⊥) → (r : Rectangle) → SpellsCoordinates words r → ⊥
-none_behind words w1 w2 w3 w4 a b d e e1 e2 e3 e4 some r spells =
-    let here : w4 ≡ [] = cc (spells.words_are) in
-    some here

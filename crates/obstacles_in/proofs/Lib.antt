@@ -5,6 +5,5 @@ pub mod Sound
 pub mod Complete
 pub mod LineWords
 pub mod Whole
-pub mod Reading
 pub mod Coordinates
 pub mod Marks

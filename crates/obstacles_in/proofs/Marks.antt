@@ -1,12 +1,12 @@
 -- How many lines points and boxes have.
-use Rattle.std.specs.Prelude.{ℕ, ◌≡◌, ◌+◌, ◌*◌, ◌<◌, ◌≤◌, List, [], ◌∷◌, ◌++◌, length, flat_map}
-use Rattle.std.proofs.Common.{arith, refl, sym, ap, ◌∙◌, take, get_or}
+use Rattle.std.specs.Prelude.{ℕ, ◌≡◌, ◌+◌, ◌*◌, ◌≤◌, List, [], ◌∷◌, length, flat_map}
+use Rattle.std.proofs.Common.{arith, refl}
 use Rattle.std.proofs.Math.Nat.{mul-le-mul}
-use Rattle.std.proofs.lemmas.List.{length-append, flat_map_more, take_more}
+use Rattle.std.proofs.lemmas.List.{length-append}
 use Rattle.points_in.specs.declared.point.Point.{Point}
 use Rattle.hanan_grid.specs.GridLaws.{length-xs_of-le, length-ys_of-le}
 use Rattle.obstacles_in.specs.declared.rectangle.Rectangle.{Rectangle}
-use Rattle.obstacles_in.specs.Obstacles.{corners_of, marks_of, columns_of, rows_of, crossing_count}
+use Rattle.obstacles_in.specs.Obstacles.{corners_of, marks_of, columns_of, rows_of}
 use Rattle.obstacles_in.specs.Judged.{value_of}
 
 -- each box has two corners
@@ -31,10 +31,3 @@ few_rows ps bs few few_boxes = omega (arith, few_marks ps bs few few_boxes, leng
 -- and so at most 10,000 crossings
 pub few_crossings : (a b : ℕ) → a ≤ 100 → b ≤ 100 → a * b ≤ 10000
 few_crossings a b few few_others = mul-le-mul few few_others
-
--- the marks with those of one more box
-pub marks_more : (ps : List Point) (bs : List Rectangle) (i : ℕ) (d : Rectangle) → i < length bs
-    → (ps ++ flat_map corners_of (take i bs)) ++ corners_of (get_or bs i d) ≡ ps ++ flat_map corners_of (take (i + 1) bs)
-marks_more ps bs i d within =
-    flat_map_more corners_of ps (take i bs) (get_or bs i d)
-    ∙ ap (λ t. ps ++ flat_map corners_of t) (sym (take_more bs i d within))

@@ -1,17 +1,15 @@
 -- One line of a text: it is right and leads on, or it is wrong and decides.
-use Rattle.std.specs.Prelude.{ℕ, zero, suc, ◌≡◌, ◌+◌, ◌<◌, List, [], ◌∷◌, ◌++◌, length, Contains, Result, Err}
+use Rattle.std.specs.Prelude.{ℕ, suc, ◌≡◌, ◌+◌, ◌<◌, List, [], ◌∷◌, ◌++◌, length, Contains, Result, Err}
 use Rattle.std.proofs.Common.{arith, refl, sym, ap, subst, inl, inr}
 use Rattle.points_in.specs.declared.point.Point.{Point}
-use Rattle.text_lines.specs.Lines.{LinesLeft, empty_line}
-use Rattle.obstacles_in.specs.declared.rectangle.Rectangle.{Rectangle}
+use Rattle.text_lines.specs.Lines.{LinesLeft}
 use Rattle.obstacles_in.specs.declared.fault.ObstacleFault.{ObstacleFault}
 use Rattle.obstacles_in.specs.declared.fault.ObstacleFault.TheVariants.{BadLine, TooManyPoints, RepeatedPoint}
 use Rattle.obstacles_in.specs.declared.fault.ObstacleFault.TheVariants.{TooManyBoxes, BadBox, PointInBox, TooLarge}
 use Rattle.obstacles_in.specs.declared.fault.ObstacleFault.TheVariants.{Memory}
 use Rattle.obstacles_in.specs.Obstacles.{ObstaclesValue}
-use Rattle.obstacles_in.specs.Words.{end_words}
 use Rattle.obstacles_in.specs.Faults.{Told, nothing, title, points, boxes, ended, Passes, Fails, SpellsPoint}
-use Rattle.obstacles_in.specs.Judged.{Judges, JudgesSize, value_of}
+use Rattle.obstacles_in.specs.Judged.{Judges}
 use Rattle.obstacles_in.specs.Left.{TakesLine, IsOpen, JudgesLeft, IsFaultLeft, LeadsTo}
 
 -- a line that passes, behind which another one stands
@@ -89,28 +87,3 @@ pub point_leads : (before after : LinesLeft) (words : List (List ℕ)) (p : Poin
     → LeadsTo (points (suc due) ps) before (points due qs) after
 point_leads before after words p ps qs taken spells new is due =
     line_passes before after words (points (suc due) ps) (points due qs) taken (p, spells, new, ap (points due) is)
-
--- the last line, behind which nothing stands: the size decides
-pub end_leads : (before after : LinesLeft) (words : List (List ℕ)) (ps : List Point) (bs : List Rectangle)
-    (o : Result ObstaclesValue ObstacleFault)
-    → TakesLine before words after → words ≡ end_words → after.lines ≡ empty_line ∷ [] → JudgesSize (value_of ps bs) o
-    → JudgesLeft (boxes ps zero bs) before o
-end_leads before after words ps bs o taken is alone sized =
-    line_passes before after words (boxes ps zero bs) (ended ps bs) taken (is, refl) o
-    (subst (λ ls. Judges (ended ps bs) after.number ls o) (sym alone) (inl (refl, sized)))
-
--- behind the last line stands more: the text goes on after its end
-pub more_behind : (ps : List Point) (bs : List Rectangle) (n : ℕ) (ls : List (List (List ℕ))) → 0 < length ls
-    → (ls ≡ empty_line ∷ [] → ⊥)
-    → Judges (ended ps bs) n ls (Err (BadLine n))
-more_behind ps bs n [] some other = absurd (omega arith)
-more_behind ps bs n (last ∷ []) some other = inr (λ empty. other (ap (λ l. l ∷ []) empty), refl)
-more_behind ps bs n (l ∷ m ∷ ls) some other = inl (BadLine n, refl, refl)
-
-pub end_fails : (before after : LinesLeft) (words : List (List ℕ)) (ps : List Point) (bs : List Rectangle)
-    → TakesLine before words after
-    → words ≡ end_words → (after.lines ≡ empty_line ∷ [] → ⊥)
-    → JudgesLeft (boxes ps zero bs) before (Err (BadLine after.number))
-end_fails before after words ps bs taken is other =
-    line_passes before after words (boxes ps zero bs) (ended ps bs) taken (is, refl) (Err (BadLine after.number))
-    (more_behind ps bs after.number after.lines taken.more other)
