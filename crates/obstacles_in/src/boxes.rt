@@ -1,14 +1,12 @@
 //! The boxes of a text.
 
 ghost use Rattle.std.specs.Prelude.{◌≤◌, ◌<ℤ◌, ◌↔◌, ℕ, suc, List, [], ◌∷◌, ◌++◌, Any, IsTrue, IfOk, IfErr, IfSome};
-ghost use Rattle.std.specs.Prelude.{IfNone};
-ghost use Rattle.std.specs.Prelude.{Err};
+ghost use Rattle.std.specs.Prelude.{IfNone, Err};
 ghost use Rattle.std.specs.Bool.{OnTrue, OnFalse};
 ghost use Rattle.obstacles_in.specs.declared.rectangle.Rectangle.{Rectangle};
 ghost use Rattle.obstacles_in.specs.Obstacles.{IsBox, IsInside};
 ghost use Rattle.obstacles_in.specs.Faults.{SpellsCoordinates, SpellsNoCoordinates, HasCoordinates, IsClear};
-ghost use Rattle.obstacles_in.specs.Faults.{IsBoxFault};
-ghost use Rattle.obstacles_in.specs.Faults.{boxes as boxes_told};
+ghost use Rattle.obstacles_in.specs.Faults.{IsBoxFault, boxes as boxes_told};
 ghost use Rattle.obstacles_in.specs.Left.{JudgesLeft, IsFaultLeft, LeadsTo, AreBoxesAround};
 
 use crate::fault::ObstacleFault;
