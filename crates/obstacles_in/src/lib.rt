@@ -1,8 +1,19 @@
-//! Points to be joined around rectangles whose interiors no wire may cross.
+//! Points to be joined around rectangles whose interiors no wire may cross, and the text that lists them.
 #![tactic(auto)]
 
+mod boxes;
+mod fault;
+mod head;
+mod laws;
+mod line;
 mod obstacles;
+mod points;
+mod read;
 mod rectangle;
+mod size;
 
+pub use fault::ObstacleFault;
+pub use laws::{one_outcome, one_reading, values_are_spelled};
 pub use obstacles::Obstacles;
+pub use read::read_obstacles;
 pub use rectangle::Rectangle;

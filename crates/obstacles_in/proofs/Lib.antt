@@ -1,0 +1,9 @@
+pub mod Steps
+pub mod Unique
+pub mod Outcome
+pub mod Sound
+pub mod Complete
+pub mod LineWords
+pub mod Whole
+pub mod Coordinates
+pub mod Marks

@@ -1,0 +1,20 @@
+-- The text of points and boxes. It is this project's own.
+use Rattle.std.specs.Prelude.{ℕ, ◌≡◌, List, [], ◌∷◌, ◌++◌, length, map}
+use Rattle.text_lines.specs.Lines.{text_of}
+use Rattle.obstacles_in.specs.Obstacles.{ObstaclesValue, AreObstacles}
+use Rattle.obstacles_in.specs.Words.{title_words, end_words, points_words, boxes_words, point_words, box_words}
+
+-- The lines: the title, how many points there are, the points, how many boxes there are, the boxes, and the end.
+abbrev pub obstacles_lines : ObstaclesValue → List (List (List ℕ))
+obstacles_lines v =
+    title_words ∷ points_words (length v.points) ∷ map point_words v.points
+    ++ (boxes_words (length v.boxes) ∷ map box_words v.boxes ++ end_words ∷ [])
+
+-- the spelling of a value
+abbrev pub obstacles_text : ObstaclesValue → List ℕ
+obstacles_text v = text_of (obstacles_lines v)
+
+-- the bytes spell points and boxes
+pub record SpellsObstacles (bytes : List ℕ) (v : ObstaclesValue) : Type 0 where
+  pub value : AreObstacles v
+  pub text : bytes ≡ obstacles_text v
