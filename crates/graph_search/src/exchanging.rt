@@ -12,13 +12,10 @@ use crate::shortening::offer_shorter;
 use branch::Search;
 use dual_ascent::Rule;
 use net_graph::{EdgeSet, NetGraph, length};
-use packing_judge::{Bound, Outcome};
+use network_judge::shortened_by_shares;
+use packing_judge::{Bound, Exchanged, Outcome};
 use std::alloc::{AllocError, Global};
 use tight_packing::Budget;
-
-/// At most so many exchanges are made, each but the first against a shorter network, or with a new budget and other
-/// draws.
-const MOST_EXCHANGES: u8 = 3;
 
 /// What makes exchanges against the networks of a graph.
 pub trait Exchanger {
@@ -35,9 +32,10 @@ pub trait Exchanger {
         alloc: Global,
         network: &EdgeSet,
         budget: Budget,
-    ) -> Result<Outcome, AllocError>
+    ) -> Result<Exchanged, AllocError>
         requires { length network.now ≡ length (graph self.now).edges }
-        ensures { IfOk result (IsOutcomeFor (graph self.now) (length_of (graph self.now) network.now)) };
+        ensures { IfOk result (λ found.
+            IsOutcomeFor (graph self.now) (length_of (graph self.now) network.now) found.outcome) };
 }
 
 /// Exchanges that raise a search as long as it isn't settled: each first leaf is the better one of that at hand and of
@@ -46,9 +44,13 @@ pub trait Exchanger {
 #[derive(Drop)]
 pub struct Exchanges<E: Exchanger + Drop> {
     pub exchanger: E,
+    /// At most so many are made, each but the first against a shorter network, or with a new budget and other draws.
+    pub most: u8,
     /// What the first one may do, and each other one.
     pub first: Budget,
     pub further: Budget,
+    /// In so many draws networks are grown by the shares that an exchange guesses which leaves a gap.
+    pub draws: u32,
     /// In how many descents of local search the network that the leaf then shows is made shorter at most.
     pub descents: u32,
 }
@@ -61,7 +63,7 @@ impl<E: Exchanger + Drop> Raising for Exchanges<E> {
         alloc: Global,
         search: &mut Search<'_, F, G>,
     ) -> Result<(), AllocError> {
-        for exchange in 0..MOST_EXCHANGES {
+        for exchange in 0..self.most {
             let budget = if exchange == 0 {
                 self.first
             } else {
@@ -95,18 +97,49 @@ impl<E: Exchanger + Drop> Exchanges<E> {
     {
         let graph = self.exchanger.graph();
         let before = length(graph, search.network());
-        let ExchangeEnd { bound, is_spent } = self.end(alloc, search.network(), budget)?;
+        let ExchangeEnd {
+            bound,
+            is_spent,
+            shares,
+        } = self.end(alloc, search.network(), budget)?;
         let Some(bound) = bound else {
             return Ok(false);
         };
         search.raise(bound.packing)?;
         if !search.is_settled() {
             offer_shorter(alloc, graph, self.descents, search)?;
+            self.offer_by_shares(alloc, &shares, search)?;
         }
         if is_spent {
             return Ok(true);
         }
         Ok(length(graph, search.network()) < before)
+    }
+
+    // Offers a search the networks that grow by shares of the edges. An `Err` is want of memory.
+    fn offer_by_shares<F: Rule, G: Rule>(
+        &self,
+        alloc: Global,
+        shares: &[u32],
+        search: &mut Search<'_, F, G>,
+    ) -> Result<(), AllocError>
+        requires graph { search.old.graph ≡ E.graph self.now.exchanger }
+        ensures graph { search.new.graph ≡ search.old.graph }
+        ensures first { search.new.first_length ≡ search.old.first_length }
+        ensures tree { search.new.tree ≡ search.old.tree }
+    {
+        let graph = self.exchanger.graph();
+        let network = search.network();
+        let shorter = shortened_by_shares(
+            alloc,
+            graph,
+            network,
+            shares,
+            self.draws,
+            self.descents,
+        )?;
+        search.offer(shorter);
+        Ok(())
     }
 
     // Makes an exchange. An `Err` is want of memory.
@@ -119,20 +152,26 @@ impl<E: Exchanger + Drop> Exchanges<E> {
         requires { length network.now ≡ length (E.graph self.now.exchanger).edges }
         ensures { IfOk result (λ found. IfSome found.bound (IsBoundOf (E.graph self.now.exchanger))) }
     {
-        let outcome = self.exchanger.exchange(alloc, network, budget)?;
+        let Exchanged { outcome, shares } = self.exchanger.exchange(alloc, network, budget)?;
         let is_spent = matches!(outcome, Outcome::Exhausted(_));
         let bound = match outcome {
             Outcome::Tight(bound) => Some(bound),
             Outcome::Impossible(bound) | Outcome::Exhausted(bound) => bound,
             Outcome::TooLong => None,
         };
-        Ok(ExchangeEnd { bound, is_spent })
+        Ok(ExchangeEnd {
+            bound,
+            is_spent,
+            shares,
+        })
     }
 }
 
-// What an exchange comes to: a packing, if one is at hand, and whether it has spent its budget.
+// What an exchange comes to: a packing, if one is at hand, whether it has spent its budget, and the shares that it
+// guesses.
 #[derive(Debug, Drop)]
 struct ExchangeEnd {
     bound: Option<Bound>,
     is_spent: bool,
+    shares: Vec<u32>,
 }

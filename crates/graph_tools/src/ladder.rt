@@ -6,19 +6,25 @@ use branch::Search;
 use dual_ascent::Rule;
 use graph_search::{Exchanger, Exchanges, Raising, Shortening};
 use net_graph::{EdgeSet, NetGraph};
-use packing_judge::{Outcome, exchange_in};
+use packing_judge::{Exchanged, exchange_in};
 use std::alloc::{AllocError, Global};
 use tight_packing::Budget;
 
 // In how many descents of local search a network that the first leaf shows is made shorter at most.
 const DESCENTS: u32 = 20;
 
+// So many exchanges are made at most: a network that is a little too long takes some of them.
+const MOST_EXCHANGES: u8 = 6;
+
+// In so many draws networks are grown by the shares that an exchange guesses.
+const DRAWS: u32 = 5;
+
 // What the first exchange may do, and each other one. The looks keep the largest graphs to some seconds: a hundred
 // million take about one.
 const FIRST_BUDGET: Budget = Budget {
     rounds: 250,
     searches: 200_000,
-    looks: 250_000_000,
+    looks: 150_000_000,
     moves: 2_000_000,
     seed: 20240607,
 };
@@ -26,7 +32,7 @@ const FIRST_BUDGET: Budget = Budget {
 const FURTHER_BUDGET: Budget = Budget {
     rounds: 200,
     searches: 100_000,
-    looks: 125_000_000,
+    looks: 75_000_000,
     moves: 1_000_000,
     seed: 20240608,
 };
@@ -54,8 +60,10 @@ impl Raising for Ladder<'_> {
         shortening.raise(alloc, search)?;
         let exchanges = Exchanges {
             exchanger: InGraph { graph },
+            most: MOST_EXCHANGES,
             first: FIRST_BUDGET,
             further: FURTHER_BUDGET,
+            draws: DRAWS,
             descents: DESCENTS,
         };
         exchanges.raise(alloc, search)
@@ -80,7 +88,7 @@ impl Exchanger for InGraph<'_> {
         alloc: Global,
         network: &EdgeSet,
         budget: Budget,
-    ) -> Result<Outcome, AllocError> {
+    ) -> Result<Exchanged, AllocError> {
         exchange_in(alloc, self.graph, network, budget)
     }
 }

@@ -31,6 +31,16 @@ pub enum Outcome {
     TooLong,
 }
 
+/// What comes of an exchange.
+#[derive(Debug, Drop)]
+pub struct Exchanged {
+    /// How it ended.
+    pub outcome: Outcome,
+    /// Of each edge the share in percent that networks shorter than the one aimed at have of it, as the exchange guesses;
+    /// empty where it has no guess.
+    pub shares: Vec<u32>,
+}
+
 /// Looks for a packing whose value is the length of a network on a grid. The exchange cleans the network first: an edge
 /// of each cycle goes, and what joins no terminal. Equal arguments give equal results. An `Err` is want of memory.
 pub fn exchange(
@@ -38,15 +48,15 @@ pub fn exchange(
     grid: &Grid,
     network: &EdgeSet,
     budget: Budget,
-) -> Result<Outcome, AllocError>
+) -> Result<Exchanged, AllocError>
     requires { length network.now ≡ length (hanan_grid_of grid.now).edges }
-    ensures { IfOk result
-        (IsOutcomeFor (hanan_grid_of grid.now) (length_of (hanan_grid_of grid.now) network.now)) }
+    ensures { IfOk result (λ found.
+        IsOutcomeFor (hanan_grid_of grid.now) (length_of (hanan_grid_of grid.now) network.now) found.outcome) }
 {
     let graph = grid.graph();
     let aim = match aim_of(alloc, graph, network)? {
         Ok(aim) => aim,
-        Err(outcome) => return Ok(outcome),
+        Err(outcome) => return Ok(at_once(alloc, outcome)),
     };
     let finder = PlanarCuts::new(alloc, grid, &aim.tree)?;
     exchanged(alloc, graph, aim, finder, Settings::GRIDS, budget)
@@ -58,13 +68,13 @@ pub fn exchange_in(
     graph: &NetGraph,
     network: &EdgeSet,
     budget: Budget,
-) -> Result<Outcome, AllocError>
+) -> Result<Exchanged, AllocError>
     requires { length network.now ≡ length graph.now.edges }
-    ensures { IfOk result (IsOutcomeFor graph.now (length_of graph.now network.now)) }
+    ensures { IfOk result (λ found. IsOutcomeFor graph.now (length_of graph.now network.now) found.outcome) }
 {
     let aim = match aim_of(alloc, graph, network)? {
         Ok(aim) => aim,
-        Err(outcome) => return Ok(outcome),
+        Err(outcome) => return Ok(at_once(alloc, outcome)),
     };
     let finder = FlowCuts::new(alloc, graph, &aim.tree)?;
     exchanged(alloc, graph, aim, finder, Settings::GRAPHS, budget)
@@ -98,6 +108,16 @@ fn aim_of(
     }
 }
 
+// An exchange that ends at once. It takes no memory.
+fn at_once(alloc: Global, outcome: Outcome) -> Exchanged
+    ensures { result.outcome ≡ outcome }
+{
+    Exchanged {
+        outcome,
+        shares: Vec::new(alloc),
+    }
+}
+
 // How an exchange ends that has this aim. An `Err` is want of memory.
 fn exchanged<F: CutFinder + Drop>(
     alloc: Global,
@@ -106,9 +126,9 @@ fn exchanged<F: CutFinder + Drop>(
     finder: F,
     settings: Settings,
     budget: Budget,
-) -> Result<Outcome, AllocError>
+) -> Result<Exchanged, AllocError>
     requires { aim.length ≤ 2 ^ 42 }
-    ensures { IfOk result (IsOutcomeFor graph.now aim.length) }
+    ensures { IfOk result (λ found. IsOutcomeFor graph.now aim.length found.outcome) }
 {
     let Aim { tree, length } = aim;
     let mut finder = finder;
@@ -116,11 +136,13 @@ fn exchanged<F: CutFinder + Drop>(
     let Proposal {
         packing,
         is_impossible,
+        shares,
     } = proposal;
     let bound = judged(alloc, graph, packing)?;
-    Ok(match bound {
+    let outcome = match bound {
         Some(bound) if bound.value == u128::from(length) => Outcome::Tight(bound),
         bound if is_impossible => Outcome::Impossible(bound),
         bound => Outcome::Exhausted(bound),
-    })
+    };
+    Ok(Exchanged { outcome, shares })
 }

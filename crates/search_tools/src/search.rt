@@ -11,12 +11,15 @@ use branch::Solved;
 use graph_search::{Exchanger, Exchanges};
 use hanan_grid::Grid;
 use net_graph::{EdgeSet, NetGraph};
-use packing_judge::{Outcome, exchange};
+use packing_judge::{Exchanged, exchange};
 use search_rules::SearchOptions;
 use std::alloc::{AllocError, Global};
 use tight_packing::Budget;
 
-/// What each exchange but the first may do, with other draws.
+// So many exchanges are made at most.
+const MOST_EXCHANGES: u8 = 3;
+
+// What each but the first may do, with other draws.
 const FURTHER_BUDGET: Budget = Budget {
     rounds: 200,
     searches: 200_000,
@@ -41,8 +44,11 @@ pub fn searched(
 {
     let exchanges = Exchanges {
         exchanger: OnGrid { grid },
+        most: MOST_EXCHANGES,
         first: Budget::USUAL,
         further: FURTHER_BUDGET,
+        // On a grid the network that the leaf shows is mostly as short.
+        draws: 0,
         descents: DESCENTS,
     };
     graph_search::searched(alloc, grid.graph(), first, options.in_graph(), &exchanges)
@@ -66,7 +72,7 @@ impl Exchanger for OnGrid<'_> {
         alloc: Global,
         network: &EdgeSet,
         budget: Budget,
-    ) -> Result<Outcome, AllocError> {
+    ) -> Result<Exchanged, AllocError> {
         exchange(alloc, self.grid, network, budget)
     }
 }

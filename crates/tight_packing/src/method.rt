@@ -19,6 +19,9 @@ pub struct Proposal {
     pub packing: Packing,
     /// Whether there is no packing whose value is the network's length. That is computed and not proved.
     pub is_impossible: bool,
+    /// Of each edge the share in percent that shorter networks have of it, by the prices of the last test that there is no
+    /// packing; empty where there was none. It is a guess.
+    pub shares: Vec<u32>,
 }
 
 /// Looks for a packing whose value is the length of a network in a graph, from its tree; the length is `aim`. Where
@@ -46,6 +49,7 @@ pub fn propose<F: CutFinder>(
     Ok(Proposal {
         packing,
         is_impossible: ending == Ending::Impossible,
+        shares: state.shares,
     })
 }
 

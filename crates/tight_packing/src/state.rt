@@ -54,6 +54,10 @@ pub struct State {
     pub kept: Kept,
     pub random: Random,
     pub work: Work,
+    /// The price of a cheapest cut of each group, when it was looked at last.
+    pub cheapest: Vec<i64>,
+    /// Of each edge the share in percent that shorter networks have of it by these prices, once they were looked at.
+    pub shares: Vec<u32>,
 }
 
 impl State {
@@ -91,6 +95,8 @@ impl State {
                 moves: 0,
             },
             tree,
+            cheapest: Vec::new(alloc),
+            shares: Vec::new(alloc),
         })
     }
 }
