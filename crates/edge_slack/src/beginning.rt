@@ -1,14 +1,15 @@
 //! Edge bounds of ascents that begin with what a packing of nothing decided carries.
 
-ghost use Rattle.std.specs.Prelude.{◌+◌, ◌*◌, ◌≤◌, length, IfOk, IfSome};
+ghost use Rattle.std.specs.Prelude.{◌+◌, ◌*◌, ◌≤◌, length, IfOk};
 ghost use Rattle.net_graph.specs.Graph.{total_of};
+ghost use Rattle.net_graph.specs.Decision.{nothing_decided};
 ghost use Rattle.net_graph.specs.Packing.{IsFeasible, packing_value};
 ghost use Rattle.net_graph.specs.Saturation.{IsMaximal};
 ghost use Rattle.edge_slack.specs.Beginning.{IsBeginning};
 ghost use Rattle.edge_slack.specs.EdgeBound.{edge_taken_in, IsInSomeNetwork, IsEdgeBound, IsLowerBoundWith};
 
 use crate::bound::taking_in;
-use dual_ascent::{Chooser, ReducedCosts, Rule, ascend, ascend_with, carry, carry_costs};
+use dual_ascent::{Chooser, ReducedCosts, Rule, ascend_with, carry, carry_costs};
 use net_graph::{Decision, NetGraph, Packing};
 use std::alloc::{AllocError, Global};
 
@@ -22,25 +23,18 @@ pub struct Beginning {
 }
 
 impl Beginning {
-    /// What an ascent comes to where nothing is decided, by the rule. None where it closes, as it does only where the
-    /// graph's edges don't join its terminals. An `Err` is want of memory.
-    pub fn of<F: Rule>(
-        alloc: Global,
-        g: &NetGraph,
-        chooser: &Chooser<F>,
-    ) -> Result<Option<Beginning>, AllocError>
-        ensures { IfOk result (λ found. IfSome found (IsBeginning g.now)) }
+    /// A packing that is feasible where nothing is decided, as what bounds begin with. An `Err` is want of memory.
+    pub fn at(alloc: Global, g: &NetGraph, packing: Packing) -> Result<Beginning, AllocError>
+        requires { IsFeasible g.now (nothing_decided g.now) packing }
+        ensures { IfOk result (IsBeginning g.now) }
     {
         let decision = Decision::none(alloc, g)?;
-        let ascent = ascend(alloc, g, &decision, Packing::empty(alloc), chooser)?;
-        if ascent.closed {
-            return Ok(None);
-        }
-        Ok(Some(Beginning {
+        let costs = ReducedCosts::of(alloc, g, &decision, &packing)?;
+        Ok(Beginning {
             decision,
-            packing: ascent.packing,
-            costs: ascent.costs,
-        }))
+            packing,
+            costs,
+        })
     }
 }
 

@@ -4,12 +4,14 @@
 
 mod answering;
 mod exchanging;
+mod on_grid;
 mod raising;
 mod search;
 mod shortening;
 
 pub use answering::answer_with;
 pub use exchanging::{Exchanger, Exchanges};
+pub use on_grid::searched_on;
 pub use raising::Raising;
 pub use search::searched;
 pub use shortening::{Shortening, offer_shorter};

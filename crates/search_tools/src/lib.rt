@@ -4,7 +4,6 @@
 mod build;
 mod build_fault;
 mod network;
-mod search;
 mod solution;
 mod solve_points;
 

@@ -13,8 +13,8 @@ use network_judge::shortened;
 use std::alloc::{AllocError, Global};
 use tree_network::network_of;
 
-/// How many descents the search for a shorter network may make: about what gains nearly all at 50 points.
-pub(crate) const DESCENTS: u32 = 100;
+// How many descents the search for a shorter network may make: about what gains nearly all at 50 points.
+const DESCENTS: u32 = 100;
 
 /// A network of a grid that is made of full trees, or that is shorter than such a one, and what is told of their
 /// concatenation.

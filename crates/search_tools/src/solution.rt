@@ -4,11 +4,10 @@ ghost use Rattle.std.specs.Prelude.{IfOk};
 ghost use Rattle.search_tools.specs.Steps.{IsPrintable, IsSpelled, SolvesFile, solution_text, solution_status};
 
 use crate::network::{Found, network_on};
-use crate::search::searched;
 use cut_cert::{Answer as CutAnswer, answer_len, write_answer};
 use frame::{Answer, AnswerStatus};
 use fst_file::FstFile;
-use graph_search::answer_with;
+use graph_search::{answer_with, searched_on};
 use hanan_grid::Grid;
 use rst_outside::{PutFault, Sink};
 use search_rules::SearchOptions;
@@ -59,7 +58,7 @@ pub fn solution_of(
         Err(place) => return Ok(Err(place)),
     };
     let Found { network, note } = found;
-    let solved = searched(alloc, &grid, network, options)?;
+    let solved = searched_on(alloc, &grid, network, options.in_graph())?;
     let answer = answer_with(options.openings, note, solved);
     prove!(answer_len(&grid, &answer) < 1 << 32);
     Ok(Ok(Solution { grid, answer }))

@@ -15,6 +15,7 @@ use Rattle.hanan_grid.specs.Names.{IsCrossing, no_edge, point_of_vertex}
 use Rattle.hanan_grid.specs.NamesLaws.{IsCrossing-point_of_vertex, vertex_of-point_of_vertex}
 use Rattle.hanan_grid.specs.Stretch.{IsGridStretch}
 use Rattle.hanan_grid.specs.StretchLaws.{IsVertexOnStretch-to, Leads-stretch}
+use Rattle.graph_solve.specs.Task.{all_edges as set_of_all}
 use Rattle.edge_slack.specs.EdgeBound.{IsInSomeNetwork}
 
 -- all edges of the grid
@@ -86,3 +87,10 @@ IsInSomeNetwork-grid ps e sound within =
     let some : 0 < length ps =
     (let terminal = sound.terminal in omega (arith, length-map ps (vertex_of (xs_of ps) (ys_of ps)))) in
     (all_edges ps, all_edges_join ps some, all_edges_used ps e some within)
+
+-- All edges of a grid together are a network.
+pub IsNetwork-grid : (ps : List Point) → IsGraph (hanan_grid_of ps) →
+    IsNetwork (hanan_grid_of ps) (set_of_all (hanan_grid_of ps))
+IsNetwork-grid ps sound =
+    all_edges_join ps
+    (let terminal = sound.terminal in omega (arith, length-map ps (vertex_of (xs_of ps) (ys_of ps))))

@@ -1,3 +1,4 @@
+pub mod BeginningLaws
 pub mod BoundsLemmas
 pub mod GridLemmas
 pub mod SlackLaws

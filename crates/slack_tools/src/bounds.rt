@@ -1,6 +1,6 @@
 //! The bounds of a grid's edges.
 
-ghost use Rattle.std.specs.Prelude.{◌≡◌, ◌<◌, ◌≤◌, ◌^◌, length, IfOk, IfSome};
+ghost use Rattle.std.specs.Prelude.{◌≡◌, ◌<◌, ◌≤◌, ◌^◌, length, IfOk};
 ghost use Rattle.net_graph.specs.Graph.{total_of};
 ghost use Rattle.net_graph.specs.Packing.{packing_value};
 ghost use Rattle.hanan_grid.specs.Grid.{hanan_grid_of};
@@ -9,15 +9,16 @@ ghost use Rattle.edge_slack.specs.Beginning.{IsBeginning};
 ghost use Rattle.edge_slack.specs.EdgeBound.{edge_taken_in};
 ghost use Rattle.slack_tools.specs.Bounds.{BoundsEdge, AreEdgeBounds};
 
+use crate::beginning::beginning_on;
 use dual_ascent::{Candidate, Chooser, Rule};
-use edge_slack::{Beginning, carried_edge_bound, edge_bound, taking_in};
+use edge_slack::{Beginning, carried_edge_bound, taking_in};
 use hanan_grid::Grid;
 use net_graph::{NetGraph, Packing, value};
 use search_rules::{AscentRule, ascent_place};
 use std::alloc::{AllocError, Global};
 
 /// For each edge of the grid, by its number, the value of a packing that takes the edge in and decides nothing else, of
-/// an ascent by the rule. An `Err` is want of memory.
+/// an ascent by the rule that begins with what a packing of nothing decided carries. An `Err` is want of memory.
 pub(crate) fn edge_bounds(
     alloc: Global,
     grid: &Grid,
@@ -25,9 +26,11 @@ pub(crate) fn edge_bounds(
 ) -> Result<Vec<u64>, AllocError>
     ensures { IfOk result (λ bounds. AreEdgeBounds (hanan_grid_of grid.now) bounds.items) }
 {
+    let start = beginning_on(alloc, grid, rule)?;
     bounds_by(
         alloc,
         grid,
+        &start,
         |list: &[Candidate]| -> usize
             requires { 0 < length list.now }
             ensures { result < length list.now }
@@ -35,25 +38,30 @@ pub(crate) fn edge_bounds(
     )
 }
 
-// The same by any rule. Of each packing only the value is kept.
-fn bounds_by<F: Rule>(alloc: Global, grid: &Grid, rule: F) -> Result<Vec<u64>, AllocError>
+// The same by any rule, from any beginning. Of each packing only the value is kept.
+fn bounds_by<F: Rule>(
+    alloc: Global,
+    grid: &Grid,
+    start: &Beginning,
+    rule: F,
+) -> Result<Vec<u64>, AllocError>
+    requires start { IsBeginning (hanan_grid_of grid.now) start.now }
     requires callable { IsCallableOnSome (F.may_choose rule) }
     requires place { AnswersAPlace (F.chooses rule) }
     ensures { IfOk result (λ bounds. AreEdgeBounds (hanan_grid_of grid.now) bounds.items) }
 {
     let chooser = Chooser::new(rule);
-    let start = Beginning::of(alloc, grid.graph(), &chooser)?;
-    bounds_from(alloc, grid, &start, &chooser)
+    bounds_from(alloc, grid, start, &chooser)
 }
 
-// The same where there may be a packing with which a second ascent of each edge begins.
+// The bounds of all edges. An `Err` is want of memory.
 fn bounds_from<F: Rule>(
     alloc: Global,
     grid: &Grid,
-    start: &Option<Beginning>,
+    start: &Beginning,
     chooser: &Chooser<F>,
 ) -> Result<Vec<u64>, AllocError>
-    requires { IfSome start.now (IsBeginning (hanan_grid_of grid.now)) }
+    requires { IsBeginning (hanan_grid_of grid.now) start.now }
     ensures { IfOk result (λ bounds. AreEdgeBounds (hanan_grid_of grid.now) bounds.items) }
 {
     let mut bounds = Vec::new(alloc);
@@ -63,43 +71,9 @@ fn bounds_from<F: Rule>(
     Ok(bounds)
 }
 
-// The greater of two bounds of an edge: of an ascent from no cut, and of one that begins with the cuts which the first
-// packing carries. An `Err` is want of memory.
+// The value of the packing of an ascent that takes the edge in and begins with the cuts which are carried. An `Err` is
+// want of memory.
 fn bound_of<F: Rule>(
-    alloc: Global,
-    grid: &Grid,
-    edge: u32,
-    start: &Option<Beginning>,
-    chooser: &Chooser<F>,
-) -> Result<u64, AllocError>
-    requires edge { edge < length (hanan_grid_of grid.now).edges }
-    requires start { IfSome start.now (IsBeginning (hanan_grid_of grid.now)) }
-    ensures { IfOk result (BoundsEdge (hanan_grid_of grid.now) edge) }
-{
-    let plain = plain_bound(alloc, grid, edge, chooser)?;
-    match start {
-        Some(start) => Ok(plain.max(carried_bound(alloc, grid, edge, start, chooser)?)),
-        None => Ok(plain),
-    }
-}
-
-// The value of the packing of an ascent from no cut that takes the edge in. An `Err` is want of memory.
-fn plain_bound<F: Rule>(
-    alloc: Global,
-    grid: &Grid,
-    edge: u32,
-    chooser: &Chooser<F>,
-) -> Result<u64, AllocError>
-    requires { edge < length (hanan_grid_of grid.now).edges }
-    ensures { IfOk result (BoundsEdge (hanan_grid_of grid.now) edge) }
-{
-    let graph = grid.graph();
-    let packing = edge_bound(alloc, graph, edge, chooser)?;
-    value_of(alloc, graph, edge, &packing)
-}
-
-// The same of an ascent that begins with the cuts which are carried. An `Err` is want of memory.
-fn carried_bound<F: Rule>(
     alloc: Global,
     grid: &Grid,
     edge: u32,

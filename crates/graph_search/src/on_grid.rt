@@ -1,4 +1,4 @@
-//! The search on a grid that begins with a network.
+//! The search on the grid of points.
 
 ghost use Rattle.std.specs.Prelude.{IfOk};
 ghost use Rattle.net_graph.specs.Network.{length_of};
@@ -6,13 +6,13 @@ ghost use Rattle.hanan_grid.specs.Grid.{hanan_grid_of};
 ghost use Rattle.branch.specs.States.{IsNetworkOf};
 ghost use Rattle.graph_search.specs.Searched.{IsTold};
 
-use crate::network::DESCENTS;
+use crate::exchanging::{Exchanger, Exchanges};
+use crate::search::searched;
 use branch::Solved;
-use graph_search::{Exchanger, Exchanges};
 use hanan_grid::Grid;
 use net_graph::{EdgeSet, NetGraph};
 use packing_judge::{Exchanged, exchange};
-use search_rules::SearchOptions;
+use search_rules::GraphOptions;
 use std::alloc::{AllocError, Global};
 use tight_packing::Budget;
 
@@ -28,15 +28,18 @@ const FURTHER_BUDGET: Budget = Budget {
     seed: 20240608,
 };
 
+// In how many descents a network is made shorter at most: about what gains nearly all at 50 points.
+const DESCENTS: u32 = 100;
+
 /// What a search finds that begins with a network of a grid. Its first leaf is that of an ascent from no cut. Where
 /// this stays below the network's length, it is the better one of it and of an ascent that begins with what an exchange
 /// finds; where that leads to a shorter network or has spent its budget, another exchange follows. An `Err` is want of
 /// memory.
-pub fn searched(
+pub fn searched_on(
     alloc: Global,
     grid: &Grid,
     first: EdgeSet,
-    options: SearchOptions,
+    options: GraphOptions,
 ) -> Result<Solved, AllocError>
     requires { IsNetworkOf (hanan_grid_of grid.now) first }
     ensures { IfOk result (IsTold (hanan_grid_of grid.now) options.openings
@@ -51,7 +54,7 @@ pub fn searched(
         draws: 0,
         descents: DESCENTS,
     };
-    graph_search::searched(alloc, grid.graph(), first, options.in_graph(), &exchanges)
+    searched(alloc, grid.graph(), first, options, &exchanges)
 }
 
 // What makes exchanges on a grid.
