@@ -30,7 +30,7 @@ pub record IsWithin (b : Rectangle) (h : HalfPoint) : Type 0 where
   pub x : IsAmid b.x1 b.x2 h.twice_x
   pub y : IsAmid b.y1 b.y2 h.twice_y
 
--- the same between two numbers of which either may be the lower
+-- the half of a number lies strictly between two whole numbers, of which either may be the lower
 abbrev pub IsBetween : ℤ → ℤ → ℤ → Type 0
 IsBetween y z number = IsAmid y z number ⊎ IsAmid z y number
 

@@ -16,15 +16,15 @@ BlockingIsCrossing = (b : Rectangle) (p q : Point) → IsStraight p q
 abbrev pub RunsStraight : ObstaclesValue → Edge → Type 0
 RunsStraight o e = IsStraight (point_of o e.a) (point_of o e.b)
 
+-- all edges of the grid do
+abbrev pub EdgesRunStraight : Type 0
+EdgesRunStraight = (o : ObstaclesValue) → All (RunsStraight o) (obstacle_grid_of o).edges
+
 -- the edge crosses the interior of no box
 abbrev pub CrossesNone : ObstaclesValue → Edge → Type 0
 CrossesNone o e = (b : Rectangle) → Contains o.boxes b → ¬ CrossesInterior b (point_of o e.a) (point_of o e.b)
 
--- so do all edges of the grid
-abbrev pub EdgesRunStraight : Type 0
-EdgesRunStraight = (o : ObstaclesValue) → All (RunsStraight o) (obstacle_grid_of o).edges
-
--- .. which no edge of the graph does
+-- no edge of the graph crosses one
 abbrev pub NoEdgeCrosses : Type 0
 NoEdgeCrosses = (o : ObstaclesValue) → All (CrossesNone o) (obstacle_graph_of o).edges
 
