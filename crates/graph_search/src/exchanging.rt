@@ -39,13 +39,15 @@ pub trait Exchanger {
 }
 
 /// Exchanges that raise a search as long as it isn't settled: each first leaf is the better one of that at hand and of
-/// an ascent that begins with what an exchange finds. Where that leads to a shorter network or has spent its budget,
-/// another exchange follows.
+/// an ascent that begins with what an exchange finds. Where that leads to a shorter network, or has spent its budget and is to
+/// go on, another exchange follows.
 #[derive(Drop)]
 pub struct Exchanges<E: Exchanger + Drop> {
     pub exchanger: E,
     /// At most so many are made, each but the first against a shorter network, or with a new budget and other draws.
     pub most: u8,
+    /// Whether another one follows one that has spent its budget and led to no shorter network.
+    pub goes_on: bool,
     /// What the first one may do, and each other one.
     pub first: Budget,
     pub further: Budget,
@@ -110,7 +112,7 @@ impl<E: Exchanger + Drop> Exchanges<E> {
             offer_shorter(alloc, graph, self.descents, search)?;
             self.offer_by_shares(alloc, &shares, search)?;
         }
-        if is_spent {
+        if is_spent && self.goes_on {
             return Ok(true);
         }
         Ok(length(graph, search.network()) < before)

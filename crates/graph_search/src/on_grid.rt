@@ -48,6 +48,7 @@ pub fn searched_on(
     let exchanges = Exchanges {
         exchanger: OnGrid { grid },
         most: MOST_EXCHANGES,
+        goes_on: true,
         first: Budget::USUAL,
         further: FURTHER_BUDGET,
         // On a grid the network that the leaf shows is mostly as short.

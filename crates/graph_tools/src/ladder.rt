@@ -19,13 +19,13 @@ const MOST_EXCHANGES: u8 = 6;
 // In so many draws networks are grown by the shares that an exchange guesses.
 const DRAWS: u32 = 5;
 
-// What the first exchange may do, and each other one. The looks keep the largest graphs to some seconds: a hundred
-// million take about one.
+// What the first exchange may do, and each other one. The looks and moves keep the largest graphs to some
+// seconds.
 const FIRST_BUDGET: Budget = Budget {
     rounds: 250,
     searches: 200_000,
     looks: 150_000_000,
-    moves: 2_000_000,
+    moves: 1_000_000,
     seed: 20240607,
 };
 
@@ -33,7 +33,7 @@ const FURTHER_BUDGET: Budget = Budget {
     rounds: 200,
     searches: 100_000,
     looks: 75_000_000,
-    moves: 1_000_000,
+    moves: 250_000,
     seed: 20240608,
 };
 
@@ -61,6 +61,7 @@ impl Raising for Ladder<'_> {
         let exchanges = Exchanges {
             exchanger: InGraph { graph },
             most: MOST_EXCHANGES,
+            goes_on: false,
             first: FIRST_BUDGET,
             further: FURTHER_BUDGET,
             draws: DRAWS,
