@@ -59,7 +59,7 @@ pub fn exchange(
         Err(outcome) => return Ok(at_once(alloc, outcome)),
     };
     let finder = PlanarCuts::new(alloc, grid, &aim.tree)?;
-    exchanged(alloc, graph, aim, finder, Settings::GRIDS, budget)
+    carried_out(alloc, graph, aim, finder, Settings::GRIDS, budget)
 }
 
 /// The same for a network of any graph.
@@ -77,7 +77,7 @@ pub fn exchange_in(
         Err(outcome) => return Ok(at_once(alloc, outcome)),
     };
     let finder = FlowCuts::new(alloc, graph, &aim.tree)?;
-    exchanged(alloc, graph, aim, finder, Settings::GRAPHS, budget)
+    carried_out(alloc, graph, aim, finder, Settings::GRAPHS, budget)
 }
 
 // What an exchange aims at: the tree of a network, and the network's length.
@@ -119,7 +119,7 @@ fn at_once(alloc: Global, outcome: Outcome) -> Exchanged
 }
 
 // How an exchange ends that has this aim. An `Err` is want of memory.
-fn exchanged<F: CutFinder + Drop>(
+fn carried_out<F: CutFinder + Drop>(
     alloc: Global,
     graph: &NetGraph,
     aim: Aim,
