@@ -61,8 +61,7 @@ graph_printed : ObstaclesAreReadBack → (openings : ℕ) (before after : Outsid
 graph_printed read openings before after status s is ends =
     let (print, (bytes, whole, (g, (o, task, same), of_graph)), printed) =
     printed_ends (text_fault_status around_fault_status) (text_fault_text around_fault_text) (codes "obstacles")
-    (FromText TEXT_LIMIT WritesGraph) LeavesShelf before after status s is ends in
-    (
+    (FromText TEXT_LIMIT WritesGraph) LeavesShelf before after status s is ends in (
       bytes,
       o,
       whole.came,

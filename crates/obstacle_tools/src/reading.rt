@@ -7,7 +7,9 @@ use crate::text_fault::ObstacleTextFault;
 use frame::apart;
 use net_graph::NetGraph;
 use obstacle_grid::{ObstacleTaskFault, obstacle_graph};
-use obstacles_in::{ObstacleFault, Obstacles, one_outcome, one_reading, read_obstacles, values_are_spelled};
+use obstacles_in::{
+    ObstacleFault, Obstacles, one_outcome, one_reading, read_obstacles, values_are_spelled,
+};
 use std::alloc::{AllocError, Global};
 
 /// The graph of the points and boxes that a text spells; or why it gives none. An `Err` is want of memory.

@@ -1,5 +1,5 @@
 -- What a search found that began with a network of trees is an answer for the trees.
-use Rattle.std.proofs.Common.{ℕ, ◌<◌, ◌≤◌, ◌^◌, List, length, refl, arith}
+use Rattle.std.proofs.Common.{ℕ, ◌≡◌, ◌<◌, ◌≤◌, ◌^◌, List, length, refl, subst, arith}
 use Rattle.points_in.specs.declared.point.Point.{Point}
 use Rattle.net_graph.specs.Network.{length_of}
 use Rattle.hanan_grid.specs.Grid.{hanan_grid_of}
@@ -7,7 +7,10 @@ use Rattle.full_tree.specs.declared.code.Tree.{Tree as FullTree}
 use Rattle.branch.specs.declared.solved.Solved.{Solved}
 use Rattle.cut_cert.specs.Text.{answer_text}
 use Rattle.cut_cert.specs.Answers.{value_of}
+use Rattle.net_graph.specs.Graph.{Graph}
 use Rattle.search_rules.specs.declared.options.SearchOptions.{SearchOptions}
+use Rattle.search_rules.specs.declared.options.GraphOptions.{GraphOptions}
+use Rattle.search_rules.specs.Options.{in_graph}
 use Rattle.graph_search.specs.Searched.{IsTold}
 use Rattle.graph_search.specs.Answering.{answer_with}
 use Rattle.graph_search.specs.AnsweringLaws.{told_fits, told_head, searched_longer}
@@ -33,3 +36,9 @@ is_for options ps trees found s small made is few =
       fits = told_fits g options.openings first found.note s small is;
       few_bytes = few;
     }
+
+-- A search by the choices for a graph makes as many openings as the choices allow.
+pub told_by : (options : SearchOptions) (choices : GraphOptions) (g : Graph) (first_length : ℕ) (s : Solved) →
+    choices ≡ in_graph options → IsTold g choices.openings first_length s → IsTold g options.openings first_length s
+told_by options choices g first_length s same told =
+    subst (λ (c : GraphOptions). IsTold g c.openings first_length s) same told

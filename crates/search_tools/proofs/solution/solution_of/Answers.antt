@@ -8,7 +8,7 @@ use Rattle.cut_cert.specs.Text.{answer_text}
 use Rattle.cut_cert.specs.Answers.{IsAnswerOn, value_of}
 use Rattle.search_tools.specs.Steps.{FindsNetwork, IsFor}
 use Rattle.graph_search.specs.AnsweringLaws.{told_fits}
-use Rattle.search_tools.proofs.SearchedLaws.{is_for}
+use Rattle.search_tools.proofs.SearchedLaws.{is_for, told_by}
 use Rattle.search_tools.proofs.solution.solution_of.Goals as goal
 
 pub network_on-requires : goal.network_on-requires
@@ -20,7 +20,8 @@ answer_len-requires c =
     let small : c.args.options.openings ≤ 255 = omega arith in
     subst (λ (a : Answer). IsAnswerOn (hanan_grid_of ps) a) (sym c.answer_with-answer.ensures)
     (told_fits (hanan_grid_of ps) c.args.options.openings (length_of (hanan_grid_of ps) c.in-Ok.found.network) c.in-Ok.found.note c.in_ok-solved.solved
-    small c.in_ok-solved.ensures)
+    small (told_by c.args.options c.in_graph.result (hanan_grid_of ps) (length_of (hanan_grid_of ps) c.in-Ok.found.network) c.in_ok-solved.solved
+    c.in_graph.ensures c.in_ok-solved.ensures))
 
 pub returns : goal.returns
 returns c =
@@ -34,5 +35,6 @@ returns c =
     (subst (λ (a : Answer). IsFor c.args.options ps trees (record { grid = ps; answer = a })) (sym same)
     (is_for c.args.options ps trees c.in-Ok.found c.in_ok-solved.solved small
     (subst (FindsNetwork c.args.options.concat ps trees) c.in-Ok.is c.in_ok-found.ensures)
-    c.in_ok-solved.ensures
+    (told_by c.args.options c.in_graph.result (hanan_grid_of ps) (length_of (hanan_grid_of ps) c.in-Ok.found.network) c.in_ok-solved.solved
+    c.in_graph.ensures c.in_ok-solved.ensures)
     (subst (λ (a : Answer). length (answer_text (value_of ps a)) < 2 ^ 32) same few)))
