@@ -33,17 +33,6 @@ use Rattle.graph_reduce.proofs.lemmas.Terminals.{In-from_Contains, Contains-from
 
 -- ---- the edges of a node that a rule wants
 
--- each place that is seen holds an edge
-pub seen_held : (s : State) (v end : ℕ) (edges : NodeEdges) → IsSeenTo s v end edges → AreHeld s edges
-seen_held s v end NoEdge seen n told = absurd told
-seen_held s v end (OneEdge place) seen n told =
-    let (x, at, ends) = seen.ends in (x, subst (λ k. HasEdge s k x) (sym told) at)
-seen_held s v end (TwoEdges p q) seen n (inl is) =
-    let (x, at, ends) = seen.first in (x, subst (λ k. HasEdge s k x) (sym is) at)
-seen_held s v end (TwoEdges p q) seen n (inr is) =
-    let (x, at, ends) = seen.second in (x, subst (λ k. HasEdge s k x) (sym is) at)
-seen_held s v end More seen n told = absurd told
-
 -- no rule applies at a node with more than two edges
 not_more : (s : State) (v : ℕ) (rule : NodeRule) → Applies s (rule_of rule) v →
     IsSeenTo s v (length s.edges) More → ⊥

@@ -113,9 +113,3 @@ start_held g nodes edges carriers terminals forced all each own distinct none =
     let held : bundles_at carriers 0 edges ≡ bundles_from (length g.edges) 0 g.edges =
     ap (λ cs. bundles_at cs 0 edges) own ∙ ap (bundles_at (range_with_len 0 (length g.edges)) 0) each
     ∙ held_at_start g.edges in cc
-
--- numbers of a range are below its end
-pub range_below : (start size end : ℕ) → start + size ≤ end → All (λ n. n < end) (range_with_len start size)
-range_below start size end fits k d below =
-    let within : k < size = omega (arith, length-range_with_len start size) in
-    omega (arith, get_or-range_with_len start size k d within)
