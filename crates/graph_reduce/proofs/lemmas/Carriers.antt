@@ -1,9 +1,8 @@
 -- What places carry, where one is put in the place of another.
-use Rattle.std.specs.Prelude.{ℕ, ◌≡◌, ◌≢◌, ◌+◌, ◌==◌, ◌||◌, ◌<◌, Bool, true, false, List, [], ◌∷◌, map, length, slice_get, slice_set, slice_index_or, All, Option, Some, None, if◌then◌else◌}
+use Rattle.std.specs.Prelude.{ℕ, ◌≡◌, ◌≢◌, ◌+◌, ◌==◌, ◌||◌, Bool, true, false, List, [], ◌∷◌, map, length, slice_get, slice_set, Option, Some, None, if◌then◌else◌}
 use Rattle.std.specs.Option.{option_map}
 use Rattle.std.proofs.Common.{refl, sym, ap, ◌∙◌, inl, inr, subst, arith, length-set}
 use Rattle.std.proofs.lemmas.Bool.{cases_eq, cases_lt, eq-eqb, ne_eqb}
-use Rattle.std.proofs.lemmas.List.Elements.{All-map}
 use Rattle.net_graph.specs.declared.edge.Edge.{Edge}
 use Rattle.net_graph.specs.EntryLaws.{slice_get-set_same, slice_get-set_other}
 use Rattle.std.proofs.lemmas.Option.{slice_get_past}

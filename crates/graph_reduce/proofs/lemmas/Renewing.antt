@@ -19,7 +19,7 @@ use Rattle.graph_reduce.specs.Rules.{JoinsEdges, ForcesEdge, moved}
 use Rattle.graph_reduce.specs.Step.{Applies, Takes}
 use Rattle.graph_reduce.specs.NodeRules.{rule_of}
 use Rattle.graph_reduce.specs.Survey.{IsNumbered, IsSeenTo, IsListed, AreListedTo, AreMarked, IsSurvey}
-use Rattle.graph_reduce.specs.Due.{StaysDue, HasAllAt, AreDue, AreHeld, AreEndsDue}
+use Rattle.graph_reduce.specs.Due.{StaysDue, HasAllAt, AreDue, AreEndsDue}
 use Rattle.graph_reduce.specs.UpToDate.{IsUpToDate}
 use Rattle.graph_reduce.specs.Clear.{IsWithin, AreAlike}
 use Rattle.graph_reduce.proofs.lemmas.Agreeing.{AreBothDue, due_leaf, due_joined, due_alike}
