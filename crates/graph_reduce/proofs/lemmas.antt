@@ -23,7 +23,6 @@ pub mod Sizes
 pub mod HeldPlaces
 pub mod Carriers
 pub mod HeldStates
-pub mod Carrying
 pub mod Start
 pub mod Clearing
 pub mod Longer
@@ -32,6 +31,8 @@ pub mod Seeing
 pub mod SurveyLaws
 pub mod Agreeing
 pub mod Renewing
+pub mod Following
+pub mod LeadingUp
 pub mod NodeRuleLaws
 pub mod Bounds
 pub mod NodeTaken

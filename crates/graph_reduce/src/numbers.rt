@@ -5,8 +5,8 @@ ghost use Rattle.std.specs.List.{list_any};
 ghost use Rattle.graph_reduce.specs.State.{without};
 ghost use Rattle.graph_reduce.specs.Rules.{moved};
 
-/// Puts one number in the place of another, wherever that stands.
-pub(crate) fn replace_all(numbers: &mut [u32], from: u32, to: u32)
+// Puts one number in the place of another, wherever that stands.
+fn replace_all(numbers: &mut [u32], from: u32, to: u32)
     ensures { numbers.new ≡ map (λ n. if n == from then to else n) numbers.old }
 {
     for n in numbers.iter_mut() {

@@ -12,7 +12,7 @@ ghost use Rattle.graph_reduce.specs.LeftArrays.{AreReducedArrays, graph_of_left}
 
 use crate::left::{Numbering, held_places, renumbered_edges, renumbered_terminals};
 use crate::steps::reduced_state;
-use crate::work::Arrays;
+use crate::work::{Arrays, add_carried};
 use net_graph::{EdgeList, EdgeSet, GraphFault, NetGraph, VertexList};
 use std::alloc::{AllocError, Global};
 use std::marker::Model;
@@ -45,7 +45,7 @@ impl Model for Reduced {
 fn reduced_arrays(alloc: Global, g: &NetGraph) -> Result<Arrays, AllocError>
     ensures { IfOk result (AreReducedArrays g.now) }
 {
-    Ok(reduced_state(alloc, g)?.into_arrays())
+    reduced_state(alloc, g)?.into_arrays(alloc)
 }
 
 /// The reduction of the graph: the rules are taken until none applies, each time the first one that does at its lowest
@@ -154,7 +154,7 @@ impl Reduced {
     {
         let chosen = chosen_places(alloc, &self.places, set, self.forced.len())?;
         let mut lifted = self.forced.copy()?;
-        add_chosen(&mut lifted, &self.carriers, &chosen);
+        add_carried(&mut lifted, &self.carriers, &chosen);
         Ok(lifted)
     }
 }
@@ -178,22 +178,6 @@ fn chosen_places(
         }
     }
     Ok(chosen)
-}
-
-// Puts those edges into the set whose place is chosen.
-fn add_chosen(set: &mut EdgeSet, carriers: &[u32], chosen: &EdgeSet)
-    requires sizes { length carriers.now ≡ length set.old }
-    requires within { All (λ place. place < length chosen.now) carriers.now }
-    requires few { length carriers.now ≤ 4900 }
-    ensures size { length set.new ≡ length set.old }
-    ensures flags { (e : ℕ) → e < length carriers.now →
-        has set.new e ≡ (has set.old e || has chosen.now (slice_index carriers.now e)) }
-{
-    for (e, carrier) in carriers.iter().enumerate() {
-        if chosen.has(*carrier) {
-            set.add(e as u32);
-        }
-    }
 }
 
 // The graph of these parts, which have no fault. An `Err` is want of memory.

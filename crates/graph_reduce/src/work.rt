@@ -1,11 +1,12 @@
 //! The state of a reduction under way.
 
-ghost use Rattle.std.specs.Prelude.{◌≡◌, ◌≢◌, ℕ, ◌+◌, ◌<◌, ◌≤◌, ◌^◌, ◌⊎◌, false, length, replicate, slice_get, slice_set, MatchOption, IfOk, Some, None};
+ghost use Rattle.std.specs.Prelude.{◌≡◌, ◌≢◌, ℕ, ◌+◌, ◌<◌, ◌≤◌, ◌^◌, ◌⊎◌, ◌||◌, false, length, replicate, slice_get, slice_set, slice_index, slice_index_or, MatchOption, All, IfOk, Some, None};
+ghost use Rattle.net_graph.specs.Flags.{has};
 ghost use Rattle.graph_reduce.specs.State.{Bundle, HasEdge, start_of, union};
 ghost use Rattle.graph_reduce.specs.Rules.{without_edge, without_edges, without_node, moved};
-ghost use Rattle.graph_reduce.specs.Held.{carried_by, held_state, IsShaped};
+ghost use Rattle.graph_reduce.specs.Held.{carriers_of, carried_by_any, held_state, IsShaped};
 
-use crate::numbers::{move_all, replace_all};
+use crate::numbers::move_all;
 use crate::start::{every_edge, every_node, own_places, without_repeats};
 use net_graph::{Edge, EdgeSet, NetGraph, VertexSet};
 use std::alloc::{AllocError, Global};
@@ -16,9 +17,10 @@ use std::marker::Model;
 pub(crate) struct Work {
     nodes: VertexSet,
     edges: Vec<Option<Edge>>,
-    // For each edge of the graph the place whose edge stands for it, or stood for it as long as it was there.
-    carriers: Vec<u32>,
+    // For each place the earlier one that took over what it stands for, or itself.
+    into: Vec<u32>,
     terminals: Vec<u32>,
+    // The places whose edges were forced.
     forced: EdgeSet,
     offset: u64,
 }
@@ -37,13 +39,14 @@ pub(crate) struct Arrays {
 
 impl Model for Work {
     ghost use Rattle.graph_reduce.specs.State.{State};
-    ghost use Rattle.graph_reduce.specs.Held.{held_state, IsShaped};
+    ghost use Rattle.graph_reduce.specs.Held.{held_state, carriers_of, carried_by_any, LeadsUp};
 
     ghost Value = { State };
 
-    ghost view = { λ w. held_state w.nodes w.edges.items w.carriers.items w.terminals.items w.forced w.offset };
+    ghost view = { λ w. held_state w.nodes w.edges.items (carriers_of w.into.items) w.terminals.items
+        (carried_by_any w.forced (carriers_of w.into.items)) w.offset };
 
-    ghost invariant = { λ w. IsShaped w.edges.items w.carriers.items w.forced };
+    ghost invariant = { λ w. LeadsUp w.edges.items w.into.items w.forced };
 }
 
 impl Work {
@@ -54,7 +57,7 @@ impl Work {
         Ok(Work {
             nodes: every_node(alloc, g.vertex_count())?,
             edges: every_edge(alloc, g.edges())?,
-            carriers: own_places(alloc, g.edge_count())?,
+            into: own_places(alloc, g.edge_count())?,
             terminals: without_repeats(alloc, g.terminals())?,
             forced: EdgeSet::empty(alloc, g.edge_count())?,
             offset: 0,
@@ -111,28 +114,30 @@ impl Work {
         &self.terminals
     }
 
-    /// The arrays of the state.
-    pub fn into_arrays(self) -> Arrays
-        ensures state { held_state result.nodes result.edges.items result.carriers.items result.terminals.items
-            result.forced result.offset ≡ self }
-        ensures shaped { IsShaped result.edges.items result.carriers.items result.forced }
+    /// The arrays of the state. An `Err` is want of memory.
+    pub fn into_arrays(self, alloc: Global) -> Result<Arrays, AllocError>
+        ensures state { IfOk result (λ a. held_state a.nodes a.edges.items a.carriers.items a.terminals.items
+            a.forced a.offset ≡ self) }
+        ensures shaped { IfOk result (λ a. IsShaped a.edges.items a.carriers.items a.forced) }
     {
         let Work {
             nodes,
             edges,
-            carriers,
+            into,
             terminals,
-            forced,
+            forced: places,
             offset,
         } = self;
-        Arrays {
+        let carriers = carriers_found(into);
+        let forced = edges_carried(alloc, &carriers, &places)?;
+        Ok(Arrays {
             nodes,
             edges,
             carriers,
             terminals,
             forced,
             offset,
-        }
+        })
     }
 
     /// Drops the edge at the place.
@@ -160,16 +165,16 @@ impl Work {
 
     /// Puts an edge into the earlier place that stands for what both places stand for, and none into the later.
     pub fn join_edges(&mut self, earlier: u32, later: u32, edge: Edge)
-        requires apart { earlier ≢ later }
-        requires earlier { earlier < length self.old.edges }
-        requires later { later < length self.old.edges }
+        requires order { earlier < later }
+        requires earlier { (x : Bundle) × HasEdge self.old earlier x }
+        requires later { (y : Bundle) × HasEdge self.old later y }
         ensures { (x y : Bundle) → HasEdge self.old earlier x → HasEdge self.old later y →
             self.new ≡ record self.old {
               edges = slice_set (slice_set self.old.edges earlier
                   (Some (record { edge = edge; originals = union x.originals y.originals }))) later None;
             } }
     {
-        replace_all(&mut self.carriers, later, earlier);
+        self.into[later as usize] = earlier;
         self.edges[earlier as usize] = Some(edge);
         self.edges[later as usize] = None;
     }
@@ -185,7 +190,7 @@ impl Work {
               offset = self.old.offset + more;
             } }
     {
-        add_carried(&mut self.forced, &self.carriers, place);
+        self.forced.add(place);
         self.offset += more;
         self.edges[place as usize] = None;
     }
@@ -207,15 +212,49 @@ fn empty_all(edges: &mut [Option<Edge>])
     }
 }
 
-// Puts those edges of the graph into the set that the place carries.
-fn add_carried(set: &mut EdgeSet, carriers: &[u32], place: u32)
+// The places that carry the edges of the graph.
+fn carriers_found(into: Vec<u32>) -> Vec<u32>
+    requires { (place : ℕ) → slice_index_or into.items place place ≤ place }
+    ensures { result.items ≡ carriers_of into.items }
+{
+    let mut carriers = into;
+    follow_all(&mut carriers);
+    carriers
+}
+
+// The edges of the graph that are carried by one of the places. An `Err` is want of memory.
+fn edges_carried(alloc: Global, carriers: &[u32], places: &EdgeSet) -> Result<EdgeSet, AllocError>
+    requires sizes { length carriers.now ≡ length places.now }
+    requires within { All (λ place. place < length places.now) carriers.now }
+    requires few { length carriers.now ≤ 4900 }
+    ensures { IfOk result (λ set. set ≡ carried_by_any places.now carriers.now) }
+{
+    let mut set = EdgeSet::empty(alloc, places.len())?;
+    add_carried(&mut set, carriers, places);
+    Ok(set)
+}
+
+// Follows each place to the one that carries what it stands for.
+fn follow_all(into: &mut [u32])
+    requires { (place : ℕ) → slice_index_or into.old place place ≤ place }
+    ensures { into.new ≡ carriers_of into.old }
+{
+    for place in 0..into.len() {
+        into[place] = into[into[place] as usize];
+    }
+}
+
+/// Puts those edges of the graph into the set that are carried by one of the places.
+pub(crate) fn add_carried(set: &mut EdgeSet, carriers: &[u32], places: &EdgeSet)
     requires sizes { length carriers.now ≡ length set.old }
+    requires within { All (λ place. place < length places.now) carriers.now }
     requires few { length carriers.now ≤ 4900 }
     ensures size { length set.new ≡ length set.old }
-    ensures set { set.new ≡ union set.old (carried_by carriers.now place) }
+    ensures flags { (e : ℕ) → e < length carriers.now →
+        has set.new e ≡ (has set.old e || has places.now (slice_index carriers.now e)) }
 {
     for (e, carrier) in carriers.iter().enumerate() {
-        if *carrier == place {
+        if places.has(*carrier) {
             set.add(e as u32);
         }
     }

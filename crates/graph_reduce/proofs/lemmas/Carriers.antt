@@ -1,9 +1,8 @@
 -- What places carry, where one is put in the place of another.
-use Rattle.std.specs.Prelude.{ℕ, ◌≡◌, ◌≢◌, ◌+◌, ◌==◌, ◌||◌, ◌<◌, Bool, true, false, List, [], ◌∷◌, map, length, slice_get, slice_set, slice_index_or, All, Option, Some, None, if◌then◌else◌}
+use Rattle.std.specs.Prelude.{ℕ, ◌≡◌, ◌≢◌, ◌+◌, ◌==◌, ◌||◌, Bool, true, false, List, [], ◌∷◌, map, length, slice_get, slice_set, Option, Some, None, if◌then◌else◌}
 use Rattle.std.specs.Option.{option_map}
 use Rattle.std.proofs.Common.{refl, sym, ap, ◌∙◌, inl, inr, subst, arith, length-set}
 use Rattle.std.proofs.lemmas.Bool.{cases_eq, cases_lt, eq-eqb, ne_eqb}
-use Rattle.std.proofs.lemmas.List.Elements.{All-map}
 use Rattle.net_graph.specs.declared.edge.Edge.{Edge}
 use Rattle.net_graph.specs.EntryLaws.{slice_get-set_same, slice_get-set_other}
 use Rattle.std.proofs.lemmas.Option.{slice_get_past}
@@ -138,14 +137,3 @@ module _ (carriers : List ℕ) (edges : List (Option Edge)) (i j : ℕ) (e : Edg
       ∙ ap (λ x. slice_set (bundles_at after 0 edges) i (Some x)) (ap (λ m. bundle_of after m e) (here i)
       ∙ ap (λ set. record { edge = e; originals = set }) (carried_both j i carriers)))
       ∙ same_entries (slice_set new j None) (slice_set old j None) same
-
--- numbers below an end, one of which was replaced by another
-pub replaced_below : (from to end : ℕ) (xs : List ℕ) → to < end → All (λ n. n < end) xs →
-    All (λ n. n < end) (replaced from to xs)
-replaced_below from to end xs below all =
-    All-map (λ n. n < end) (λ n. if n == from then to else n) xs (λ k d inside. by_test
-    (slice_index_or xs k d == from) (slice_index_or xs k d) (all k d inside))
-  where
-    by_test : (b : Bool) (n : ℕ) → n < end → (if b then to else n) < end
-    by_test true n inside = below
-    by_test false n inside = inside

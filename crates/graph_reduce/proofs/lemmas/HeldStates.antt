@@ -6,7 +6,7 @@ use Rattle.net_graph.specs.declared.edge.Edge.{Edge}
 use Rattle.graph_reduce.specs.declared.work.Work.TheInside.{Inside}
 use Rattle.graph_reduce.specs.State.{Bundle, State, HasEdge, union}
 use Rattle.graph_reduce.specs.Rules.{without_edge, without_edges}
-use Rattle.graph_reduce.specs.Held.{carried_by, bundle_of, held_state}
+use Rattle.graph_reduce.specs.Held.{carried_by, bundle_of, held_state, carriers_of, carried_by_any}
 use Rattle.graph_reduce.proofs.lemmas.HeldPlaces.{length-bundles_at, held_at, bundles_at-set, bundles_at-none, edge_at, bundle_at_place}
 use Rattle.graph_reduce.proofs.lemmas.Carriers.{replaced, bundles_joined}
 
@@ -28,7 +28,8 @@ with_forced place more s set = record s {
 }
 
 module _ (w : Inside) (s : State)
-    (is : held_state w.nodes w.edges.items w.carriers.items w.terminals.items w.forced w.offset ≡ s) where
+    (is : held_state w.nodes w.edges.items (carriers_of w.into.items) w.terminals.items
+    (carried_by_any w.forced (carriers_of w.into.items)) w.offset ≡ s) where
   abbrev nodes : List Bool
   nodes = w.nodes
 
@@ -36,13 +37,13 @@ module _ (w : Inside) (s : State)
   edges = w.edges.items
 
   abbrev carriers : List ℕ
-  carriers = w.carriers.items
+  carriers = carriers_of w.into.items
 
   abbrev terminals : List ℕ
   terminals = w.terminals.items
 
   abbrev forced : List Bool
-  forced = w.forced
+  forced = carried_by_any w.forced carriers
 
   abbrev offset : ℕ
   offset = w.offset

@@ -19,7 +19,7 @@ use Rattle.graph_reduce.specs.Rules.{JoinsEdges, ForcesEdge, moved}
 use Rattle.graph_reduce.specs.Step.{Applies, Takes}
 use Rattle.graph_reduce.specs.NodeRules.{rule_of}
 use Rattle.graph_reduce.specs.Survey.{IsNumbered, IsSeenTo, IsListed, AreListedTo, AreMarked, IsSurvey}
-use Rattle.graph_reduce.specs.Due.{StaysDue, HasAllAt, AreDue, AreHeld, AreEndsDue}
+use Rattle.graph_reduce.specs.Due.{StaysDue, HasAllAt, AreDue, AreEndsDue}
 use Rattle.graph_reduce.specs.UpToDate.{IsUpToDate}
 use Rattle.graph_reduce.specs.Clear.{IsWithin, AreAlike}
 use Rattle.graph_reduce.proofs.lemmas.Agreeing.{AreBothDue, due_leaf, due_joined, due_alike}
@@ -32,17 +32,6 @@ use Rattle.graph_reduce.proofs.lemmas.Stepping.{within_forced}
 use Rattle.graph_reduce.proofs.lemmas.Terminals.{In-from_Contains, Contains-from_In, In, In-moved, In-moved_from, In-moved_to}
 
 -- ---- the edges of a node that a rule wants
-
--- each place that is seen holds an edge
-pub seen_held : (s : State) (v end : ℕ) (edges : NodeEdges) → IsSeenTo s v end edges → AreHeld s edges
-seen_held s v end NoEdge seen n told = absurd told
-seen_held s v end (OneEdge place) seen n told =
-    let (x, at, ends) = seen.ends in (x, subst (λ k. HasEdge s k x) (sym told) at)
-seen_held s v end (TwoEdges p q) seen n (inl is) =
-    let (x, at, ends) = seen.first in (x, subst (λ k. HasEdge s k x) (sym is) at)
-seen_held s v end (TwoEdges p q) seen n (inr is) =
-    let (x, at, ends) = seen.second in (x, subst (λ k. HasEdge s k x) (sym is) at)
-seen_held s v end More seen n told = absurd told
 
 -- no rule applies at a node with more than two edges
 not_more : (s : State) (v : ℕ) (rule : NodeRule) → Applies s (rule_of rule) v →

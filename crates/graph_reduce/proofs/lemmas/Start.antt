@@ -1,11 +1,10 @@
 -- The first state of a reduction, as its parts are made.
-use Rattle.std.specs.Prelude.{ℕ, zero, suc, ◌≡◌, ◌+◌, ◌==◌, ◌||◌, ◌<◌, ◌≤◌, All, not, cond, Bool, true, false, List, [], ◌∷◌, ◌++◌, filter, length, map, replicate, slice_get, slice_set, Option, Some}
+use Rattle.std.specs.Prelude.{ℕ, zero, suc, ◌≡◌, ◌+◌, ◌==◌, ◌||◌, ◌<◌, not, cond, Bool, true, false, List, [], ◌∷◌, ◌++◌, filter, length, map, replicate, slice_get, slice_set, Option, Some}
 use Rattle.std.specs.List.{list_any, range_with_len}
 use Rattle.std.proofs.Common.{refl, sym, ap, ◌∙◌, inl, inr, subst, arith}
 use Rattle.std.proofs.lemmas.Bool.{cases_Bool, eqb-true, eq-eqb, ne_eqb}
 use Rattle.std.proofs.lemmas.List.{append-nil}
 use Rattle.std.proofs.lemmas.List.Elements.{filter-append}
-use Rattle.std.proofs.lemmas.List.FromFn.{length-range_with_len, get_or-range_with_len}
 use Rattle.std.proofs.lemmas.Option.{same_Some}
 use Rattle.net_graph.specs.declared.edge.Edge.{Edge}
 use Rattle.net_graph.specs.Graph.{Graph}
@@ -113,9 +112,3 @@ start_held g nodes edges carriers terminals forced all each own distinct none =
     let held : bundles_at carriers 0 edges ≡ bundles_from (length g.edges) 0 g.edges =
     ap (λ cs. bundles_at cs 0 edges) own ∙ ap (bundles_at (range_with_len 0 (length g.edges)) 0) each
     ∙ held_at_start g.edges in cc
-
--- numbers of a range are below its end
-pub range_below : (start size end : ℕ) → start + size ≤ end → All (λ n. n < end) (range_with_len start size)
-range_below start size end fits k d below =
-    let within : k < size = omega (arith, length-range_with_len start size) in
-    omega (arith, get_or-range_with_len start size k d within)

@@ -1,9 +1,4 @@
-use Rattle.std.specs.Prelude.{ℕ, ◌≡◌, ◌⊎◌, ◌<◌, length}
-use Rattle.std.proofs.Common.{sym, ap, ◌∙◌, subst, ⊎_elim}
-use Rattle.net_graph.specs.declared.edge.Edge.{Edge}
-use Rattle.graph_reduce.specs.State.{State}
-use Rattle.graph_reduce.specs.Survey.{IsNumbered}
-use Rattle.graph_reduce.proofs.lemmas.Longer.{HoldsEdge}
+use Rattle.std.specs.Prelude.{length}
 use Rattle.graph_reduce.proofs.lemmas.Renewing.{end_below}
 use Rattle.graph_reduce.proofs.lemmas.SurveyLaws.{set_has, set_written}
 use Rattle.graph_reduce.proofs.taken.alike.Goals as goal

@@ -1,4 +1,4 @@
-use Rattle.std.specs.Prelude.{ℕ, ◌≡◌, ◌⊎◌, ◌<◌, ◌≤◌, ◌-◌, length}
+use Rattle.std.specs.Prelude.{◌≡◌, ◌⊎◌, ◌<◌, ◌≤◌, ◌-◌, length}
 use Rattle.graph_reduce.specs.State.{Bundle, HasEdge}
 use Rattle.graph_reduce.specs.Survey.{HasPlacesOf}
 use Rattle.graph_reduce.specs.Clear.{LeadsTo, IsClearTo, IsWithin}

@@ -9,9 +9,9 @@ use Rattle.graph_reduce.proofs.reduction.Reduced.lift.Goals as goal
 pub returns : goal.returns
 returns c =
     let carriers = c.self.inside.carriers.items in
-    lifted_is c.self.inside.places.items carriers c.args.set.now c.self.inside.forced c.add_chosen.new.set
-    c.self.invariant.size (c.add_chosen.ensures.size ∙ ap length c.in_ok-lifted.ensures)
-    (λ e below. c.add_chosen.ensures.flags e (omega (arith, below, ap length c.deref-2.ensures.value))
+    lifted_is c.self.inside.places.items carriers c.args.set.now c.self.inside.forced c.add_carried.new.set
+    c.self.invariant.size (c.add_carried.ensures.size ∙ ap length c.in_ok-lifted.ensures)
+    (λ e below. c.add_carried.ensures.flags e (omega (arith, below, ap length c.deref-2.ensures.value))
     ∙ ap (λ set. has set e || has c.in_ok-chosen.chosen (slice_index c.deref-2.result.now e)) c.in_ok-lifted.ensures
     ∙ ap (λ cs. has c.self.inside.forced e || has c.in_ok-chosen.chosen (slice_index cs e)) c.deref-2.ensures.value
     ∙ ap (λ b. has c.self.inside.forced e || b) (c.in_ok-chosen.ensures.chosen (slice_index carriers e)

@@ -1,11 +1,14 @@
-use Rattle.std.specs.Prelude.{◌≡◌, ◌<◌, All, length, map, replicate, Some, true, false}
+use Rattle.std.specs.Prelude.{◌≡◌, length, map, replicate, Some, false, true}
 use Rattle.std.specs.List.{range_with_len}
 use Rattle.std.proofs.Common.{sym, subst, ap, ◌∙◌, arith}
 use Rattle.std.proofs.lemmas.List.{length-map, length-replicate}
 use Rattle.std.proofs.lemmas.List.FromFn.{length-range_with_len}
 use Rattle.net_graph.specs.declared.edge.Edge.{Edge}
+use Rattle.net_graph.specs.Flags.{has}
 use Rattle.graph_reduce.specs.State.{distinct_of}
-use Rattle.graph_reduce.proofs.lemmas.Start.{range_below, start_held}
+use Rattle.graph_reduce.specs.Held.{carriers_of, carried_by_any}
+use Rattle.graph_reduce.proofs.lemmas.Following.{AllUp, next_of, first_at, up_at_first, carriers_at_first, none_set, carried_none}
+use Rattle.graph_reduce.proofs.lemmas.Start.{start_held}
 use Rattle.graph_reduce.proofs.work.Work.of_graph.Goals as goal
 
 pub invariant_of-result : goal.invariant_of-result
@@ -19,15 +22,26 @@ invariant_of-result c =
       each = ap length c.in_ok-own_places.ensures ∙ length-range_with_len 0 c.edge_count.result ∙ count ∙ sym size;
       size = ap length c.in_ok-empty.ensures ∙ length-replicate c.edge_count-2.result false ∙ count' ∙ sym size;
       few = omega (arith, size, c.edge_count.ensures.graph.few_edges);
-      within = subst (All (λ place. place < length c.in_ok-every_edge.field-0.items)) (sym c.in_ok-own_places.ensures)
-          (range_below 0 c.edge_count.result (length c.in_ok-every_edge.field-0.items) (omega (arith, size, count)));
+      up = subst AllUp (sym c.in_ok-own_places.ensures) (up_at_first c.edge_count.result);
+      held = λ place e at. subst (λ xs. next_of xs place ≡ place) (sym c.in_ok-own_places.ensures)
+          (first_at c.edge_count.result place);
+      unforced = λ place e at. subst (λ set. has set place ≡ false) (sym c.in_ok-empty.ensures)
+          (none_set c.edge_count-2.result place);
     }
 
 pub returns : goal.returns
-returns c = start_held c.args.g.now c.in_ok-every_node.field-0 c.in_ok-every_edge.field-0.items
-    c.in_ok-own_places.field-0.items c.in_ok-without_repeats.field-0.items c.in_ok-empty.field-0
+returns c =
+    let own : carriers_of c.in_ok-own_places.field-0.items ≡ range_with_len 0 (length c.args.g.now.edges) =
+    ap carriers_of c.in_ok-own_places.ensures ∙ carriers_at_first c.edge_count.result
+    ∙ ap (range_with_len 0) c.edge_count.ensures.count in
+    start_held c.args.g.now c.in_ok-every_node.field-0 c.in_ok-every_edge.field-0.items
+    (carriers_of c.in_ok-own_places.field-0.items) c.in_ok-without_repeats.field-0.items
+    (carried_by_any c.in_ok-empty.field-0 (carriers_of c.in_ok-own_places.field-0.items))
     (c.in_ok-every_node.ensures ∙ ap (λ n. replicate n true) c.vertex_count.ensures.count)
     (c.in_ok-every_edge.ensures ∙ ap (map (λ (e : Edge). Some e)) c.edges.ensures.edges)
-    (c.in_ok-own_places.ensures ∙ ap (range_with_len 0) c.edge_count.ensures.count)
+    own
     (c.in_ok-without_repeats.ensures ∙ ap distinct_of c.terminals.ensures.terminals)
-    (c.in_ok-empty.ensures ∙ ap (λ n. replicate n false) c.edge_count-2.ensures.count)
+    (ap (λ set. carried_by_any set (carriers_of c.in_ok-own_places.field-0.items)) c.in_ok-empty.ensures
+    ∙ carried_none c.edge_count-2.result (carriers_of c.in_ok-own_places.field-0.items)
+    ∙ ap (λ xs. replicate (length xs) false) own
+    ∙ ap (λ n. replicate n false) (length-range_with_len 0 (length c.args.g.now.edges)))
