@@ -11,14 +11,18 @@ ghost use Rattle.slack_tools.specs.Bounds.{BoundsEdge, AreEdgeBounds};
 
 use crate::beginning::beginning_on;
 use dual_ascent::{Candidate, Chooser, Rule};
-use edge_slack::{Beginning, carried_edge_bound, taking_in};
+use edge_slack::{Beginning, carried_edge_bound, edge_bound, taking_in};
 use hanan_grid::Grid;
 use net_graph::{NetGraph, Packing, value};
 use search_rules::{AscentRule, ascent_place};
 use std::alloc::{AllocError, Global};
 
+// On a grid of at most so many edges a second ascent is made for each edge, from no cut: there it takes little time.
+const EDGES_OF_TWO_ASCENTS: u32 = 500;
+
 /// For each edge of the grid, by its number, the value of a packing that takes the edge in and decides nothing else, of
-/// an ascent by the rule that begins with what a packing of nothing decided carries. An `Err` is want of memory.
+/// an ascent by the rule that begins with what a packing of nothing decided carries, or on a small grid of one from no
+/// cut, where that is worth more. An `Err` is want of memory.
 pub(crate) fn edge_bounds(
     alloc: Global,
     grid: &Grid,
@@ -71,9 +75,43 @@ fn bounds_from<F: Rule>(
     Ok(bounds)
 }
 
-// The value of the packing of an ascent that takes the edge in and begins with the cuts which are carried. An `Err` is
-// want of memory.
+// The bound of an edge: of an ascent that begins with what is carried, and on a small grid the greater one of it and of
+// an ascent from no cut. An `Err` is want of memory.
 fn bound_of<F: Rule>(
+    alloc: Global,
+    grid: &Grid,
+    edge: u32,
+    start: &Beginning,
+    chooser: &Chooser<F>,
+) -> Result<u64, AllocError>
+    requires edge { edge < length (hanan_grid_of grid.now).edges }
+    requires start { IsBeginning (hanan_grid_of grid.now) start.now }
+    ensures { IfOk result (BoundsEdge (hanan_grid_of grid.now) edge) }
+{
+    let carried = carried_bound(alloc, grid, edge, start, chooser)?;
+    if grid.graph().edge_count() > EDGES_OF_TWO_ASCENTS {
+        return Ok(carried);
+    }
+    Ok(carried.max(plain_bound(alloc, grid, edge, chooser)?))
+}
+
+// The value of the packing of an ascent from no cut that takes the edge in. An `Err` is want of memory.
+fn plain_bound<F: Rule>(
+    alloc: Global,
+    grid: &Grid,
+    edge: u32,
+    chooser: &Chooser<F>,
+) -> Result<u64, AllocError>
+    requires { edge < length (hanan_grid_of grid.now).edges }
+    ensures { IfOk result (BoundsEdge (hanan_grid_of grid.now) edge) }
+{
+    let graph = grid.graph();
+    let packing = edge_bound(alloc, graph, edge, chooser)?;
+    value_of(alloc, graph, edge, &packing)
+}
+
+// The same of an ascent that begins with the cuts which are carried. An `Err` is want of memory.
+fn carried_bound<F: Rule>(
     alloc: Global,
     grid: &Grid,
     edge: u32,

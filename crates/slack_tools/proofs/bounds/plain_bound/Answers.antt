@@ -1,20 +1,15 @@
 use Rattle.std.proofs.Common.{subst, sym}
 use Rattle.std.proofs.lemmas.Result.{IfOk-weaker}
 use Rattle.hanan_grid.specs.Grid.{hanan_grid_of}
-use Rattle.edge_slack.specs.Beginning.{IsBeginning}
 use Rattle.edge_slack.specs.EdgeBound.{IsInSomeNetwork}
 use Rattle.slack_tools.proofs.BoundsLemmas.{BoundsEdge-packing}
 use Rattle.slack_tools.proofs.GridLemmas.{IsInSomeNetwork-grid}
-use Rattle.slack_tools.proofs.bounds.bound_of.Goals as goal
+use Rattle.slack_tools.proofs.bounds.plain_bound.Goals as goal
 
-pub carried_edge_bound-requires-clause-some : goal.carried_edge_bound-requires-clause-some
-carried_edge_bound-requires-clause-some g c =
+pub edge_bound-requires : goal.edge_bound-requires
+edge_bound-requires g c =
     subst (λ x. IsInSomeNetwork x c.args.edge) (sym c.graph-graph.ensures.graph)
-    (IsInSomeNetwork-grid c.args.grid.now c.args.edge c.graph-graph.ensures.sound c.requires.edge)
-
-pub carried_edge_bound-requires-clause-start : goal.carried_edge_bound-requires-clause-start
-carried_edge_bound-requires-clause-start g c =
-    subst (λ x. IsBeginning x c.args.start.now) (sym c.graph-graph.ensures.graph) c.requires.start
+    (IsInSomeNetwork-grid c.args.grid.now c.args.edge c.graph-graph.ensures.sound c.requires)
 
 pub returns : goal.returns
 returns g c =
