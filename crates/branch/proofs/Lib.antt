@@ -14,3 +14,6 @@ pub mod SettledLemmas
 pub mod SolvingLemmas
 pub mod TreeLemmas
 pub mod OfferedLemmas
+pub mod UnitLemmas
+pub mod VariantLemmas
+pub mod ReaderLemmas

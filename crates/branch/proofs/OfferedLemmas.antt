@@ -12,9 +12,10 @@ use Rattle.branch.specs.declared.frontier.Frontier.{Frontier}
 use Rattle.branch.specs.Leaves.{DecidedLeaf, leaves_of}
 use Rattle.branch.specs.Notes.{IsBest, IsKeptNote, IsOwnNetwork, ShowsOwn, AreNotesOf}
 use Rattle.branch.specs.Runs.{EndsOpenings}
-use Rattle.branch.specs.Searching.{IsSearch}
+use Rattle.branch.specs.Searching.{IsSearch, is_anew_at}
 use Rattle.branch.specs.States.{IsState}
 use Rattle.branch.proofs.ListLemmas.{AllZip-weaker}
+use Rattle.branch.proofs.VariantLemmas.{variant_state}
 use Rattle.branch.proofs.SearchLemmas.{shorter_own, state_of}
 
 -- a run ends with a shorter network, too
@@ -60,10 +61,11 @@ offered_search g old new best search is_best less is =
     subst (IsSearch g) (sym is) (record {
       best = is_best;
       valid = search.valid;
-      edges = search.edges;
       notes = are;
-      run = shorter_run g old.first_length (split_count old.tree) old.best.network best.network old.tree search.run
-          (state_of g best old.tree old.notes.items is_best search.valid are) (omega arith);
+      run = λ other of_old.
+          shorter_run g old.first_length (split_count other) old.best.network best.network other (search.run other of_old)
+          (variant_state (is_anew_at old.notes.items) g best.network old.tree other of_old
+          (state_of g best old.tree old.notes.items is_best search.valid are)) (omega arith);
       no_longer = omega (arith, search.no_longer);
     })
 

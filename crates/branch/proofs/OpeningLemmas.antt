@@ -1,5 +1,5 @@
 -- How the next open leaf can be opened.
-use Rattle.std.proofs.Common.{ℕ, ◌≡◌, ◌<◌, ◌≤◌, ◌^◌, ◌⊎◌, ⊎_elim, inl, inr, Bool, true, List, length, slice_get, Option, Some, None, refl, ap, sym, ◌∙◌, subst, arith, get_or}
+use Rattle.std.proofs.Common.{ℕ, ◌≡◌, ◌*◌, ◌<◌, ◌≤◌, ◌^◌, ◌↔◌, ◌⊎◌, ⊎_elim, inl, inr, Bool, true, false, [], List, length, slice_get, sum_by, IsTrue, Option, Some, None, refl, ap, sym, ◌∙◌, subst, arith, get_or}
 use Rattle.std.proofs.lemmas.Option.{same_Some, slice_get_within, slice_get_read}
 use Rattle.net_graph.specs.declared.state.EdgeState.{EdgeState}
 use Rattle.net_graph.specs.declared.state.EdgeState.TheVariants.{Undecided, Inside, Outside}
@@ -31,10 +31,15 @@ use Rattle.branch.specs.Meeting.{edges_at}
 use Rattle.branch.specs.Openings.{IsSplitEdge, IsSplitVertex, IsSplitOf}
 use Rattle.dual_ascent.specs.Costs.{costs_of}
 use Rattle.branch.specs.Notes.{IsBest, ShowsOwn, IsNoteOf, IsUpToOwn, IsKeptNote, IsNextNote, CanSplit, IsOfOwn, IsEdgeOfOwn, IsEndOfOwn, IsAsAsked}
-use Rattle.branch.specs.Searching.{IsSearch, IsOpeningOf, IsOfKind}
-use Rattle.branch.proofs.ListLemmas.{beside_right}
+use Rattle.branch.specs.declared.opening.Opening.{Opening}
+use Rattle.branch.specs.Variants.{in_units, MayBe, MayBeNone, MayBegin}
+use Rattle.branch.specs.Searching.{search_state, is_anew_at, IsSearch, IsOpeningOf, IsPlain, IsOfKind, CanSplitAt}
+use Rattle.branch.proofs.ListLemmas.{beside_left, beside_right}
 use Rattle.branch.proofs.TreeLemmas.{length-leaves_of, packing_at}
 use Rattle.branch.proofs.SearchLemmas.{shorter_own}
+use Rattle.branch.proofs.UnitLemmas.{carried-in_units}
+use Rattle.branch.proofs.VariantLemmas.{flag_at}
+use Rattle.std.proofs.lemmas.Bool.{cases_Bool}
 use Rattle.branch.proofs.InsideLemmas.{inside-covers}
 use Rattle.branch.proofs.MeetingLemmas.{meeting}
 
@@ -44,6 +49,7 @@ pub record IsNextLeaf (g : Graph) (kept : Frontier) (place : ℕ) (note : LeafNo
   pub of_note : IsNoteOf g leaf note
   pub own : IsUpToOwn g kept.best.length note.network
   pub below : IsOpenLeaf g (length_of g kept.best.network) leaf
+  pub flag : is_anew_at kept.notes.items place ≡ note.is_anew
 
 pub next_leaf : (g : Graph) (kept : Frontier) (place : ℕ) (note : LeafNote) → IsSearch g kept → IsNextNote kept.best.length kept.notes.items place →
     note ≡ get_or kept.notes.items place note → (leaf : DecidedLeaf) × IsNextLeaf g kept place note leaf
@@ -56,7 +62,7 @@ next_leaf g kept place note search next is =
     let lower : note.value < kept.best.length = subst (λ (n : LeafNote). n.value < kept.best.length) same below in
     let length_is = search.best.length in
     let value = kept_note.0.value in
-    (leaf, record { at = leaf_at; of_note = kept_note.0; own = kept_note.1; below = omega arith })
+    (leaf, record { at = leaf_at; of_note = kept_note.0; own = kept_note.1; below = omega arith; flag = flag_at kept.notes.items place note here })
 
 -- an edge with a saturated arc is undecided or inside
 saturated_cases : (g : Graph) (d : Decided) (packing : List Cut) (n : ℕ) → HasSaturatedArc g d packing n →
@@ -101,16 +107,75 @@ asked_kind g note kind.Edges (split.Edge e) is = tt
 asked_kind g note kind.Edges (split.Vertex v) is = is
 asked_kind g note kind.Vertices on is = tt
 
-module _ (g : Graph) (kept : Frontier) (place : ℕ) (note : LeafNote) (search : IsSearch g kept)
-    (next : IsNextNote kept.best.length kept.notes.items place) (is : note ≡ get_or kept.notes.items place note) where
-  abbrev leaf : DecidedLeaf
-  leaf = (next_leaf g kept place note search next is).0
+-- the leaf that a caller may split on a vertex
+pub leaf_to_split : (g : Graph) (kept : Frontier) (place v : ℕ) (note : LeafNote) → IsSearch g kept →
+    CanSplitAt (search_state g kept) place v → note ≡ get_or kept.notes.items place note →
+    (leaf : DecidedLeaf) × IsNextLeaf g kept place note leaf × IsSplitVertex g leaf v
+leaf_to_split g kept place v note search (leaf, leaf_at, below, splits) is =
+    let (found, at, kept_note) = beside_left (IsKeptNote g kept.best.length) (leaves_of (nothing_decided g) kept.tree) kept.notes.items place leaf search.notes leaf_at in
+    let within : place < length kept.notes.items = slice_get_within kept.notes.items place found at in
+    let same : found ≡ note = same_Some found note (sym at ∙ slice_get_read kept.notes.items (length kept.notes.items) place note refl within is) in
+    let here = subst (λ (n : LeafNote). IsKeptNote g kept.best.length leaf n) same kept_note in
+    let note_at : slice_get kept.notes.items place ≡ Some note = at ∙ ap (λ (n : LeafNote). Some n) same in (
+      leaf,
+      record { at = leaf_at; of_note = here.0; own = here.1; below = below; flag = flag_at kept.notes.items place note note_at },
+      splits,
+    )
 
-  abbrev is_next : IsNextLeaf g kept place note leaf
-  is_next = (next_leaf g kept place note search next is).1
+-- .. has a note
+pub split_within : (g : Graph) (kept : Frontier) (place v : ℕ) → IsSearch g kept → CanSplitAt (search_state g kept) place v →
+    place < length kept.notes.items
+split_within g kept place v search (leaf, leaf_at, below, splits) =
+    let (found, at, kept_note) = beside_left (IsKeptNote g kept.best.length) (leaves_of (nothing_decided g) kept.tree) kept.notes.items place leaf search.notes leaf_at in
+    slice_get_within kept.notes.items place found at
 
+-- Two children of the same carried cuts, each of which begins with them or with no cut: there is one packing that the
+-- leaf may have with which both begin as they may.
+as_if_both : (g : Graph) (anew : Bool) (parent : List Cut) (d_out d_in : Decided) (outside inside : NewLeaf) →
+    ((cuts : List Cut) → carried g d_in cuts ≡ carried g d_out cuts) →
+    (outside.note.is_anew ≡ false → BeginsWith outside.packing (carried g d_out parent)) →
+    (inside.note.is_anew ≡ false → BeginsWith inside.packing (carried g d_in parent)) →
+    (IsTrue outside.note.is_anew ↔ MayBeNone g anew (carried g d_out parent)) →
+    (IsTrue inside.note.is_anew ↔ MayBeNone g anew (carried g d_in parent)) →
+    (as_if : List Cut) × MayBe anew parent as_if × MayBegin g as_if d_out outside × MayBegin g as_if d_in inside
+as_if_both g anew parent d_out d_in outside inside both out_begins in_begins out_flag in_flag =
+    ⊎_elim
+    (λ (yes : outside.note.is_anew ≡ true).
+    ⊎_elim
+    (λ (none : carried g d_out parent ≡ []). (
+      parent,
+      inl refl,
+      record { begins = out_begins; none = λ _. none },
+      record { begins = in_begins; none = λ _. both parent ∙ none },
+    ))
+    (λ (heavy : (anew ≡ true) × (2 * length g.edges < sum_by (λ c. c.weight) (carried g d_out parent))).
+    let none = carried-in_units g d_out parent heavy.1 in
+    let in_yes : inside.note.is_anew ≡ true =
+    in_flag.1 (subst (λ (cuts : List Cut). MayBeNone g anew cuts) (sym (both parent)) (inr heavy)) in (
+      in_units parent,
+      inr (heavy.0, refl),
+      record { begins = λ no. let never : true ≡ false = sym yes ∙ no in absurd cc; none = λ _. none },
+      record { begins = λ no. let never : true ≡ false = sym in_yes ∙ no in absurd cc; none = λ _. both (in_units parent) ∙ none },
+    ))
+    (out_flag.0 yes))
+    (λ (no : outside.note.is_anew ≡ false).
+    let never = λ (in_yes : inside.note.is_anew ≡ true).
+    out_flag.1 (subst (λ (cuts : List Cut). MayBeNone g anew cuts) (both parent) (in_flag.0 in_yes)) in (
+      parent,
+      inl refl,
+      record { begins = out_begins; none = λ yes. let wrong : true ≡ false = sym yes ∙ no in absurd cc },
+      record { begins = in_begins; none = λ yes. let wrong : true ≡ false = sym (never yes) ∙ no in absurd cc },
+    ))
+    (cases_Bool outside.note.is_anew)
+
+module _ (g : Graph) (kept : Frontier) (place : ℕ) (note : LeafNote) (search : IsSearch g kept) (leaf : DecidedLeaf)
+    (is_next : IsNextLeaf g kept place note leaf) where
   pub note_decided : IsDecisionFor g note.decision
   note_decided = subst (λ (d : Decided). IsDecisionFor g d) (sym is_next.of_note.decision) is_next.of_note.decided
+
+  -- what the leaf may be split on is undecided beside it
+  pub vertex_undecided : (v : ℕ) → IsSplitVertex g leaf v → IsUndecidedSplit g note.decision (split.Vertex v)
+  vertex_undecided v splits = subst (λ (d : Decided). IsVertexUndecided g d v) (sym is_next.of_note.decision) splits.undecided
 
   -- were no edge of its network undecided, the leaf would not be below the best network's length
   pub note_can_split : CanSplit g note
@@ -209,35 +274,81 @@ module _ (g : Graph) (kept : Frontier) (place : ℕ) (note : LeafNote) (search :
   child_note next now child same of_note =
       subst (λ (d : Decided). IsNoteOf g (leaf_under d child.packing) child.note) (same ∙ ap next is_next.of_note.decision) of_note
 
+  -- .. and what is carried to it
+  child_carried : (next : Decided → Decided) (now : Decided) (parent : List Cut) → now ≡ next note.decision →
+      slice_get (packings_of kept.tree) place ≡ Some parent → carried g now parent ≡ carried g (next leaf.decision) leaf.packing
+  child_carried next now parent same at =
+      ap (λ (d : Decided). carried g d parent) (same ∙ ap next is_next.of_note.decision)
+      ∙ ap (λ (p : List Cut). carried g (next leaf.decision) p) (sym (parent_is parent at))
+
   child_begins : (next : Decided → Decided) (now : Decided) (parent packing : List Cut) → now ≡ next note.decision →
       slice_get (packings_of kept.tree) place ≡ Some parent → BeginsWith packing (carried g now parent) →
       BeginsWith packing (carried g (next leaf.decision) leaf.packing)
   child_begins next now parent packing same at begins =
-      subst (λ (d : Decided). BeginsWith packing (carried g d leaf.packing)) (same ∙ ap next is_next.of_note.decision)
-      (subst (λ (p : List Cut). BeginsWith packing (carried g now p)) (sym (parent_is parent at)) begins)
+      subst (λ (cuts : List Cut). BeginsWith packing cuts) (child_carried next now parent same at) begins
 
   -- all together
-  pub is_opening : (on : SplitOn) (d_out d_in : Decided) (parent : List Cut) (outside inside : NewLeaf) (copy second best : Best) →
-      IsOfOwn g note on → IsAsAsked g note kept.kind on → d_out ≡ outside_of note.decision on → d_in ≡ inside_of note.decision on →
-      slice_get (packings_of kept.tree) place ≡ Some parent →
-      IsNoteOf g (leaf_under d_out outside.packing) outside.note → BeginsWith outside.packing (carried g d_out parent) →
-      IsNoteOf g (leaf_under d_in inside.packing) inside.note → BeginsWith inside.packing (carried g d_in parent) →
-      copy ≡ kept.best → second.length ≤ copy.length → IsUpToOwn g second.length outside.note.network →
-      IsBest g best → best.length ≤ second.length → IsUpToOwn g best.length inside.note.network →
-      IsOpeningOf g kept (record { leaf = place; on = on; outside = outside; inside = inside; best = best })
-  is_opening on d_out d_in parent outside inside copy second best of_own asked out_is in_is parent_at out_note out_begins in_note in_begins
-      copy_is second_less second_own is_best best_less best_own = record {
+  module _ (on : SplitOn) (d_out d_in : Decided) (parent : List Cut) (outside inside : NewLeaf) (copy second best : Best)
+      (out_is : d_out ≡ outside_of note.decision on) (in_is : d_in ≡ inside_of note.decision on)
+      (parent_at : slice_get (packings_of kept.tree) place ≡ Some parent)
+      (out_note : IsNoteOf g (leaf_under d_out outside.packing) outside.note)
+      (in_note : IsNoteOf g (leaf_under d_in inside.packing) inside.note)
+      (copy_is : copy ≡ kept.best) (second_less : second.length ≤ copy.length) (second_own : IsUpToOwn g second.length outside.note.network)
+      (is_best : IsBest g best) (best_less : best.length ≤ second.length) (best_own : IsUpToOwn g best.length inside.note.network) where
+    abbrev made : Opening
+    made = record { leaf = place; on = on; outside = outside; inside = inside; best = best }
+
+    -- whichever packing that the leaf may have the children begin with
+    opening_as : (as_if : List Cut) → MayBe (is_anew_at kept.notes.items place) leaf.packing as_if → IsSplitOf g leaf on →
+        MayBegin g as_if (outside_of leaf.decision on) outside → MayBegin g as_if (inside_of leaf.decision on) inside →
+        IsOpeningOf g kept made
+    opening_as as_if may_be splits outside_begins inside_begins = record {
+      leaf = leaf;
+      at = is_next.at;
+      below = is_next.below;
+      splits = splits;
+      outside = child_note (λ d. outside_of d on) d_out outside out_is out_note;
+      inside = child_note (λ d. inside_of d on) d_in inside in_is in_note;
+      as_if = as_if;
+      may_be = may_be;
+      outside_begins = outside_begins;
+      inside_begins = inside_begins;
+      best = is_best;
+      no_longer = let same : copy.length ≡ kept.best.length = ap (λ (b : Best). b.length) copy_is in omega arith;
+      outside_own = shorter_own g second.length best.length outside.note.network best_less second_own;
+      inside_own = best_own;
+    }
+
+    module _ (out_begins : BeginsWith outside.packing (carried g d_out parent))
+        (in_begins : BeginsWith inside.packing (carried g d_in parent)) where
+      -- both begin with what is carried to them
+      pub plain_opening : IsPlain g kept made
+      plain_opening = record {
         leaf = leaf;
         at = is_next.at;
-        below = is_next.below;
-        splits = own_splits on of_own;
-        kind = asked_kind g note kept.kind on asked;
-        outside = child_note (λ d. outside_of d on) d_out outside out_is out_note;
-        inside = child_note (λ d. inside_of d on) d_in inside in_is in_note;
-        outside_begins = child_begins (λ d. outside_of d on) d_out parent outside.packing out_is parent_at out_begins;
-        inside_begins = child_begins (λ d. inside_of d on) d_in parent inside.packing in_is parent_at in_begins;
-        best = is_best;
-        no_longer = let same : copy.length ≡ kept.best.length = ap (λ (b : Best). b.length) copy_is in omega arith;
-        outside_own = shorter_own g second.length best.length outside.note.network best_less second_own;
-        inside_own = best_own;
+        outside = child_begins (λ d. outside_of d on) d_out parent outside.packing out_is parent_at out_begins;
+        inside = child_begins (λ d. inside_of d on) d_in parent inside.packing in_is parent_at in_begins;
       }
+
+      pub is_opening : IsOfOwn g note on → outside.note.is_anew ≡ false → inside.note.is_anew ≡ false → IsOpeningOf g kept made
+      is_opening of_own out_flag in_flag = opening_as leaf.packing (inl refl) (own_splits on of_own)
+          (record { begins = λ _. child_begins (λ d. outside_of d on) d_out parent outside.packing out_is parent_at out_begins; none = λ yes. let never : true ≡ false = sym yes ∙ out_flag in absurd cc })
+          (record { begins = λ _. child_begins (λ d. inside_of d on) d_in parent inside.packing in_is parent_at in_begins; none = λ yes. let never : true ≡ false = sym yes ∙ in_flag in absurd cc })
+
+    -- both have the same carried cuts, and each begins with them or with no cut
+    pub chosen_opening : IsSplitOf g leaf on →
+        ((cuts : List Cut) → carried g (inside_of leaf.decision on) cuts ≡ carried g (outside_of leaf.decision on) cuts) →
+        (outside.note.is_anew ≡ false → BeginsWith outside.packing (carried g d_out parent)) →
+        (inside.note.is_anew ≡ false → BeginsWith inside.packing (carried g d_in parent)) →
+        (IsTrue outside.note.is_anew ↔ MayBeNone g note.is_anew (carried g d_out parent)) →
+        (IsTrue inside.note.is_anew ↔ MayBeNone g note.is_anew (carried g d_in parent)) → IsOpeningOf g kept made
+    chosen_opening splits both out_begins in_begins out_flag in_flag =
+        let out_same = child_carried (λ d. outside_of d on) d_out parent out_is parent_at in
+        let in_same = child_carried (λ d. inside_of d on) d_in parent in_is parent_at in
+        let (as_if, may_be, first, second) = as_if_both g note.is_anew leaf.packing (outside_of leaf.decision on) (inside_of leaf.decision on)
+        outside inside both
+        (λ no. subst (λ (cuts : List Cut). BeginsWith outside.packing cuts) out_same (out_begins no))
+        (λ no. subst (λ (cuts : List Cut). BeginsWith inside.packing cuts) in_same (in_begins no))
+        (subst (λ (cuts : List Cut). IsTrue outside.note.is_anew ↔ MayBeNone g note.is_anew cuts) out_same out_flag)
+        (subst (λ (cuts : List Cut). IsTrue inside.note.is_anew ↔ MayBeNone g note.is_anew cuts) in_same in_flag) in
+        opening_as as_if (subst (λ (b : Bool). MayBe b leaf.packing as_if) (sym is_next.flag) may_be) splits first second

@@ -1,12 +1,15 @@
 -- What a search keeps, through its openings.
-use Rattle.std.proofs.Common.{ℕ, suc, ◌≡◌, ◌+◌, ◌<◌, ◌≤◌, Bool, List, [], ◌∷◌, length, slice_set, Option, Some, None, refl, ap, sym, ◌∙◌, subst, arith}
+use Rattle.std.proofs.Common.{ℕ, suc, ◌≡◌, ◌+◌, ◌<◌, ◌≤◌, ⊎_elim, Bool, true, false, List, [], ◌∷◌, length, slice_get, slice_set, Option, Some, None, refl, ap, sym, ◌∙◌, subst, arith}
 use Rattle.std.specs.List.{AllZip, insert}
-use Rattle.std.proofs.lemmas.Option.{slice_get_within}
+use Rattle.std.proofs.lemmas.Option.{same_Some, slice_get_within}
+use Rattle.std.proofs.lemmas.Bool.{cases_Bool}
+use Rattle.dual_ascent.specs.Ascending.{BeginsWith}
+use Rattle.dual_ascent.specs.Carried.{carried}
 use Rattle.net_graph.specs.declared.packing.Cut.{Cut}
 use Rattle.net_graph.specs.Graph.{Graph, total_of}
 use Rattle.net_graph.specs.Network.{length_of}
 use Rattle.net_graph.specs.LengthLaws.{length_of_edges-le-sum}
-use Rattle.net_graph.specs.Decision.{nothing_decided}
+use Rattle.net_graph.specs.Decision.{Decided, nothing_decided}
 use Rattle.cert_tree.specs.declared.split.SplitOn.{SplitOn}
 use Rattle.cert_tree.specs.declared.split.SplitOn.TheVariants as split
 use Rattle.cert_tree.specs.Tree.{Tree, split_with}
@@ -22,12 +25,16 @@ use Rattle.branch.specs.declared.opening.Opening.{Opening}
 use Rattle.branch.specs.declared.split_kind.SplitKind.{SplitKind}
 use Rattle.branch.specs.declared.split_kind.SplitKind.TheVariants as kind
 use Rattle.branch.specs.Leaves.{DecidedLeaf, leaf_under, leaves_of}
-use Rattle.branch.specs.States.{IsReadyLeaf, IsOpenLeaf, IsState}
-use Rattle.branch.specs.Openings.{IsOpening, IsSplitOf}
+use Rattle.branch.specs.States.{IsReadyLeaf, IsOpenLeaf, IsState, leaf_value}
+use Rattle.branch.specs.Openings.{IsOpening, IsSplitOf, BeginsAt}
 use Rattle.branch.specs.Runs.{EndsOpenings, EndsRunOfOpenings}
 use Rattle.branch.specs.Notes.{IsBest, ShowsOwn, IsNoteOf, IsUpToOwn, IsKeptNote, AreNotesOf}
-use Rattle.branch.specs.Searching.{search_state, SplitsEdges, IsOfKind, IsSearch, IsOpeningOf, IsOpened, OpensTo}
+use Rattle.branch.specs.Variants.{in_units, MayBe, IsVariant, MayBegin}
+use Rattle.branch.specs.declared.leaf.NewLeaf.{NewLeaf}
+use Rattle.branch.specs.Searching.{search_state, is_anew_at, AreOfKind, IsOfKind, IsSearch, IsOpeningOf, IsPlain, IsOpened, OpensTo, IsSplitAt}
 use Rattle.branch.proofs.ListLemmas.{two_at, insert-set, AllZip-two_at, AllZip-weaker, AllZip-length, beside_left, all_from_places}
+use Rattle.branch.proofs.VariantLemmas.{IsLike-may_be, like_value, like_split, variant_same, variant_splits, variant_state, variant_split}
+use Rattle.branch.proofs.VariantLemmas.{new_notes, flags_same_before, flags_same_behind, flag_of_outside, flag_of_inside}
 use Rattle.branch.proofs.TreeLemmas.{leaves_of-replaced, IsValidTree-replaced, split_count-replaced, SplitsEdges-replaced}
 
 -- an open leaf can be opened
@@ -71,6 +78,21 @@ on_edge : (asked : SplitKind) (on : SplitOn) → asked ≡ kind.Edges → IsOfKi
 on_edge asked (split.Edge e) is of_kind = (e, refl)
 on_edge asked (split.Vertex v) is of_kind = absurd (subst (λ (k : SplitKind). IsOfKind k (split.Vertex v)) is of_kind)
 
+-- a new leaf that may have another packing begins with what is carried to it
+may_begin : (g : Graph) (parent : List Cut) (d : Decided) (leaf : NewLeaf) (packing : List Cut) → MayBegin g parent d leaf →
+    MayBe leaf.note.is_anew leaf.packing packing → BeginsWith packing (carried g d parent)
+may_begin g parent d leaf packing begins may_be =
+    ⊎_elim
+    (λ (anew : leaf.note.is_anew ≡ true).
+    subst (λ (cuts : List Cut). BeginsWith packing cuts) (sym (begins.none anew)) (packing, refl))
+    (λ (same : leaf.note.is_anew ≡ false).
+    ⊎_elim
+    (λ (own : packing ≡ leaf.packing). subst (λ (cuts : List Cut). BeginsWith cuts (carried g d parent)) (sym own) (begins.begins same))
+    (λ (units : (leaf.note.is_anew ≡ true) × (packing ≡ in_units leaf.packing)).
+    let never : true ≡ false = sym units.0 ∙ same in absurd cc)
+    may_be)
+    (cases_Bool leaf.note.is_anew)
+
 module _ (g : Graph) (old : Frontier) (opening : Opening) (search : IsSearch g old) (op : IsOpeningOf g old opening) where
   abbrev first_leaves : List DecidedLeaf
   first_leaves = leaves_of (nothing_decided g) old.tree
@@ -89,11 +111,16 @@ module _ (g : Graph) (old : Frontier) (opening : Opening) (search : IsSearch g o
       IsValidTree-replaced opening.on opening.outside.packing opening.inside.packing g (nothing_decided g) old.tree opening.leaf op.leaf op.at
       search.valid (split_undecided g op.leaf opening.on op.splits) op.outside.feasible op.inside.feasible
 
-  opened_edges : old.kind ≡ kind.Edges → SplitsEdges opened_tree
-  opened_edges asked =
-      let (e, is) = on_edge old.kind opening.on asked op.kind in
+  opened_edges : IsOfKind old.kind opening.on → AreOfKind old.kind old.tree → AreOfKind old.kind opened_tree
+  opened_edges of_kind were = λ asked.
+      let (e, is) = on_edge old.kind opening.on asked of_kind in
       SplitsEdges-replaced opening.on opening.outside.packing opening.inside.packing e is (nothing_decided g) old.tree
-      opening.leaf op.leaf op.at (search.edges asked)
+      opening.leaf op.leaf op.at (were asked)
+
+  opened_within : opening.leaf < length old.notes.items
+  opened_within =
+      let within : opening.leaf < length first_leaves = slice_get_within first_leaves opening.leaf op.leaf op.at in
+      omega (arith, AllZip-length (IsKeptNote g old.best.length) first_leaves old.notes.items search.notes)
 
   opened_notes : AllZip (IsKeptNote g opening.best.length) (leaves_of (nothing_decided g) opened_tree)
       (insert (slice_set old.notes.items opening.leaf opening.outside.note) (opening.leaf + 1) opening.inside.note)
@@ -115,64 +142,153 @@ module _ (g : Graph) (old : Frontier) (opening : Opening) (search : IsSearch g o
   opened_count : split_count opened_tree ≡ split_count old.tree + 1
   opened_count = split_count-replaced opening.on opening.outside.packing opening.inside.packing (nothing_decided g) old.tree opening.leaf op.leaf op.at
 
-  opened_opening : IsOpening g old.best.network opening.best.network old.tree opened_tree
-  opened_opening = record {
-    place = opening.leaf;
-    leaf = op.leaf;
-    on = opening.on;
-    outside = opening.outside.packing;
-    inside = opening.inside.packing;
-    at = op.at;
-    below = op.below;
-    splits = op.splits;
-    tree_is = refl;
-    outside_begins = op.outside_begins;
-    inside_begins = op.inside_begins;
-    no_longer = let less = op.no_longer in let before = search.best.length in let after = op.best.length in omega arith;
-  }
+  opened_shorter : length_of g opening.best.network ≤ length_of g old.best.network
+  opened_shorter = let less = op.no_longer in let before = search.best.length in let after = op.best.length in omega arith
+
+  opened_opening : IsPlain g old opening → IsOpening g old.best.network opening.best.network old.tree opened_tree
+  opened_opening plain =
+      let same : plain.leaf ≡ op.leaf = same_Some plain.leaf op.leaf (sym plain.at ∙ op.at) in
+      record {
+        place = opening.leaf;
+        leaf = op.leaf;
+        on = opening.on;
+        outside = opening.outside.packing;
+        inside = opening.inside.packing;
+        at = op.at;
+        below = op.below;
+        splits = op.splits;
+        tree_is = refl;
+        outside_begins = subst (λ (l : DecidedLeaf). BeginsAt g l (outside_of l.decision opening.on) opening.outside.packing) same plain.outside;
+        inside_begins = subst (λ (l : DecidedLeaf). BeginsAt g l (inside_of l.decision opening.on) opening.inside.packing) same plain.inside;
+        no_longer = opened_shorter;
+      }
 
   opened_state : IsState g opening.best.network opened_tree
-  opened_state = state_of g opening.best opened_tree
-      (insert (slice_set old.notes.items opening.leaf opening.outside.note) (opening.leaf + 1) opening.inside.note) op.best opened_valid opened_notes
+  opened_state = state_of g opening.best opened_tree (new_notes old.notes.items opening.leaf opening.outside.note opening.inside.note opened_within)
+      op.best opened_valid opened_notes
 
-  opened_run : EndsRunOfOpenings g old.first_length opening.best.network opened_tree
-  opened_run =
-      let count : split_count opened_tree ≡ suc (split_count old.tree) = omega (arith, opened_count) in
-      subst (λ (n : ℕ). EndsOpenings g old.first_length n opening.best.network opened_tree) (sym count)
-      (opened_state, count, (old.best.network, old.tree, search.run, opened_opening))
+  -- the flags of the leaves before and after
+  abbrev old_flags : ℕ → Bool
+  old_flags = is_anew_at old.notes.items
+
+  abbrev new_flags : ℕ → Bool
+  new_flags = is_anew_at (insert (slice_set old.notes.items opening.leaf opening.outside.note) (opening.leaf + 1) opening.inside.note)
+
+  -- the opening of a variant
+  variant_opening : (p q : List Cut) (earlier other : Tree SplitOn) → MayBe opening.outside.note.is_anew opening.outside.packing p →
+      MayBe opening.inside.note.is_anew opening.inside.packing q →
+      slice_get (leaves_of (nothing_decided g) earlier) opening.leaf ≡ Some (leaf_under op.leaf.decision op.as_if) →
+      other ≡ replaced opening.leaf (split_with opening.on p q) earlier → IsOpening g old.best.network opening.best.network earlier other
+  variant_opening p q earlier other first second at is =
+      let like = IsLike-may_be (old_flags opening.leaf) op.leaf.packing op.as_if op.may_be in
+      let value = like_value g op.leaf.decision op.leaf.packing op.as_if like in
+      let below : leaf_value g op.leaf < length_of g old.best.network = op.below in
+      record {
+        place = opening.leaf;
+        leaf = leaf_under op.leaf.decision op.as_if;
+        on = opening.on;
+        outside = p;
+        inside = q;
+        at = at;
+        below = omega arith;
+        splits = like_split g op.leaf.decision op.leaf.packing op.as_if like opening.on op.splits;
+        tree_is = is;
+        outside_begins = may_begin g op.as_if (outside_of op.leaf.decision opening.on) opening.outside p op.outside_begins first;
+        inside_begins = may_begin g op.as_if (inside_of op.leaf.decision opening.on) opening.inside q op.inside_begins second;
+        no_longer = opened_shorter;
+      }
+
+  opened_run : (other : Tree SplitOn) → IsVariant new_flags opened_tree other →
+      EndsRunOfOpenings g old.first_length opening.best.network other
+  opened_run other of_new =
+      let made = variant_split opening.on opening.outside.packing opening.inside.packing old_flags new_flags opening.leaf
+      (flags_same_before old.notes.items opening.leaf opening.outside.note opening.inside.note opened_within)
+      (flags_same_behind old.notes.items opening.leaf opening.outside.note opening.inside.note opened_within)
+      0 (nothing_decided g) old.tree other opening.leaf op.leaf (omega arith) op.at of_new in
+      let was = made.before op.as_if op.may_be in
+      let first = subst (λ (b : Bool). MayBe b opening.outside.packing made.outside)
+      (flag_of_outside old.notes.items opening.leaf opening.outside.note opening.inside.note opened_within) made.outside_may_be in
+      let second = subst (λ (b : Bool). MayBe b opening.inside.packing made.inside)
+      (flag_of_inside old.notes.items opening.leaf opening.outside.note opening.inside.note opened_within) made.inside_may_be in
+      let new_splits = variant_splits new_flags 0 opened_tree other of_new in
+      let old_splits = variant_splits old_flags 0 old.tree was.earlier was.variant in
+      let count : split_count other ≡ suc (split_count was.earlier) = omega (arith, opened_count) in
+      let state = variant_state new_flags g opening.best.network opened_tree other of_new opened_state in
+      subst (λ (n : ℕ). EndsOpenings g old.first_length n opening.best.network other) (sym count) (
+        state,
+        count,
+        (
+          old.best.network,
+          was.earlier,
+          search.run was.earlier was.variant,
+          variant_opening made.outside made.inside was.earlier other first second was.leaf_at was.is,
+        ),
+      )
 
 -- what is kept once an opening is made
 pub search_opened : (g : Graph) (old new : Frontier) (opening : Opening) → IsSearch g old → IsOpeningOf g old opening → IsOpened opening old new →
-    IsSearch g new × OpensTo (search_state g old) (search_state g new)
+    IsSearch g new
 search_opened g old new opening search op opened =
     let tree : opened_tree g old opening search op ≡ new.tree = sym opened.tree in
     let best : opening.best ≡ new.best = sym opened.best in
     let notes = sym opened.notes in
-    let first : old.first_length ≡ new.first_length = sym opened.first_length in (
-      record {
-        best = subst (λ (b : Best). IsBest g b) best op.best;
-        valid = subst (λ (t : Tree SplitOn). IsValidTree g (nothing_decided g) t) tree (opened_valid g old opening search op);
-        edges = λ asked. subst SplitsEdges tree (opened_edges g old opening search op (sym opened.kind ∙ asked));
-        notes = subst (λ (b : Best). AreNotesOf g b.length (leaves_of (nothing_decided g) new.tree) new.notes.items) best
-            (subst (λ (t : Tree SplitOn). AreNotesOf g opening.best.length (leaves_of (nothing_decided g) t) new.notes.items) tree
-            (subst (λ (ns : List LeafNote). AreNotesOf g opening.best.length (leaves_of (nothing_decided g) (opened_tree g old opening search op)) ns) notes
-            (opened_notes g old opening search op)));
-        run = subst (λ (b : Best). EndsRunOfOpenings g new.first_length b.network new.tree) best
-            (subst (λ (t : Tree SplitOn). EndsRunOfOpenings g new.first_length opening.best.network t) tree
-            (subst (λ (n : ℕ). EndsRunOfOpenings g n opening.best.network (opened_tree g old opening search op)) first
-            (opened_run g old opening search op)));
-        no_longer = subst (λ (b : Best). b.length ≤ new.first_length) best
-            (let less = op.no_longer in let before = search.no_longer in omega arith);
-      },
-      record {
-        graph = refl;
-        kind = opened.kind;
-        first_length = opened.first_length;
-        splits = ap split_count (sym tree) ∙ opened_count g old opening search op;
-        opening = subst (λ (b : Best). IsOpening g old.best.network b.network old.tree new.tree) best
-            (subst (λ (t : Tree SplitOn). IsOpening g old.best.network opening.best.network old.tree t) tree (opened_opening g old opening search op));
-      },
-    )
+    let first : old.first_length ≡ new.first_length = sym opened.first_length in
+    record {
+      best = subst (λ (b : Best). IsBest g b) best op.best;
+      valid = subst (λ (t : Tree SplitOn). IsValidTree g (nothing_decided g) t) tree (opened_valid g old opening search op);
+      notes = subst (λ (b : Best). AreNotesOf g b.length (leaves_of (nothing_decided g) new.tree) new.notes.items) best
+          (subst (λ (t : Tree SplitOn). AreNotesOf g opening.best.length (leaves_of (nothing_decided g) t) new.notes.items) tree
+          (subst (λ (ns : List LeafNote). AreNotesOf g opening.best.length (leaves_of (nothing_decided g) (opened_tree g old opening search op)) ns) notes
+          (opened_notes g old opening search op)));
+      run = λ other of_new.
+          let of_opened : IsVariant (new_flags g old opening search op) (opened_tree g old opening search op) other =
+          subst (λ (t : Tree SplitOn). IsVariant (new_flags g old opening search op) t other) opened.tree
+          (subst (λ (ns : List LeafNote). IsVariant (is_anew_at ns) new.tree other) opened.notes of_new) in
+          subst (λ (b : Best). EndsRunOfOpenings g new.first_length b.network other) best
+          (subst (λ (n : ℕ). EndsRunOfOpenings g n opening.best.network other) first
+          (opened_run g old opening search op other of_opened));
+      no_longer = subst (λ (b : Best). b.length ≤ new.first_length) best
+          (let less = op.no_longer in let before = search.no_longer in omega arith);
+    }
+
+-- where both new leaves begin with what is carried to them, and the split is of the kind, the step is an opening
+pub opens_to : (g : Graph) (old new : Frontier) (opening : Opening) → IsSearch g old → IsOpeningOf g old opening → IsPlain g old opening →
+    IsOfKind old.kind opening.on → IsOpened opening old new → OpensTo (search_state g old) (search_state g new)
+opens_to g old new opening search op plain of_kind opened =
+    let tree : opened_tree g old opening search op ≡ new.tree = sym opened.tree in
+    let best : opening.best ≡ new.best = sym opened.best in
+    record {
+      graph = refl;
+      kind = opened.kind;
+      first_length = opened.first_length;
+      splits = ap split_count (sym tree) ∙ opened_count g old opening search op;
+      opening = subst (λ (b : Best). IsOpening g old.best.network b.network old.tree new.tree) best
+          (subst (λ (t : Tree SplitOn). IsOpening g old.best.network opening.best.network old.tree t) tree
+          (opened_opening g old opening search op plain));
+      of_kind = λ were.
+          subst (λ (k : SplitKind). AreOfKind k new.tree) (sym opened.kind)
+          (subst (λ (t : Tree SplitOn). AreOfKind old.kind t) tree (opened_edges g old opening search op of_kind were));
+    }
+
+-- the step splits the leaf of the opening on its vertex
+pub splits_to : (g : Graph) (old new : Frontier) (opening : Opening) (place v : ℕ) → IsSearch g old → IsOpeningOf g old opening →
+    IsOpened opening old new → opening.leaf ≡ place → opening.on ≡ split.Vertex v →
+    IsSplitAt place v (search_state g old) (search_state g new)
+splits_to g old new opening place v search op opened leaf_is on_is =
+    let best : opening.best ≡ new.best = sym opened.best in
+    let tree : opened_tree g old opening search op ≡ new.tree = sym opened.tree in
+    record {
+      graph = refl;
+      kind = opened.kind;
+      first_length = opened.first_length;
+      splits = ap split_count (sym tree) ∙ opened_count g old opening search op;
+      outside = opening.outside.packing;
+      inside = opening.inside.packing;
+      tree = subst (λ (n : ℕ). new.tree ≡ replaced n (split_with (split.Vertex v) opening.outside.packing opening.inside.packing) old.tree) leaf_is
+          (subst (λ (u : SplitOn). new.tree ≡ replaced opening.leaf (split_with u opening.outside.packing opening.inside.packing) old.tree) on_is opened.tree);
+      no_longer = subst (λ (b : Best). length_of g b.network ≤ length_of g old.best.network) best (opened_shorter g old opening search op);
+      run = (search_opened g old new opening search op opened).run new.tree (variant_same (is_anew_at new.notes.items) 0 new.tree);
+    }
 
 -- a search that begins with one leaf
 pub search_begun : (g : Graph) (kept : Frontier) (packing : List Cut) (note : LeafNote) → IsBest g kept.best →
@@ -189,9 +305,13 @@ search_begun g kept packing note best no_longer tree notes of_note own =
     record {
       best = best;
       valid = valid;
-      edges = λ _. subst SplitsEdges (sym tree) tt;
       notes = are;
-      run = subst (λ (n : ℕ). EndsOpenings g kept.first_length n kept.best.network kept.tree) (sym none)
-          (state_of g kept.best kept.tree kept.notes.items best valid are, none, let same = best.length in omega arith);
+      run = λ other of_leaf.
+          let splits = variant_splits (is_anew_at kept.notes.items) 0 kept.tree other of_leaf in
+          let no_split : split_count other ≡ 0 = omega arith in
+          let state = variant_state (is_anew_at kept.notes.items) g kept.best.network kept.tree other of_leaf
+          (state_of g kept.best kept.tree kept.notes.items best valid are) in
+          subst (λ (n : ℕ). EndsOpenings g kept.first_length n kept.best.network other) (sym no_split)
+          (state, no_split, let same = best.length in omega arith);
       no_longer = no_longer;
     }

@@ -16,11 +16,12 @@ use Rattle.branch.specs.declared.frontier.Frontier.{Frontier}
 use Rattle.branch.specs.Leaves.{DecidedLeaf, leaves_of}
 use Rattle.branch.specs.States.{IsOpenLeaf, IsReadyLeaf, IsState, leaf_value}
 use Rattle.branch.specs.Notes.{IsKeptNote, IsLesserOfNotes, IsNextNote}
-use Rattle.branch.specs.Searching.{search_state, IsSearch, IsSettled}
+use Rattle.branch.specs.Searching.{search_state, is_anew_at, IsSearch, IsSettled, IsOpenAt}
 use Rattle.branch.specs.Solving.{IsSolved}
 use Rattle.branch.proofs.ListLemmas.{all_at, all_from_places, beside_left, beside_right}
 use Rattle.branch.proofs.TreeLemmas.{length-leaves_of, packing_at, le-tree_value, tree_value-le}
 use Rattle.branch.proofs.SearchLemmas.{state_of}
+use Rattle.branch.proofs.VariantLemmas.{variant_same}
 
 module _ (g : Graph) (kept : Frontier) (search : IsSearch g kept) where
   abbrev leaves : List DecidedLeaf
@@ -97,7 +98,7 @@ module _ (g : Graph) (kept : Frontier) (search : IsSearch g kept) where
     lower = bound_lower bound lesser law;
     cuts = few_cuts;
     maximal = open_maximal;
-    run = search.run;
+    run = search.run kept.tree (variant_same (is_anew_at kept.notes.items) 0 kept.tree);
   }
 
   -- the search is settled exactly where no open leaf was found
@@ -115,3 +116,15 @@ module _ (g : Graph) (kept : Frontier) (search : IsSearch g kept) where
         let value = kept_note.0.value in
         let length_is = search.best.length in absurd (omega arith),
   )
+
+  -- the next note's leaf is open, and no leaf's value is less
+  pub next_is_open : (place : ℕ) → IsNextNote kept.best.length kept.notes.items place → IsOpenAt (search_state g kept) place
+  next_is_open place (note, at, below, least) =
+      let (leaf, leaf_at, kept_note) = beside_right (IsKeptNote g kept.best.length) leaves kept.notes.items place note search.notes at in
+      let above : tree_value g (nothing_decided g) kept.tree ≤ leaf_value g leaf =
+      tree_value-le g (nothing_decided g) kept.tree place leaf leaf_at in
+      let low = tree_above note.value least in
+      let value = kept_note.0.value in
+      let length_is = search.best.length in
+      let lower : note.value < kept.best.length = below in
+      (leaf, leaf_at, omega arith, omega arith)

@@ -9,7 +9,12 @@ use Rattle.cert_tree.specs.TreeValue.{tree_value}
 use Rattle.branch.specs.declared.solved.Solved.{Solved}
 use Rattle.branch.specs.declared.step.Step.{Step}
 use Rattle.branch.specs.declared.step.Step.TheVariants as step
-use Rattle.branch.specs.Searching.{SearchState, IsSettled, OpensTo, TakesStep}
+use Rattle.cert_tree.specs.declared.split.SplitOn.{SplitOn}
+use Rattle.cert_tree.specs.Tree.{Tree}
+use Rattle.cert_tree.specs.Tree.Tree.{Leaf, Split}
+use Rattle.cert_tree.specs.Preorder.{split_count}
+use Rattle.branch.specs.declared.split_kind.SplitKind.{SplitKind}
+use Rattle.branch.specs.Searching.{SearchState, IsSettled, AreOfKind, OpensTo, TakesStep}
 use Rattle.branch.specs.Solving.{IsSolved}
 
 pub took_settled : (old new : SearchState) (taken : Step) → TakesStep old new taken → taken ≡ step.Settled → IsSettled new
@@ -45,6 +50,11 @@ module _ (g : Graph) (first_length : ℕ) (solved : Solved) (holds : IsSolved g 
       (λ (less : t < solved.length). less)
       (λ (above : solved.length ≤ t). let yes : solved.optimal ≡ true = optimal_above above in let never : true ≡ false = sym yes ∙ stopped in absurd cc)
       (cases_lt t solved.length)
+
+-- a tree of one leaf has only splits of any kind
+pub no_split_of_kind : (asked : SplitKind) (tree : Tree SplitOn) → split_count tree ≡ 0 → AreOfKind asked tree
+no_split_of_kind asked (Leaf cuts) none = λ _. tt
+no_split_of_kind asked (Split on outside inside) none = absurd (omega (arith, none))
 
 -- what a settled search found is optimal
 pub settled_optimal : (s : SearchState) (solved : Solved) → IsSettled s → solved.tree ≡ s.tree → solved.network ≡ s.network →

@@ -6,6 +6,7 @@ pub mod Runs
 pub mod RunLaws
 pub mod Meeting
 pub mod Notes
+pub mod Variants
 pub mod Searching
 pub mod SearchCode
 pub mod Solving

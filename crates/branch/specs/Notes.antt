@@ -18,6 +18,7 @@ use Rattle.branch.specs.declared.note.LeafNote.{LeafNote}
 use Rattle.branch.specs.declared.best.Best.{Best}
 use Rattle.branch.specs.Leaves.{DecidedLeaf}
 use Rattle.branch.specs.Meeting.{edges_at}
+use Rattle.branch.specs.SaturatedArcs.{IsUsedUpEdge}
 use Rattle.branch.specs.States.{IsNetworkOf, AreSaturated, leaf_value}
 
 -- the leaf is maximal, and the set is a network whose edges each have a saturated arc there
@@ -143,3 +144,16 @@ IsAsAsked g note kind.Edges (split.Edge e) = Unit {0}
 IsAsAsked g note kind.Edges (split.Vertex v) = ⊥
 IsAsAsked g note kind.Vertices (split.Edge e) = HasNoEndOfOwn g note
 IsAsAsked g note kind.Vertices (split.Vertex v) = Unit {0}
+
+-- a network is kept beside the leaf, the vertex is undecided, and an undecided edge ends there that has a saturated arc
+-- by what is kept of the rooms
+pub record HasSaturatedEnd (g : Graph) (note : LeafNote) (v : ℕ) : Type 0 where
+  pub set : List Bool
+  pub own : note.network ≡ Some set
+  pub undecided : IsVertexUndecided g note.decision v
+  pub number : ℕ
+  pub edge : Edge
+  pub at : slice_get g.edges number ≡ Some edge
+  pub ends : (edge.a ≡ v) ⊎ (edge.b ≡ v)
+  pub edge_undecided : IsUndecided g note.decision number
+  pub used_up : IsUsedUpEdge note.costs number

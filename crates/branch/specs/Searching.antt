@@ -1,10 +1,11 @@
 -- What a search keeps, and its steps.
-use Rattle.std.specs.Prelude.{ℕ, ◌≡◌, ◌+◌, ◌≤◌, min, Bool, List, slice_get, slice_set, Option, Some}
+use Rattle.std.specs.Prelude.{ℕ, zero, suc, ◌≡◌, ◌+◌, ◌≤◌, min, Bool, false, List, [], ◌∷◌, slice_get, slice_set}
+use Rattle.std.specs.Prelude.{Option, Some, All, length}
 use Rattle.std.specs.List.{insert}
 use Rattle.net_graph.specs.declared.packing.Cut.{Cut}
 use Rattle.net_graph.specs.Graph.{Graph}
 use Rattle.net_graph.specs.Network.{length_of}
-use Rattle.net_graph.specs.Decision.{nothing_decided}
+use Rattle.net_graph.specs.Decision.{Decided, IsDecisionFor, nothing_decided}
 use Rattle.net_graph.specs.Packing.{packing_value}
 use Rattle.cert_tree.specs.declared.split.SplitOn.{SplitOn}
 use Rattle.cert_tree.specs.declared.split.SplitOn.TheVariants as split
@@ -15,15 +16,18 @@ use Rattle.cert_tree.specs.Preorder.{split_count}
 use Rattle.cert_tree.specs.Decisions.{outside_of, inside_of}
 use Rattle.cert_tree.specs.TreeValue.{IsValidTree, tree_value}
 use Rattle.branch.specs.declared.frontier.Frontier.{Frontier}
+use Rattle.branch.specs.declared.note.LeafNote.{LeafNote}
+use Rattle.branch.specs.declared.offered.Offered.{Offered}
 use Rattle.branch.specs.declared.opening.Opening.{Opening}
 use Rattle.branch.specs.declared.split_kind.SplitKind.{SplitKind}
 use Rattle.branch.specs.declared.split_kind.SplitKind.TheVariants as kind
 use Rattle.branch.specs.declared.step.Step.{Step}
 use Rattle.branch.specs.declared.step.Step.TheVariants as step
 use Rattle.branch.specs.Leaves.{DecidedLeaf, leaf_under, leaves_of}
-use Rattle.branch.specs.States.{IsOpenLeaf}
-use Rattle.branch.specs.Openings.{IsOpening, IsSplitOf, BeginsAt}
+use Rattle.branch.specs.States.{IsOpenLeaf, leaf_value}
+use Rattle.branch.specs.Openings.{IsOpening, IsSplitOf, IsSplitVertex, BeginsAt}
 use Rattle.branch.specs.Runs.{EndsRunOfOpenings}
+use Rattle.branch.specs.Variants.{IsVariant, MayBe, MayBegin}
 use Rattle.branch.specs.Notes.{IsBest, ShowsOwn, AreNotesOf, IsNoteOf, IsUpToOwn, shorter_of, shown_first}
 
 -- A search as contracts see it: its graph, what it splits its leaves on, its best network, its tree, the length of the
@@ -66,36 +70,55 @@ IsOfKind kind.Edges (split.Edge e) = Unit {0}
 IsOfKind kind.Edges (split.Vertex v) = ⊥
 IsOfKind kind.Vertices on = Unit {0}
 
--- What is kept is a search: the best network is one, the tree is valid where nothing is decided, its splits are on
--- edges where edges are what is asked for, what is kept beside its leaves is true of them, no leaf's own network is
--- shorter than the best one, and both end a run of openings whose first network is no longer than the one that the
--- search began with.
+-- each split of the tree is of the kind
+abbrev pub AreOfKind : SplitKind → Tree SplitOn → Type 0
+AreOfKind asked tree = asked ≡ kind.Edges → SplitsEdges tree
+
+-- whether the leaf at a place began with no cut, by what is kept beside it
+abbrev pub is_anew_at : List LeafNote → ℕ → Bool
+is_anew_at [] place = false
+is_anew_at (note ∷ notes) zero = note.is_anew
+is_anew_at (note ∷ notes) (suc place) = is_anew_at notes place
+
+-- What is kept is a search: the best network is one, the tree is valid where nothing is decided, what is kept beside
+-- its leaves is true of them, no leaf's own network is shorter than the best one, and both end a run of openings whose
+-- first network is no longer than the one that the search began with. So they do with other packings that leaves may
+-- have which began with no cut.
 pub record IsSearch (g : Graph) (kept : Frontier) : Type 0 where
   pub best : IsBest g kept.best
   pub valid : IsValidTree g (nothing_decided g) kept.tree
-  pub edges : kept.kind ≡ kind.Edges → SplitsEdges kept.tree
   pub notes : AreNotesOf g kept.best.length (leaves_of (nothing_decided g) kept.tree) kept.notes.items
-  pub run : EndsRunOfOpenings g kept.first_length kept.best.network kept.tree
+  pub run : (variant : Tree SplitOn) → IsVariant (is_anew_at kept.notes.items) kept.tree variant →
+      EndsRunOfOpenings g kept.first_length kept.best.network variant
   pub no_longer : kept.best.length ≤ kept.first_length
 
 -- What an opening of a search makes of one of its leaves: two new leaves, with what is kept beside them, and a
--- best network that is no longer than before or than theirs.
+-- best network that is no longer than before or than theirs. The new leaves begin as they may with one packing that the
+-- leaf may have.
 pub record IsOpeningOf (g : Graph) (kept : Frontier) (opening : Opening) : Type 0 where
   pub leaf : DecidedLeaf
   pub at : slice_get (leaves_of (nothing_decided g) kept.tree) opening.leaf ≡ Some leaf
   pub below : IsOpenLeaf g (length_of g kept.best.network) leaf
   pub splits : IsSplitOf g leaf opening.on
-  pub kind : IsOfKind kept.kind opening.on
   pub outside :
       IsNoteOf g (leaf_under (outside_of leaf.decision opening.on) opening.outside.packing) opening.outside.note
   pub inside :
       IsNoteOf g (leaf_under (inside_of leaf.decision opening.on) opening.inside.packing) opening.inside.note
-  pub outside_begins : BeginsAt g leaf (outside_of leaf.decision opening.on) opening.outside.packing
-  pub inside_begins : BeginsAt g leaf (inside_of leaf.decision opening.on) opening.inside.packing
+  pub as_if : List Cut
+  pub may_be : MayBe (is_anew_at kept.notes.items opening.leaf) leaf.packing as_if
+  pub outside_begins : MayBegin g as_if (outside_of leaf.decision opening.on) opening.outside
+  pub inside_begins : MayBegin g as_if (inside_of leaf.decision opening.on) opening.inside
   pub best : IsBest g opening.best
   pub no_longer : opening.best.length ≤ kept.best.length
   pub outside_own : IsUpToOwn g opening.best.length opening.outside.note.network
   pub inside_own : IsUpToOwn g opening.best.length opening.inside.note.network
+
+-- both new leaves begin with what the leaf's own packing carries to them
+pub record IsPlain (g : Graph) (kept : Frontier) (opening : Opening) : Type 0 where
+  pub leaf : DecidedLeaf
+  pub at : slice_get (leaves_of (nothing_decided g) kept.tree) opening.leaf ≡ Some leaf
+  pub outside : BeginsAt g leaf (outside_of leaf.decision opening.on) opening.outside.packing
+  pub inside : BeginsAt g leaf (inside_of leaf.decision opening.on) opening.inside.packing
 
 -- the opening is made: its split stands in place of its leaf, and its best network is kept
 pub record IsOpened (opening : Opening) (old new : Frontier) : Type 0 where
@@ -148,9 +171,48 @@ pub record OpensTo (old new : SearchState) : Type 0 where
   pub first_length : new.first_length ≡ old.first_length
   pub splits : split_count new.tree ≡ split_count old.tree + 1
   pub opening : IsOpening old.graph old.network new.network old.tree new.tree
+  pub of_kind : AreOfKind old.kind old.tree → AreOfKind new.kind new.tree
 
 -- What a step of a search does: settled, no leaf's value is below the best network's length, and the search
 -- stays as it was; else it makes an opening.
 abbrev pub TakesStep : SearchState → SearchState → Step → Type 0
 TakesStep old new step.Settled = IsSettled old × (new ≡ old)
 TakesStep old new step.Split = OpensTo old new
+
+-- the leaf at the place is open, and no leaf's value is less
+abbrev pub IsOpenAt : SearchState → ℕ → Type 0
+IsOpenAt s place =
+    (leaf : DecidedLeaf) × (slice_get (leaves_of (nothing_decided s.graph) s.tree) place ≡ Some leaf)
+    × IsOpenLeaf s.graph (length_of s.graph s.network) leaf
+    × (leaf_value s.graph leaf ≡ tree_value s.graph (nothing_decided s.graph) s.tree)
+
+-- the decision is that of the leaf at the place
+abbrev pub IsDecidedAt : SearchState → ℕ → Decided → Type 0
+IsDecidedAt s place d =
+    IsDecisionFor s.graph d
+    × ((leaf : DecidedLeaf) × (slice_get (leaves_of (nothing_decided s.graph) s.tree) place ≡ Some leaf)
+    × (leaf.decision ≡ d))
+
+-- the leaf at the place is open, and the vertex is one that it may be split on
+abbrev pub CanSplitAt : SearchState → ℕ → ℕ → Type 0
+CanSplitAt s place vertex =
+    (leaf : DecidedLeaf) × (slice_get (leaves_of (nothing_decided s.graph) s.tree) place ≡ Some leaf)
+    × IsOpenLeaf s.graph (length_of s.graph s.network) leaf × IsSplitVertex s.graph leaf vertex
+
+-- the cuts of both packings are sets of so many vertices
+pub record AreOfSize (vertices : ℕ) (offered : Offered) : Type 0 where
+  pub outside : All (λ c. length c.members ≡ vertices) offered.outside
+  pub inside : All (λ c. length c.members ≡ vertices) offered.inside
+
+-- The leaf at the place is split on the vertex, the other leaves stay, and the network is no longer than before. Both
+-- end a run of openings whose first network is no longer than the one that the search began with.
+pub record IsSplitAt (place vertex : ℕ) (old new : SearchState) : Type 0 where
+  pub graph : new.graph ≡ old.graph
+  pub kind : new.kind ≡ old.kind
+  pub first_length : new.first_length ≡ old.first_length
+  pub splits : split_count new.tree ≡ split_count old.tree + 1
+  pub outside : List Cut
+  pub inside : List Cut
+  pub tree : new.tree ≡ replaced place (split_with (split.Vertex vertex) outside inside) old.tree
+  pub no_longer : length_of old.graph new.network ≤ length_of old.graph old.network
+  pub run : EndsRunOfOpenings new.graph new.first_length new.network new.tree

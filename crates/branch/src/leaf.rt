@@ -36,11 +36,11 @@ pub(crate) fn first_leaf<F: Rule>(
 {
     let decision = Decision::none(alloc, g)?;
     let costs = ReducedCosts::of(alloc, g, &decision, &start)?;
-    leaf_from(alloc, g, decision, start, costs, rule)
+    leaf_from(alloc, g, decision, start, costs, rule, true)
 }
 
 /// The leaf of the ascent that begins with these cuts, under a decision, where they leave this of the rooms of all
-/// arcs. An `Err` is want of memory.
+/// arcs, and whether it began with no cut of another leaf. An `Err` is want of memory.
 pub(crate) fn leaf_from<F: Rule>(
     alloc: Global,
     g: &NetGraph,
@@ -48,6 +48,7 @@ pub(crate) fn leaf_from<F: Rule>(
     start: Packing,
     costs: ReducedCosts,
     rule: &Chooser<F>,
+    is_anew: bool,
 ) -> Result<NewLeaf, AllocError>
     requires decision { IsDecisionFor g.now decision }
     requires feasible { IsFeasible g.now decision start }
@@ -55,6 +56,7 @@ pub(crate) fn leaf_from<F: Rule>(
     requires costs { costs ≡ costs_of g.now.edges (states_of g.now decision) start }
     ensures begins { IfOk result (λ leaf. BeginsWith leaf.packing start) }
     ensures note { IfOk result (λ leaf. IsNoteOf g.now (leaf_under decision leaf.packing) leaf.note) }
+    ensures anew { IfOk result (λ leaf. leaf.note.is_anew ≡ is_anew) }
 {
     let edges = g.edge_count();
     prove!(edges <= 4900);
@@ -72,6 +74,7 @@ pub(crate) fn leaf_from<F: Rule>(
             value,
             network,
             costs: ascent.costs,
+            is_anew,
         },
     })
 }

@@ -7,6 +7,7 @@ mod frontier;
 mod leaf;
 mod next_opening;
 mod note;
+mod offered;
 mod open;
 mod opening;
 mod saturated;
@@ -18,6 +19,7 @@ mod split_choice;
 mod split_kind;
 mod step;
 
+pub use offered::Offered;
 pub use saturated::saturated_network;
 pub use search::Search;
 pub use solve::solve_graph;

@@ -1,6 +1,6 @@
 //! What is made of a leaf that is split.
 
-ghost use Rattle.std.specs.Prelude.{◌≡◌, ◌<◌, ◌≤◌, IfOk};
+ghost use Rattle.std.specs.Prelude.{◌≡◌, ◌*◌, ◌≤◌, ◌↔◌, false, true, length, All, IfOk, IsTrue};
 ghost use Rattle.net_graph.specs.Decision.{IsDecisionFor, states_of};
 ghost use Rattle.net_graph.specs.Packing.{IsFeasible};
 ghost use Rattle.dual_ascent.specs.Ascending.{BeginsWith};
@@ -9,13 +9,14 @@ ghost use Rattle.dual_ascent.specs.Costs.{costs_of};
 ghost use Rattle.cert_tree.specs.Decisions.{IsUndecidedSplit, outside_of, inside_of};
 ghost use Rattle.branch.specs.Leaves.{leaf_under};
 ghost use Rattle.branch.specs.Notes.{IsNoteOf};
+ghost use Rattle.branch.specs.Variants.{MayBeNone};
 
 use crate::best::Best;
 use crate::leaf::{NewLeaf, leaf_from};
 use crate::note::LeafNote;
 use cert_tree::SplitOn;
-use dual_ascent::{Chooser, Rule, carry, carry_costs};
-use net_graph::{Decision, NetGraph, Packing};
+use dual_ascent::{Chooser, ReducedCosts, Rule, carry, carry_costs};
+use net_graph::{Decision, NetGraph, Packing, feasible, total_weight};
 use std::alloc::{AllocError, Global};
 
 /// What is made of a leaf, given by its place in preorder: what it is split on, two new leaves, and the best
@@ -79,10 +80,86 @@ pub(crate) fn child_of<F: Rule>(
     requires feasible { IsFeasible g.now note.now.decision parent.now }
     requires costs { note.now.costs ≡ costs_of g.now.edges (states_of g.now note.now.decision) parent.now }
     ensures begins { IfOk result (λ leaf. BeginsWith leaf.packing (carried g.now now parent.now)) }
+    ensures anew { IfOk result (λ leaf. leaf.note.is_anew ≡ false) }
     ensures note { IfOk result (λ leaf. IsNoteOf g.now (leaf_under now leaf.packing) leaf.note) }
 {
     let before = &note.decision;
     let start = carry(alloc, g, before, &now, parent)?;
     let costs = carry_costs(alloc, g, before, &now, parent, &note.costs, &start)?;
-    leaf_from(alloc, g, now, start, costs, rule)
+    leaf_from(alloc, g, now, start, costs, rule, false)
+}
+
+/// The leaf of a further decision for which a packing is offered: the ascent that begins with what a leaf's packing
+/// carries there; or, where the packing may begin with no cut, the better one of this ascent and of the one that begins
+/// with the offered packing, if that is feasible and has few cuts. An `Err` is want of memory.
+pub(crate) fn child_with<F: Rule>(
+    alloc: Global,
+    g: &NetGraph,
+    note: &LeafNote,
+    parent: &Packing,
+    now: Decision,
+    offered: Packing,
+    rule: &Chooser<F>,
+) -> Result<NewLeaf, AllocError>
+    requires before { IsDecisionFor g.now note.now.decision }
+    requires now { IsDecisionFor g.now now }
+    requires one_more { DecidesOneMore g.now note.now.decision now }
+    requires feasible { IsFeasible g.now note.now.decision parent.now }
+    requires costs { note.now.costs ≡ costs_of g.now.edges (states_of g.now note.now.decision) parent.now }
+    requires sizes { All (λ c. length c.members ≡ g.now.vertices) offered }
+    ensures begins { IfOk result
+        (λ leaf. leaf.note.is_anew ≡ false → BeginsWith leaf.packing (carried g.now now parent.now)) }
+    ensures anew { IfOk result
+        (λ leaf. IsTrue leaf.note.is_anew ↔ MayBeNone g.now note.now.is_anew (carried g.now now parent.now)) }
+    ensures note { IfOk result (λ leaf. IsNoteOf g.now (leaf_under now leaf.packing) leaf.note) }
+{
+    let before = &note.decision;
+    let start = carry(alloc, g, before, &now, parent)?;
+    let is_anew = may_begin_anew(g, note, &start);
+    let costs = carry_costs(alloc, g, before, &now, parent, &note.costs, &start)?;
+    let carried = leaf_from(alloc, g, now.copy()?, start, costs, rule, is_anew)?;
+    if is_anew {
+        better_of(alloc, g, carried, now, offered, rule)
+    } else {
+        Ok(carried)
+    }
+}
+
+// Whether a child's packing may begin with no cut, by what a leaf carries there: where that is none; and where the leaf
+// began with none itself and stood, with the same loads, in cuts of weight 1, so that more than twice as many cuts as
+// there are edges would be carried, and then none are.
+fn may_begin_anew(g: &NetGraph, note: &LeafNote, start: &Packing) -> bool
+    ensures { IsTrue result ↔ MayBeNone g.now note.now.is_anew start.now }
+{
+    let twice = 2 * u128::from(g.edge_count());
+    start.len() == 0 || (note.is_anew && total_weight(start.cuts()) > twice)
+}
+
+// The better one of a leaf and of the ascent that begins with an offered packing, if that is feasible and has few cuts;
+// the leaf on a tie. An `Err` is want of memory.
+fn better_of<F: Rule>(
+    alloc: Global,
+    g: &NetGraph,
+    leaf: NewLeaf,
+    now: Decision,
+    offered: Packing,
+    rule: &Chooser<F>,
+) -> Result<NewLeaf, AllocError>
+    requires decision { IsDecisionFor g.now now }
+    requires leaf { IsNoteOf g.now (leaf_under now leaf.packing) leaf.note }
+    requires anew { leaf.note.is_anew ≡ true }
+    requires sizes { All (λ c. length c.members ≡ g.now.vertices) offered }
+    ensures note { IfOk result (λ better. IsNoteOf g.now (leaf_under now better.packing) better.note) }
+    ensures anew { IfOk result (λ better. better.note.is_anew ≡ true) }
+{
+    if offered.len() > 2 * g.edge_count() as usize || !feasible(alloc, g, &now, &offered)? {
+        return Ok(leaf);
+    }
+    let costs = ReducedCosts::of(alloc, g, &now, &offered)?;
+    let other = leaf_from(alloc, g, now, offered, costs, rule, true)?;
+    Ok(if leaf.note.value < other.note.value {
+        other
+    } else {
+        leaf
+    })
 }

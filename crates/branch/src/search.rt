@@ -1,25 +1,27 @@
 //! The search by splits.
 
-ghost use Rattle.std.specs.Prelude.{◌≡◌, ◌+◌, ◌*◌, ◌<◌, ◌≤◌, ◌^◌, ◌↔◌, false, true, length, IsTrue, IfOk, IfSome};
-ghost use Rattle.std.specs.Prelude.{OnOk, OnErr};
+ghost use Rattle.std.specs.Prelude.{◌≡◌, ◌+◌, ◌*◌, ◌<◌, ◌≤◌, ◌^◌, ◌↔◌, false, true, length, IsTrue};
+ghost use Rattle.std.specs.Prelude.{IfOk, IfSome, IfNone, OnOk, OnErr};
 ghost use Rattle.std.specs.Option.{option_copied};
 ghost use Rattle.net_graph.specs.Network.{length_of};
 ghost use Rattle.net_graph.specs.Decision.{nothing_decided};
 ghost use Rattle.net_graph.specs.Packing.{IsFeasible};
-ghost use Rattle.cert_tree.specs.Preorder.{split_count};
+ghost use Rattle.cert_tree.specs.Preorder.{packings_of, split_count};
 ghost use Rattle.cert_tree.specs.TreeValue.{tree_value};
 
 use crate::best::Best;
 use crate::frontier::Frontier;
 use crate::leaf::first_leaf;
-use crate::next_opening::opening_at;
+use crate::next_opening::{opening_at, opening_on};
+use crate::offered::Offered;
 use crate::open::{bound_of, next_open};
+use crate::saturation::has_saturated_end;
 use crate::solved::Solved;
 use crate::split_kind::SplitKind;
 use crate::step::Step;
 use cert_tree::{CertTree, tree_bounds_every_network};
 use dual_ascent::{Chooser, Rule};
-use net_graph::{EdgeSet, NetGraph, Packing};
+use net_graph::{Decision, EdgeSet, NetGraph, Packing};
 use std::alloc::{AllocError, Global};
 use std::marker::Model;
 
@@ -52,7 +54,8 @@ impl<'a, F: Rule, G: Rule> Model for Search<'a, F, G> {
 impl<'a, F: Rule, G: Rule> Search<'a, F, G> {
     ghost use Rattle.branch.specs.States.{IsNetworkOf};
     ghost use Rattle.branch.specs.Notes.{shorter_of};
-    ghost use Rattle.branch.specs.Searching.{IsRaised, IsOffered, IsSettled, IsShownFirst, SplitsEdges, TakesStep};
+    ghost use Rattle.branch.specs.Searching.{IsRaised, IsOffered, IsSettled, IsShownFirst, AreOfKind, TakesStep};
+    ghost use Rattle.branch.specs.Searching.{IsOpenAt, IsDecidedAt, CanSplitAt, IsSplitAt, AreOfSize};
     ghost use Rattle.branch.specs.Solving.{IsSolved, ways_of};
 
     /// A search that begins with a network and with the leaf of an ascent from no cut. The rule `ascent` chooses among
@@ -137,22 +140,81 @@ impl<'a, F: Rule, G: Rule> Search<'a, F, G> {
         Ok(Step::Split)
     }
 
-    /// Makes at most `allowed` splits, and tells what was found. It stops before that only where no leaf's value is
-    /// below the network's length. An `Err` is want of memory.
+    /// The open leaf of the least value, by its place in preorder, the earliest on a tie; `None` where no leaf's value
+    /// is below the best network's length. It takes no memory.
+    pub fn next_open(&self) -> Option<u32>
+        ensures none { IfNone result (IsSettled self.now) }
+        ensures open { IfSome result (IsOpenAt self.now) }
+    {
+        let count = self.kept.tree.leaves();
+        let place = next_open(self.kept.notes.as_slice(), self.kept.best.length)?;
+        prove!(place < count as usize);
+        Some(place as u32)
+    }
+
+    /// What is decided at a leaf, given by its place in preorder. It takes no memory.
+    pub fn decision(&self, leaf: u32) -> &Decision
+        requires { leaf < length (packings_of self.now.tree) }
+        ensures { IsDecidedAt self.now leaf result.now }
+    {
+        &self.kept.notes[leaf as usize].decision
+    }
+
+    /// Whether a leaf, given by its place in preorder, can be split on a vertex: its value is below the best network's
+    /// length, the vertex is undecided there, and an undecided edge with a saturated arc ends at it. It takes no
+    /// memory.
+    pub fn splits_at(&self, leaf: u32, vertex: u32) -> bool
+        requires leaf { leaf < length (packings_of self.now.tree) }
+        requires vertex { vertex < self.now.graph.vertices }
+        ensures { IsTrue result → CanSplitAt self.now leaf vertex }
+    {
+        let note = &self.kept.notes[leaf as usize];
+        note.value < u128::from(self.kept.best.length)
+            && has_saturated_end(self.graph, note, vertex)
+    }
+
+    /// Splits a leaf, given by its place in preorder, on a vertex. Each child begins with what is carried to it. Where
+    /// that is nothing, and where the leaf's own packing began with no cut and what is carried of it has the weight
+    /// for more than two cuts for each edge, a child may begin with no cut: it then is the better one of what the
+    /// ascent makes of what is carried and of the offered packing, if this is feasible there. An `Err` is want of
+    /// memory, and leaves the search as it was.
+    pub fn split_at(&mut self, leaf: u32, vertex: u32, offered: Offered) -> Result<(), AllocError>
+        requires few { split_count self.old.tree < 255 }
+        requires can { CanSplitAt self.old leaf vertex }
+        requires sizes { AreOfSize self.old.graph.vertices offered }
+        ensures ok { OnOk result (IsSplitAt leaf vertex self.old self.new) }
+        ensures err { OnErr result (self.new ≡ self.old) }
+    {
+        let opening = opening_on(
+            self.alloc,
+            self.graph,
+            &self.kept,
+            leaf as usize,
+            vertex,
+            offered,
+            &self.ascent,
+        )?;
+        self.kept.open(opening)?;
+        Ok(())
+    }
+
+    /// Makes splits up to `allowed` in all, and tells what was found. It stops before that only where no leaf's value
+    /// is below the network's length. An `Err` is want of memory.
     pub fn solve(mut self, allowed: u8) -> Result<Solved, AllocError>
-        requires { split_count self.tree ≡ 0 }
+        requires { split_count self.tree ≤ allowed }
         ensures solved { IfOk result (IsSolved self.entry.graph self.entry.first_length) }
-        ensures edges { IfOk result (λ s. self.entry.kind ≡ SplitKind.Edges → SplitsEdges s.tree) }
         ensures few { IfOk result (λ s. split_count s.tree ≤ allowed) }
         // It is not optimal only where all allowed splits were made and some leaf's value is below the length.
         ensures stopped { IfOk result (λ s. s.optimal ≡ false → split_count s.tree ≡ allowed) }
         ensures below { IfOk result (λ s. s.optimal ≡ false
             → tree_value self.entry.graph (nothing_decided self.entry.graph) s.tree < s.length) }
-        // With as many allowed splits as there are ways to decide what is split on, but one, it is optimal.
-        ensures enough { IfOk result
+        // With as many allowed splits as there are ways to decide what is split on, but one, it is optimal, where all
+        // splits are of the kind.
+        ensures enough { AreOfKind self.entry.kind self.entry.tree → IfOk result
             (λ s. ways_of self.entry.kind self.entry.graph ≤ allowed + 1 → s.optimal ≡ true) }
     {
-        for _made in 0..allowed {
+        let made = self.splits() as u8;
+        for _made in made..allowed {
             match self.split_one()? {
                 Step::Settled => return Ok(self.finish()),
                 Step::Split => {}
@@ -204,7 +266,6 @@ impl<'a, F: Rule, G: Rule> Search<'a, F, G> {
     pub fn finish(self) -> Solved
         ensures network { result.network ≡ self.entry.network }
         ensures tree { result.tree ≡ self.entry.tree }
-        ensures edges { self.entry.kind ≡ SplitKind.Edges → SplitsEdges result.tree }
         ensures solved { IsSolved self.entry.graph self.entry.first_length result }
     {
         tree_bounds_every_network();

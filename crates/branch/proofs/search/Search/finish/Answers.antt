@@ -1,8 +1,7 @@
 -- What is found is true.
 use Rattle.std.proofs.Common.{◌≡◌, List, IsTrue, ◌↔◌, subst, eqb, rules}
 use Rattle.branch.specs.declared.note.LeafNote.{LeafNote}
-use Rattle.branch.specs.declared.split_kind.SplitKind.TheVariants as kind
-use Rattle.branch.specs.Searching.{SearchState, SplitsEdges}
+use Rattle.branch.specs.Searching.{SearchState}
 use Rattle.branch.specs.Solving.{IsSolved}
 use Rattle.branch.specs.Notes.{IsLesserOfNotes}
 use Rattle.branch.proofs.SettledLemmas.{solved_is}
@@ -21,7 +20,3 @@ returns-clause-solved _ c =
     (solved_is _ _ c.self.invariant _ _
     (subst (λ (xs : List LeafNote). IsLesserOfNotes c.self.inside.kept.best.length xs c.bound_of-bound.result) c.as_slice.ensures.value c.bound_of-bound.ensures)
     agree c.tree_bounds_every_network.ensures)
-
-pub returns-clause-edges : goal.returns-clause-edges
-returns-clause-edges _ c =
-    subst (λ (s : SearchState). s.kind ≡ kind.Edges → SplitsEdges c.self.inside.kept.tree) c.self.view_is c.self.invariant.edges

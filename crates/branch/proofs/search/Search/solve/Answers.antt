@@ -1,9 +1,9 @@
 -- Each turn makes a split, and where none is made the answer is optimal.
-use Rattle.std.proofs.Common.{ℕ, ◌≡◌, ◌+◌, true, false, ap, sym, ◌∙◌, arith}
+use Rattle.std.proofs.Common.{ℕ, ◌≡◌, ◌+◌, true, false, ap, subst, sym, ◌∙◌, arith}
 use Rattle.cert_tree.specs.Preorder.{split_count}
 use Rattle.cert_tree.specs.declared.split.SplitOn.{SplitOn}
 use Rattle.cert_tree.specs.Tree.{Tree}
-use Rattle.branch.specs.Searching.{SearchState}
+use Rattle.branch.specs.Searching.{SearchState, SplitsEdges}
 use Rattle.branch.proofs.SolvingLemmas.{took_settled, took_none, took_split, solved_of, below_length, settled_optimal}
 use Rattle.branch.proofs.EnoughLemmas.{enough_optimal}
 use Rattle.branch.proofs.search.Search.solve.Goals as goal
@@ -12,21 +12,27 @@ pub loop-made-preserved : goal.loop-made-preserved
 loop-made-preserved _ c =
     let opens = took_split c.loop-made.self c.split_one.new.self c.in_ok-split_one.field-0 c.in_ok-split_one.ensures.step c.in-Split.is in
     let before = c.loop-made.invariant in
-    (opens.graph ∙ before.0, opens.first_length ∙ before.1, opens.splits ∙ ap (λ (n : ℕ). n + 1) before.2, opens.kind ∙ before.3)
+    record {
+      graph = opens.graph ∙ before.graph;
+      first_length = opens.first_length ∙ before.first_length;
+      count = opens.splits ∙ ap (λ (n : ℕ). n + 1) before.count;
+      of_kind = λ were asked. opens.of_kind (λ _. before.of_kind were asked) (opens.kind ∙ before.kind ∙ asked);
+      kind = opens.kind ∙ before.kind;
+    }
 
 pub returns-in-Settled-clause-solved : goal.returns-in-Settled-clause-solved
 returns-in-Settled-clause-solved _ c =
     let same = took_none c.loop-made.self c.split_one.new.self c.in_ok-split_one.field-0 c.in_ok-split_one.ensures.step c.in-Settled.is in
     let before = c.loop-made.invariant in
-    solved_of c.split_one.new.self _ _ c.finish.result (ap (λ (s : SearchState). s.graph) same ∙ before.0)
-    (ap (λ (s : SearchState). s.first_length) same ∙ before.1) c.finish.ensures.solved
+    solved_of c.split_one.new.self _ _ c.finish.result (ap (λ (s : SearchState). s.graph) same ∙ before.graph)
+    (ap (λ (s : SearchState). s.first_length) same ∙ before.first_length) c.finish.ensures.solved
 
 pub returns-in-Settled-clause-few : goal.returns-in-Settled-clause-few
 returns-in-Settled-clause-few _ c =
     let same = took_none c.loop-made.self c.split_one.new.self c.in_ok-split_one.field-0 c.in_ok-split_one.ensures.step c.in-Settled.is in
     let before = c.loop-made.invariant in
     let count : split_count c.finish.result.tree ≡ c.loop-made._made =
-    ap (λ (t : Tree SplitOn). split_count t) c.finish.ensures.tree ∙ ap (λ (s : SearchState). split_count s.tree) same ∙ before.2 in
+    ap (λ (t : Tree SplitOn). split_count t) c.finish.ensures.tree ∙ ap (λ (s : SearchState). split_count s.tree) same ∙ before.count in
     omega arith
 
 pub returns-in-Settled-clause-stopped : goal.returns-in-Settled-clause-stopped
@@ -42,46 +48,38 @@ returns-in-Settled-clause-below _ c = λ stopped.
     let never : true ≡ false = sym yes ∙ stopped in absurd cc
 
 pub returns-in-Settled-clause-enough : goal.returns-in-Settled-clause-enough
-returns-in-Settled-clause-enough _ c = λ enough.
+returns-in-Settled-clause-enough _ c = λ _ enough.
     let settled = took_settled c.loop-made.self c.split_one.new.self c.in_ok-split_one.field-0 c.in_ok-split_one.ensures.step c.in-Settled.is in
     settled_optimal c.split_one.new.self c.finish.result settled c.finish.ensures.tree c.finish.ensures.network c.finish.ensures.solved
 
 pub returns-clause-solved : goal.returns-clause-solved
 returns-clause-solved _ c =
     let before = c.loop-made.invariant in
-    solved_of c.loop-made.self _ _ c.finish-2.result before.0 before.1 c.finish-2.ensures.solved
+    solved_of c.loop-made.self _ _ c.finish-2.result before.graph before.first_length c.finish-2.ensures.solved
 
 pub returns-clause-few : goal.returns-clause-few
 returns-clause-few _ c =
     let before = c.loop-made.invariant in
     let count : split_count c.finish-2.result.tree ≡ c.loop-made._made =
-    ap (λ (t : Tree SplitOn). split_count t) c.finish-2.ensures.tree ∙ before.2 in
+    ap (λ (t : Tree SplitOn). split_count t) c.finish-2.ensures.tree ∙ before.count in
     omega arith
 
 pub returns-clause-stopped : goal.returns-clause-stopped
 returns-clause-stopped _ c = λ stopped.
     let before = c.loop-made.invariant in
     let count : split_count c.finish-2.result.tree ≡ c.loop-made._made =
-    ap (λ (t : Tree SplitOn). split_count t) c.finish-2.ensures.tree ∙ before.2 in
+    ap (λ (t : Tree SplitOn). split_count t) c.finish-2.ensures.tree ∙ before.count in
     omega arith
 
 pub returns-clause-below : goal.returns-clause-below
 returns-clause-below _ c = λ stopped.
     let before = c.loop-made.invariant in
-    below_length _ _ c.finish-2.result (solved_of c.loop-made.self _ _ c.finish-2.result before.0 before.1 c.finish-2.ensures.solved) stopped
+    below_length _ _ c.finish-2.result (solved_of c.loop-made.self _ _ c.finish-2.result before.graph before.first_length c.finish-2.ensures.solved) stopped
 
 pub returns-clause-enough : goal.returns-clause-enough
-returns-clause-enough _ c = λ enough.
+returns-clause-enough _ c = λ of_kind enough.
     let before = c.loop-made.invariant in
     let count : split_count c.finish-2.result.tree ≡ c.loop-made._made =
-    ap (λ (t : Tree SplitOn). split_count t) c.finish-2.ensures.tree ∙ before.2 in
-    enough_optimal _ _ _ c.args.allowed c.finish-2.result (solved_of c.loop-made.self _ _ c.finish-2.result before.0 before.1 c.finish-2.ensures.solved)
-    (λ asked. c.finish-2.ensures.edges (before.3 ∙ asked)) (λ stopped. omega arith) enough
-
-pub returns-in-Settled-clause-edges : goal.returns-in-Settled-clause-edges
-returns-in-Settled-clause-edges _ c = λ asked.
-    let same = took_none c.loop-made.self c.split_one.new.self c.in_ok-split_one.field-0 c.in_ok-split_one.ensures.step c.in-Settled.is in
-    c.finish.ensures.edges (ap (λ (s : SearchState). s.kind) same ∙ c.loop-made.invariant.3 ∙ asked)
-
-pub returns-clause-edges : goal.returns-clause-edges
-returns-clause-edges _ c = λ asked. c.finish-2.ensures.edges (c.loop-made.invariant.3 ∙ asked)
+    ap (λ (t : Tree SplitOn). split_count t) c.finish-2.ensures.tree ∙ before.count in
+    enough_optimal _ _ _ c.args.allowed c.finish-2.result (solved_of c.loop-made.self _ _ c.finish-2.result before.graph before.first_length c.finish-2.ensures.solved)
+    (λ asked. subst SplitsEdges (sym c.finish-2.ensures.tree) (before.of_kind of_kind asked)) (λ stopped. omega arith) enough

@@ -2,7 +2,7 @@
 use Rattle.std.proofs.Common.{◌≤◌, List, All, refl, subst}
 use Rattle.branch.specs.declared.note.LeafNote.{LeafNote}
 use Rattle.branch.specs.Searching.{SearchState, search_state, IsSettled, OpensTo}
-use Rattle.branch.proofs.SearchLemmas.{search_opened}
+use Rattle.branch.proofs.SearchLemmas.{search_opened, opens_to}
 use Rattle.branch.proofs.SettledLemmas.{settled}
 use Rattle.branch.proofs.OpenedLemmas.{opens_within, opens_within_notes, opens_few}
 use Rattle.branch.proofs.search.Search.split_one.Goals as goal
@@ -15,18 +15,19 @@ returns-in_default-clause-step _ c = (
 )
 
 pub open-requires-clause-leaf : goal.open-requires-clause-leaf
-open-requires-clause-leaf _ c = opens_within _ _ _ c.in_ok-opening.ensures
+open-requires-clause-leaf _ c = opens_within _ _ _ c.in_ok-opening.ensures.opening
 
 pub open-requires-clause-note : goal.open-requires-clause-note
-open-requires-clause-note _ c = opens_within_notes _ _ _ c.self.invariant c.in_ok-opening.ensures
+open-requires-clause-note _ c = opens_within_notes _ _ _ c.self.invariant c.in_ok-opening.ensures.opening
 
 pub open-requires-clause-few : goal.open-requires-clause-few
 open-requires-clause-few _ c = opens_few c.self.inside.kept _ c.self.inside.graph.now c.self.view_is c.requires
 
 pub invariant_of-self-2 : goal.invariant_of-self-2
-invariant_of-self-2 _ c = (search_opened _ _ _ _ c.self.invariant c.in_ok-opening.ensures c.in_ok-open.ensures.ok).0
+invariant_of-self-2 _ c = search_opened _ _ _ _ c.self.invariant c.in_ok-opening.ensures.opening c.in_ok-open.ensures.ok
 
 pub returns-clause-step : goal.returns-clause-step
 returns-clause-step _ c =
     subst (λ (s : SearchState). OpensTo s (search_state c.self.inside.graph.now c.open.new.self)) c.self.view_is
-    (search_opened _ _ _ _ c.self.invariant c.in_ok-opening.ensures c.in_ok-open.ensures.ok).1
+    (opens_to _ _ _ _ c.self.invariant c.in_ok-opening.ensures.opening c.in_ok-opening.ensures.plain c.in_ok-opening.ensures.kind
+    c.in_ok-open.ensures.ok)

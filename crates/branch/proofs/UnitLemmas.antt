@@ -1,0 +1,128 @@
+-- Cuts of weight 1 in place of others: the same loads, the same value, and more of them.
+use Rattle.std.proofs.Common.{ℕ, zero, suc, ◌≡◌, ◌*◌, ◌<◌, ◌≤◌, ⊎_elim, Bool, true, false, not}
+use Rattle.std.proofs.Common.{if◌then◌else◌, List, [], ◌∷◌, ◌++◌, filter, length, replicate, sum_by, All, nat_le}
+use Rattle.std.proofs.Common.{refl, ap, ◌∙◌, arith, length-append}
+use Rattle.std.specs.List.{list_any}
+use Rattle.std.proofs.lemmas.Bool.{cases_Bool, lt-leb, cases_lt}
+use Rattle.std.proofs.lemmas.List.{length-replicate}
+use Rattle.std.proofs.lemmas.List.Elements.{All-nil, All-cons, All-head, All-tail, All-append, filter-append}
+use Rattle.std.proofs.lemmas.List.Folds.{sum_by-replicate}
+use Rattle.std.proofs.lemmas.List.Sums.{sum_by-append, sum_by-cons}
+use Rattle.net_graph.specs.declared.edge.Edge.{Edge}
+use Rattle.net_graph.specs.declared.packing.Cut.{Cut}
+use Rattle.net_graph.specs.Graph.{Graph}
+use Rattle.net_graph.specs.Decision.{Decided}
+use Rattle.net_graph.specs.Packing.{IsCut, enters, load}
+use Rattle.dual_ascent.specs.Carried.{carried, unentered, inside_edges, is_entered_along}
+use Rattle.branch.specs.Variants.{in_units}
+
+-- the cut with the weight 1
+abbrev pub unit_of : Cut → Cut
+unit_of c = record { weight = 1; members = c.members }
+
+times_one : (n m : ℕ) → m ≡ 1 → n * m ≡ n
+times_one n m is = rw is (omega arith)
+
+-- the same weight
+pub weight-in_units : (cuts : List Cut) → sum_by (λ c. c.weight) (in_units cuts) ≡ sum_by (λ c. c.weight) cuts
+weight-in_units [] = refl
+weight-in_units (c ∷ cuts) =
+    omega (
+      arith,
+      sum_by-append (λ (x : Cut). x.weight) (replicate c.weight (unit_of c)) (in_units cuts),
+      sum_by-replicate (λ (x : Cut). x.weight) c.weight (unit_of c),
+      times_one c.weight 1 refl,
+      sum_by-cons (λ (x : Cut). x.weight) c cuts,
+      weight-in_units cuts,
+    )
+
+-- as many cuts as the weight says
+pub length-in_units : (cuts : List Cut) → length (in_units cuts) ≡ sum_by (λ c. c.weight) cuts
+length-in_units [] = refl
+length-in_units (c ∷ cuts) =
+    omega (
+      arith,
+      length-append (replicate c.weight (unit_of c)) (in_units cuts),
+      length-replicate c.weight (unit_of c),
+      sum_by-cons (λ (x : Cut). x.weight) c cuts,
+      length-in_units cuts,
+    )
+
+times_flag : (flag : Bool) (n : ℕ) → n * (if flag then 1 else 0) ≡ (if flag then n else 0)
+times_flag true n = omega arith
+times_flag false n = omega arith
+
+-- what a cut loads onto an arc
+abbrev load_of : ℕ → ℕ → Cut → ℕ
+load_of u v c = if enters c.members u v then c.weight else 0
+
+-- the same loads
+pub load-in_units : (cuts : List Cut) (u v : ℕ) → load (in_units cuts) u v ≡ load cuts u v
+load-in_units [] u v = refl
+load-in_units (c ∷ cuts) u v =
+    omega (
+      arith,
+      sum_by-append (load_of u v) (replicate c.weight (unit_of c)) (in_units cuts),
+      sum_by-replicate (load_of u v) c.weight (unit_of c),
+      times_flag (enters c.members u v) c.weight,
+      sum_by-cons (load_of u v) c cuts,
+      load-in_units cuts u v,
+    )
+
+All-replicate : (P : Cut → Type 0) (n : ℕ) (c : Cut) → P c → All P (replicate n c)
+All-replicate P zero c holds = All-nil P
+All-replicate P (suc n) c holds = All-cons P c (replicate n c) holds (All-replicate P n c holds)
+
+-- the same sets, each of a weight of at least 1
+pub cuts-in_units : (g : Graph) (d : Decided) (cuts : List Cut) → All (λ c. (0 < c.weight) × IsCut g d c.members) cuts →
+    All (λ c. (0 < c.weight) × IsCut g d c.members) (in_units cuts)
+cuts-in_units g d [] all = all
+cuts-in_units g d (c ∷ cuts) all =
+    let P = λ (x : Cut). (0 < x.weight) × IsCut g d x.members in
+    let one : P (unit_of c) = (omega arith, (All-head P c cuts all).1) in
+    All-append P (replicate c.weight (unit_of c)) (in_units cuts) (All-replicate P c.weight (unit_of c) one)
+    (cuts-in_units g d cuts (All-tail P c cuts all))
+
+filter-passes : (test : Cut → Bool) (n : ℕ) (c : Cut) → test c ≡ true → filter test (replicate n c) ≡ replicate n c
+filter-passes test zero c passed = refl
+filter-passes test (suc n) c passed = rw passed (ap (λ xs. c ∷ xs) (filter-passes test n c passed))
+
+filter-fails : (test : Cut → Bool) (n : ℕ) (c : Cut) → test c ≡ false → filter test (replicate n c) ≡ []
+filter-fails test zero c failed = refl
+filter-fails test (suc n) c failed = rw failed (filter-fails test n c failed)
+
+-- what no edge enters, in units
+pub unentered-in_units : (edges : List Edge) (cuts : List Cut) →
+    unentered edges (in_units cuts) ≡ in_units (unentered edges cuts)
+unentered-in_units edges [] = refl
+unentered-in_units edges (c ∷ cuts) =
+    let test = λ (x : Cut). not (list_any (is_entered_along x.members) edges) in
+    let same = filter-append test (replicate c.weight (unit_of c)) (in_units cuts) in
+    let rest = unentered-in_units edges cuts in
+    ⊎_elim
+    (λ (yes : test c ≡ true). rw yes (same
+    ∙ ap (λ xs. xs ++ filter test (in_units cuts)) (filter-passes test c.weight (unit_of c) yes)
+    ∙ ap (λ xs. replicate c.weight (unit_of c) ++ xs) rest))
+    (λ (no : test c ≡ false). rw no (same
+    ∙ ap (λ xs. xs ++ filter test (in_units cuts)) (filter-fails test c.weight (unit_of c) no)
+    ∙ rest))
+    (cases_Bool (test c))
+
+-- where the carried cuts would in units be more than two for each edge, nothing is carried of the units
+pub carried-in_units : (g : Graph) (d : Decided) (cuts : List Cut) →
+    2 * length g.edges < sum_by (λ c. c.weight) (carried g d cuts) → carried g d (in_units cuts) ≡ []
+carried-in_units g d cuts heavy =
+    let edges = inside_edges g.edges d.edges in
+    let left = unentered edges cuts in
+    ⊎_elim
+    (λ (over : 2 * length g.edges < length left).
+    let test : nat_le (length left) (2 * length g.edges) ≡ false = lt-leb _ _ over in
+    let none : 2 * length g.edges < sum_by (λ (c : Cut). c.weight) [] = rw test at heavy in absurd (omega arith))
+    (λ (fits : length left ≤ 2 * length g.edges).
+    let test : nat_le (length left) (2 * length g.edges) ≡ true = grind arith in
+    let all : 2 * length g.edges < sum_by (λ (c : Cut). c.weight) left = rw test at heavy in
+    let size = ap length (unentered-in_units edges cuts) ∙ length-in_units left in
+    let many : 2 * length g.edges < length (unentered edges (in_units cuts)) = omega arith in
+    let units_test : nat_le (length (unentered edges (in_units cuts))) (2 * length g.edges) ≡ false = lt-leb _ _ many in
+    rw units_test refl)
+    (cases_lt (2 * length g.edges) (length left))

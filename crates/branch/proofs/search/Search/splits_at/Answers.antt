@@ -1,0 +1,30 @@
+-- A leaf with a saturated end can be split there.
+use Rattle.std.proofs.Common.{◌<◌, length, rules, subst, arith}
+use Rattle.branch.specs.Searching.{SearchState, CanSplitAt}
+use Rattle.branch.proofs.ReaderLemmas.{note_within, is_decided, rooms_size, can_split}
+use Rattle.branch.proofs.search.Search.splits_at.Goals as goal
+
+pub index-note-requires : goal.index-note-requires
+index-note-requires _ c =
+    let within : c.args.leaf < length c.self.inside.kept.notes.items =
+    note_within _ _ _ c.args.leaf c.self.invariant c.self.view_is c.requires.leaf in
+    search rules
+
+pub has_saturated_end-requires-clause-decision : goal.has_saturated_end-requires-clause-decision
+has_saturated_end-requires-clause-decision _ c =
+    let within = note_within _ _ _ c.args.leaf c.self.invariant c.self.view_is c.requires.leaf in
+    (is_decided _ _ c.args.leaf c.index-note.result.now c.self.invariant within c.index-note.ensures).0
+
+pub has_saturated_end-requires-clause-costs : goal.has_saturated_end-requires-clause-costs
+has_saturated_end-requires-clause-costs _ c =
+    let within = note_within _ _ _ c.args.leaf c.self.invariant c.self.view_is c.requires.leaf in
+    rooms_size _ _ c.args.leaf c.index-note.result.now c.self.invariant within c.index-note.ensures
+
+pub returns-then-note-from : goal.returns-then-note-from
+returns-then-note-from _ c = λ yes.
+    let within = note_within _ _ _ c.args.leaf c.self.invariant c.self.view_is c.requires.leaf in
+    let low : c.index-note.result.now.value < c.self.inside.kept.best.length =
+    let below = c.if-note-from.true in let from = c.from.ensures in omega arith in
+    subst (λ (s : SearchState). CanSplitAt s c.args.leaf c.args.vertex) c.self.view_is
+    (can_split _ _ c.args.leaf c.index-note.result.now c.self.invariant within c.index-note.ensures
+    c.args.vertex low (c.has_saturated_end.ensures yes))
