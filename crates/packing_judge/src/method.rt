@@ -1,18 +1,17 @@
 //! The exchange method, of which the result is judged.
 
-ghost use Rattle.std.specs.Prelude.{◌≡◌, ◌≤◌, ◌^◌, length, IfOk, IfErr};
+ghost use Rattle.std.specs.Prelude.{◌≡◌, ◌≤◌, ◌^◌, min, length, IfOk, IfErr, IsTrue};
 ghost use Rattle.net_graph.specs.Network.{length_of};
-ghost use Rattle.hanan_grid.specs.Grid.{hanan_grid_of};
 ghost use Rattle.packing_judge.specs.Outcome.{IsOutcomeFor};
 
 use crate::bound::{Bound, judged};
 use cut_groups::{CutFinder, Tree};
 use flow_cuts::FlowCuts;
 use hanan_grid::Grid;
-use net_graph::{EdgeSet, NetGraph, length};
+use net_graph::{EdgeSet, NetGraph, Packing, length};
 use planar_cuts::PlanarCuts;
 use std::alloc::{AllocError, Global};
-use tight_packing::{Budget, Proposal, Settings, propose};
+use tight_packing::{Aims, Budget, Guesses, Proposal, Settings, propose};
 
 // Longer networks are refused.
 const MAX_LENGTH: u64 = 1 << 42;
@@ -20,10 +19,10 @@ const MAX_LENGTH: u64 = 1 << 42;
 /// How an exchange ended.
 #[derive(Debug, Drop)]
 pub enum Outcome {
-    /// The value of the packing is the length of the network.
+    /// The value of the packing is at least the wanted one, and at most the length of the network.
     Tight(Bound),
-    /// There is no packing whose value is the length of the cleaned network. That is computed and not proved. The bound
-    /// is what is at hand.
+    /// There is no packing of the wanted value along the cleaned network. That is computed and not proved. The bound is
+    /// what is at hand.
     Impossible(Option<Bound>),
     /// The budget is spent, or the network isn't a clean one. The bound is what is at hand.
     Exhausted(Option<Bound>),
@@ -36,74 +35,91 @@ pub enum Outcome {
 pub struct Exchanged {
     /// How it ended.
     pub outcome: Outcome,
-    /// Of each edge the share in percent that networks shorter than the one aimed at have of it, as the exchange guesses;
-    /// empty where it has no guess.
-    pub shares: Vec<u32>,
+    /// What it guesses of shorter networks, and of what to split on.
+    pub guesses: Guesses,
 }
 
-/// Looks for a packing whose value is the length of a network on a grid. The exchange cleans the network first: an edge
+/// Looks for a packing of a wanted value along a network, of which what it is more than the network's length counts for
+/// nothing; it begins with given cuts, of which nothing is asked. The graph is that of a grid, or one with the same
+/// vertices and edges, of which lengths may be others and terminals more. The exchange cleans the network first: an edge
 /// of each cycle goes, and what joins no terminal. Equal arguments give equal results. An `Err` is want of memory.
 pub fn exchange(
     alloc: Global,
     grid: &Grid,
+    graph: &NetGraph,
     network: &EdgeSet,
+    wanted: u64,
+    start: &Packing,
     budget: Budget,
 ) -> Result<Exchanged, AllocError>
-    requires { length network.now ≡ length (hanan_grid_of grid.now).edges }
-    ensures { IfOk result (λ found.
-        IsOutcomeFor (hanan_grid_of grid.now) (length_of (hanan_grid_of grid.now) network.now) found.outcome) }
+    requires { length network.now ≡ length graph.now.edges }
+    ensures { IfOk result (λ found. IsOutcomeFor graph.now (length_of graph.now network.now)
+        (min wanted (length_of graph.now network.now)) found.outcome) }
 {
-    let graph = grid.graph();
-    let aim = match aim_of(alloc, graph, network)? {
+    let aim = match aim_of(alloc, graph, network, wanted)? {
         Ok(aim) => aim,
         Err(outcome) => return Ok(at_once(alloc, outcome)),
     };
     let finder = PlanarCuts::new(alloc, grid, &aim.tree)?;
-    carried_out(alloc, graph, aim, finder, Settings::GRIDS, budget)
+    let settings = Settings::GRIDS;
+    carried_out(alloc, graph, aim, start, finder, settings, budget)
 }
 
-/// The same for a network of any graph.
+/// The same along a network of any graph.
 pub fn exchange_in(
     alloc: Global,
     graph: &NetGraph,
     network: &EdgeSet,
+    wanted: u64,
+    start: &Packing,
     budget: Budget,
 ) -> Result<Exchanged, AllocError>
     requires { length network.now ≡ length graph.now.edges }
-    ensures { IfOk result (λ found. IsOutcomeFor graph.now (length_of graph.now network.now) found.outcome) }
+    ensures { IfOk result (λ found. IsOutcomeFor graph.now (length_of graph.now network.now)
+        (min wanted (length_of graph.now network.now)) found.outcome) }
 {
-    let aim = match aim_of(alloc, graph, network)? {
+    let aim = match aim_of(alloc, graph, network, wanted)? {
         Ok(aim) => aim,
         Err(outcome) => return Ok(at_once(alloc, outcome)),
     };
     let finder = FlowCuts::new(alloc, graph, &aim.tree)?;
-    carried_out(alloc, graph, aim, finder, Settings::GRAPHS, budget)
+    let settings = Settings::GRAPHS;
+    carried_out(alloc, graph, aim, start, finder, settings, budget)
 }
 
-// What an exchange aims at: the tree of a network, and the network's length.
+// What an exchange aims at: the tree of a network, the network's length, and the wanted value.
 #[derive(Drop)]
 struct Aim {
     tree: Tree,
     length: u64,
+    wanted: u64,
 }
 
-// What an exchange against a network aims at, or how it ends at once. An `Err` is want of memory.
+// What an exchange along a network aims at, or how it ends at once. An `Err` is want of memory.
 fn aim_of(
     alloc: Global,
     graph: &NetGraph,
     network: &EdgeSet,
+    wanted: u64,
 ) -> Result<Result<Aim, Outcome>, AllocError>
     requires { length network.now ≡ length graph.now.edges }
     ensures length { IfOk result (λ found. IfOk found (λ aim. aim.length ≡ length_of graph.now network.now)) }
+    ensures wanted { IfOk result (λ found. IfOk found (λ aim. aim.wanted ≡ min wanted aim.length)) }
     ensures short { IfOk result (λ found. IfOk found (λ aim. aim.length ≤ 2 ^ 42)) }
-    ensures ends { IfOk result (λ found. IfErr found (IsOutcomeFor graph.now (length_of graph.now network.now))) }
+    ensures ends { IfOk result
+        (λ found. IfErr found (IsOutcomeFor graph.now (length_of graph.now network.now)
+        (min wanted (length_of graph.now network.now)))) }
 {
     let length = length(graph, network);
     if length > MAX_LENGTH {
         return Ok(Err(Outcome::TooLong));
     }
     match Tree::of(alloc, graph, network)? {
-        Some(tree) => Ok(Ok(Aim { tree, length })),
+        Some(tree) => Ok(Ok(Aim {
+            tree,
+            length,
+            wanted: wanted.min(length),
+        })),
         None => Ok(Err(Outcome::Exhausted(None))),
     }
 }
@@ -114,7 +130,7 @@ fn at_once(alloc: Global, outcome: Outcome) -> Exchanged
 {
     Exchanged {
         outcome,
-        shares: Vec::new(alloc),
+        guesses: Guesses::none(alloc),
     }
 }
 
@@ -123,26 +139,44 @@ fn carried_out<F: CutFinder + Drop>(
     alloc: Global,
     graph: &NetGraph,
     aim: Aim,
+    start: &Packing,
     finder: F,
     settings: Settings,
     budget: Budget,
 ) -> Result<Exchanged, AllocError>
-    requires { aim.length ≤ 2 ^ 42 }
-    ensures { IfOk result (λ found. IsOutcomeFor graph.now aim.length found.outcome) }
+    requires short { aim.length ≤ 2 ^ 42 }
+    requires wanted { aim.wanted ≤ aim.length }
+    ensures { IfOk result (λ found. IsOutcomeFor graph.now aim.length aim.wanted found.outcome) }
 {
-    let Aim { tree, length } = aim;
+    let Aim {
+        tree,
+        length,
+        wanted,
+    } = aim;
     let mut finder = finder;
-    let proposal = propose(alloc, graph, tree, length, &mut finder, settings, budget)?;
+    let aims = Aims {
+        length,
+        wanted,
+        start,
+    };
+    let proposal = propose(alloc, graph, tree, aims, &mut finder, settings, budget)?;
     let Proposal {
         packing,
         is_impossible,
-        shares,
+        guesses,
     } = proposal;
     let bound = judged(alloc, graph, packing)?;
     let outcome = match bound {
-        Some(bound) if bound.value == u128::from(length) => Outcome::Tight(bound),
+        Some(bound) if is_tight(bound.value, wanted, length) => Outcome::Tight(bound),
         bound if is_impossible => Outcome::Impossible(bound),
         bound => Outcome::Exhausted(bound),
     };
-    Ok(Exchanged { outcome, shares })
+    Ok(Exchanged { outcome, guesses })
+}
+
+// Whether a value is at least the wanted one, and no network's length is passed by it.
+fn is_tight(value: u128, wanted: u64, length: u64) -> bool
+    ensures { IsTrue result → (wanted ≤ value) × (value ≤ length) }
+{
+    u128::from(wanted) <= value && value <= u128::from(length)
 }

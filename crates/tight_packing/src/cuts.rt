@@ -3,7 +3,7 @@
 use crate::loads::OVER_FACTOR;
 use crate::pool::Offered;
 use crate::state::State;
-use cut_groups::{BLOCKED, CutFinder, Wanted, at, set};
+use cut_groups::{BLOCKED, CutFinder, NONE, Wanted, at, set};
 use std::alloc::AllocError;
 
 // The charge of an arc grows by this from empty to full, and by a drawn number below the noise.
@@ -47,6 +47,7 @@ impl State {
         if failures > 0 && self.random.below(rest) != 0 {
             return Ok(());
         }
+        self.offer_slack(group)?;
         let cheapest = self.pool.least_cost(group, &self.loads).unwrap_or(BLOCKED);
         if cheapest == 0 {
             return Ok(());
@@ -84,6 +85,15 @@ impl State {
             }
         }
         Ok(found)
+    }
+
+    /// Offers the pool the slack in place of a cut of a group, where there is slack. An `Err` is want of memory.
+    pub fn offer_slack(&mut self, group: u32) -> Result<(), AllocError> {
+        let arc = self.loads.slack_arc();
+        if arc != NONE {
+            self.pool.offer(group, &[arc])?;
+        }
+        Ok(())
     }
 
     // Offers the pool the cut that was found last, and tells whether it is new. An `Err` is want of memory.

@@ -2,7 +2,7 @@
 
 use crate::loads::{Loads, PARTS};
 use crate::pool::Pool;
-use cut_groups::{at, count, set};
+use cut_groups::{NONE, at, count, set};
 use std::alloc::{AllocError, Global};
 
 /// A cut that is kept, with its weight in units.
@@ -88,6 +88,20 @@ impl Kept {
         self.cuts.retain(|cut| cut.weight > 0);
         self.overload = 0;
         Ok(())
+    }
+
+    /// Drops the slack where it stands in place of cuts.
+    pub fn drop_slack(&mut self, loads: &Loads) {
+        let slack = loads.slack_arc();
+        if slack == NONE {
+            return;
+        }
+        for cut in self.cuts.iter_mut() {
+            if at(entered_of(&self.entered, *cut), 0, NONE) == slack {
+                cut.weight = 0;
+            }
+        }
+        self.cuts.retain(|cut| cut.weight > 0);
     }
 }
 

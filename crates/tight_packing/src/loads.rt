@@ -1,7 +1,8 @@
 //! The loads of the arcs, what is above their thresholds, and the prices that follow from it.
 
+use crate::scale::Scale;
 use crate::settings::Settings;
-use cut_groups::{BLOCKED, Tree, at, count, set};
+use cut_groups::{BLOCKED, NONE, Tree, at, count, set};
 use net_graph::NetGraph;
 use std::alloc::{AllocError, Global};
 
@@ -32,6 +33,8 @@ pub struct Loads {
     prices: Vec<i64>,
     // Thresholds are not lowered below this.
     lowest: i64,
+    // The arc of the slack, `NONE` where there is none.
+    slack_arc: u32,
     settings: Settings,
 }
 
@@ -48,23 +51,27 @@ impl Loads {
         alloc: Global,
         graph: &NetGraph,
         tree: &Tree,
-        unit: u64,
+        scale: Scale,
         settings: Settings,
     ) -> Result<Loads, AllocError> {
-        let arcs = graph.edges().len().saturating_mul(2);
         let mut loads = Loads {
             limits: Vec::new(alloc),
             excess: Vec::new(alloc),
-            charges: vec![in alloc; 1; arcs]?,
-            prices: vec![in alloc; 1; arcs]?,
+            charges: Vec::new(alloc),
+            prices: Vec::new(alloc),
             lowest: 0,
+            slack_arc: NONE,
             settings,
         };
         for edge in graph.edges() {
-            let units = edge.length.checked_div(unit).unwrap_or(0);
-            let length = i64::try_from(units).unwrap_or(0);
+            let length = scale.units(edge.length);
             loads.push(length)?;
             loads.push(length)?;
+        }
+        let slack = scale.units(scale.slack);
+        if slack > 0 {
+            loads.slack_arc = loads.len();
+            loads.push(slack)?;
         }
         for group in 0..tree.groups() {
             let arc = tree.arc(group);
@@ -88,6 +95,8 @@ impl Loads {
             marked: false,
         })?;
         self.excess.push(threshold.wrapping_neg())?;
+        self.charges.push(1)?;
+        self.prices.push(1)?;
         Ok(())
     }
 
@@ -96,7 +105,12 @@ impl Loads {
         at(&self.limits, arc, NO_LIMIT)
     }
 
-    /// How many arcs there are.
+    /// The arc of the slack, which every group may load in place of a cut; `NONE` where there is no slack.
+    pub fn slack_arc(&self) -> u32 {
+        self.slack_arc
+    }
+
+    /// How many arcs there are, with that of the slack.
     pub fn len(&self) -> u32 {
         count(&self.limits)
     }

@@ -4,8 +4,9 @@ ghost use Rattle.std.specs.Prelude.{◌≡◌, length, All, IfOk};
 
 use crate::budget::Budget;
 use crate::flood::Flood;
+use crate::guesses::Guesses;
 use crate::rounds::{Ending, Rounds};
-use crate::scale::unit_for;
+use crate::scale::{Scale, unit_for};
 use crate::settings::Settings;
 use crate::state::State;
 use cut_groups::{CutFinder, Tree};
@@ -17,21 +18,31 @@ use std::alloc::{AllocError, Global};
 pub struct Proposal {
     /// Cuts of the graph's vertices. That they fit into the rooms is not promised.
     pub packing: Packing,
-    /// Whether there is no packing whose value is the network's length. That is computed and not proved.
+    /// Whether there is no packing of the wanted value. That is computed and not proved.
     pub is_impossible: bool,
-    /// Of each edge the share in percent that shorter networks have of it, by the prices of the last test that there is no
-    /// packing; empty where there was none. It is a guess.
-    pub shares: Vec<u32>,
+    /// What the last test that there is no packing shows.
+    pub guesses: Guesses,
 }
 
-/// Looks for a packing whose value is the length of a network in a graph, from its tree; the length is `aim`. Where
-/// it is over 2^53 times the greatest common divisor of the lengths of edges, these are rounded down, and the value
-/// stays below the length. Equal arguments give equal results. An `Err` is want of memory.
+/// What an exchange aims at.
+#[derive(Clone, Copy)]
+pub struct Aims<'a> {
+    /// The length of the network.
+    pub length: u64,
+    /// The value of the packing, no more than that; what it is less may be left out of the groups' weights.
+    pub wanted: u64,
+    /// Cuts to begin with, as far as the tree enters them once.
+    pub start: &'a Packing,
+}
+
+/// Looks for a packing of a wanted value along a network of a graph, given by its tree. Where the network's length is over
+/// 2^53 times the greatest common divisor of the lengths of edges, these are rounded down, and the value stays
+/// below. Equal arguments give equal results. An `Err` is want of memory.
 pub fn propose<F: CutFinder>(
     alloc: Global,
     graph: &NetGraph,
     tree: Tree,
-    aim: u64,
+    aims: Aims<'_>,
     finder: &mut F,
     settings: Settings,
     budget: Budget,
@@ -39,17 +50,22 @@ pub fn propose<F: CutFinder>(
     ensures { IfOk result (λ proposal.
         All (λ c. length c.members ≡ graph.now.vertices) proposal.packing) }
 {
-    let unit = unit_for(graph, aim);
-    let mut state = State::along(alloc, graph, tree, unit, settings, budget.seed)?;
+    let scale = Scale {
+        unit: unit_for(graph, aims.length),
+        slack: aims.length.saturating_sub(aims.wanted),
+    };
+    let mut state = State::along(alloc, graph, tree, scale, settings, budget.seed)?;
+    state.take_over(graph, scale.unit, aims.start)?;
     state.start(finder)?;
     let terminals = graph.terminals().len();
     let ending = Rounds::new(terminals, settings).play(&mut state, finder, budget)?;
     state.kept.relieve(alloc, &state.loads)?;
-    let packing = packing_of(alloc, graph, &state, unit)?;
+    state.kept.drop_slack(&state.loads);
+    let packing = packing_of(alloc, graph, &state, scale.unit)?;
     Ok(Proposal {
         packing,
         is_impossible: ending == Ending::Impossible,
-        shares: state.shares,
+        guesses: state.guesses(alloc, graph)?,
     })
 }
 

@@ -9,6 +9,23 @@ const LENGTH_BITS: u32 = 53;
 // Euclid's algorithm on numbers below 2^64 takes fewer steps.
 const MOST_STEPS: u32 = 100;
 
+/// How lengths are counted.
+#[derive(Clone, Copy)]
+pub struct Scale {
+    /// The unit, at least 1.
+    pub unit: u64,
+    /// By how much the wanted value is below the length of the network.
+    pub slack: u64,
+}
+
+impl Scale {
+    /// A length in units, rounded down.
+    pub fn units(self, length: u64) -> i64 {
+        let units = length.checked_div(self.unit).unwrap_or(0);
+        i64::try_from(units).unwrap_or(0)
+    }
+}
+
 /// The unit for a network of some length: the greatest common divisor of all edges' lengths, or, where the network is
 /// then too long, this times the least power of 2 at which it isn't. Lengths are rounded down to units. At least 1.
 pub fn unit_for(graph: &NetGraph, length: u64) -> u64 {

@@ -22,7 +22,7 @@ struct Cheapest {
 }
 
 impl State {
-    /// Gives each group its length. An `Err` is want of memory.
+    /// Gives each group what it lacks of its length. An `Err` is want of memory.
     pub fn start<F: CutFinder>(&mut self, finder: &mut F) -> Result<(), AllocError> {
         for turn in 1..TURNS + 1 {
             self.random.shuffle(&mut self.order);
@@ -45,10 +45,12 @@ impl State {
         turn: i64,
     ) -> Result<(), AllocError> {
         let length = self.loads.limit(self.tree.arc(group)).capacity;
+        let length = length.wrapping_sub(at(&self.given, group, 0));
         let share = share_of(length, turn).wrapping_sub(share_of(length, turn.wrapping_sub(1)));
         if share <= 0 {
             return Ok(());
         }
+        self.offer_slack(group)?;
         let mut cheapest = self.cheapest_known(group);
         for place in 0..self.tree.terminal_count(group) {
             let terminal = self.tree.terminal(group, place);

@@ -6,6 +6,7 @@ use crate::line::Line;
 use crate::loads::Loads;
 use crate::pool::Pool;
 use crate::random::Random;
+use crate::scale::Scale;
 use crate::settings::Settings;
 use crate::tidy::Tidier;
 use crate::units::Units;
@@ -42,6 +43,8 @@ pub struct State {
     pub rounding: Vec<u32>,
     /// The cuts of a group, with their order.
     pub members: Vec<(i64, u32)>,
+    /// Of each group the weight that was taken over.
+    pub given: Vec<i64>,
     /// Of each group how many searches in a row found no new cut.
     pub failures: Vec<u32>,
     /// The arcs of the cut that was found last.
@@ -54,24 +57,24 @@ pub struct State {
     pub kept: Kept,
     pub random: Random,
     pub work: Work,
-    /// The price of a cheapest cut of each group, when it was looked at last.
+    /// The overloads of the arcs when it was tested last that there is no packing, and then the price of a cheapest cut
+    /// of each group; empty before the first test.
+    pub tested: Vec<i64>,
     pub cheapest: Vec<i64>,
-    /// Of each edge the share in percent that shorter networks have of it by these prices, once they were looked at.
-    pub shares: Vec<u32>,
 }
 
 impl State {
-    /// The empty pool along a tree, where lengths are counted in a unit. An `Err` is want of memory.
+    /// The empty pool along a tree. An `Err` is want of memory.
     pub fn along(
         alloc: Global,
         graph: &NetGraph,
         tree: Tree,
-        unit: u64,
+        scale: Scale,
         settings: Settings,
         seed: u64,
     ) -> Result<State, AllocError> {
         let groups = tree.groups();
-        let loads = Loads::none(alloc, graph, &tree, unit, settings)?;
+        let loads = Loads::none(alloc, graph, &tree, scale, settings)?;
         let arcs = loads.len();
         Ok(State {
             pool: Pool::empty(alloc, groups)?,
@@ -80,6 +83,7 @@ impl State {
             order: numbers_below(alloc, groups)?,
             rounding: numbers_below(alloc, groups)?,
             members: Vec::new(alloc),
+            given: vec![in alloc; 0; groups as usize]?,
             failures: vec![in alloc; 0; groups as usize]?,
             found: Vec::new(alloc),
             prices: Vec::new(alloc),
@@ -95,8 +99,8 @@ impl State {
                 moves: 0,
             },
             tree,
+            tested: Vec::new(alloc),
             cheapest: Vec::new(alloc),
-            shares: Vec::new(alloc),
         })
     }
 }
