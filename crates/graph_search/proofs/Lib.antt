@@ -1,1 +1,2 @@
 pub mod SearchedLaws
+pub mod SplitLemmas

@@ -1,4 +1,5 @@
 pub mod Kinds
+pub mod Plans
 pub mod Searched
 pub mod Answering
 pub mod TreeLaws

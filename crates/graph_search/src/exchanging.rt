@@ -1,6 +1,6 @@
 //! Exchanges of cuts that raise the first leaf of a search.
 
-ghost use Rattle.std.specs.Prelude.{◌≡◌, ◌<◌, length, IsTrue, IfOk, IfSome};
+ghost use Rattle.std.specs.Prelude.{ℕ, ◌≡◌, ◌<◌, ◌≤◌, false, length, min, IsTrue, IfOk, IfSome};
 ghost use Rattle.net_graph.specs.Graph.{Graph};
 ghost use Rattle.net_graph.specs.Network.{length_of};
 ghost use Rattle.cert_tree.specs.Preorder.{split_count};
@@ -9,15 +9,16 @@ ghost use Rattle.packing_judge.specs.Outcome.{IsOutcomeFor};
 
 use crate::raising::Raising;
 use crate::shortening::offer_shorter;
+use crate::splitting::Splitting;
 use branch::Search;
 use dual_ascent::Rule;
-use net_graph::{EdgeSet, NetGraph, length};
+use net_graph::{EdgeSet, NetGraph, Packing, length};
 use network_judge::shortened_by_shares;
 use packing_judge::{Bound, Exchanged, Outcome};
 use std::alloc::{AllocError, Global};
-use tight_packing::Budget;
+use tight_packing::{Budget, Guesses};
 
-/// What makes exchanges against the networks of a graph.
+/// What makes exchanges along the networks of a graph.
 pub trait Exchanger {
     /// The graph.
     ghost graph: { Self → Graph };
@@ -26,21 +27,25 @@ pub trait Exchanger {
     fn graph(&self) -> &NetGraph
         ensures { result.now ≡ graph self.now };
 
-    /// Looks for a packing whose value is the length of a network. An `Err` is want of memory.
+    /// Looks for a packing of a wanted value along a network, in the graph or in one with the same vertices and edges, of
+    /// which lengths may be others and terminals more. An `Err` is want of memory.
     fn exchange(
         &self,
         alloc: Global,
+        g: &NetGraph,
         network: &EdgeSet,
+        wanted: u64,
+        start: &Packing,
         budget: Budget,
     ) -> Result<Exchanged, AllocError>
-        requires { length network.now ≡ length (graph self.now).edges }
-        ensures { IfOk result (λ found.
-            IsOutcomeFor (graph self.now) (length_of (graph self.now) network.now) found.outcome) };
+        requires { length network.now ≡ length g.now.edges }
+        ensures { IfOk result (λ found. IsOutcomeFor g.now (length_of g.now network.now)
+            (min wanted (length_of g.now network.now)) found.outcome) };
 }
 
 /// Exchanges that raise a search as long as it isn't settled: each first leaf is the better one of that at hand and of
-/// an ascent that begins with what an exchange finds. Where that leads to a shorter network, or has spent its budget and is to
-/// go on, another exchange follows.
+/// an ascent that begins with what an exchange finds. Where that leads to a shorter network, or has spent its budget and
+/// is to go on, another exchange follows. Where they leave a gap, leaves are split.
 #[derive(Drop)]
 pub struct Exchanges<E: Exchanger + Drop> {
     pub exchanger: E,
@@ -55,6 +60,8 @@ pub struct Exchanges<E: Exchanger + Drop> {
     pub draws: u32,
     /// In how many descents of local search the network that the leaf then shows is made shorter at most.
     pub descents: u32,
+    /// How leaves are split.
+    pub splitting: Splitting,
 }
 
 impl<E: Exchanger + Drop> Raising for Exchanges<E> {
@@ -64,58 +71,100 @@ impl<E: Exchanger + Drop> Raising for Exchanges<E> {
         &self,
         alloc: Global,
         search: &mut Search<'_, F, G>,
+        openings: u8,
     ) -> Result<(), AllocError> {
+        let guesses = self.raise_first(alloc, search)?;
+        self.splitting
+            .split(alloc, &self.exchanger, search, guesses, openings)
+    }
+}
+
+// What a turn of exchanging comes to: whether another one may come, and what the exchange guesses.
+#[derive(Drop)]
+struct Turn {
+    is_last: bool,
+    guesses: Guesses,
+}
+
+impl<E: Exchanger + Drop> Exchanges<E> {
+    // Raises the first leaf of a search by exchanges, and tells what the last one guesses. An `Err` is want of memory.
+    fn raise_first<F: Rule, G: Rule>(
+        &self,
+        alloc: Global,
+        search: &mut Search<'_, F, G>,
+    ) -> Result<Guesses, AllocError>
+        requires graph { search.old.graph ≡ E.graph self.now.exchanger }
+        requires leaf { split_count search.old.tree ≡ 0 }
+        ensures graph { search.new.graph ≡ search.old.graph }
+        ensures first { search.new.first_length ≡ search.old.first_length }
+        ensures leaf { split_count search.new.tree ≡ 0 }
+    {
+        let mut guesses = Guesses::none(alloc);
         for exchange in 0..self.most {
+            if search.is_settled() {
+                break;
+            }
             let budget = if exchange == 0 {
                 self.first
             } else {
                 self.further
             };
-            if search.is_settled() || !self.raise_once(alloc, search, budget)? {
+            let turn = self.raise_once(alloc, search, budget)?;
+            guesses = turn.guesses;
+            if turn.is_last {
                 break;
             }
         }
-        Ok(())
+        Ok(guesses)
     }
-}
 
-impl<E: Exchanger + Drop> Exchanges<E> {
-    // Raises a search by what an exchange against its network comes to. Whether another one may come further: where the
-    // budget was spent, or the network is then a shorter one. An `Err` is want of memory.
+    // Raises a search by what an exchange along its network comes to. It is not the last where it led to a shorter
+    // network, or where the budget was spent and exchanges then go on. An `Err` is want of memory.
     fn raise_once<F: Rule, G: Rule>(
         &self,
         alloc: Global,
         search: &mut Search<'_, F, G>,
         budget: Budget,
-    ) -> Result<bool, AllocError>
+    ) -> Result<Turn, AllocError>
         requires graph { search.old.graph ≡ E.graph self.now.exchanger }
         requires leaf { split_count search.old.tree ≡ 0 }
-        ensures further { IfOk result (λ further.
+        ensures further { IfOk result (λ turn.
             length_of search.old.graph search.new.network < length_of search.old.graph search.old.network
-            → IsTrue further) }
+            → turn.is_last ≡ false) }
         ensures graph { search.new.graph ≡ search.old.graph }
         ensures first { search.new.first_length ≡ search.old.first_length }
         ensures leaf { split_count search.new.tree ≡ 0 }
     {
         let graph = self.exchanger.graph();
         let before = length(graph, search.network());
-        let ExchangeEnd {
-            bound,
-            is_spent,
-            shares,
-        } = self.end(alloc, search.network(), budget)?;
-        let Some(bound) = bound else {
-            return Ok(false);
+        let start = Packing::empty(alloc);
+        let network = search.network();
+        let found = self
+            .exchanger
+            .exchange(alloc, graph, network, before, &start, budget)?;
+        let Exchanged { outcome, guesses } = found;
+        let is_spent = matches!(outcome, Outcome::Exhausted(_));
+        let further = self.splitting.may_follow(&outcome);
+        let Some(bound) = bound_of(outcome) else {
+            return Ok(Turn {
+                is_last: true,
+                guesses: Guesses::none(alloc),
+            });
         };
         search.raise(bound.packing)?;
         if !search.is_settled() {
             offer_shorter(alloc, graph, self.descents, search)?;
-            self.offer_by_shares(alloc, &shares, search)?;
+            self.offer_by_shares(alloc, guesses.shares.as_slice(), search)?;
         }
-        if is_spent && self.goes_on {
-            return Ok(true);
-        }
-        Ok(length(graph, search.network()) < before)
+        let is_shorter = length(graph, search.network()) < before;
+        Ok(Turn {
+            is_last: !(is_shorter || is_spent && self.goes_on),
+            guesses: if further {
+                guesses
+            } else {
+                Guesses::none(alloc)
+            },
+        })
     }
 
     // Offers a search the networks that grow by shares of the edges. An `Err` is want of memory.
@@ -143,37 +192,15 @@ impl<E: Exchanger + Drop> Exchanges<E> {
         search.offer(shorter);
         Ok(())
     }
-
-    // Makes an exchange. An `Err` is want of memory.
-    fn end(
-        &self,
-        alloc: Global,
-        network: &EdgeSet,
-        budget: Budget,
-    ) -> Result<ExchangeEnd, AllocError>
-        requires { length network.now ≡ length (E.graph self.now.exchanger).edges }
-        ensures { IfOk result (λ found. IfSome found.bound (IsBoundOf (E.graph self.now.exchanger))) }
-    {
-        let Exchanged { outcome, shares } = self.exchanger.exchange(alloc, network, budget)?;
-        let is_spent = matches!(outcome, Outcome::Exhausted(_));
-        let bound = match outcome {
-            Outcome::Tight(bound) => Some(bound),
-            Outcome::Impossible(bound) | Outcome::Exhausted(bound) => bound,
-            Outcome::TooLong => None,
-        };
-        Ok(ExchangeEnd {
-            bound,
-            is_spent,
-            shares,
-        })
-    }
 }
 
-// What an exchange comes to: a packing, if one is at hand, whether it has spent its budget, and the shares that it
-// guesses.
-#[derive(Debug, Drop)]
-struct ExchangeEnd {
-    bound: Option<Bound>,
-    is_spent: bool,
-    shares: Vec<u32>,
+/// The packing that an exchange has at hand, if there is one.
+pub(crate) fn bound_of(outcome: Outcome) -> Option<Bound>
+    ensures { (g : Graph) (aim wanted : ℕ) → IsOutcomeFor g aim wanted outcome → IfSome result (IsBoundOf g) }
+{
+    match outcome {
+        Outcome::Tight(bound) => Some(bound),
+        Outcome::Impossible(bound) | Outcome::Exhausted(bound) => bound,
+        Outcome::TooLong => None,
+    }
 }

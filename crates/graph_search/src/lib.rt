@@ -8,6 +8,8 @@ mod on_grid;
 mod raising;
 mod search;
 mod shortening;
+mod splitting;
+mod under;
 
 pub use answering::answer_with;
 pub use exchanging::{Exchanger, Exchanges};
@@ -15,3 +17,4 @@ pub use on_grid::searched_on;
 pub use raising::Raising;
 pub use search::searched;
 pub use shortening::{Shortening, offer_shorter};
+pub use splitting::Splitting;

@@ -8,9 +8,10 @@ ghost use Rattle.graph_search.specs.Searched.{IsTold};
 
 use crate::exchanging::{Exchanger, Exchanges};
 use crate::search::searched;
+use crate::splitting::Splitting;
 use branch::Solved;
 use hanan_grid::Grid;
-use net_graph::{EdgeSet, NetGraph};
+use net_graph::{EdgeSet, NetGraph, Packing};
 use packing_judge::{Exchanged, exchange};
 use search_rules::GraphOptions;
 use std::alloc::{AllocError, Global};
@@ -30,6 +31,22 @@ const FURTHER_BUDGET: Budget = Budget {
 
 // In how many descents a network is made shorter at most: about what gains nearly all at 50 points.
 const DESCENTS: u32 = 100;
+
+// How leaves are split.
+const SPLITTING: Splitting = Splitting {
+    most: 60,
+    edge_splits: 75_000,
+    after_spent: true,
+    budget: Budget {
+        rounds: 120,
+        searches: 200_000,
+        looks: u64::MAX,
+        moves: 2_000_000,
+        seed: 20240609,
+    },
+    draws: 4,
+    descents: DESCENTS,
+};
 
 /// What a search finds that begins with a network of a grid. Its first leaf is that of an ascent from no cut. Where
 /// this stays below the network's length, it is the better one of it and of an ascent that begins with what an exchange
@@ -54,6 +71,7 @@ pub fn searched_on(
         // On a grid the network that the leaf shows is mostly as short.
         draws: 0,
         descents: DESCENTS,
+        splitting: SPLITTING,
     };
     searched(alloc, grid.graph(), first, options, &exchanges)
 }
@@ -74,9 +92,12 @@ impl Exchanger for OnGrid<'_> {
     fn exchange(
         &self,
         alloc: Global,
+        g: &NetGraph,
         network: &EdgeSet,
+        wanted: u64,
+        start: &Packing,
         budget: Budget,
     ) -> Result<Exchanged, AllocError> {
-        exchange(alloc, self.grid, network, budget)
+        exchange(alloc, self.grid, g, network, wanted, start, budget)
     }
 }

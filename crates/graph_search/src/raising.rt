@@ -1,6 +1,6 @@
-//! What is done with a search before its first split.
+//! What is done with a search before its plain splits.
 
-ghost use Rattle.std.specs.Prelude.{◌≡◌};
+ghost use Rattle.std.specs.Prelude.{◌≡◌, ◌≤◌};
 ghost use Rattle.net_graph.specs.Graph.{Graph};
 ghost use Rattle.cert_tree.specs.Preorder.{split_count};
 
@@ -8,20 +8,22 @@ use branch::Search;
 use dual_ascent::Rule;
 use std::alloc::{AllocError, Global};
 
-/// What may raise the first leaf of a search and shorten its network, before any leaf is split.
+/// What may raise the first leaf of a search, shorten its network and split its leaves, before plain splits.
 pub trait Raising {
     /// It is made for searches in this graph.
     ghost is_for: { Self → Graph → Type 0 };
 
-    /// Raises a search. An `Err` is want of memory, and leaves a search that may be raised less far.
+    /// Raises a search, with at most so many splits. An `Err` is want of memory, and leaves a search that may be raised
+    /// less far.
     fn raise<F: Rule, G: Rule>(
         &self,
         alloc: Global,
         search: &mut Search<'_, F, G>,
+        openings: u8,
     ) -> Result<(), AllocError>
         requires graph { is_for self.now search.old.graph }
         requires leaf { split_count search.old.tree ≡ 0 }
         ensures graph { search.new.graph ≡ search.old.graph }
         ensures first { search.new.first_length ≡ search.old.first_length }
-        ensures leaf { split_count search.new.tree ≡ 0 };
+        ensures few { split_count search.new.tree ≤ openings };
 }

@@ -87,6 +87,6 @@ fn searched_by<F: Rule, G: Rule, A: Raising>(
         Chooser::new(split),
         kind,
     )?;
-    raising.raise(alloc, &mut search)?;
+    raising.raise(alloc, &mut search, openings)?;
     search.solve(openings)
 }

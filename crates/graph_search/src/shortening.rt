@@ -24,6 +24,7 @@ impl Raising for Shortening<'_> {
         &self,
         alloc: Global,
         search: &mut Search<'_, F, G>,
+        _openings: u8,
     ) -> Result<(), AllocError> {
         if search.is_settled() {
             Ok(())

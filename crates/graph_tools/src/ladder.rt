@@ -4,8 +4,8 @@ ghost use Rattle.std.specs.Prelude.{◌≡◌};
 
 use branch::Search;
 use dual_ascent::Rule;
-use graph_search::{Exchanger, Exchanges, Raising, Shortening};
-use net_graph::{EdgeSet, NetGraph};
+use graph_search::{Exchanger, Exchanges, Raising, Shortening, Splitting};
+use net_graph::{EdgeSet, NetGraph, Packing};
 use packing_judge::{Exchanged, exchange_in};
 use std::alloc::{AllocError, Global};
 use tight_packing::Budget;
@@ -37,6 +37,22 @@ const FURTHER_BUDGET: Budget = Budget {
     seed: 20240608,
 };
 
+// How leaves are split.
+const SPLITTING: Splitting = Splitting {
+    most: 60,
+    edge_splits: 20_000,
+    after_spent: false,
+    budget: Budget {
+        rounds: 120,
+        searches: 100_000,
+        looks: 30_000_000,
+        moves: 250_000,
+        seed: 20240609,
+    },
+    draws: DRAWS,
+    descents: DESCENTS,
+};
+
 /// The steps that raise a search in a graph, each where the ones before didn't settle it: a local search makes the
 /// network that the first leaf shows shorter; then cuts are exchanged.
 #[derive(Clone, Copy)]
@@ -51,13 +67,14 @@ impl Raising for Ladder<'_> {
         &self,
         alloc: Global,
         search: &mut Search<'_, F, G>,
+        openings: u8,
     ) -> Result<(), AllocError> {
         let graph = self.graph;
         let shortening = Shortening {
             graph,
             descents: DESCENTS,
         };
-        shortening.raise(alloc, search)?;
+        shortening.raise(alloc, search, 0)?;
         let exchanges = Exchanges {
             exchanger: InGraph { graph },
             most: MOST_EXCHANGES,
@@ -66,8 +83,9 @@ impl Raising for Ladder<'_> {
             further: FURTHER_BUDGET,
             draws: DRAWS,
             descents: DESCENTS,
+            splitting: SPLITTING,
         };
-        exchanges.raise(alloc, search)
+        exchanges.raise(alloc, search, openings)
     }
 }
 
@@ -87,9 +105,12 @@ impl Exchanger for InGraph<'_> {
     fn exchange(
         &self,
         alloc: Global,
+        g: &NetGraph,
         network: &EdgeSet,
+        wanted: u64,
+        start: &Packing,
         budget: Budget,
     ) -> Result<Exchanged, AllocError> {
-        exchange_in(alloc, self.graph, network, budget)
+        exchange_in(alloc, g, network, wanted, start, budget)
     }
 }

@@ -1,6 +1,6 @@
 use Rattle.std.proofs.Common.{◌≡◌}
 use Rattle.cert_tree.specs.Preorder.{split_count}
-use Rattle.graph_search.proofs.exchanging.ExchangesRaising.raise.Given as goal
+use Rattle.graph_search.proofs.exchanging.Exchanges.raise_first.Given as goal
 
 -- nothing was split so far
 abbrev pub invariant-loop-exchange : goal.invariant-loop-exchange
