@@ -194,12 +194,15 @@ pub fn vertex_undecided(g: &NetGraph, d: &Decision, v: u32) -> bool
     !required(g, d, v) && !d.is_missed(v)
 }
 
-// Whether an inside edge has this end.
+// Whether an inside edge has this end. Of each edge that has it an arc leads from there.
 fn ends_inside(g: &NetGraph, d: &Decision, v: u32) -> bool
     ensures { IsTrue result ↔ EndsInside g.now d.now v }
 {
-    for (n, e) in g.edges().iter().enumerate() {
-        if d.is_inside(n) && (e.a == v || e.b == v) {
+    if v >= g.vertex_count() {
+        return false;
+    }
+    for arc in g.arcs_from(v) {
+        if d.is_inside(arc.number as usize / 2) {
             return true;
         }
     }

@@ -1,6 +1,6 @@
-use Rattle.net_graph.proofs.DecisionLemmas.{EndsNoneBelow}
+use Rattle.net_graph.proofs.DecisionLemmas.{NoneInsideBelow}
 use Rattle.net_graph.proofs.decision.ends_inside.Given as goal
 
--- no inside edge so far has this end
-abbrev pub invariant-loop-n : goal.invariant-loop-n
-invariant-loop-n l = EndsNoneBelow l.g.edges l.d.edges l.v l.n
+-- no arc so far is of an inside edge
+abbrev pub invariant-loop-arc : goal.invariant-loop-arc
+invariant-loop-arc l = NoneInsideBelow l.d l.arc-items l.arc-index
