@@ -1,11 +1,12 @@
 -- What a search tells of its leaves.
-use Rattle.std.proofs.Common.{ℕ, ◌≡◌, ◌<◌, Bool, List, length, slice_get, get_or, Option, Some, None}
+use Rattle.std.proofs.Common.{ℕ, ◌≡◌, ◌<◌, ◌≤◌, Bool, List, length, slice_get, get_or, Option, Some, None}
 use Rattle.std.proofs.Common.{refl, ap, sym, ◌∙◌, subst, arith}
 use Rattle.std.specs.Prelude.{IfNone, IfSome}
-use Rattle.std.proofs.lemmas.Option.{slice_get_within, slice_get-get_or}
-use Rattle.net_graph.specs.Graph.{Graph}
+use Rattle.std.proofs.lemmas.Option.{slice_get_within, slice_get-get_or, same_Some}
+use Rattle.net_graph.specs.Graph.{Graph, total_of}
 use Rattle.net_graph.specs.Decision.{Decided, IsDecisionFor, IsUndecided, IsVertexUndecided, states_of, nothing_decided}
 use Rattle.net_graph.specs.DecisionLaws.{length-states_of}
+use Rattle.net_graph.specs.LengthLaws.{length_of_edges-le-sum}
 use Rattle.net_graph.specs.Network.{length_of}
 use Rattle.dual_ascent.specs.declared.costs.EdgeCosts.{EdgeCosts}
 use Rattle.dual_ascent.specs.Costs.{costs_of}
@@ -15,9 +16,9 @@ use Rattle.branch.specs.declared.note.LeafNote.{LeafNote}
 use Rattle.branch.specs.declared.frontier.Frontier.{Frontier}
 use Rattle.branch.specs.Leaves.{DecidedLeaf, leaves_of}
 use Rattle.branch.specs.SaturatedArcs.{IsUsedUpEdge}
-use Rattle.branch.specs.States.{IsOpenLeaf}
+use Rattle.branch.specs.States.{IsOpenLeaf, leaf_value}
 use Rattle.branch.specs.Openings.{IsSplitVertex}
-use Rattle.branch.specs.Notes.{IsKeptNote, IsNextNote, HasSaturatedEnd}
+use Rattle.branch.specs.Notes.{IsNoteOf, ShowsOwn, IsKeptNote, IsNextNote, HasSaturatedEnd}
 use Rattle.branch.specs.Searching.{SearchState, search_state, IsSearch, IsDecidedAt, CanSplitAt}
 use Rattle.branch.proofs.ListLemmas.{AllZip-length, beside_right}
 use Rattle.branch.proofs.SaturatedLemmas.{HasSaturatedArc-used_up}
@@ -90,18 +91,57 @@ module _ (g : Graph) (kept : Frontier) (k : ℕ) (note : LeafNote) (search : IsS
       let same = kept_note.0.decision in
       let decided = kept_note.0.decided in
       let costs = kept_note.0.costs has.set has.own in
-      let used_up : IsUsedUpEdge (costs_of g.edges (states_of g leaf.decision) leaf.packing) has.number =
-      subst (λ (cs : List EdgeCosts). IsUsedUpEdge cs has.number) costs has.used_up in
+      let edge = has.edge in
+      let used_up : IsUsedUpEdge (costs_of g.edges (states_of g leaf.decision) leaf.packing) edge.number =
+      subst (λ (cs : List EdgeCosts). IsUsedUpEdge cs edge.number) costs edge.used_up in
       let below : IsOpenLeaf g (length_of g kept.best.network) leaf = omega arith in
       let splits : IsSplitVertex g leaf v = record {
         undecided = subst (λ (d : Decided). IsVertexUndecided g d v) same has.undecided;
-        number = has.number;
-        edge = has.edge;
-        at = has.at;
-        ends = has.ends;
+        number = edge.number;
+        edge = edge.edge;
+        at = edge.at;
+        ends = edge.ends;
         splits = record {
-          undecided = subst (λ (d : Decided). IsUndecided g d has.number) same has.edge_undecided;
-          saturated = (HasSaturatedArc-used_up g leaf.decision leaf.packing decided has.number).0 used_up;
+          undecided = subst (λ (d : Decided). IsUndecided g d edge.number) same edge.undecided;
+          saturated = (HasSaturatedArc-used_up g leaf.decision leaf.packing decided edge.number).0 used_up;
         };
       } in
       (leaf, at, below, splits)
+
+  -- an open leaf's note has a network
+  own_network : (leaf : DecidedLeaf) → IsNoteOf g leaf note → IsOpenLeaf g (length_of g kept.best.network) leaf →
+      (own : Option (List Bool)) → note.network ≡ own → (set : List Bool) × (note.network ≡ Some set)
+  own_network leaf is below None none =
+      let long : total_of g ≤ leaf_value g leaf = subst (ShowsOwn g leaf) none is.own in
+      let short : length_of g kept.best.network ≤ total_of g =
+      length_of_edges-le-sum g.edges kept.best.network in
+      absurd (omega arith)
+  own_network leaf is below (Some set) some = (set, some)
+
+  -- .. and no other vertex can
+  pub has_end : (v : ℕ) → CanSplitAt (search_state g kept) k v →
+      (note.value < kept.best.length) × HasSaturatedEnd g note v
+  has_end v (leaf, at, below, splits) =
+      let (other, other_at, kept_note) = leaf_beside in
+      let is : IsNoteOf g leaf note =
+      subst (λ (l : DecidedLeaf). IsNoteOf g l note) (same_Some other leaf (sym other_at ∙ at)) kept_note.0 in
+      let value = is.value in
+      let length_is = search.best.length in
+      let same = sym is.decision in
+      let (set, own) = own_network leaf is below note.network refl in
+      let used_up = (HasSaturatedArc-used_up g leaf.decision leaf.packing is.decided splits.number).1 splits.splits.saturated in (
+        omega arith,
+        record {
+          set = set;
+          own = own;
+          undecided = subst (λ (d : Decided). IsVertexUndecided g d v) same splits.undecided;
+          edge = record {
+            number = splits.number;
+            edge = splits.edge;
+            at = splits.at;
+            ends = splits.ends;
+            undecided = subst (λ (d : Decided). IsUndecided g d splits.number) same splits.splits.undecided;
+            used_up = subst (λ (cs : List EdgeCosts). IsUsedUpEdge cs splits.number) (sym (is.costs set own)) used_up;
+          };
+        },
+      )

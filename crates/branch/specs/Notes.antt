@@ -9,6 +9,7 @@ use Rattle.net_graph.specs.Decision.{Decided, IsDecisionFor, IsUndecided, IsVert
 use Rattle.net_graph.specs.Packing.{IsFeasible}
 use Rattle.net_graph.specs.Saturation.{IsMaximal}
 use Rattle.dual_ascent.specs.declared.candidate.Candidate.{Candidate}
+use Rattle.dual_ascent.specs.declared.costs.EdgeCosts.{EdgeCosts}
 use Rattle.dual_ascent.specs.Costs.{costs_of}
 use Rattle.cert_tree.specs.declared.split.SplitOn.{SplitOn}
 use Rattle.cert_tree.specs.declared.split.SplitOn.TheVariants as split
@@ -145,15 +146,18 @@ IsAsAsked g note kind.Edges (split.Vertex v) = ⊥
 IsAsAsked g note kind.Vertices (split.Edge e) = HasNoEndOfOwn g note
 IsAsAsked g note kind.Vertices (split.Vertex v) = Unit {0}
 
--- a network is kept beside the leaf, the vertex is undecided, and an undecided edge ends there that has a saturated arc
--- by what is kept of the rooms
-pub record HasSaturatedEnd (g : Graph) (note : LeafNote) (v : ℕ) : Type 0 where
-  pub set : List Bool
-  pub own : note.network ≡ Some set
-  pub undecided : IsVertexUndecided g note.decision v
+-- an undecided edge ends at the vertex, and nothing is left of the room of one of its arcs
+pub record EndsUsedUpEdge (g : Graph) (d : Decided) (costs : List EdgeCosts) (v : ℕ) : Type 0 where
   pub number : ℕ
   pub edge : Edge
   pub at : slice_get g.edges number ≡ Some edge
   pub ends : (edge.a ≡ v) ⊎ (edge.b ≡ v)
-  pub edge_undecided : IsUndecided g note.decision number
-  pub used_up : IsUsedUpEdge note.costs number
+  pub undecided : IsUndecided g d number
+  pub used_up : IsUsedUpEdge costs number
+
+-- a network is kept beside the leaf, the vertex is undecided, and such an edge ends there by what is kept of the rooms
+pub record HasSaturatedEnd (g : Graph) (note : LeafNote) (v : ℕ) : Type 0 where
+  pub set : List Bool
+  pub own : note.network ≡ Some set
+  pub undecided : IsVertexUndecided g note.decision v
+  pub edge : EndsUsedUpEdge g note.decision note.costs v

@@ -3,11 +3,11 @@
 ghost use Rattle.std.specs.Prelude.{ℕ, ◌≡◌, ◌<◌, ◌↔◌, true, length, slice_get, IfOk, IfSome, IsTrue, Some};
 ghost use Rattle.net_graph.specs.Decision.{IsDecisionFor};
 ghost use Rattle.branch.specs.SaturatedArcs.{IsUsedUpEdge};
-ghost use Rattle.branch.specs.Notes.{HasSaturatedEnd};
+ghost use Rattle.branch.specs.Notes.{EndsUsedUpEdge, HasSaturatedEnd};
 
 use crate::note::LeafNote;
 use dual_ascent::ReducedCosts;
-use net_graph::{EdgeSet, EdgeState, NetGraph, Passage, vertex_undecided};
+use net_graph::{Decision, EdgeSet, EdgeState, NetGraph, Passage, vertex_undecided};
 use std::alloc::{AllocError, Global};
 
 /// The edges with a saturated arc, by what a packing leaves of the room of all arcs. An `Err` is want of memory.
@@ -23,30 +23,50 @@ pub(crate) fn saturated_edges(
 {
     let mut set = EdgeSet::empty(alloc, g.edge_count())?;
     for n in 0..g.edge_count() {
-        if costs.is_open(2 * n) || costs.is_open(2 * n + 1) {
+        if is_used_up_edge(g, costs, n) {
             set.add(n);
         }
     }
     Ok(set)
 }
 
-/// Whether a leaf's vertex is undecided and an end of an undecided edge with a saturated arc, where a network is kept
-/// beside the leaf. It takes no memory.
+/// Whether a network is kept beside a leaf, and a vertex is undecided there at which an undecided edge with a saturated
+/// arc ends. It takes no memory.
 pub(crate) fn has_saturated_end(g: &NetGraph, note: &LeafNote, vertex: u32) -> bool
     requires decision { IsDecisionFor g.now note.now.decision }
     requires costs { IfSome note.now.network (λ _. length note.now.costs ≡ length g.now.edges) }
     requires vertex { vertex < g.now.vertices }
-    ensures { IsTrue result → HasSaturatedEnd g.now note.now vertex }
+    ensures { IsTrue result ↔ HasSaturatedEnd g.now note.now vertex }
 {
-    if note.network.is_none() || !vertex_undecided(g, &note.decision, vertex) {
-        return false;
-    }
-    for arc in g.arcs_from(vertex) {
-        let edge = arc.number / 2;
-        let is_saturated = note.costs.is_open(2 * edge) || note.costs.is_open(2 * edge + 1);
-        if is_saturated && note.decision.state(g, edge) == EdgeState::Undecided {
+    note.network.is_some()
+        && vertex_undecided(g, &note.decision, vertex)
+        && ends_used_up_edge(g, &note.decision, &note.costs, vertex)
+}
+
+// Whether an undecided edge ends at a vertex, of which an arc has no room left.
+fn ends_used_up_edge(g: &NetGraph, decision: &Decision, costs: &ReducedCosts, vertex: u32) -> bool
+    requires decision { IsDecisionFor g.now decision.now }
+    requires costs { length costs.now ≡ length g.now.edges }
+    ensures { IsTrue result ↔ EndsUsedUpEdge g.now decision.now costs.now vertex }
+{
+    for n in 0..g.edge_count() {
+        let edge = g.edge(n);
+        if (edge.a == vertex || edge.b == vertex)
+            && is_used_up_edge(g, costs, n)
+            && decision.state(g, n) == EdgeState::Undecided
+        {
             return true;
         }
     }
     false
+}
+
+// Whether an arc of an edge has no room left.
+fn is_used_up_edge(g: &NetGraph, costs: &ReducedCosts, n: u32) -> bool
+    requires edge { n < length g.now.edges }
+    requires costs { length costs.now ≡ length g.now.edges }
+    ensures { IsTrue result ↔ IsUsedUpEdge costs.now n }
+{
+    prove!(n < g.edge_count());
+    costs.is_open(2 * n) || costs.is_open(2 * n + 1)
 }

@@ -145,6 +145,7 @@ impl<'a, F: Rule, G: Rule> Search<'a, F, G> {
     pub fn next_open(&self) -> Option<u32>
         ensures none { IfNone result (IsSettled self.now) }
         ensures open { IfSome result (IsOpenAt self.now) }
+        ensures within { IfSome result (λ place. place < length (packings_of self.now.tree)) }
     {
         let count = self.kept.tree.leaves();
         let place = next_open(self.kept.notes.as_slice(), self.kept.best.length)?;
@@ -160,13 +161,13 @@ impl<'a, F: Rule, G: Rule> Search<'a, F, G> {
         &self.kept.notes[leaf as usize].decision
     }
 
-    /// Whether a leaf, given by its place in preorder, can be split on a vertex: its value is below the best network's
-    /// length, the vertex is undecided there, and an undecided edge with a saturated arc ends at it. It takes no
-    /// memory.
+    /// Whether a leaf, given by its place in preorder, can be split on a vertex: exactly where its value is below the
+    /// best network's length, the vertex is undecided there, and an undecided edge with a saturated arc ends at it. It
+    /// takes no memory.
     pub fn splits_at(&self, leaf: u32, vertex: u32) -> bool
         requires leaf { leaf < length (packings_of self.now.tree) }
         requires vertex { vertex < self.now.graph.vertices }
-        ensures { IsTrue result → CanSplitAt self.now leaf vertex }
+        ensures { IsTrue result ↔ CanSplitAt self.now leaf vertex }
     {
         let note = &self.kept.notes[leaf as usize];
         note.value < u128::from(self.kept.best.length)

@@ -31,3 +31,8 @@ returns-clause-open _ c =
     c.as_slice.ensures.value c.in_ok-place.ensures.open in
     subst (λ (s : SearchState). IsOpenAt s c.in_ok-place.place) c.self.view_is
     (next_is_open _ _ c.self.invariant c.in_ok-place.place next)
+
+pub returns-clause-within : goal.returns-clause-within
+returns-clause-within _ c =
+    subst (λ (s : SearchState). c.in_ok-place.place < length (packings_of s.tree)) c.self.view_is
+    (let below = c.if-prove.false in let count = c.leaves-count.ensures in omega arith)

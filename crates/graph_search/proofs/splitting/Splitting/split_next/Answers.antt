@@ -1,4 +1,4 @@
--- An open leaf has a place, and the plans of its children are of the graph as theirs were.
+-- The plans of a leaf's children are of the graph, as those of all leaves were.
 use Rattle.std.proofs.Common.{◌<◌, ◌+◌, List, length, All, slice_set, subst, sym}
 use Rattle.std.proofs.lemmas.List.Elements.{All-set}
 use Rattle.cert_tree.specs.declared.split.SplitOn.{SplitOn}
@@ -6,22 +6,13 @@ use Rattle.cert_tree.specs.Tree.{Tree}
 use Rattle.cert_tree.specs.Preorder.{packings_of}
 use Rattle.graph_search.specs.declared.splitting.Plan.{Plan}
 use Rattle.graph_search.specs.Plans.{IsPlanIn}
-use Rattle.graph_search.proofs.SplitLemmas.{open_within, All-insert}
+use Rattle.graph_search.proofs.SplitLemmas.{All-insert}
 use Rattle.graph_search.proofs.splitting.Splitting.split_next.Goals as goal
-
-pub vertex_for-requires-clause-leaf : goal.vertex_for-requires-clause-leaf
-vertex_for-requires-clause-leaf g c = open_within c.args.search.now c.in-Some.leaf c.in-Some.ensures.open
-
-pub decision-requires : goal.decision-requires
-decision-requires g c = open_within c.args.search.now c.in-Some.leaf c.in-Some.ensures.open
-
-pub decision-requires-2 : goal.decision-requires-2
-decision-requires-2 g c = open_within c.args.search.now c.in-Some.leaf c.in-Some.ensures.open
 
 pub packing-start-requires : goal.packing-start-requires
 packing-start-requires g c =
     subst (λ (t : Tree SplitOn). c.in-Some.leaf < length (packings_of t)) (sym c.tree.ensures)
-    (open_within c.args.search.now c.in-Some.leaf c.in-Some.ensures.open)
+    c.in-Some.ensures.within
 
 pub returns-clause-plans : goal.returns-clause-plans
 returns-clause-plans g c =
