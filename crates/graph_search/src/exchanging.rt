@@ -27,8 +27,8 @@ pub trait Exchanger {
     fn graph(&self) -> &NetGraph
         ensures { result.now ≡ graph self.now };
 
-    /// Looks for a packing of a wanted value along a network, in the graph or in one with the same vertices and edges, of
-    /// which lengths may be others and terminals more. An `Err` is want of memory.
+    /// Looks for a packing of a wanted value along a network, in the graph or in one with the same vertices and edges,
+    /// of which lengths may be others and terminals more. An `Err` is want of memory.
     fn exchange(
         &self,
         alloc: Global,
@@ -44,8 +44,8 @@ pub trait Exchanger {
 }
 
 /// Exchanges that raise a search as long as it isn't settled: each first leaf is the better one of that at hand and of
-/// an ascent that begins with what an exchange finds. Where that leads to a shorter network, or has spent its budget and
-/// is to go on, another exchange follows. Where they leave a gap, leaves are split.
+/// an ascent that begins with what an exchange finds. Where that leads to a shorter network, or has spent its budget
+/// and is to go on, another exchange follows. Where they leave a gap, leaves are split.
 #[derive(Drop)]
 pub struct Exchanges<E: Exchanger + Drop> {
     pub exchanger: E,
@@ -201,6 +201,5 @@ pub(crate) fn bound_of(outcome: Outcome) -> Option<Bound>
     match outcome {
         Outcome::Tight(bound) => Some(bound),
         Outcome::Impossible(bound) | Outcome::Exhausted(bound) => bound,
-        Outcome::TooLong => None,
     }
 }

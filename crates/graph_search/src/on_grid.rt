@@ -32,6 +32,10 @@ const FURTHER_BUDGET: Budget = Budget {
 // In how many descents a network is made shorter at most: about what gains nearly all at 50 points.
 const DESCENTS: u32 = 100;
 
+// In so many draws networks are grown by the shares that an exchange guesses which leaves a gap: what full trees of few
+// members don't make is found so.
+const DRAWS: u32 = 5;
+
 // How leaves are split.
 const SPLITTING: Splitting = Splitting {
     most: 60,
@@ -68,8 +72,7 @@ pub fn searched_on(
         goes_on: true,
         first: Budget::USUAL,
         further: FURTHER_BUDGET,
-        // On a grid the network that the leaf shows is mostly as short.
-        draws: 0,
+        draws: DRAWS,
         descents: DESCENTS,
         splitting: SPLITTING,
     };

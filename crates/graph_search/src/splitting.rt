@@ -22,11 +22,12 @@ use tight_packing::{Budget, Guesses};
 /// How leaves are split where exchanges leave a gap.
 #[derive(Clone, Copy)]
 pub struct Splitting {
-    /// At most so many splits are made, and no more than so many divided by the number of edges.
+    /// At most so many splits are made.
     pub most: u8,
+    /// No more splits are made than so many divided by the number of edges, since exchanges in large graphs take long.
     pub edge_splits: u32,
-    /// Whether a leaf is split whose exchange has spent its budget, beside those for which it told that there is no packing
-    /// of the wanted value.
+    /// Whether a leaf is split whose exchange has spent its budget, beside those for which it told that there is no
+    /// packing of the wanted value.
     pub after_spent: bool,
     /// What the exchange of a child may do.
     pub budget: Budget,
@@ -51,9 +52,9 @@ pub(crate) struct Child {
 }
 
 impl Splitting {
-    /// Splits the leaves of a search, of those that are open the one of the least value first, on vertices that the last
-    /// exchange for each leaf guesses, as long as there is such a guess, and makes no more than so many splits. An `Err`
-    /// is want of memory.
+    /// Splits the leaves of a search, of those that are open the one of the least value first, on vertices that the
+    /// last exchange for each leaf guesses, as long as there is such a guess, and makes no more than so many splits. An
+    /// `Err` is want of memory.
     pub(crate) fn split<E: Exchanger, F: Rule, G: Rule>(
         &self,
         alloc: Global,
@@ -88,8 +89,8 @@ impl Splitting {
         u8::try_from(splits).unwrap_or(self.most)
     }
 
-    // Splits the open leaf of the least value, if there is one that can be split as its exchange guesses; whether it was.
-    // An `Err` is want of memory.
+    // Splits the open leaf of the least value, if there is one that can be split as its exchange guesses; whether it
+    // was. An `Err` is want of memory.
     fn split_next<E: Exchanger, F: Rule, G: Rule>(
         &self,
         alloc: Global,
@@ -133,7 +134,8 @@ impl Splitting {
         Ok(true)
     }
 
-    // The packing of a child's exchange, which begins with the cuts of its parent, and the child's plan. An `Err` is want of memory.
+    // The packing of a child's exchange, which begins with the cuts of its parent, and the child's plan. An `Err` is
+    // want of memory.
     fn child<E: Exchanger, F: Rule, G: Rule>(
         &self,
         alloc: Global,
@@ -174,7 +176,7 @@ impl Splitting {
         match outcome {
             Outcome::Impossible(_) => true,
             Outcome::Exhausted(_) => self.after_spent,
-            Outcome::Tight(_) | Outcome::TooLong => false,
+            Outcome::Tight(_) => false,
         }
     }
 
@@ -236,8 +238,8 @@ fn packing_of(alloc: Global, outcome: Outcome) -> Packing
     }
 }
 
-// The vertex on which a leaf is split: the first that its exchange guesses on which it can be. None where the leaf's cuts
-// have too little weight for children whose packings are made anew.
+// The vertex on which a leaf is split: the first that its exchange guesses on which it can be. None where the leaf's
+// cuts have too little weight for children whose packings are made anew.
 fn vertex_for<F: Rule, G: Rule>(
     graph: &NetGraph,
     search: &Search<'_, F, G>,

@@ -6,9 +6,9 @@ ghost use Rattle.net_graph.specs.Decision.{IsDecisionFor};
 use net_graph::{Decision, Edge, EdgeList, EdgeState, GraphFault, NetGraph, VertexList, required};
 use std::alloc::{AllocError, Global};
 
-/// A graph in which cuts can be packed for a decision on vertices with nothing decided: required vertices are terminals,
-/// and a free edge is as long as told, so that it has the room for cuts of that weight. `None` where the lengths then sum
-/// to 2^63 or more. An `Err` is want of memory.
+/// A graph in which cuts can be packed for a decision on vertices with nothing decided: required vertices are
+/// terminals, and a free edge is as long as told, so that it has the room for cuts of that weight. `None` where the
+/// lengths then sum to 2^63 or more. An `Err` is want of memory.
 pub(crate) fn graph_under(
     alloc: Global,
     g: &NetGraph,

@@ -1,6 +1,6 @@
 //! The exchange method, of which the result is judged.
 
-ghost use Rattle.std.specs.Prelude.{◌≡◌, ◌≤◌, ◌^◌, min, length, IfOk, IfErr, IsTrue};
+ghost use Rattle.std.specs.Prelude.{◌≡◌, ◌≤◌, None, min, length, IfOk, IfSome, IsTrue};
 ghost use Rattle.net_graph.specs.Network.{length_of};
 ghost use Rattle.packing_judge.specs.Outcome.{IsOutcomeFor};
 
@@ -13,9 +13,6 @@ use planar_cuts::PlanarCuts;
 use std::alloc::{AllocError, Global};
 use tight_packing::{Aims, Budget, Guesses, Proposal, Settings, propose};
 
-// Longer networks are refused.
-const MAX_LENGTH: u64 = 1 << 42;
-
 /// How an exchange ended.
 #[derive(Debug, Drop)]
 pub enum Outcome {
@@ -24,10 +21,8 @@ pub enum Outcome {
     /// There is no packing of the wanted value along the cleaned network. That is computed and not proved. The bound is
     /// what is at hand.
     Impossible(Option<Bound>),
-    /// The budget is spent, or the network isn't a clean one. The bound is what is at hand.
+    /// The budget is spent, or the network does not join the terminals. The bound is what is at hand.
     Exhausted(Option<Bound>),
-    /// The network is longer than 2^42.
-    TooLong,
 }
 
 /// What comes of an exchange.
@@ -41,8 +36,8 @@ pub struct Exchanged {
 
 /// Looks for a packing of a wanted value along a network, of which what it is more than the network's length counts for
 /// nothing; it begins with given cuts, of which nothing is asked. The graph is that of a grid, or one with the same
-/// vertices and edges, of which lengths may be others and terminals more. The exchange cleans the network first: an edge
-/// of each cycle goes, and what joins no terminal. Equal arguments give equal results. An `Err` is want of memory.
+/// vertices and edges, of which lengths may be others and terminals more. The exchange cleans the network first: an
+/// edge of each cycle goes, and what joins no terminal. Equal arguments give equal results. An `Err` is want of memory.
 pub fn exchange(
     alloc: Global,
     grid: &Grid,
@@ -56,9 +51,8 @@ pub fn exchange(
     ensures { IfOk result (λ found. IsOutcomeFor graph.now (length_of graph.now network.now)
         (min wanted (length_of graph.now network.now)) found.outcome) }
 {
-    let aim = match aim_of(alloc, graph, network, wanted)? {
-        Ok(aim) => aim,
-        Err(outcome) => return Ok(at_once(alloc, outcome)),
+    let Some(aim) = aim_of(alloc, graph, network, wanted)? else {
+        return Ok(without_aim(alloc));
     };
     let finder = PlanarCuts::new(alloc, grid, &aim.tree)?;
     let settings = Settings::GRIDS;
@@ -78,9 +72,8 @@ pub fn exchange_in(
     ensures { IfOk result (λ found. IsOutcomeFor graph.now (length_of graph.now network.now)
         (min wanted (length_of graph.now network.now)) found.outcome) }
 {
-    let aim = match aim_of(alloc, graph, network, wanted)? {
-        Ok(aim) => aim,
-        Err(outcome) => return Ok(at_once(alloc, outcome)),
+    let Some(aim) = aim_of(alloc, graph, network, wanted)? else {
+        return Ok(without_aim(alloc));
     };
     let finder = FlowCuts::new(alloc, graph, &aim.tree)?;
     let settings = Settings::GRAPHS;
@@ -95,41 +88,34 @@ struct Aim {
     wanted: u64,
 }
 
-// What an exchange along a network aims at, or how it ends at once. An `Err` is want of memory.
+// What an exchange along a network aims at. `None` where it has no tree to aim along. An `Err` is want of memory.
 fn aim_of(
     alloc: Global,
     graph: &NetGraph,
     network: &EdgeSet,
     wanted: u64,
-) -> Result<Result<Aim, Outcome>, AllocError>
+) -> Result<Option<Aim>, AllocError>
     requires { length network.now ≡ length graph.now.edges }
-    ensures length { IfOk result (λ found. IfOk found (λ aim. aim.length ≡ length_of graph.now network.now)) }
-    ensures wanted { IfOk result (λ found. IfOk found (λ aim. aim.wanted ≡ min wanted aim.length)) }
-    ensures short { IfOk result (λ found. IfOk found (λ aim. aim.length ≤ 2 ^ 42)) }
-    ensures ends { IfOk result
-        (λ found. IfErr found (IsOutcomeFor graph.now (length_of graph.now network.now)
-        (min wanted (length_of graph.now network.now)))) }
+    ensures length { IfOk result (λ found. IfSome found (λ aim. aim.length ≡ length_of graph.now network.now)) }
+    ensures wanted { IfOk result (λ found. IfSome found (λ aim. aim.wanted ≡ min wanted aim.length)) }
 {
+    let Some(tree) = Tree::of(alloc, graph, network)? else {
+        return Ok(None);
+    };
     let length = length(graph, network);
-    if length > MAX_LENGTH {
-        return Ok(Err(Outcome::TooLong));
-    }
-    match Tree::of(alloc, graph, network)? {
-        Some(tree) => Ok(Ok(Aim {
-            tree,
-            length,
-            wanted: wanted.min(length),
-        })),
-        None => Ok(Err(Outcome::Exhausted(None))),
-    }
+    Ok(Some(Aim {
+        tree,
+        length,
+        wanted: wanted.min(length),
+    }))
 }
 
-// An exchange that ends at once. It takes no memory.
-fn at_once(alloc: Global, outcome: Outcome) -> Exchanged
-    ensures { result.outcome ≡ outcome }
+// An exchange that has nothing to aim along. It takes no memory.
+fn without_aim(alloc: Global) -> Exchanged
+    ensures { result.outcome ≡ Outcome.Exhausted None }
 {
     Exchanged {
-        outcome,
+        outcome: Outcome::Exhausted(None),
         guesses: Guesses::none(alloc),
     }
 }
@@ -144,8 +130,7 @@ fn carried_out<F: CutFinder + Drop>(
     settings: Settings,
     budget: Budget,
 ) -> Result<Exchanged, AllocError>
-    requires short { aim.length ≤ 2 ^ 42 }
-    requires wanted { aim.wanted ≤ aim.length }
+    requires { aim.wanted ≤ aim.length }
     ensures { IfOk result (λ found. IsOutcomeFor graph.now aim.length aim.wanted found.outcome) }
 {
     let Aim {
