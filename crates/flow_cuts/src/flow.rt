@@ -65,8 +65,8 @@ impl Flow {
         self.changed.clear();
     }
 
-    // Pushes flow along ways by levels until there is no such way, or it comes to the limit; tells how much. An `Err` is
-    // want of memory.
+    // Pushes flow along ways by levels until there is no such way, or it comes to the limit; tells how much. An `Err`
+    // is want of memory.
     fn push(
         &mut self,
         steps: &Steps,

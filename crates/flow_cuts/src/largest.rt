@@ -27,8 +27,8 @@ impl Largest {
         })
     }
 
-    /// Lists the arcs off the tree that enter the largest cheapest cut, as far as it hangs together. An `Err` is want of
-    /// memory.
+    /// Lists the arcs off the tree that enter the largest cheapest cut, as far as it hangs together. An `Err` is want
+    /// of memory.
     pub fn list(
         &mut self,
         steps: &Steps,

@@ -9,8 +9,8 @@ use net_graph::EdgeSet;
 use rst_outside::Sink;
 use text_out::{Block, literal, number};
 
-/// Writes the line of a set, which has a word and how many edges are in it, and then a line for each of them, ascending,
-/// by its number, which counts from 1. The word ends in a blank.
+/// Writes the line of a set, which has a word and how many edges are in it, and then a line for each of them,
+/// ascending, by its number, which counts from 1. The word ends in a blank.
 #[tactic(auto, using(text_out::specs::GatherLaws::pieces))]
 pub fn write_set<S: Sink>(block: &mut Block, sink: &mut S, word: &[u8], set: &EdgeSet)
     ensures { Gathers (S.state sink.old) block.old (set_text word.now set.now) (S.state sink.new) block.new }

@@ -11,9 +11,9 @@ use std::alloc::{AllocError, Global};
 // From how many vertices a network is grown in each draw.
 const STARTS: u32 = 2;
 
-/// A network that is no longer than a given one: the shortest of this one and of those that grow, in so many draws, along
-/// shortest paths where edges are shorter by shares in percent, each made shorter by local search in at most so many
-/// descents. The same arguments give the same network. An `Err` is want of memory.
+/// A network that is no longer than a given one: the shortest of this one and of those that grow, in so many draws,
+/// along shortest paths where edges are shorter by shares in percent, each made shorter by local search in at most so
+/// many descents. The same arguments give the same network. An `Err` is want of memory.
 pub fn shortened_by_shares(
     alloc: Global,
     g: &NetGraph,

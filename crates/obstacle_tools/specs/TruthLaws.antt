@@ -31,8 +31,8 @@ avoids_boxes law o network = λ n e member at.
     subst (CrossesNone o) (get_or_from_slice_get edges n e e at) (law o n e (slice_get_within edges n e at))
 
 -- an answer that was printed, with the status that the run ended with
-answer_printed : NoEdgeCrosses → ObstaclesAreReadBack → (openings : ℕ) (before after : Outside) (status : ℕ) (s : AnswerStatus) →
-    status ≡ answer_code s → EndsObstaclesSolve openings before after status →
+answer_printed : NoEdgeCrosses → ObstaclesAreReadBack → (openings : ℕ) (before after : Outside) (status : ℕ)
+    (s : AnswerStatus) → status ≡ answer_code s → EndsObstaclesSolve openings before after status →
     ObstaclesTruly false openings before after status
 answer_printed law read openings before after status s is ends =
     let (print, (bytes, whole, (g, (o, task, same), (network, tree, permitted, of_graph))), printed) =

@@ -12,8 +12,8 @@ use search_rules::{AscentRule, GraphOptions, SplitRule};
 use std::alloc::{AllocError, Global};
 
 /// The packing of the one leaf with which a search without openings ends that begins with a short network. Where its
-/// value is the least length of a network, it is tight, and few bounds of edges stay below that length. An `Err` is want
-/// of memory.
+/// value is the least length of a network, it is tight, and few bounds of edges stay below that length. An `Err` is
+/// want of memory.
 pub(crate) fn beginning_on(
     alloc: Global,
     grid: &Grid,

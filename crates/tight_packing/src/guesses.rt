@@ -1,6 +1,6 @@
-//! What the prices of a test that there is no packing show of shorter networks, whole and in parts. Let q be the price of
-//! a cheapest cut of a group, and Q the greatest of them: the overloads are a direction from the network at hand to a
-//! fractional one that is shorter, in which arcs off the tree rise by their overload, and those on it fall by q.
+//! What the prices of a test that there is no packing show of shorter networks, whole and in parts. Let q be the price
+//! of a cheapest cut of a group, and Q the greatest of them: the overloads are a direction from the network at hand to
+//! a fractional one that is shorter, in which arcs off the tree rise by their overload, and those on it fall by q.
 
 use crate::state::State;
 use cut_groups::{NONE, at, ends_of, set};

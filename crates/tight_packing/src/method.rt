@@ -35,8 +35,8 @@ pub struct Aims<'a> {
     pub start: &'a Packing,
 }
 
-/// Looks for a packing of a wanted value along a network of a graph, given by its tree. Where the network's length is over
-/// 2^53 times the greatest common divisor of the lengths of edges, these are rounded down, and the value stays
+/// Looks for a packing of a wanted value along a network of a graph, given by its tree. Where the network's length is
+/// over 2^53 times the greatest common divisor of the lengths of edges, these are rounded down, and the value stays
 /// below. Equal arguments give equal results. An `Err` is want of memory.
 pub fn propose<F: CutFinder>(
     alloc: Global,

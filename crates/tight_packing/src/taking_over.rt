@@ -7,8 +7,8 @@ use net_graph::{Cut, NetGraph, Packing};
 use std::alloc::AllocError;
 
 impl State {
-    /// Takes over the cuts of a packing that the tree enters once, each with its weight, as far as its group's length goes.
-    /// An `Err` is want of memory.
+    /// Takes over the cuts of a packing that the tree enters once, each with its weight, as far as its group's length
+    /// goes. An `Err` is want of memory.
     pub fn take_over(
         &mut self,
         graph: &NetGraph,
@@ -24,8 +24,8 @@ impl State {
         Ok(())
     }
 
-    // The group of a cut that the tree enters once, and else `NONE`; `found` is then the list of the other arcs that enter
-    // it. An `Err` is want of memory.
+    // The group of a cut that the tree enters once, and else `NONE`; `found` is then the list of the other arcs that
+    // enter it. An `Err` is want of memory.
     fn find_entered(&mut self, graph: &NetGraph, cut: &Cut) -> Result<u32, AllocError> {
         self.found.clear();
         let mut found = NONE;
@@ -48,7 +48,8 @@ impl State {
         Ok(found)
     }
 
-    // Gives the cut that was found last a weight in units, as far as its group's length goes. An `Err` is want of memory.
+    // Gives the cut that was found last a weight in units, as far as its group's length goes. An `Err` is want of
+    // memory.
     fn take_cut(&mut self, group: u32, units: u64) -> Result<(), AllocError> {
         let given = at(&self.given, group, 0);
         let length = self.loads.limit(self.tree.arc(group)).capacity;
