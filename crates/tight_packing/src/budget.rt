@@ -24,4 +24,15 @@ impl Budget {
         moves: 4_000_000,
         seed: 20240607,
     };
+
+    /// What may be done in coarse units, of a budget for the finest: half as much.
+    pub fn for_coarse_units(self) -> Budget {
+        Budget {
+            rounds: self.rounds / 2,
+            searches: self.searches / 2,
+            looks: self.looks,
+            moves: self.moves / 2,
+            seed: self.seed,
+        }
+    }
 }

@@ -30,6 +30,15 @@ impl Guesses {
             vertices: Vec::new(alloc),
         }
     }
+
+    /// These, and others where they tell no vertex.
+    pub fn or(self, others: Guesses) -> Guesses {
+        if self.vertices.is_empty() {
+            others
+        } else {
+            self
+        }
+    }
 }
 
 // What flows into a vertex and out of it, in the fractional network.

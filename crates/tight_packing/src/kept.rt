@@ -15,6 +15,14 @@ pub struct KeptCut {
     end: u32,
 }
 
+// No cut.
+const NO_KEPT: KeptCut = KeptCut {
+    weight: 0,
+    group: NONE,
+    first: 0,
+    end: 0,
+};
+
 /// The best packing met.
 #[derive(Drop)]
 pub struct Kept {
@@ -71,14 +79,7 @@ impl Kept {
         }
         self.cuts
             .sort_by_key(|cut| i64::MAX.wrapping_sub(cut.weight))?;
-        let mut excess = Vec::new(alloc);
-        for arc in 0..loads.len() {
-            let length = loads.limit(arc).capacity / PARTS;
-            excess.push(length.wrapping_neg())?;
-        }
-        for cut in &self.cuts {
-            add_to_all(&mut excess, entered_of(&self.entered, *cut), cut.weight);
-        }
+        let mut excess = self.excess(alloc, loads)?;
         for cut in self.cuts.iter_mut() {
             let arcs = entered_of(&self.entered, *cut);
             let taken = most_of(&excess, arcs).max(0).min(cut.weight);
@@ -88,6 +89,59 @@ impl Kept {
         self.cuts.retain(|cut| cut.weight > 0);
         self.overload = 0;
         Ok(())
+    }
+
+    // Of each arc what it is loaded above its length, in units. An `Err` is want of memory.
+    fn excess(&self, alloc: Global, loads: &Loads) -> Result<Vec<i64>, AllocError> {
+        let mut excess = Vec::new(alloc);
+        for arc in 0..loads.len() {
+            let length = loads.limit(arc).capacity / PARTS;
+            excess.push(length.wrapping_neg())?;
+        }
+        for cut in &self.cuts {
+            add_to_all(&mut excess, entered_of(&self.entered, *cut), cut.weight);
+        }
+        Ok(excess)
+    }
+
+    /// Gathers the weights of each group in fewer cuts: from the lightest on each cut gives its weight to a heavier one
+    /// whose arcs have room for all of it. An `Err` is want of memory.
+    pub fn gather(&mut self, alloc: Global, loads: &Loads) -> Result<(), AllocError> {
+        self.cuts
+            .sort_by_key(|cut| (cut.group, i64::MAX.wrapping_sub(cut.weight)))?;
+        let mut excess = self.excess(alloc, loads)?;
+        let cuts = count(&self.cuts);
+        for behind in 0..cuts {
+            let place = cuts.wrapping_sub(behind).wrapping_sub(1);
+            self.give_away(place, &mut excess);
+        }
+        self.cuts.retain(|cut| cut.weight > 0);
+        Ok(())
+    }
+
+    // Gives the weight of a cut to the heaviest cut of its group whose arcs have room for it, if one has.
+    fn give_away(&mut self, place: u32, excess: &mut [i64]) {
+        let cut = at(&self.cuts, place, NO_KEPT);
+        let without = cut.weight.wrapping_neg();
+        add_to_all(excess, entered_of(&self.entered, cut), without);
+        let mut taker = place;
+        for behind in 0..place {
+            let heavier = place.wrapping_sub(behind).wrapping_sub(1);
+            let other = at(&self.cuts, heavier, NO_KEPT);
+            if other.group != cut.group {
+                break;
+            }
+            if most_of(excess, entered_of(&self.entered, other)) <= without {
+                taker = heavier;
+            }
+        }
+        let mut taking = at(&self.cuts, taker, NO_KEPT);
+        add_to_all(excess, entered_of(&self.entered, taking), cut.weight);
+        if taker != place {
+            taking.weight = taking.weight.wrapping_add(cut.weight);
+            set(&mut self.cuts, taker, taking);
+            set(&mut self.cuts, place, KeptCut { weight: 0, ..cut });
+        }
     }
 
     /// Drops the slack where it stands in place of cuts.

@@ -103,6 +103,11 @@ impl State {
             cheapest: Vec::new(alloc),
         })
     }
+
+    /// The tree.
+    pub fn into_tree(self) -> Tree {
+        self.tree
+    }
 }
 
 // The numbers below a count. An `Err` is want of memory.
