@@ -1,12 +1,13 @@
 //! The exchange method, of which the result is judged.
 
-ghost use Rattle.std.specs.Prelude.{◌≡◌, ◌≤◌, None, min, length, IfOk, IfSome, IsTrue};
+ghost use Rattle.std.specs.Prelude.{◌≡◌, ◌≤◌, None, All, min, length, IfOk, IfSome, IsTrue};
 ghost use Rattle.net_graph.specs.Network.{length_of};
 ghost use Rattle.packing_judge.specs.Outcome.{IsOutcomeFor};
 
 use crate::bound::{Bound, judged};
-use cut_groups::{CutFinder, Tree};
+use cut_groups::Tree;
 use flow_cuts::FlowCuts;
+use graph_lift::Smaller;
 use hanan_grid::Grid;
 use net_graph::{EdgeSet, NetGraph, Packing, length};
 use planar_cuts::PlanarCuts;
@@ -51,15 +52,18 @@ pub fn exchange(
     ensures { IfOk result (λ found. IsOutcomeFor graph.now (length_of graph.now network.now)
         (min wanted (length_of graph.now network.now)) found.outcome) }
 {
-    let Some(aim) = aim_of(alloc, graph, network, wanted)? else {
-        return Ok(without_aim(alloc));
+    let Some(tree) = Tree::of(alloc, graph, network)? else {
+        return Ok(without_tree(alloc));
     };
-    let finder = PlanarCuts::new(alloc, grid, &aim.tree)?;
+    let goal = goal_of(graph, network, wanted);
+    let mut finder = PlanarCuts::new(alloc, grid, &tree)?;
     let settings = Settings::GRIDS;
-    carried_out(alloc, graph, aim, start, finder, settings, budget)
+    let aims = goal.aims(start);
+    let proposal = propose(alloc, graph, tree, aims, &mut finder, settings, budget)?;
+    concluded(alloc, graph, goal, proposal)
 }
 
-/// The same along a network of any graph.
+/// The same along a network of any graph. It is carried out in the smaller graph where there is one.
 pub fn exchange_in(
     alloc: Global,
     graph: &NetGraph,
@@ -72,46 +76,46 @@ pub fn exchange_in(
     ensures { IfOk result (λ found. IsOutcomeFor graph.now (length_of graph.now network.now)
         (min wanted (length_of graph.now network.now)) found.outcome) }
 {
-    let Some(aim) = aim_of(alloc, graph, network, wanted)? else {
-        return Ok(without_aim(alloc));
-    };
-    let finder = FlowCuts::new(alloc, graph, &aim.tree)?;
-    let settings = Settings::GRAPHS;
-    carried_out(alloc, graph, aim, start, finder, settings, budget)
+    let goal = goal_of(graph, network, wanted);
+    match proposed(alloc, graph, network, wanted, start, budget)? {
+        Some(proposal) => concluded(alloc, graph, goal, proposal),
+        None => Ok(without_tree(alloc)),
+    }
 }
 
-// What an exchange aims at: the tree of a network, the network's length, and the wanted value.
-#[derive(Drop)]
-struct Aim {
-    tree: Tree,
+// What an exchange aims at: the length of a network, and the wanted value, which is no more.
+#[derive(Clone, Copy)]
+struct Goal {
     length: u64,
     wanted: u64,
 }
 
-// What an exchange along a network aims at. `None` where it has no tree to aim along. An `Err` is want of memory.
-fn aim_of(
-    alloc: Global,
-    graph: &NetGraph,
-    network: &EdgeSet,
-    wanted: u64,
-) -> Result<Option<Aim>, AllocError>
-    requires { length network.now ≡ length graph.now.edges }
-    ensures length { IfOk result (λ found. IfSome found (λ aim. aim.length ≡ length_of graph.now network.now)) }
-    ensures wanted { IfOk result (λ found. IfSome found (λ aim. aim.wanted ≡ min wanted aim.length)) }
-{
-    let Some(tree) = Tree::of(alloc, graph, network)? else {
-        return Ok(None);
-    };
-    let length = length(graph, network);
-    Ok(Some(Aim {
-        tree,
-        length,
-        wanted: wanted.min(length),
-    }))
+impl Goal {
+    // The same with cuts to begin with.
+    fn aims(self, start: &Packing) -> Aims<'_> {
+        Aims {
+            length: self.length,
+            wanted: self.wanted,
+            start,
+        }
+    }
 }
 
-// An exchange that has nothing to aim along. It takes no memory.
-fn without_aim(alloc: Global) -> Exchanged
+// What an exchange along a network aims at.
+fn goal_of(graph: &NetGraph, network: &EdgeSet, wanted: u64) -> Goal
+    requires { length network.now ≡ length graph.now.edges }
+    ensures length { result.length ≡ length_of graph.now network.now }
+    ensures wanted { result.wanted ≡ min wanted result.length }
+{
+    let length = length(graph, network);
+    Goal {
+        length,
+        wanted: wanted.min(length),
+    }
+}
+
+// An exchange that has no tree to go along. It takes no memory.
+fn without_tree(alloc: Global) -> Exchanged
     ensures { result.outcome ≡ Outcome.Exhausted None }
 {
     Exchanged {
@@ -120,31 +124,85 @@ fn without_aim(alloc: Global) -> Exchanged
     }
 }
 
-// How an exchange ends that has this aim. An `Err` is want of memory.
-fn carried_out<F: CutFinder + Drop>(
+// What an exchange in any graph proposes, found in the smaller graph where there is one. `None` where the network does
+// not join the terminals. An `Err` is want of memory.
+fn proposed(
     alloc: Global,
     graph: &NetGraph,
-    aim: Aim,
+    network: &EdgeSet,
+    wanted: u64,
     start: &Packing,
-    finder: F,
-    settings: Settings,
     budget: Budget,
-) -> Result<Exchanged, AllocError>
-    requires { aim.wanted ≤ aim.length }
-    ensures { IfOk result (λ found. IsOutcomeFor graph.now aim.length aim.wanted found.outcome) }
+) -> Result<Option<Proposal>, AllocError>
+    requires { length network.now ≡ length graph.now.edges }
+    ensures { IfOk result (λ found. IfSome found (λ proposal.
+        All (λ c. length c.members ≡ graph.now.vertices) proposal.packing)) }
 {
-    let Aim {
-        tree,
-        length,
-        wanted,
-    } = aim;
-    let mut finder = finder;
-    let aims = Aims {
-        length,
-        wanted,
-        start,
+    if let Some(smaller) = Smaller::of(alloc, graph)? {
+        let left = smaller.network(alloc, graph, network)?;
+        let lacking = wanted.saturating_sub(smaller.taken());
+        let below = smaller.below(alloc, start)?;
+        let small = smaller.graph();
+        if let Some(proposal) = proposed_along(alloc, small, &left, lacking, &below, budget)? {
+            return Ok(Some(lifted(alloc, graph, &smaller, &proposal)?));
+        }
+    }
+    proposed_along(alloc, graph, network, wanted, start, budget)
+}
+
+// What an exchange proposes in this very graph. `None` where the network does not join the terminals. An `Err` is want
+// of memory.
+fn proposed_along(
+    alloc: Global,
+    graph: &NetGraph,
+    network: &EdgeSet,
+    wanted: u64,
+    start: &Packing,
+    budget: Budget,
+) -> Result<Option<Proposal>, AllocError>
+    requires { length network.now ≡ length graph.now.edges }
+    ensures { IfOk result (λ found. IfSome found (λ proposal.
+        All (λ c. length c.members ≡ graph.now.vertices) proposal.packing)) }
+{
+    let Some(tree) = Tree::of(alloc, graph, network)? else {
+        return Ok(None);
     };
+    let mut finder = FlowCuts::new(alloc, graph, &tree)?;
+    let settings = Settings::GRAPHS;
+    let aims = goal_of(graph, network, wanted).aims(start);
     let proposal = propose(alloc, graph, tree, aims, &mut finder, settings, budget)?;
+    Ok(Some(proposal))
+}
+
+// What was proposed in a smaller graph, brought back to the given one. An `Err` is want of memory.
+fn lifted(
+    alloc: Global,
+    graph: &NetGraph,
+    smaller: &Smaller,
+    proposal: &Proposal,
+) -> Result<Proposal, AllocError>
+    ensures { IfOk result (λ lifted. All (λ c. length c.members ≡ graph.now.vertices) lifted.packing) }
+{
+    Ok(Proposal {
+        packing: smaller.lifted(alloc, graph, &proposal.packing)?,
+        is_impossible: proposal.is_impossible,
+        guesses: Guesses {
+            shares: smaller.shares(alloc, graph, &proposal.guesses.shares)?,
+            vertices: smaller.vertices(alloc, &proposal.guesses.vertices)?,
+        },
+    })
+}
+
+// How an exchange ends with what it proposes, which is judged. An `Err` is want of memory.
+fn concluded(
+    alloc: Global,
+    graph: &NetGraph,
+    goal: Goal,
+    proposal: Proposal,
+) -> Result<Exchanged, AllocError>
+    requires { All (λ c. length c.members ≡ graph.now.vertices) proposal.packing }
+    ensures { IfOk result (λ found. IsOutcomeFor graph.now goal.length goal.wanted found.outcome) }
+{
     let Proposal {
         packing,
         is_impossible,
@@ -152,7 +210,7 @@ fn carried_out<F: CutFinder + Drop>(
     } = proposal;
     let bound = judged(alloc, graph, packing)?;
     let outcome = match bound {
-        Some(bound) if is_tight(bound.value, wanted, length) => Outcome::Tight(bound),
+        Some(bound) if is_tight(bound.value, goal.wanted, goal.length) => Outcome::Tight(bound),
         bound if is_impossible => Outcome::Impossible(bound),
         bound => Outcome::Exhausted(bound),
     };
