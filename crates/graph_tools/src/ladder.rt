@@ -19,23 +19,27 @@ const MOST_EXCHANGES: u8 = 6;
 // In so many draws networks are grown by the shares that an exchange guesses.
 const DRAWS: u32 = 5;
 
-// What the first exchange may do, and each other one. The looks and moves keep the largest graphs to some
-// seconds.
+// What the first exchange may do, and each other one, but for the looks.
 const FIRST_BUDGET: Budget = Budget {
-    rounds: 250,
-    searches: 200_000,
-    looks: 150_000_000,
-    moves: 1_000_000,
+    rounds: 1000,
+    searches: 800_000,
+    looks: 0,
+    moves: 4_000_000,
     seed: 20240607,
 };
 
 const FURTHER_BUDGET: Budget = Budget {
-    rounds: 200,
-    searches: 100_000,
-    looks: 75_000_000,
+    rounds: 800,
+    searches: 400_000,
+    looks: 0,
     moves: 250_000,
     seed: 20240608,
 };
+
+// The looks of the first exchange are so many divided by the square of the number of edges, and those of each other one
+// half of it: the more edges a graph has, the more rounds an exchange takes and the longer its flows run. So the largest
+// graphs take some seconds.
+const LOOKS: u64 = 2_800_000_000_000_000;
 
 // How leaves are split.
 const SPLITTING: Splitting = Splitting {
@@ -75,18 +79,32 @@ impl Raising for Ladder<'_> {
             descents: DESCENTS,
         };
         shortening.raise(alloc, search, 0)?;
+        let looks = looks_in(graph);
         let exchanges = Exchanges {
             exchanger: InGraph { graph },
             most: MOST_EXCHANGES,
             goes_on: false,
-            first: FIRST_BUDGET,
-            further: FURTHER_BUDGET,
+            first: Budget {
+                looks,
+                ..FIRST_BUDGET
+            },
+            further: Budget {
+                looks: looks / 2,
+                ..FURTHER_BUDGET
+            },
             draws: DRAWS,
             descents: DESCENTS,
             splitting: SPLITTING,
         };
         exchanges.raise(alloc, search, openings)
     }
+}
+
+// How many looks the first exchange in a graph has.
+fn looks_in(graph: &NetGraph) -> u64 {
+    let edges = u64::from(graph.edge_count());
+    let square = edges.saturating_mul(edges);
+    LOOKS.checked_div(square).unwrap_or(LOOKS)
 }
 
 // What makes exchanges in a graph.
