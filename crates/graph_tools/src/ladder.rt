@@ -32,7 +32,7 @@ const FURTHER_BUDGET: Budget = Budget {
     rounds: 800,
     searches: 400_000,
     looks: 0,
-    moves: 250_000,
+    moves: 2_000_000,
     seed: 20240608,
 };
 
