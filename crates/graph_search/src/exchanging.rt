@@ -1,6 +1,6 @@
 //! Exchanges of cuts that raise the first leaf of a search.
 
-ghost use Rattle.std.specs.Prelude.{ℕ, ◌≡◌, ◌<◌, ◌≤◌, false, length, min, IsTrue, IfOk, IfSome};
+ghost use Rattle.std.specs.Prelude.{ℕ, ◌≡◌, ◌<◌, false, IfOk, IfSome};
 ghost use Rattle.net_graph.specs.Graph.{Graph};
 ghost use Rattle.net_graph.specs.Network.{length_of};
 ghost use Rattle.cert_tree.specs.Preorder.{split_count};
@@ -12,48 +12,24 @@ use crate::shortening::offer_shorter;
 use crate::splitting::Splitting;
 use branch::Search;
 use dual_ascent::Rule;
-use net_graph::{EdgeSet, NetGraph, Packing, length};
+use net_graph::{NetGraph, Packing, length};
 use network_judge::shortened_by_shares;
-use packing_judge::{Bound, Exchanged, Outcome};
+use packing_judge::{Bound, Exchanged, Outcome, exchange};
 use std::alloc::{AllocError, Global};
 use tight_packing::{Budget, Guesses};
-
-/// What makes exchanges along the networks of a graph.
-pub trait Exchanger {
-    /// The graph.
-    ghost graph: { Self → Graph };
-
-    /// The graph.
-    fn graph(&self) -> &NetGraph
-        ensures { result.now ≡ graph self.now };
-
-    /// Looks for a packing of a wanted value along a network, in the graph or in one with the same vertices and edges,
-    /// of which lengths may be others and terminals more. An `Err` is want of memory.
-    fn exchange(
-        &self,
-        alloc: Global,
-        g: &NetGraph,
-        network: &EdgeSet,
-        wanted: u64,
-        start: &Packing,
-        budget: Budget,
-    ) -> Result<Exchanged, AllocError>
-        requires { length network.now ≡ length g.now.edges }
-        ensures { IfOk result (λ found. IsOutcomeFor g.now (length_of g.now network.now)
-            (min wanted (length_of g.now network.now)) found.outcome) };
-}
 
 /// Exchanges that raise a search as long as it isn't settled: each first leaf is the better one of that at hand and of
 /// an ascent that begins with what an exchange finds. Where that leads to a shorter network, or has spent its budget
 /// and is to go on, another exchange follows. Where they leave a gap, leaves are split.
-#[derive(Drop)]
-pub struct Exchanges<E: Exchanger + Drop> {
-    pub exchanger: E,
+#[derive(Clone, Copy)]
+pub struct Exchanges<'a> {
+    /// The graph of the search.
+    pub graph: &'a NetGraph,
     /// At most so many are made, each but the first against a shorter network, or with a new budget and other draws.
     pub most: u8,
     /// Whether another one follows one that has spent its budget and led to no shorter network.
     pub goes_on: bool,
-    /// What the first one may do, and each other one.
+    /// What the first one may do, and each other one, of which each has a seed of its own.
     pub first: Budget,
     pub further: Budget,
     /// In so many draws networks are grown by the shares that an exchange guesses which leaves a gap.
@@ -64,8 +40,8 @@ pub struct Exchanges<E: Exchanger + Drop> {
     pub splitting: Splitting,
 }
 
-impl<E: Exchanger + Drop> Raising for Exchanges<E> {
-    ghost is_for = { λ exchanges g. g ≡ E.graph exchanges.exchanger };
+impl Raising for Exchanges<'_> {
+    ghost is_for = { λ exchanges g. exchanges.graph.now ≡ g };
 
     fn raise<F: Rule, G: Rule>(
         &self,
@@ -75,7 +51,7 @@ impl<E: Exchanger + Drop> Raising for Exchanges<E> {
     ) -> Result<(), AllocError> {
         let guesses = self.raise_first(alloc, search)?;
         self.splitting
-            .split(alloc, &self.exchanger, search, guesses, openings)
+            .split(alloc, self.graph, search, guesses, openings)
     }
 }
 
@@ -86,14 +62,14 @@ struct Turn {
     guesses: Guesses,
 }
 
-impl<E: Exchanger + Drop> Exchanges<E> {
+impl Exchanges<'_> {
     // Raises the first leaf of a search by exchanges, and tells what the last one guesses. An `Err` is want of memory.
     fn raise_first<F: Rule, G: Rule>(
         &self,
         alloc: Global,
         search: &mut Search<'_, F, G>,
     ) -> Result<Guesses, AllocError>
-        requires graph { search.old.graph ≡ E.graph self.now.exchanger }
+        requires graph { self.now.graph.now ≡ search.old.graph }
         requires leaf { split_count search.old.tree ≡ 0 }
         ensures graph { search.new.graph ≡ search.old.graph }
         ensures first { search.new.first_length ≡ search.old.first_length }
@@ -104,11 +80,7 @@ impl<E: Exchanger + Drop> Exchanges<E> {
             if search.is_settled() {
                 break;
             }
-            let budget = if exchange == 0 {
-                self.first
-            } else {
-                self.further
-            };
+            let budget = self.budget(exchange);
             let turn = self.raise_once(alloc, search, budget)?;
             guesses = turn.guesses;
             if turn.is_last {
@@ -116,6 +88,17 @@ impl<E: Exchanger + Drop> Exchanges<E> {
             }
         }
         Ok(guesses)
+    }
+
+    // What the exchange of a number, counted from 0, may do.
+    fn budget(&self, exchange: u8) -> Budget {
+        if exchange == 0 {
+            return self.first;
+        }
+        Budget {
+            seed: self.further.seed.wrapping_add(u64::from(exchange)),
+            ..self.further
+        }
     }
 
     // Raises a search by what an exchange along its network comes to. It is not the last where it led to a shorter
@@ -126,7 +109,7 @@ impl<E: Exchanger + Drop> Exchanges<E> {
         search: &mut Search<'_, F, G>,
         budget: Budget,
     ) -> Result<Turn, AllocError>
-        requires graph { search.old.graph ≡ E.graph self.now.exchanger }
+        requires graph { self.now.graph.now ≡ search.old.graph }
         requires leaf { split_count search.old.tree ≡ 0 }
         ensures further { IfOk result (λ turn.
             length_of search.old.graph search.new.network < length_of search.old.graph search.old.network
@@ -135,13 +118,11 @@ impl<E: Exchanger + Drop> Exchanges<E> {
         ensures first { search.new.first_length ≡ search.old.first_length }
         ensures leaf { split_count search.new.tree ≡ 0 }
     {
-        let graph = self.exchanger.graph();
+        let graph = self.graph;
         let before = length(graph, search.network());
         let start = Packing::empty(alloc);
         let network = search.network();
-        let found = self
-            .exchanger
-            .exchange(alloc, graph, network, before, &start, budget)?;
+        let found = exchange(alloc, graph, network, before, &start, budget)?;
         let Exchanged { outcome, guesses } = found;
         let is_spent = matches!(outcome, Outcome::Exhausted(_));
         let further = self.splitting.may_follow(&outcome);
@@ -174,12 +155,12 @@ impl<E: Exchanger + Drop> Exchanges<E> {
         shares: &[u32],
         search: &mut Search<'_, F, G>,
     ) -> Result<(), AllocError>
-        requires graph { search.old.graph ≡ E.graph self.now.exchanger }
+        requires graph { self.now.graph.now ≡ search.old.graph }
         ensures graph { search.new.graph ≡ search.old.graph }
         ensures first { search.new.first_length ≡ search.old.first_length }
         ensures tree { search.new.tree ≡ search.old.tree }
     {
-        let graph = self.exchanger.graph();
+        let graph = self.graph;
         let network = search.network();
         let shorter = shortened_by_shares(
             alloc,

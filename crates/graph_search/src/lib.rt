@@ -12,7 +12,7 @@ mod splitting;
 mod under;
 
 pub use answering::answer_with;
-pub use exchanging::{Exchanger, Exchanges};
+pub use exchanging::Exchanges;
 pub use on_grid::searched_on;
 pub use raising::Raising;
 pub use search::searched;

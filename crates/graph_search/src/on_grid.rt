@@ -1,18 +1,17 @@
 //! The search on the grid of points.
 
-ghost use Rattle.std.specs.Prelude.{IfOk};
+ghost use Rattle.std.specs.Prelude.{◌≡◌, IfOk};
 ghost use Rattle.net_graph.specs.Network.{length_of};
 ghost use Rattle.hanan_grid.specs.Grid.{hanan_grid_of};
 ghost use Rattle.branch.specs.States.{IsNetworkOf};
 ghost use Rattle.graph_search.specs.Searched.{IsTold};
 
-use crate::exchanging::{Exchanger, Exchanges};
+use crate::exchanging::Exchanges;
 use crate::search::searched;
 use crate::splitting::Splitting;
 use branch::Solved;
 use hanan_grid::Grid;
-use net_graph::{EdgeSet, NetGraph, Packing};
-use packing_judge::{Exchanged, exchange};
+use net_graph::{EdgeSet, NetGraph};
 use search_rules::GraphOptions;
 use std::alloc::{AllocError, Global};
 use tight_packing::Budget;
@@ -66,41 +65,24 @@ pub fn searched_on(
     ensures { IfOk result (IsTold (hanan_grid_of grid.now) options.openings
         (length_of (hanan_grid_of grid.now) first)) }
 {
-    let exchanges = Exchanges {
-        exchanger: OnGrid { grid },
-        most: MOST_EXCHANGES,
-        goes_on: true,
-        first: Budget::USUAL,
-        further: FURTHER_BUDGET,
-        draws: DRAWS,
-        descents: DESCENTS,
-        splitting: SPLITTING,
-    };
+    let exchanges = Exchanges::on_lines(grid.graph());
     searched(alloc, grid.graph(), first, options, &exchanges)
 }
 
-// What makes exchanges on a grid.
-#[derive(Drop)]
-struct OnGrid<'a> {
-    grid: &'a Grid,
-}
-
-impl Exchanger for OnGrid<'_> {
-    ghost graph = { λ on. hanan_grid_of on.grid.now };
-
-    fn graph(&self) -> &NetGraph {
-        self.grid.graph()
-    }
-
-    fn exchange(
-        &self,
-        alloc: Global,
-        g: &NetGraph,
-        network: &EdgeSet,
-        wanted: u64,
-        start: &Packing,
-        budget: Budget,
-    ) -> Result<Exchanged, AllocError> {
-        exchange(alloc, self.grid, g, network, wanted, start, budget)
+impl<'a> Exchanges<'a> {
+    /// Exchanges as they fit a graph that is drawn on lines, of which the cheapest cuts are found fast.
+    pub fn on_lines(graph: &'a NetGraph) -> Exchanges<'a>
+        ensures { result.graph.now ≡ graph.now }
+    {
+        Exchanges {
+            graph,
+            most: MOST_EXCHANGES,
+            goes_on: true,
+            first: Budget::USUAL,
+            further: FURTHER_BUDGET,
+            draws: DRAWS,
+            descents: DESCENTS,
+            splitting: SPLITTING,
+        }
     }
 }

@@ -9,13 +9,13 @@ ghost use Rattle.branch.specs.Searching.{CanSplitAt};
 ghost use Rattle.packing_judge.specs.Outcome.{IsOutcomeFor};
 ghost use Rattle.graph_search.specs.Plans.{IsPlanIn, IsChildIn};
 
-use crate::exchanging::{Exchanger, bound_of};
+use crate::exchanging::bound_of;
 use crate::under::graph_under;
 use branch::{Offered, Search};
 use dual_ascent::Rule;
 use net_graph::{Decision, EdgeSet, NetGraph, Packing, joins, length, total_weight};
 use network_judge::shortened_by_shares;
-use packing_judge::{Exchanged, Outcome};
+use packing_judge::{Exchanged, Outcome, exchange};
 use std::alloc::{AllocError, Global};
 use tight_packing::{Budget, Guesses};
 
@@ -55,15 +55,15 @@ impl Splitting {
     /// Splits the leaves of a search, of those that are open the one of the least value first, on vertices that the
     /// last exchange for each leaf guesses, as long as there is such a guess, and makes no more than so many splits. An
     /// `Err` is want of memory.
-    pub(crate) fn split<E: Exchanger, F: Rule, G: Rule>(
+    pub(crate) fn split<F: Rule, G: Rule>(
         &self,
         alloc: Global,
-        exchanger: &E,
+        graph: &NetGraph,
         search: &mut Search<'_, F, G>,
         guesses: Guesses,
         openings: u8,
     ) -> Result<(), AllocError>
-        requires graph { search.old.graph ≡ E.graph exchanger.now }
+        requires graph { graph.now ≡ search.old.graph }
         requires leaf { split_count search.old.tree ≡ 0 }
         ensures graph { search.new.graph ≡ search.old.graph }
         ensures first { search.new.first_length ≡ search.old.first_length }
@@ -74,8 +74,8 @@ impl Splitting {
             network: search.network().copy()?,
             guesses,
         })?;
-        for _made in 0..openings.min(self.most_in(exchanger.graph())) {
-            if !self.split_next(alloc, exchanger, search, &mut plans)? {
+        for _made in 0..openings.min(self.most_in(graph)) {
+            if !self.split_next(alloc, graph, search, &mut plans)? {
                 break;
             }
         }
@@ -91,14 +91,14 @@ impl Splitting {
 
     // Splits the open leaf of the least value, if there is one that can be split as its exchange guesses; whether it
     // was. An `Err` is want of memory.
-    fn split_next<E: Exchanger, F: Rule, G: Rule>(
+    fn split_next<F: Rule, G: Rule>(
         &self,
         alloc: Global,
-        exchanger: &E,
+        graph: &NetGraph,
         search: &mut Search<'_, F, G>,
         plans: &mut Vec<Plan>,
     ) -> Result<bool, AllocError>
-        requires graph { search.old.graph ≡ E.graph exchanger.now }
+        requires graph { graph.now ≡ search.old.graph }
         requires few { split_count search.old.tree < 255 }
         requires plans { All (IsPlanIn search.old.graph) plans.old.items }
         ensures graph { search.new.graph ≡ search.old.graph }
@@ -113,7 +113,6 @@ impl Splitting {
         if place >= plans.len() {
             return Ok(false);
         }
-        let graph = exchanger.graph();
         let plan = &plans[place];
         let Some(vertex) = vertex_for(graph, search, leaf, plan) else {
             return Ok(false);
@@ -121,8 +120,8 @@ impl Splitting {
         let missed = search.decision(leaf).with_missed(graph, vertex)?;
         let met = search.decision(leaf).with_met(graph, vertex)?;
         let start = search.tree().packing(leaf);
-        let outside = self.child(alloc, exchanger, search, plan, start, &missed)?;
-        let inside = self.child(alloc, exchanger, search, plan, start, &met)?;
+        let outside = self.child(alloc, graph, search, plan, start, &missed)?;
+        let inside = self.child(alloc, graph, search, plan, start, &met)?;
         let offered = Offered {
             outside: outside.packing,
             inside: inside.packing,
@@ -136,21 +135,20 @@ impl Splitting {
 
     // The packing of a child's exchange, which begins with the cuts of its parent, and the child's plan. An `Err` is
     // want of memory.
-    fn child<E: Exchanger, F: Rule, G: Rule>(
+    fn child<F: Rule, G: Rule>(
         &self,
         alloc: Global,
-        exchanger: &E,
+        graph: &NetGraph,
         search: &Search<'_, F, G>,
         plan: &Plan,
         start: &Packing,
         decision: &Decision,
     ) -> Result<Child, AllocError>
-        requires graph { search.now.graph ≡ E.graph exchanger.now }
+        requires graph { graph.now ≡ search.now.graph }
         requires plan { IsPlanIn search.now.graph plan.now }
         requires decision { IsDecisionFor search.now.graph decision.now }
         ensures { IfOk result (IsChildIn search.now.graph) }
     {
-        let graph = exchanger.graph();
         let wanted = length(graph, search.network());
         let Some(under) = graph_under(alloc, graph, decision, wanted)? else {
             return without_plan(alloc, plan);
@@ -158,7 +156,7 @@ impl Splitting {
         let Some(network) = self.network_under(alloc, graph, &under, plan)? else {
             return without_plan(alloc, plan);
         };
-        let found = exchanger.exchange(alloc, &under, &network, wanted, start, self.budget)?;
+        let found = exchange(alloc, &under, &network, wanted, start, self.budget)?;
         let Exchanged { outcome, guesses } = found;
         let guesses = if self.may_follow(&outcome) {
             guesses

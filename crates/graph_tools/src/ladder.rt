@@ -4,22 +4,23 @@ ghost use Rattle.std.specs.Prelude.{◌≡◌};
 
 use branch::Search;
 use dual_ascent::Rule;
-use graph_search::{Exchanger, Exchanges, Raising, Shortening, Splitting};
-use net_graph::{EdgeSet, NetGraph, Packing};
-use packing_judge::{Exchanged, exchange_in};
+use graph_search::{Exchanges, Raising, Shortening, Splitting};
+use net_graph::NetGraph;
+use planar_cuts::is_drawn_on_lines;
 use std::alloc::{AllocError, Global};
 use tight_packing::Budget;
 
 // In how many descents of local search a network that the first leaf shows is made shorter at most.
 const DESCENTS: u32 = 20;
 
-// So many exchanges are made at most: a network that is a little too long takes some of them.
+// So many exchanges are made at most in a graph that isn't drawn on lines: a network that is a little too long takes some
+// of them.
 const MOST_EXCHANGES: u8 = 6;
 
 // In so many draws networks are grown by the shares that an exchange guesses.
 const DRAWS: u32 = 5;
 
-// What the first exchange may do, and each other one, but for the looks.
+// What the first exchange may do there, and each other one, but for the looks.
 const FIRST_BUDGET: Budget = Budget {
     rounds: 1000,
     searches: 800_000,
@@ -36,12 +37,12 @@ const FURTHER_BUDGET: Budget = Budget {
     seed: 20240608,
 };
 
-// The looks of the first exchange are so many divided by the square of the number of edges, and those of each other one
-// half of it: the more edges a graph has, the more rounds an exchange takes and the longer its flows run. So the largest
-// graphs take some seconds.
+// The looks of the first exchange there are so many divided by the square of the number of edges, and those of each
+// other one half of it: the more edges a graph has, the more rounds an exchange takes and the longer its flows run. So
+// the largest graphs take some seconds.
 const LOOKS: u64 = 2_800_000_000_000_000;
 
-// How leaves are split.
+// How leaves are split there.
 const SPLITTING: Splitting = Splitting {
     most: 60,
     edge_splits: 20_000,
@@ -56,6 +57,12 @@ const SPLITTING: Splitting = Splitting {
     draws: DRAWS,
     descents: DESCENTS,
 };
+
+// The looks of each exchange in a graph that is drawn on lines are so many divided by the square of the number of edges.
+const LOOKS_ON_LINES: u64 = 1_600_000_000_000_000;
+
+// In how many descents a network is made shorter there once cuts were exchanged.
+const DESCENTS_ON_LINES: u32 = 10;
 
 /// The steps that raise a search in a graph, each where the ones before didn't settle it: a local search makes the
 /// network that the first leaf shows shorter; then cuts are exchanged.
@@ -73,62 +80,72 @@ impl Raising for Ladder<'_> {
         search: &mut Search<'_, F, G>,
         openings: u8,
     ) -> Result<(), AllocError> {
-        let graph = self.graph;
         let shortening = Shortening {
-            graph,
+            graph: self.graph,
             descents: DESCENTS,
         };
         shortening.raise(alloc, search, 0)?;
-        let looks = looks_in(graph);
-        let exchanges = Exchanges {
-            exchanger: InGraph { graph },
-            most: MOST_EXCHANGES,
-            goes_on: false,
-            first: Budget {
-                looks,
-                ..FIRST_BUDGET
-            },
-            further: Budget {
-                looks: looks / 2,
-                ..FURTHER_BUDGET
-            },
-            draws: DRAWS,
-            descents: DESCENTS,
-            splitting: SPLITTING,
+        let exchanges = if is_drawn_on_lines(alloc, self.graph)? {
+            exchanges_on_lines(self.graph)
+        } else {
+            exchanges_by_flows(self.graph)
         };
         exchanges.raise(alloc, search, openings)
     }
 }
 
-// How many looks the first exchange in a graph has.
-fn looks_in(graph: &NetGraph) -> u64 {
+// Exchanges as they fit a graph that is drawn on lines.
+fn exchanges_on_lines(graph: &NetGraph) -> Exchanges<'_>
+    ensures { result.graph.now ≡ graph.now }
+{
+    let looks = looks_in(graph, LOOKS_ON_LINES);
+    let usual = Exchanges::on_lines(graph);
+    Exchanges {
+        goes_on: false,
+        first: Budget {
+            looks,
+            ..usual.first
+        },
+        further: Budget {
+            looks,
+            ..usual.further
+        },
+        descents: DESCENTS_ON_LINES,
+        splitting: Splitting {
+            edge_splits: SPLITTING.edge_splits,
+            descents: DESCENTS,
+            ..usual.splitting
+        },
+        ..usual
+    }
+}
+
+// Exchanges as they fit a graph whose cuts are found by flows.
+fn exchanges_by_flows(graph: &NetGraph) -> Exchanges<'_>
+    ensures { result.graph.now ≡ graph.now }
+{
+    let looks = looks_in(graph, LOOKS);
+    Exchanges {
+        graph,
+        most: MOST_EXCHANGES,
+        goes_on: false,
+        first: Budget {
+            looks,
+            ..FIRST_BUDGET
+        },
+        further: Budget {
+            looks: looks / 2,
+            ..FURTHER_BUDGET
+        },
+        draws: DRAWS,
+        descents: DESCENTS,
+        splitting: SPLITTING,
+    }
+}
+
+// So many looks divided by the square of the number of edges.
+fn looks_in(graph: &NetGraph, looks: u64) -> u64 {
     let edges = u64::from(graph.edge_count());
     let square = edges.saturating_mul(edges);
-    LOOKS.checked_div(square).unwrap_or(LOOKS)
-}
-
-// What makes exchanges in a graph.
-#[derive(Drop)]
-struct InGraph<'a> {
-    graph: &'a NetGraph,
-}
-
-impl Exchanger for InGraph<'_> {
-    ghost graph = { λ place. place.graph.now };
-
-    fn graph(&self) -> &NetGraph {
-        self.graph
-    }
-
-    fn exchange(
-        &self,
-        alloc: Global,
-        g: &NetGraph,
-        network: &EdgeSet,
-        wanted: u64,
-        start: &Packing,
-        budget: Budget,
-    ) -> Result<Exchanged, AllocError> {
-        exchange_in(alloc, g, network, wanted, start, budget)
-    }
+    looks.checked_div(square).unwrap_or(looks)
 }

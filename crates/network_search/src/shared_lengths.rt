@@ -16,6 +16,10 @@ const MOST_PERCENT: u64 = 105;
 // Lengths are changed by up to so many hundredths up or down, by a draw.
 const NOISE: u64 = 10;
 
+// Changed lengths are counted in hundredths of hundredths where the lengths sum to less than this, and else in as many
+// times as much as their sum is greater: so the sum stays below 2^63.
+const MOST_TOTAL: u64 = 1 << 49;
+
 /// A network that grows along shortest paths from so many starts where the edges are shorter by shares in percent of
 /// their lengths, and a little longer or shorter by a draw. That this is a network is not promised. The same arguments
 /// give the same edges. An `Err` is want of memory.
@@ -50,9 +54,11 @@ fn shared_edges(
     ensures { IfOk result (λ list. length list ≡ length g.now.edges) }
 {
     let mut list = EdgeList::empty(alloc);
+    let unit = (g.total() / MOST_TOTAL).saturating_add(1);
     for number in 0..g.edge_count() {
         let edge = g.edge(number);
-        let length = shared_length(edge.length, at(shares, number, 0), noise(number, draw));
+        let units = edge.length.checked_div(unit).unwrap_or(0);
+        let length = shared_length(units, at(shares, number, 0), noise(number, draw));
         list.push(Edge { length, ..edge })?;
     }
     Ok(list)

@@ -5,4 +5,4 @@ mod bound;
 mod method;
 
 pub use bound::Bound;
-pub use method::{Exchanged, Outcome, exchange, exchange_in};
+pub use method::{Exchanged, Outcome, exchange};

@@ -8,7 +8,6 @@ use crate::bound::{Bound, judged};
 use cut_groups::Tree;
 use flow_cuts::FlowCuts;
 use graph_lift::Smaller;
-use hanan_grid::Grid;
 use net_graph::{EdgeSet, NetGraph, Packing, length};
 use planar_cuts::PlanarCuts;
 use std::alloc::{AllocError, Global};
@@ -36,36 +35,12 @@ pub struct Exchanged {
 }
 
 /// Looks for a packing of a wanted value along a network, of which what it is more than the network's length counts for
-/// nothing; it begins with given cuts, of which nothing is asked. The graph is that of a grid, or one with the same
-/// vertices and edges, of which lengths may be others and terminals more. The exchange cleans the network first: an
-/// edge of each cycle goes, and what joins no terminal. Equal arguments give equal results. An `Err` is want of memory.
+/// nothing; it begins with given cuts, of which nothing is asked. The exchange cleans the network first: an edge of each
+/// cycle goes, and what joins no terminal. Where the numbers of the graph's vertices tell lines on which it is drawn, as
+/// those of a grid do, cheapest cuts are closed curves; else they are found by flows, in the smaller graph where there is
+/// one. Equal arguments give equal results. An `Err` is want of memory.
 pub fn exchange(
     alloc: Global,
-    grid: &Grid,
-    graph: &NetGraph,
-    network: &EdgeSet,
-    wanted: u64,
-    start: &Packing,
-    budget: Budget,
-) -> Result<Exchanged, AllocError>
-    requires { length network.now ≡ length graph.now.edges }
-    ensures { IfOk result (λ found. IsOutcomeFor graph.now (length_of graph.now network.now)
-        (min wanted (length_of graph.now network.now)) found.outcome) }
-{
-    let Some(tree) = Tree::of(alloc, graph, network)? else {
-        return Ok(without_tree(alloc));
-    };
-    let goal = goal_of(graph, network, wanted);
-    let mut finder = PlanarCuts::new(alloc, grid, &tree)?;
-    let settings = Settings::GRIDS;
-    let aims = goal.aims(start);
-    let proposal = propose(alloc, graph, tree, aims, &mut finder, settings, budget)?;
-    concluded(alloc, graph, goal, proposal)
-}
-
-/// The same along a network of any graph. It is carried out in the smaller graph where there is one.
-pub fn exchange_in(
-    alloc: Global,
     graph: &NetGraph,
     network: &EdgeSet,
     wanted: u64,
@@ -77,7 +52,7 @@ pub fn exchange_in(
         (min wanted (length_of graph.now network.now)) found.outcome) }
 {
     let goal = goal_of(graph, network, wanted);
-    match proposed(alloc, graph, network, wanted, start, budget)? {
+    match proposed(alloc, graph, network, goal.aims(start), budget)? {
         Some(proposal) => concluded(alloc, graph, goal, proposal),
         None => Ok(without_tree(alloc)),
     }
@@ -124,40 +99,85 @@ fn without_tree(alloc: Global) -> Exchanged
     }
 }
 
-// What an exchange in any graph proposes, found in the smaller graph where there is one. `None` where the network does
-// not join the terminals. An `Err` is want of memory.
+// What an exchange proposes. `None` where the network does not join the terminals. An `Err` is want of memory.
 fn proposed(
     alloc: Global,
     graph: &NetGraph,
     network: &EdgeSet,
-    wanted: u64,
-    start: &Packing,
+    aims: Aims<'_>,
     budget: Budget,
 ) -> Result<Option<Proposal>, AllocError>
     requires { length network.now ≡ length graph.now.edges }
     ensures { IfOk result (λ found. IfSome found (λ proposal.
         All (λ c. length c.members ≡ graph.now.vertices) proposal.packing)) }
 {
-    if let Some(smaller) = Smaller::of(alloc, graph)? {
-        let left = smaller.network(alloc, graph, network)?;
-        let lacking = wanted.saturating_sub(smaller.taken());
-        let below = smaller.below(alloc, start)?;
-        let small = smaller.graph();
-        if let Some(proposal) = proposed_along(alloc, small, &left, lacking, &below, budget)? {
-            return Ok(Some(lifted(alloc, graph, &smaller, &proposal)?));
-        }
+    if let Some(proposal) = proposed_on_lines(alloc, graph, network, aims, budget)? {
+        return Ok(Some(proposal));
     }
-    proposed_along(alloc, graph, network, wanted, start, budget)
+    if let Some(proposal) = proposed_below(alloc, graph, network, aims, budget)? {
+        return Ok(Some(proposal));
+    }
+    proposed_by_flows(alloc, graph, network, aims, budget)
 }
 
-// What an exchange proposes in this very graph. `None` where the network does not join the terminals. An `Err` is want
-// of memory.
-fn proposed_along(
+// What an exchange proposes with closed curves for cuts. `None` where the graph isn't drawn on lines, or the network does
+// not join the terminals. An `Err` is want of memory.
+fn proposed_on_lines(
     alloc: Global,
     graph: &NetGraph,
     network: &EdgeSet,
-    wanted: u64,
-    start: &Packing,
+    aims: Aims<'_>,
+    budget: Budget,
+) -> Result<Option<Proposal>, AllocError>
+    requires { length network.now ≡ length graph.now.edges }
+    ensures { IfOk result (λ found. IfSome found (λ proposal.
+        All (λ c. length c.members ≡ graph.now.vertices) proposal.packing)) }
+{
+    let Some(tree) = Tree::of(alloc, graph, network)? else {
+        return Ok(None);
+    };
+    let Some(mut finder) = PlanarCuts::new(alloc, graph, &tree)? else {
+        return Ok(None);
+    };
+    let settings = Settings::GRIDS;
+    let proposal = propose(alloc, graph, tree, aims, &mut finder, settings, budget)?;
+    Ok(Some(proposal))
+}
+
+// What an exchange proposes in the smaller graph, brought back to the given one. `None` where there is no smaller graph,
+// or the network does not join the terminals. An `Err` is want of memory.
+fn proposed_below(
+    alloc: Global,
+    graph: &NetGraph,
+    network: &EdgeSet,
+    aims: Aims<'_>,
+    budget: Budget,
+) -> Result<Option<Proposal>, AllocError>
+    requires { length network.now ≡ length graph.now.edges }
+    ensures { IfOk result (λ found. IfSome found (λ proposal.
+        All (λ c. length c.members ≡ graph.now.vertices) proposal.packing)) }
+{
+    let Some(smaller) = Smaller::of(alloc, graph)? else {
+        return Ok(None);
+    };
+    let small = smaller.graph();
+    let left = smaller.network(alloc, graph, network)?;
+    let start = smaller.below(alloc, aims.start)?;
+    let wanted = aims.wanted.saturating_sub(smaller.taken());
+    let goal = goal_of(small, &left, wanted);
+    match proposed_by_flows(alloc, small, &left, goal.aims(&start), budget)? {
+        Some(proposal) => Ok(Some(lifted(alloc, graph, &smaller, &proposal)?)),
+        None => Ok(None),
+    }
+}
+
+// What an exchange proposes with cuts that flows find. `None` where the network does not join the terminals. An `Err` is
+// want of memory.
+fn proposed_by_flows(
+    alloc: Global,
+    graph: &NetGraph,
+    network: &EdgeSet,
+    aims: Aims<'_>,
     budget: Budget,
 ) -> Result<Option<Proposal>, AllocError>
     requires { length network.now ≡ length graph.now.edges }
@@ -169,7 +189,6 @@ fn proposed_along(
     };
     let mut finder = FlowCuts::new(alloc, graph, &tree)?;
     let settings = Settings::GRAPHS;
-    let aims = goal_of(graph, network, wanted).aims(start);
     let proposal = propose(alloc, graph, tree, aims, &mut finder, settings, budget)?;
     Ok(Some(proposal))
 }

@@ -1,14 +1,15 @@
-//! Cheapest cuts as shortest closed curves in the dual of a grid (after Reif 1983), searched from
+//! Cheapest cuts as shortest closed curves in the dual of a graph that is drawn on lines (after Reif 1983), searched from
 //! both sides of the group's arc (after Pohl 1971) with buckets for queues (Dial 1969).
 
 use crate::faces::{Faces, Sides};
 use crate::front::{Front, Meeting, Search};
+use crate::lattice::Lattice;
 use crate::steps::{Direction, Steps};
-use cut_groups::{BLOCKED, CutFinder, NONE, Tree, Wanted, at};
-use hanan_grid::Grid;
+use cut_groups::{BLOCKED, CutFinder, NONE, Tree, Wanted, at, ends_of};
+use net_graph::NetGraph;
 use std::alloc::{AllocError, Global};
 
-/// Finds cheapest cuts on a grid.
+/// Finds cheapest cuts in a graph that is drawn on lines.
 #[derive(Drop)]
 pub struct PlanarCuts {
     // The faces to the left and to the right of each group's arc.
@@ -16,8 +17,9 @@ pub struct PlanarCuts {
     // The end on the right of the group's arc, and that on the left, which goes against the curve.
     ahead: Front,
     back: Front,
-    // How many searches there were.
+    // How many searches there were, and how many arcs they looked at.
     searches: u32,
+    looks: u64,
 }
 
 const NO_SIDES: Sides = Sides {
@@ -26,20 +28,31 @@ const NO_SIDES: Sides = Sides {
 };
 
 impl PlanarCuts {
-    /// What finds cuts on a grid with a tree. An `Err` is want of memory.
-    pub fn new(alloc: Global, grid: &Grid, tree: &Tree) -> Result<PlanarCuts, AllocError> {
+    /// What finds cuts in a graph with a tree; `None` where the numbers of its vertices don't tell the lines on which it
+    /// is drawn. An `Err` is want of memory.
+    pub fn new(
+        alloc: Global,
+        graph: &NetGraph,
+        tree: &Tree,
+    ) -> Result<Option<PlanarCuts>, AllocError> {
+        let Some(lattice) = Lattice::of(alloc, graph)? else {
+            return Ok(None);
+        };
+        let faces = Faces::of(alloc, &lattice)?;
         let mut sides = Vec::new(alloc);
         for group in 0..tree.groups() {
-            sides.push(sides_of(grid, tree.arc(group)))?;
+            let ends = ends_of(graph, tree.arc(group));
+            sides.push(faces.beside(ends.tail, ends.head))?;
         }
-        let along = Steps::of(alloc, grid, tree, Direction::Along)?;
-        let against = Steps::of(alloc, grid, tree, Direction::Against)?;
-        Ok(PlanarCuts {
+        let along = Steps::of(alloc, graph, &faces, tree, Direction::Along)?;
+        let against = Steps::of(alloc, graph, &faces, tree, Direction::Against)?;
+        Ok(Some(PlanarCuts {
             sides,
             ahead: Front::new(alloc, along)?,
             back: Front::new(alloc, against)?,
             searches: 0,
-        })
+            looks: 0,
+        }))
     }
 
     // Goes on from both ends to the cheapest curve. An `Err` is want of memory.
@@ -83,6 +96,10 @@ impl CutFinder for PlanarCuts {
         };
         let mut meeting = Meeting::at_first(sides.left, sides.right, limit);
         self.meet(search, &mut meeting)?;
+        self.looks = self
+            .looks
+            .wrapping_add(self.ahead.work)
+            .wrapping_add(self.back.work);
         entered.clear();
         if meeting.face == NONE {
             return Ok(None);
@@ -103,22 +120,6 @@ impl CutFinder for PlanarCuts {
     }
 
     fn looks(&self) -> u64 {
-        0
-    }
-}
-
-// The faces beside an arc.
-fn sides_of(grid: &Grid, arc: u32) -> Sides {
-    let Some(edge) = grid.graph().edges().get((arc / 2) as usize) else {
-        return NO_SIDES;
-    };
-    let sides = Faces::of(grid).beside(edge.a, edge.b);
-    if arc % 2 == 0 {
-        sides
-    } else {
-        Sides {
-            left: sides.right,
-            right: sides.left,
-        }
+        self.looks
     }
 }

@@ -2,8 +2,7 @@
 
 use crate::faces::Faces;
 use cut_groups::{NONE, Tree, add_at, at, count};
-use hanan_grid::Grid;
-use net_graph::Edge;
+use net_graph::{Edge, NetGraph};
 use std::alloc::{AllocError, Global};
 
 /// A step to a face.
@@ -43,17 +42,17 @@ pub const NO_STEP: Step = Step {
 };
 
 impl Steps {
-    /// The steps of one direction on a grid with a tree. An `Err` is want of memory.
+    /// The steps of one direction in a graph with these faces and with a tree. An `Err` is want of memory.
     pub fn of(
         alloc: Global,
-        grid: &Grid,
+        graph: &NetGraph,
+        faces: &Faces,
         tree: &Tree,
         direction: Direction,
     ) -> Result<Steps, AllocError> {
-        let faces = Faces::of(grid);
         let mut steps = Vec::new(alloc);
         let mut arc = 0u32;
-        for edge in grid.graph().edges() {
+        for edge in graph.edges() {
             push_both(&mut steps, faces, tree, *edge, arc, direction)?;
             arc = arc.wrapping_add(2);
         }
@@ -89,7 +88,7 @@ impl Steps {
 // Appends the steps across both arcs of an edge, of which `arc` is the first. An `Err` is want of memory.
 fn push_both(
     steps: &mut Vec<Step>,
-    faces: Faces,
+    faces: &Faces,
     tree: &Tree,
     edge: Edge,
     arc: u32,
