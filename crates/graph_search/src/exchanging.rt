@@ -9,7 +9,7 @@ ghost use Rattle.packing_judge.specs.Outcome.{IsOutcomeFor};
 
 use crate::raising::Raising;
 use crate::shortening::offer_shorter;
-use crate::splitting::Splitting;
+use crate::splitting::{Splitting, splits_next};
 use branch::Search;
 use dual_ascent::Rule;
 use net_graph::{NetGraph, Packing, length};
@@ -27,7 +27,8 @@ pub struct Exchanges<'a> {
     pub graph: &'a NetGraph,
     /// At most so many are made, each but the first against a shorter network, or with a new budget and other draws.
     pub most: u8,
-    /// Whether another one follows one that has spent its budget and led to no shorter network.
+    /// Whether another one follows one that has spent its budget and led to no shorter network, where the leaf can't be
+    /// split with packings made anew.
     pub goes_on: bool,
     /// What the first one may do, and each other one, of which each has a seed of its own.
     pub first: Budget,
@@ -49,25 +50,29 @@ impl Raising for Exchanges<'_> {
         search: &mut Search<'_, F, G>,
         openings: u8,
     ) -> Result<(), AllocError> {
-        let guesses = self.raise_first(alloc, search)?;
+        let guesses = self.raise_first(alloc, search, openings)?;
         self.splitting
             .split(alloc, self.graph, search, guesses, openings)
     }
 }
 
-// What a turn of exchanging comes to: whether another one may come, and what the exchange guesses.
+// What a turn of exchanging comes to: whether no other one may come, whether it has spent its budget and led to no shorter
+// network, and what the exchange guesses.
 #[derive(Drop)]
 struct Turn {
     is_last: bool,
+    is_spent: bool,
     guesses: Guesses,
 }
 
 impl Exchanges<'_> {
-    // Raises the first leaf of a search by exchanges, and tells what the last one guesses. An `Err` is want of memory.
+    // Raises the first leaf of a search with so many openings by exchanges, and tells what the last one guesses. An `Err`
+    // is want of memory.
     fn raise_first<F: Rule, G: Rule>(
         &self,
         alloc: Global,
         search: &mut Search<'_, F, G>,
+        openings: u8,
     ) -> Result<Guesses, AllocError>
         requires graph { self.now.graph.now ≡ search.old.graph }
         requires leaf { split_count search.old.tree ≡ 0 }
@@ -83,7 +88,7 @@ impl Exchanges<'_> {
             let budget = self.budget(exchange);
             let turn = self.raise_once(alloc, search, budget)?;
             guesses = turn.guesses;
-            if turn.is_last {
+            if turn.is_last || turn.is_spent && openings > 0 && splits_next(self.graph, search) {
                 break;
             }
         }
@@ -129,6 +134,7 @@ impl Exchanges<'_> {
         let Some(bound) = bound_of(outcome) else {
             return Ok(Turn {
                 is_last: true,
+                is_spent,
                 guesses: Guesses::none(alloc),
             });
         };
@@ -140,6 +146,7 @@ impl Exchanges<'_> {
         let is_shorter = length(graph, search.network()) < before;
         Ok(Turn {
             is_last: !(is_shorter || is_spent && self.goes_on),
+            is_spent: is_spent && !is_shorter,
             guesses: if further {
                 guesses
             } else {

@@ -248,8 +248,7 @@ fn vertex_for<F: Rule, G: Rule>(
     requires leaf { leaf < length (packings_of search.now.tree) }
     ensures { IfSome result (CanSplitAt search.now leaf) }
 {
-    let weight = total_weight(search.tree().packing(leaf).cuts());
-    if weight <= 2 * u128::from(graph.edge_count()) {
+    if !splits_anew(graph, search, leaf) {
         return None;
     }
     for vertex in &plan.guesses.vertices {
@@ -258,6 +257,23 @@ fn vertex_for<F: Rule, G: Rule>(
         }
     }
     None
+}
+
+/// Whether a search has an open leaf, and the cuts of the one of the least value have the weight for children whose
+/// packings are made anew.
+pub(crate) fn splits_next<F: Rule, G: Rule>(graph: &NetGraph, search: &Search<'_, F, G>) -> bool {
+    match search.next_open() {
+        Some(leaf) => splits_anew(graph, search, leaf),
+        None => false,
+    }
+}
+
+// Whether a leaf's cuts have the weight for children whose packings are made anew.
+fn splits_anew<F: Rule, G: Rule>(graph: &NetGraph, search: &Search<'_, F, G>, leaf: u32) -> bool
+    requires leaf { leaf < length (packings_of search.now.tree) }
+{
+    let weight = total_weight(search.tree().packing(leaf).cuts());
+    weight > 2 * u128::from(graph.edge_count())
 }
 
 // Offers a search a network, where it is one. An `Err` is want of memory.

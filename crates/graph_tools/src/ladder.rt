@@ -59,7 +59,7 @@ const SPLITTING: Splitting = Splitting {
 };
 
 // The looks of each exchange in a graph that is drawn on lines are so many divided by the square of the number of edges.
-const LOOKS_ON_LINES: u64 = 1_600_000_000_000_000;
+const LOOKS_ON_LINES: u64 = 1_200_000_000_000_000;
 
 // In how many descents a network is made shorter there once cuts were exchanged.
 const DESCENTS_ON_LINES: u32 = 10;
