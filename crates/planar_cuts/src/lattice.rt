@@ -63,8 +63,8 @@ impl Lattice {
     }
 }
 
-/// Whether the numbers of a graph's vertices tell lines on which it is drawn, so that its cheapest cuts are found fast. An
-/// `Err` is want of memory.
+/// Whether the numbers of a graph's vertices tell lines on which it is drawn, so that its cheapest cuts are found fast.
+/// An `Err` is want of memory.
 pub fn is_drawn_on_lines(alloc: Global, graph: &NetGraph) -> Result<bool, AllocError> {
     let lattice = Lattice::of(alloc, graph)?;
     Ok(lattice.is_some())

@@ -1,4 +1,4 @@
-//! Cheapest cuts of the groups of a tree in a graph that is drawn on lines, as shortest closed curves in the planar dual,
+//! Cheapest cuts of the groups of a tree in a graph that is drawn on lines, as shortest closed curves in the dual,
 //! searched from both ends.
 #![tactic(auto)]
 

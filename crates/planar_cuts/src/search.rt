@@ -1,5 +1,5 @@
-//! Cheapest cuts as shortest closed curves in the dual of a graph that is drawn on lines (after Reif 1983), searched from
-//! both sides of the group's arc (after Pohl 1971) with buckets for queues (Dial 1969).
+//! Cheapest cuts as shortest closed curves in the dual of a graph that is drawn on lines (after Reif 1983), searched
+//! from both sides of the group's arc (after Pohl 1971) with buckets for queues (Dial 1969).
 
 use crate::faces::{Faces, Sides};
 use crate::front::{Front, Meeting, Search};
@@ -28,8 +28,8 @@ const NO_SIDES: Sides = Sides {
 };
 
 impl PlanarCuts {
-    /// What finds cuts in a graph with a tree; `None` where the numbers of its vertices don't tell the lines on which it
-    /// is drawn. An `Err` is want of memory.
+    /// What finds cuts in a graph with a tree; `None` where the numbers of its vertices don't tell the lines on which
+    /// it is drawn. An `Err` is want of memory.
     pub fn new(
         alloc: Global,
         graph: &NetGraph,

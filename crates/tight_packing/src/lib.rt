@@ -14,7 +14,6 @@ mod marks;
 mod method;
 mod multipliers;
 mod pool;
-mod random;
 mod rounding;
 mod rounds;
 mod scale;

@@ -36,9 +36,9 @@ pub struct Aims<'a> {
 }
 
 /// Looks for a packing of a wanted value along a network of a graph, given by its tree: in coarse units first, where
-/// lengths have many digits, and then in finer ones from the cuts that were found, unless a fine one shows that there is
-/// no packing. Where the network's length is over 2^53 times the greatest common divisor of the lengths of edges, these
-/// are rounded down, and the value stays below. Equal arguments give equal results. An `Err` is want of memory.
+/// lengths have many digits, and then in finer ones from the cuts that were found, unless a fine one shows that there
+/// is no packing. Where the network's length is over 2^53 times the greatest common divisor of the lengths of edges,
+/// these are rounded down, and the value stays below. Equal arguments give equal results. An `Err` is want of memory.
 pub fn propose<F: CutFinder>(
     alloc: Global,
     graph: &NetGraph,

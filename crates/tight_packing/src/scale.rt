@@ -16,7 +16,7 @@ const STEP_BITS: u32 = 10;
 
 const MOST_STEPS_DOWN: u32 = 4;
 
-// Coarse units are at least 2 to this many fine ones.
+// Coarse units are more than 2 to this many fine ones.
 const LEAST_BITS: u32 = 2;
 
 // Where a network is about 2 to this many units long, what is rounded off hides no packing.

@@ -5,12 +5,11 @@ use crate::kept::Kept;
 use crate::line::Line;
 use crate::loads::Loads;
 use crate::pool::Pool;
-use crate::random::Random;
 use crate::scale::Scale;
 use crate::settings::Settings;
 use crate::tidy::Tidier;
 use crate::units::Units;
-use cut_groups::Tree;
+use cut_groups::{Random, Tree};
 use net_graph::NetGraph;
 use std::alloc::{AllocError, Global};
 

@@ -1,8 +1,7 @@
 //! The unit search: a tabu search (Glover 1986) that moves single units off overloaded arcs.
 
-use crate::random::Random;
 use crate::state::State;
-use cut_groups::{CutFinder, NONE, at, count};
+use cut_groups::{CutFinder, NONE, Random, at, count};
 use std::alloc::AllocError;
 
 // A search ends after so many steps without a new best.
@@ -114,7 +113,11 @@ impl State {
                 break;
             }
             if to != from && !self.units.rests(to, step) {
-                if let Some(loss) = self.units.loss(&self.pool, to, arc) {
+                // A move that changes more than the best one isn't looked at to the end.
+                let most = pick.change.saturating_add(gain);
+                if self.units.least_loss(to) > most {
+                    pick.pass();
+                } else if let Some(loss) = self.units.loss(&self.pool, to, arc, most) {
                     pick.offer(loss.wrapping_sub(gain), from, to, &mut self.random);
                 }
             }
@@ -124,6 +127,11 @@ impl State {
 }
 
 impl Pick {
+    // Counts a move that is worse.
+    fn pass(&mut self) {
+        self.pairs = self.pairs.saturating_add(1);
+    }
+
     // Takes a move into account.
     fn offer(&mut self, change: i64, from: u32, to: u32, random: &mut Random) {
         self.pairs = self.pairs.saturating_add(1);

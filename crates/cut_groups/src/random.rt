@@ -1,6 +1,6 @@
 //! Drawn numbers, from a seed: equal inputs give equal results.
 
-use cut_groups::{at, set};
+use crate::cells::{at, set};
 use rand_core::utils::NextWord;
 use rand_pcg::Pcg32;
 
