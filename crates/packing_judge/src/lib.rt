@@ -1,8 +1,12 @@
-//! Packings that an exchange proposes, judged: nothing rests on how they were found.
+//! Packings that an exchange or an ascent along a network proposes, judged: nothing rests on how they were found.
 #![tactic(auto)]
 
 mod bound;
+mod guiding;
 mod method;
+mod outcome;
 
 pub use bound::Bound;
-pub use method::{Exchanged, Outcome, exchange};
+pub use guiding::guided;
+pub use method::{Exchanged, exchange};
+pub use outcome::Outcome;
