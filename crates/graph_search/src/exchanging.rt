@@ -1,12 +1,13 @@
 //! Exchanges of cuts that raise the first leaf of a search.
 
-ghost use Rattle.std.specs.Prelude.{ℕ, ◌≡◌, ◌<◌, false, IfOk, IfSome};
+ghost use Rattle.std.specs.Prelude.{ℕ, ◌≡◌, ◌<◌, IfOk, IfSome};
 ghost use Rattle.net_graph.specs.Graph.{Graph};
 ghost use Rattle.net_graph.specs.Network.{length_of};
 ghost use Rattle.cert_tree.specs.Preorder.{split_count};
 ghost use Rattle.packing_judge.specs.Bound.{IsBoundOf};
 ghost use Rattle.packing_judge.specs.Outcome.{IsOutcomeFor};
 
+use crate::guiding::raise_along_network;
 use crate::raising::Raising;
 use crate::shortening::offer_shorter;
 use crate::splitting::{Splitting, splits_next};
@@ -20,13 +21,16 @@ use tight_packing::{Budget, Guesses};
 
 /// Exchanges that raise a search as long as it isn't settled: each first leaf is the better one of that at hand and of
 /// an ascent that begins with what an exchange finds. Where that leads to a shorter network, or has spent its budget
-/// and is to go on, another exchange follows. Where they leave a gap, leaves are split.
+/// and is to go on, another exchange follows. Before each exchange some ascents are made along the network, which may
+/// come up to its length in less time. Where they leave a gap, leaves are split.
 #[derive(Clone, Copy)]
 pub struct Exchanges<'a> {
     /// The graph of the search.
     pub graph: &'a NetGraph,
     /// At most so many are made, each but the first against a shorter network, or with a new budget and other draws.
     pub most: u8,
+    /// At most so many ascents are made along the network before each.
+    pub ascents: u8,
     /// Whether another one follows one that has spent its budget and led to no shorter network, where the leaf can't be
     /// split with packings made anew.
     pub goes_on: bool,
@@ -56,18 +60,27 @@ impl Raising for Exchanges<'_> {
     }
 }
 
-// What a turn of exchanging comes to: whether no other one may come, whether it has spent its budget and led to no shorter
-// network, and what the exchange guesses.
+// How a turn of exchanging ended.
+#[derive(Clone, Copy, PartialEq, Eq)]
+enum TurnEnd {
+    // It led to a shorter network, for which no cuts were exchanged yet.
+    Shorter,
+    // It spent its budget, and led to no shorter network.
+    Spent,
+    // It told that there is a packing of the network's length, or that there is none.
+    Decided,
+}
+
+// What a turn of exchanging comes to: how it ended, and what the exchange guesses.
 #[derive(Drop)]
 struct Turn {
-    is_last: bool,
-    is_spent: bool,
+    end: TurnEnd,
     guesses: Guesses,
 }
 
 impl Exchanges<'_> {
-    // Raises the first leaf of a search with so many openings by exchanges, and tells what the last one guesses. An `Err`
-    // is want of memory.
+    // Raises the first leaf of a search with so many openings by exchanges, and tells what the last one guesses. An
+    // `Err` is want of memory.
     fn raise_first<F: Rule, G: Rule>(
         &self,
         alloc: Global,
@@ -82,17 +95,32 @@ impl Exchanges<'_> {
     {
         let mut guesses = Guesses::none(alloc);
         for exchange in 0..self.most {
+            raise_along_network(alloc, self.graph, search, self.ascents)?;
             if search.is_settled() {
                 break;
             }
             let budget = self.budget(exchange);
             let turn = self.raise_once(alloc, search, budget)?;
             guesses = turn.guesses;
-            if turn.is_last || turn.is_spent && openings > 0 && splits_next(self.graph, search) {
+            if !self.goes_on_after(turn.end, search, openings) {
                 break;
             }
         }
         Ok(guesses)
+    }
+
+    // Whether another exchange may follow a turn that ended so, where so many openings are allowed.
+    fn goes_on_after<F: Rule, G: Rule>(
+        &self,
+        end: TurnEnd,
+        search: &Search<'_, F, G>,
+        openings: u8,
+    ) -> bool {
+        match end {
+            TurnEnd::Shorter => true,
+            TurnEnd::Spent => self.goes_on && !(openings > 0 && splits_next(self.graph, search)),
+            TurnEnd::Decided => false,
+        }
     }
 
     // What the exchange of a number, counted from 0, may do.
@@ -106,8 +134,7 @@ impl Exchanges<'_> {
         }
     }
 
-    // Raises a search by what an exchange along its network comes to. It is not the last where it led to a shorter
-    // network, or where the budget was spent and exchanges then go on. An `Err` is want of memory.
+    // Raises a search by what an exchange along its network comes to. An `Err` is want of memory.
     fn raise_once<F: Rule, G: Rule>(
         &self,
         alloc: Global,
@@ -118,7 +145,7 @@ impl Exchanges<'_> {
         requires leaf { split_count search.old.tree ≡ 0 }
         ensures further { IfOk result (λ turn.
             length_of search.old.graph search.new.network < length_of search.old.graph search.old.network
-            → turn.is_last ≡ false) }
+            → turn.end ≡ TurnEnd.Shorter) }
         ensures graph { search.new.graph ≡ search.old.graph }
         ensures first { search.new.first_length ≡ search.old.first_length }
         ensures leaf { split_count search.new.tree ≡ 0 }
@@ -133,8 +160,7 @@ impl Exchanges<'_> {
         let further = self.splitting.may_follow(&outcome);
         let Some(bound) = bound_of(outcome) else {
             return Ok(Turn {
-                is_last: true,
-                is_spent,
+                end: TurnEnd::Decided,
                 guesses: Guesses::none(alloc),
             });
         };
@@ -143,10 +169,15 @@ impl Exchanges<'_> {
             offer_shorter(alloc, graph, self.descents, search)?;
             self.offer_by_shares(alloc, guesses.shares.as_slice(), search)?;
         }
-        let is_shorter = length(graph, search.network()) < before;
+        let end = if length(graph, search.network()) < before {
+            TurnEnd::Shorter
+        } else if is_spent {
+            TurnEnd::Spent
+        } else {
+            TurnEnd::Decided
+        };
         Ok(Turn {
-            is_last: !(is_shorter || is_spent && self.goes_on),
-            is_spent: is_spent && !is_shorter,
+            end,
             guesses: if further {
                 guesses
             } else {

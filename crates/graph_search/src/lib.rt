@@ -4,7 +4,9 @@
 
 mod answering;
 mod exchanging;
+mod guiding;
 mod on_grid;
+mod on_lines;
 mod raising;
 mod search;
 mod shortening;

@@ -13,8 +13,11 @@ use tight_packing::Budget;
 // In how many descents of local search a network that the first leaf shows is made shorter at most.
 const DESCENTS: u32 = 20;
 
-// So many exchanges are made at most in a graph that isn't drawn on lines: a network that is a little too long takes some
-// of them.
+// So many ascents are made along a network before cuts are exchanged along it.
+const MOST_ASCENTS: u8 = 3;
+
+// So many exchanges are made at most in a graph that isn't drawn on lines: a network that is a little too long takes
+// some of them.
 const MOST_EXCHANGES: u8 = 6;
 
 // In so many draws networks are grown by the shares that an exchange guesses.
@@ -58,14 +61,22 @@ const SPLITTING: Splitting = Splitting {
     descents: DESCENTS,
 };
 
-// The looks of each exchange in a graph that is drawn on lines are so many divided by the square of the number of edges.
-const LOOKS_ON_LINES: u64 = 1_200_000_000_000_000;
+// The looks of each exchange in a graph that is drawn on lines are so many divided by the square of the number of
+// edges.
+const LOOKS_ON_LINES: u64 = 800_000_000_000_000;
+
+// So many rounds are played there for each terminal at most, and so many in an exchange for a child of a split. Where
+// the network is a little too long or there is a gap, rounds are played in vain; what can be closed takes fewer rounds
+// the fewer groups there are.
+const ROUNDS: u32 = 12;
+
+const CHILD_ROUNDS: u32 = 3;
 
 // In how many descents a network is made shorter there once cuts were exchanged.
 const DESCENTS_ON_LINES: u32 = 10;
 
 /// The steps that raise a search in a graph, each where the ones before didn't settle it: a local search makes the
-/// network that the first leaf shows shorter; then cuts are exchanged.
+/// network that the first leaf shows shorter; ascents are made along the network; then cuts are exchanged along it.
 #[derive(Clone, Copy)]
 pub(crate) struct Ladder<'a> {
     pub graph: &'a NetGraph,
@@ -101,22 +112,33 @@ fn exchanges_on_lines(graph: &NetGraph) -> Exchanges<'_>
     let looks = looks_in(graph, LOOKS_ON_LINES);
     let usual = Exchanges::on_lines(graph);
     Exchanges {
+        ascents: MOST_ASCENTS,
         goes_on: false,
         first: Budget {
             looks,
-            ..usual.first
+            ..with_rounds(usual.first, graph, ROUNDS)
         },
         further: Budget {
             looks,
-            ..usual.further
+            ..with_rounds(usual.further, graph, ROUNDS)
         },
         descents: DESCENTS_ON_LINES,
         splitting: Splitting {
             edge_splits: SPLITTING.edge_splits,
             descents: DESCENTS,
+            budget: with_rounds(usual.splitting.budget, graph, CHILD_ROUNDS),
             ..usual.splitting
         },
         ..usual
+    }
+}
+
+// A budget with no more than so many rounds for each terminal of a graph.
+fn with_rounds(budget: Budget, graph: &NetGraph, rounds: u32) -> Budget {
+    let terminals = u32::try_from(graph.terminal_count()).unwrap_or(u32::MAX);
+    Budget {
+        rounds: budget.rounds.min(terminals.saturating_mul(rounds)),
+        ..budget
     }
 }
 
@@ -128,6 +150,7 @@ fn exchanges_by_flows(graph: &NetGraph) -> Exchanges<'_>
     Exchanges {
         graph,
         most: MOST_EXCHANGES,
+        ascents: MOST_ASCENTS,
         goes_on: false,
         first: Budget {
             looks,

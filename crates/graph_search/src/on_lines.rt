@@ -1,0 +1,62 @@
+//! How much is exchanged in a graph that is drawn on lines.
+
+ghost use Rattle.std.specs.Prelude.{◌≡◌};
+
+use crate::exchanging::Exchanges;
+use crate::splitting::Splitting;
+use net_graph::NetGraph;
+use tight_packing::Budget;
+
+// So many exchanges are made at most.
+const MOST_EXCHANGES: u8 = 3;
+
+// What each but the first may do, with other draws.
+const FURTHER_BUDGET: Budget = Budget {
+    rounds: 200,
+    searches: 200_000,
+    looks: u64::MAX,
+    moves: 2_000_000,
+    seed: 20240608,
+};
+
+// In how many descents a network is made shorter at most: about what gains nearly all at 50 points.
+const DESCENTS: u32 = 100;
+
+// In so many draws networks are grown by the shares that an exchange guesses which leaves a gap: what full trees of few
+// members don't make is found so.
+const DRAWS: u32 = 5;
+
+// How leaves are split.
+const SPLITTING: Splitting = Splitting {
+    most: 60,
+    edge_splits: 75_000,
+    after_spent: true,
+    budget: Budget {
+        rounds: 120,
+        searches: 200_000,
+        looks: u64::MAX,
+        moves: 2_000_000,
+        seed: 20240609,
+    },
+    draws: 4,
+    descents: DESCENTS,
+};
+
+impl<'a> Exchanges<'a> {
+    /// Exchanges as they fit a graph that is drawn on lines, of which the cheapest cuts are found fast.
+    pub fn on_lines(graph: &'a NetGraph) -> Exchanges<'a>
+        ensures { result.graph.now ≡ graph.now }
+    {
+        Exchanges {
+            graph,
+            most: MOST_EXCHANGES,
+            ascents: 0,
+            goes_on: true,
+            first: Budget::USUAL,
+            further: FURTHER_BUDGET,
+            draws: DRAWS,
+            descents: DESCENTS,
+            splitting: SPLITTING,
+        }
+    }
+}
