@@ -106,7 +106,7 @@ fn packing_facts(
         return Err(Fault::NotAllowed);
     }
     Ok(PackingFacts {
-        feasible: feasible(alloc, g, d, p)?,
+        feasible: feasible(g, d, p),
         value: value(g, d, p),
         maximal: maximal(alloc, g, d, p)?,
     })

@@ -16,16 +16,6 @@ IsOfInside d arc = slice_get d.edges (arc.number / 2) ≡ Some Inside
 abbrev pub NoneInsideBelow : Decided → List Arc → ℕ → Type 0
 NoneInsideBelow d arcs bound = (k : ℕ) (other : Arc) → k < bound → IsOfInside d (get_or arcs k other) → ⊥
 
--- an arc of an inside edge leads from an end of it
-pub arc-ends_inside : (g : Graph) (d : Decided) (v : ℕ) (arc : Arc) → IsArcOf g.edges arc × (arc.from ≡ v) →
-    IsOfInside d arc → EndsInside g d v
-arc-ends_inside g d v arc ((n, e, at, inl is), from) inside =
-    let half : arc.number / 2 ≡ n = let number = ap (λ (a : Arc). a.number) is in omega arith in
-    (n, e, subst (λ k. slice_get d.edges k ≡ Some Inside) half inside, at, inl (ap (λ (a : Arc). a.from) (sym is) ∙ from))
-arc-ends_inside g d v arc ((n, e, at, inr is), from) inside =
-    let half : arc.number / 2 ≡ n = let number = ap (λ (a : Arc). a.number) is in omega arith in
-    (n, e, subst (λ k. slice_get d.edges k ≡ Some Inside) half inside, at, inr (ap (λ (a : Arc). a.from) (sym is) ∙ from))
-
 -- from an end of an inside edge an arc of it leads
 ends_inside-arc : (g : Graph) (d : Decided) (v : ℕ) → EndsInside g d v →
     (arc : Arc) × IsArcOf g.edges arc × (arc.from ≡ v) × IsOfInside d arc

@@ -1,6 +1,6 @@
 //! Whether a packing of cuts is feasible.
 
-ghost use Rattle.std.specs.Prelude.{◌≡◌, ◌<◌, ◌≤◌, ◌^◌, ◌↔◌, ℕ, true, length, All, Contains, IfOk, IsTrue};
+ghost use Rattle.std.specs.Prelude.{◌≡◌, ◌<◌, ◌↔◌, ℕ, true, length, All, Contains, IsTrue};
 ghost use Rattle.net_graph.specs.Flags.{has};
 ghost use Rattle.net_graph.specs.Decision.{IsDecisionFor, IsRequired, IsMet, EndsInside};
 ghost use Rattle.net_graph.specs.Packing.{IsCut, IsWithinRoom, IsFeasible};
@@ -13,26 +13,15 @@ use crate::graph::NetGraph;
 use crate::packing::{Cut, Packing};
 use crate::sets::VertexSet;
 use crate::state::EdgeState;
-use std::alloc::{AllocError, Global};
 
 /// Whether a packing is feasible: each member is a cut with a weight of at least 1, and no arc is loaded above its
-/// room. The time grows with the number of edges times that of cuts. An `Err` is want of memory.
-pub fn feasible(_alloc: Global, g: &NetGraph, d: &Decision, p: &Packing) -> Result<bool, AllocError>
+/// room. The time grows with the number of edges times that of cuts. It takes no memory.
+pub fn feasible(g: &NetGraph, d: &Decision, p: &Packing) -> bool
     requires decision { IsDecisionFor g.now d.now }
     requires members { All (λ c. length c.members ≡ g.now.vertices) p.now }
-    requires few_cuts { length p.now ≤ 2 ^ 32 }
-    ensures { IfOk result (λ yes. IsTrue yes ↔ IsFeasible g.now d.now p.now) }
+    ensures { IsTrue result ↔ IsFeasible g.now d.now p.now }
 {
-    Ok(is_feasible(g, d, p.cuts()))
-}
-
-// The same. It takes no memory.
-fn is_feasible(g: &NetGraph, d: &Decision, cuts: &[Cut]) -> bool
-    requires decision { IsDecisionFor g.now d.now }
-    requires members { All (λ c. length c.members ≡ g.now.vertices) cuts.now }
-    requires few_cuts { length cuts.now ≤ 2 ^ 32 }
-    ensures { IsTrue result ↔ IsFeasible g.now d.now cuts.now }
-{
+    let cuts = p.cuts();
     are_cuts(g, d, cuts) && edges_within_room(g, d, cuts)
 }
 
@@ -107,7 +96,6 @@ fn holds_met(d: &Decision, members: &VertexSet) -> bool
 fn edges_within_room(g: &NetGraph, d: &Decision, cuts: &[Cut]) -> bool
     requires decision { IsDecisionFor g.now d.now }
     requires members { All (λ c. length c.members ≡ g.now.vertices) cuts.now }
-    requires few_cuts { length cuts.now ≤ 2 ^ 32 }
     ensures { IsTrue result ↔ ((n : ℕ) → KeepsRoom g.now d.now cuts.now n) }
 {
     for n in 0..g.edge_count() {
@@ -123,7 +111,6 @@ fn edge_within_room(g: &NetGraph, d: &Decision, cuts: &[Cut], n: u32) -> bool
     requires edge { n < length g.now.edges }
     requires decision { IsDecisionFor g.now d.now }
     requires members { All (λ c. length c.members ≡ g.now.vertices) cuts.now }
-    requires few_cuts { length cuts.now ≤ 2 ^ 32 }
     ensures { IsTrue result ↔ KeepsRoom g.now d.now cuts.now n }
 {
     let e = g.edge(n);
@@ -146,7 +133,6 @@ fn within_room(state: EdgeState, e: Edge, load: u128) -> bool
 fn load(cuts: &[Cut], u: u32, v: u32) -> u128
     requires from { All (λ c. u < length c.members) cuts.now }
     requires to { All (λ c. v < length c.members) cuts.now }
-    requires few_cuts { length cuts.now ≤ 2 ^ 32 }
     ensures { result ≡ packing.load cuts.now u v }
 {
     let mut sum = 0;

@@ -31,6 +31,17 @@ impl EdgeSet {
         Ok(EdgeSet { flags })
     }
 
+    /// The set of all `size` edges. An error comes where memory is short.
+    pub fn full(alloc: Global, size: u32) -> Result<EdgeSet, AllocError>
+        ensures { IfOk result (λ s. s ≡ replicate size true) }
+    {
+        let mut all = EdgeSet::empty(alloc, size)?;
+        for n in 0..size {
+            all.add(n);
+        }
+        Ok(all)
+    }
+
     /// The size: the number of edges that may be in the set.
     pub fn len(&self) -> u32
         ensures { result ≡ length self.now }

@@ -27,7 +27,7 @@ pub(crate) fn judged(
         return Ok(None);
     }
     let decision = Decision::none(alloc, graph)?;
-    if !feasible(alloc, graph, &decision, &packing)? {
+    if !feasible(graph, &decision, &packing) {
         return Ok(None);
     }
     let value = value(graph, &decision, &packing);

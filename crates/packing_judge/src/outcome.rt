@@ -76,7 +76,7 @@ impl Goal {
 
     // Whether a value is at least the wanted one, and no network's length is passed by it.
     fn is_reached(self, value: u128) -> bool
-        ensures { IsTrue result → (self.wanted ≤ value) × (value ≤ self.length) }
+        ensures { IsTrue result ↔ (self.wanted ≤ value) × (value ≤ self.length) }
     {
         u128::from(self.wanted) <= value && value <= u128::from(self.length)
     }
