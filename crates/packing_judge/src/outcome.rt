@@ -1,6 +1,6 @@
 //! How what looks for a packing ends.
 
-ghost use Rattle.std.specs.Prelude.{◌≡◌, ◌≤◌, All, min, length, IfOk, IsTrue};
+ghost use Rattle.std.specs.Prelude.{◌≡◌, ◌≤◌, ◌↔◌, All, min, length, IfOk, IsTrue};
 ghost use Rattle.net_graph.specs.Network.{length_of};
 ghost use Rattle.packing_judge.specs.Outcome.{IsOutcomeFor};
 
