@@ -152,7 +152,7 @@ fn better_of<F: Rule>(
     ensures note { IfOk result (λ better. IsNoteOf g.now (leaf_under now better.packing) better.note) }
     ensures anew { IfOk result (λ better. better.note.is_anew ≡ true) }
 {
-    if offered.len() > 2 * g.edge_count() as usize || !feasible(alloc, g, &now, &offered)? {
+    if offered.len() > 2 * g.edge_count() as usize || !feasible(g, &now, &offered) {
         return Ok(leaf);
     }
     let costs = ReducedCosts::of(alloc, g, &now, &offered)?;
