@@ -56,11 +56,11 @@ commands_are_simple tool.Fst2graph = refl
 commands_are_simple tool.Plot = refl
 commands_are_simple tool.Trial = refl
 commands_are_simple tool.Upgrade = refl
-commands_are_simple tool.Slack = refl
 commands_are_simple tool.Graph = refl
 commands_are_simple tool.Checkgraph = refl
 commands_are_simple tool.Reduce = refl
 commands_are_simple tool.Obstacles = refl
+commands_are_simple tool.Slack = refl
 
 -- the command took the words
 pub taken : (t : Tool) (words : List Text) (app : App) (rows : List Row) → app ≡ command_of t → fault_of app words ≡ [] → rows ≡ matches_of app words
@@ -200,12 +200,12 @@ limits tool.Fst2graph old m p is = tt
 limits tool.Plot old m p is = free (first_of (codes "points") (rows_of (found_of m))) Request.Plot (λ x. tt)
 limits tool.Trial old m p is = drawing_limits (rows_of (found_of m)) Request.Trial (λ d h. h) (count_within tool.Trial old m p is count_parser)
 limits tool.Upgrade old m p is = free (first_of (codes "points") (rows_of (found_of m))) Request.Upgrade (λ x. tt)
-limits tool.Slack old m p is =
-    free (ascent_in (rows_of (found_of m))) (Request.Slack (number_in 64 (codes "above") (rows_of (found_of m)))) (λ x. tt)
 limits tool.Graph old m p is = free (graph_in (rows_of (found_of m))) Request.Graph (λ x. tt)
 limits tool.Checkgraph old m p is = free (first_of (codes "stp") (rows_of (found_of m))) Request.Checkgraph (λ x. tt)
 limits tool.Reduce old m p is = free (truth_in (codes "solve") (rows_of (found_of m))) Request.Reduce (λ x. tt)
 limits tool.Obstacles old m p is = obstacles_limits (truth_in (codes "stp") (rows_of (found_of m))) (rows_of (found_of m))
+limits tool.Slack old m p is =
+    free (ascent_in (rows_of (found_of m))) (Request.Slack (number_in 64 (codes "above") (rows_of (found_of m)))) (λ x. tt)
 
 -- ---- what the code holds
 

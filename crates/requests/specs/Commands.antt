@@ -24,16 +24,16 @@ name_of tool.Fst2graph = codes "fst2graph"
 name_of tool.Plot = codes "plot"
 name_of tool.Trial = codes "trial"
 name_of tool.Upgrade = codes "upgrade"
-name_of tool.Slack = codes "slack"
 name_of tool.Graph = codes "graph"
 name_of tool.Checkgraph = codes "checkgraph"
 name_of tool.Reduce = codes "reduce"
 name_of tool.Obstacles = codes "obstacles"
+name_of tool.Slack = codes "slack"
 
 abbrev pub all_tools : List Tool
 all_tools = tool.Points ∷ tool.Stp2points ∷ tool.Rfst ∷ tool.Prunefst ∷ tool.Bb ∷ tool.Solve ∷ tool.Check ∷ tool.Dumpfst
-    ∷ tool.Fst2graph ∷ tool.Plot ∷ tool.Trial ∷ tool.Upgrade ∷ tool.Slack ∷ tool.Graph
-    ∷ tool.Checkgraph ∷ tool.Reduce ∷ tool.Obstacles ∷ []
+    ∷ tool.Fst2graph ∷ tool.Plot ∷ tool.Trial ∷ tool.Upgrade ∷ tool.Graph
+    ∷ tool.Checkgraph ∷ tool.Reduce ∷ tool.Obstacles ∷ tool.Slack ∷ []
 
 -- the tool of this name
 abbrev pub tool_named : Text → Option Tool
@@ -126,11 +126,11 @@ arguments_of tool.Fst2graph = []
 arguments_of tool.Plot = points_rule ∷ []
 arguments_of tool.Trial = drawing_rules
 arguments_of tool.Upgrade = points_rule ∷ []
-arguments_of tool.Slack = above_rule ∷ ascent_rule ∷ []
 arguments_of tool.Graph = graph_rules
 arguments_of tool.Checkgraph = stp_rule ∷ []
 arguments_of tool.Reduce = solve_rule ∷ []
 arguments_of tool.Obstacles = as_stp_rule ∷ graph_rules
+arguments_of tool.Slack = above_rule ∷ ascent_rule ∷ []
 
 -- the command with further arguments
 abbrev pub with_rules : App → List Rule → App

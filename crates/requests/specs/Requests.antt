@@ -31,11 +31,11 @@ pub data Request : Type 0 where
   Plot : (points : Text) → Request
   Trial : Drawing → Request
   Upgrade : (points : Text) → Request
-  Slack : (above : Option ℕ) → AscentRule → Request
   Graph : GraphOptions → Request
   Checkgraph : (graph : Text) → Request
   Reduce : (solve : Bool) → Request
   Obstacles : (stp : Bool) → GraphOptions → Request
+  Slack : (above : Option ℕ) → AscentRule → Request
 
 -- the request of the code, which holds a file's name by reference
 abbrev pub meaning : Asked → Request
@@ -51,11 +51,11 @@ meaning asked.Fst2graph = Request.Fst2graph
 meaning (asked.Plot points) = Request.Plot points.now
 meaning (asked.Trial drawing) = Request.Trial drawing
 meaning (asked.Upgrade points) = Request.Upgrade points.now
-meaning (asked.Slack above ascent) = Request.Slack above ascent
 meaning (asked.Graph choices) = Request.Graph choices
 meaning (asked.Checkgraph graph) = Request.Checkgraph graph.now
 meaning (asked.Reduce solve) = Request.Reduce solve
 meaning (asked.Obstacles stp search) = Request.Obstacles stp search
+meaning (asked.Slack above ascent) = Request.Slack above ascent
 
 -- ---- a tool's request, by the values of its arguments
 
@@ -101,12 +101,12 @@ request_by tool.Fst2graph rows = Some Request.Fst2graph
 request_by tool.Plot rows = option_map Request.Plot (first_of (codes "points") rows)
 request_by tool.Trial rows = option_map Request.Trial (drawing_in rows)
 request_by tool.Upgrade rows = option_map Request.Upgrade (first_of (codes "points") rows)
-request_by tool.Slack rows = option_map (Request.Slack (number_in 64 (codes "above") rows)) (ascent_in rows)
 request_by tool.Graph rows = option_map Request.Graph (graph_in rows)
 request_by tool.Checkgraph rows = option_map Request.Checkgraph (first_of (codes "stp") rows)
 request_by tool.Reduce rows = option_map Request.Reduce (truth_in (codes "solve") rows)
 request_by tool.Obstacles rows = option_and_then (λ stp. option_map (Request.Obstacles stp) (graph_in rows))
     (truth_in (codes "stp") rows)
+request_by tool.Slack rows = option_map (Request.Slack (number_in 64 (codes "above") rows)) (ascent_in rows)
 
 -- ---- the words
 

@@ -99,15 +99,6 @@ pub(crate) fn upgrade<'a>(alloc: Global) -> Result<Command<'a>, AllocError>
     Command::new(alloc, "upgrade").arg(points_file(alloc))
 }
 
-/// `slack [--above LENGTH] [--ascent RULE]`
-pub(crate) fn slack<'a>(alloc: Global) -> Result<Command<'a>, AllocError>
-    ensures { IfOk result (λ command. app_of command ≡ command_of tool.Slack) }
-{
-    Command::new(alloc, "slack")
-        .arg(above(alloc))?
-        .arg(ascent(alloc))
-}
-
 /// `graph [--openings COUNT] [--ascent RULE] [--split RULE]`
 pub(crate) fn graph<'a>(alloc: Global) -> Result<Command<'a>, AllocError>
     ensures { IfOk result (λ command. app_of command ≡ command_of tool.Graph) }
@@ -135,6 +126,15 @@ pub(crate) fn obstacles<'a>(alloc: Global) -> Result<Command<'a>, AllocError>
 {
     let command = Command::new(alloc, "obstacles");
     choosing(alloc, command.arg(as_stp(alloc))?.arg(openings(alloc))?)
+}
+
+/// `slack [--above LENGTH] [--ascent RULE]`
+pub(crate) fn slack<'a>(alloc: Global) -> Result<Command<'a>, AllocError>
+    ensures { IfOk result (λ command. app_of command ≡ command_of tool.Slack) }
+{
+    Command::new(alloc, "slack")
+        .arg(above(alloc))?
+        .arg(ascent(alloc))
 }
 
 // The command with the options of a search: `[--openings COUNT] [--concat COUNT] [--ascent RULE] [--split RULE]`.

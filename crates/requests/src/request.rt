@@ -43,12 +43,6 @@ pub enum Request<'a> {
     Upgrade {
         points: &'a str,
     },
-    /// Reads points and prints a bound for each edge of their grid; where `above` is a number, for those edges alone
-    /// whose bound is above it.
-    Slack {
-        above: Option<u64>,
-        ascent: AscentRule,
-    },
     /// Reads an STP file and prints a network of its graph.
     Graph(GraphOptions),
     /// Judges an answer in the graph of the STP file of this name.
@@ -65,6 +59,12 @@ pub enum Request<'a> {
     Obstacles {
         stp: bool,
         search: GraphOptions,
+    },
+    /// Reads points and prints a bound for each edge of their grid; where `above` is a number, for those edges alone
+    /// whose bound is above it.
+    Slack {
+        above: Option<u64>,
+        ascent: AscentRule,
     },
 }
 

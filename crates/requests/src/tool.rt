@@ -25,11 +25,11 @@ pub(crate) enum Tool {
     Plot,
     Trial,
     Upgrade,
-    Slack,
     Graph,
     Checkgraph,
     Reduce,
     Obstacles,
+    Slack,
 }
 
 impl Tool {
@@ -50,11 +50,11 @@ impl Tool {
             "plot" => Some(Tool::Plot),
             "trial" => Some(Tool::Trial),
             "upgrade" => Some(Tool::Upgrade),
-            "slack" => Some(Tool::Slack),
             "graph" => Some(Tool::Graph),
             "checkgraph" => Some(Tool::Checkgraph),
             "reduce" => Some(Tool::Reduce),
             "obstacles" => Some(Tool::Obstacles),
+            "slack" => Some(Tool::Slack),
             _ => None,
         }
     }
@@ -76,11 +76,11 @@ impl Tool {
             Tool::Plot => command::plot(alloc),
             Tool::Trial => command::trial(alloc),
             Tool::Upgrade => command::upgrade(alloc),
-            Tool::Slack => command::slack(alloc),
             Tool::Graph => command::graph(alloc),
             Tool::Checkgraph => command::checkgraph(alloc),
             Tool::Reduce => command::reduce(alloc),
             Tool::Obstacles => command::obstacles(alloc),
+            Tool::Slack => command::slack(alloc),
         }
     }
 
@@ -114,10 +114,6 @@ impl Tool {
             Tool::Upgrade => Request::Upgrade {
                 points: value::text(matches, "points")?,
             },
-            Tool::Slack => Request::Slack {
-                above: value::above(matches),
-                ascent: value::ascent(matches)?,
-            },
             Tool::Graph => Request::Graph(value::graph(matches)?),
             Tool::Checkgraph => Request::Checkgraph {
                 graph: value::text(matches, "stp")?,
@@ -128,6 +124,10 @@ impl Tool {
             Tool::Obstacles => Request::Obstacles {
                 stp: value::flag(matches, "stp")?,
                 search: value::graph(matches)?,
+            },
+            Tool::Slack => Request::Slack {
+                above: value::above(matches),
+                ascent: value::ascent(matches)?,
             },
         })
     }

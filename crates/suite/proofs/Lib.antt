@@ -1,6 +1,6 @@
-pub mod Heads
+pub mod Told
 pub mod Completeness
-pub mod Asked
-pub mod GraphRuns
-pub mod ReduceRuns
-pub mod ObstacleRuns
+pub mod GraphCompleteness
+pub mod ReduceCompleteness
+pub mod ObstacleCompleteness
+pub mod Complete

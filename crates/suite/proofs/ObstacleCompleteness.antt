@@ -1,4 +1,4 @@
--- What `obstacles` printed is true, and a run of it that nothing troubles ends with an answer.
+-- A run of `obstacles` that nothing troubles ends with an answer.
 use Rattle.std.proofs.Common.{ℕ, ◌≡◌, Bool, true, false, codes, Option, Some, inl, inr, sym, subst, ap, ◌∙◌}
 use Rattle.net_graph.specs.Network.{length_of}
 use Rattle.frame.specs.declared.take.TheConstants.{TEXT_LIMIT}
@@ -12,16 +12,11 @@ use Rattle.frame.specs.Leaves.{LeavesShelf}
 use Rattle.graph_search.specs.Searched.{bound_of}
 use Rattle.graph_tools.specs.FoundLaws.{found_faultless}
 use Rattle.graph_tools.specs.Solve.{PrintsAnswer}
-use Rattle.obstacle_grid.specs.Crossing.{NoEdgeCrosses}
-use Rattle.obstacle_grid.specs.ReadBack.{ObstaclesAreReadBack}
 use Rattle.obstacle_tools.specs.Reading.{AroundHasNoFault, ReadsAround, around_fault_text, around_fault_status}
 use Rattle.obstacle_tools.specs.Around.{EndsObstacles, EndsObstaclesSolve, EndsObstaclesStp, PrintsFile, SolvesAround}
 use Rattle.obstacle_tools.specs.Around.{WritesGraph}
-use Rattle.obstacle_tools.specs.TruthLaws.{obstacles_truly}
 use Rattle.search_rules.specs.declared.options.GraphOptions.{GraphOptions}
-use Rattle.requests.specs.Requests.{Request}
 use Rattle.requests.specs.Requests.Request.{Obstacles}
-use Rattle.suite.specs.Headlines.{ObstaclesHeadline}
 use Rattle.suite.specs.Complete.{Completes}
 use Rattle.suite.proofs.Completeness.{zero_or_three}
 
@@ -53,23 +48,7 @@ graph_completes law search before after status ends = λ bytes o has task writes
           inl (answers ∙ ap (λ (p : Print). answer_code p.status) of_graph)
     ]
 
-obstacles_completes : AroundHasNoFault → (stp : Bool) (search : GraphOptions) (before after : Outside) (status : ℕ) →
+pub obstacles_completes : AroundHasNoFault → (stp : Bool) (search : GraphOptions) (before after : Outside) (status : ℕ) →
     EndsObstacles stp search.openings before after status → Completes (Some (Obstacles stp search)) before after status
 obstacles_completes law true search before after status ends = graph_completes law search before after status ends
 obstacles_completes law false search before after status ends = answer_completes law search before after status ends
-
--- ---- the same of what the words ask for
-
-module _ (request : Option Request) (before after : Outside) (status : ℕ) (stp : Bool) (search : GraphOptions)
-    (is : request ≡ Some (Obstacles stp search)) (ends : EndsObstacles stp search.openings before after status) where
-  pub obstacles_asked_headline : NoEdgeCrosses → ObstaclesAreReadBack → ObstaclesHeadline request before after status
-  obstacles_asked_headline law read = λ other choices asks ended.
-      let same : stp ≡ other = cc in
-      let chosen : search ≡ choices = cc in
-      obstacles_truly law read other choices.openings before after status
-      (subst (λ (q : GraphOptions). EndsObstacles other q.openings before after status) chosen
-      (subst (λ s. EndsObstacles s search.openings before after status) same ends)) ended
-
-  pub obstacles_asked_completes : AroundHasNoFault → Completes request before after status
-  obstacles_asked_completes law =
-      subst (λ r. Completes r before after status) (sym is) (obstacles_completes law stp search before after status ends)

@@ -1,4 +1,4 @@
--- What `reduce` printed is true, and a run of it that nothing troubles ends with an answer.
+-- A run of `reduce` that nothing troubles ends with an answer.
 use Rattle.std.proofs.Common.{ℕ, ◌≡◌, Bool, true, false, List, codes, Option, Some, inl, inr, sym, subst, ap, ◌∙◌}
 use Rattle.net_graph.specs.Network.{length_of}
 use Rattle.frame.specs.declared.take.TheConstants.{TEXT_LIMIT}
@@ -14,10 +14,7 @@ use Rattle.graph_inputs.specs.Reading.{ReadsGraph, TaskHasNoFault, graph_fault_t
 use Rattle.graph_tools.specs.FoundLaws.{found_faultless}
 use Rattle.graph_tools.specs.Reduce.{EndsReduce, PrintsReduction, ReducesGraph}
 use Rattle.graph_tools.specs.Lifted.{EndsReduceAs, EndsReduceSolve, LiftsGraph, PrintsLifted}
-use Rattle.graph_tools.specs.ReduceTruthLaws.{reduces_truly}
-use Rattle.requests.specs.Requests.{Request}
 use Rattle.requests.specs.Requests.Request.{Reduce}
-use Rattle.suite.specs.Headlines.{ReduceHeadline}
 use Rattle.suite.specs.Complete.{Completes}
 use Rattle.suite.proofs.Completeness.{zero_or_three}
 
@@ -48,20 +45,7 @@ plain_completes law before after status ends = λ bytes file has task writes.
           inl (answers ∙ ap (λ (p : Print). answer_code p.status) of_graph)
     ]
 
-reduce_completes : TaskHasNoFault → (solve : Bool) (before after : Outside) (status : ℕ) →
+pub reduce_completes : TaskHasNoFault → (solve : Bool) (before after : Outside) (status : ℕ) →
     EndsReduceAs solve before after status → Completes (Some (Reduce solve)) before after status
 reduce_completes law true before after status ends = solve_completes law before after status ends
 reduce_completes law false before after status ends = plain_completes law before after status ends
-
--- ---- the same of what the words ask for
-
-module _ (request : Option Request) (before after : Outside) (status : ℕ) (solve : Bool)
-    (is : request ≡ Some (Reduce solve)) (ends : EndsReduceAs solve before after status) where
-  pub reduce_asked_headline : ReduceHeadline request before after status
-  reduce_asked_headline = λ other asks ended.
-      let same : solve ≡ other = cc in
-      reduces_truly other before after status (subst (λ s. EndsReduceAs s before after status) same ends) ended
-
-  pub reduce_asked_completes : TaskHasNoFault → Completes request before after status
-  reduce_asked_completes law =
-      subst (λ r. Completes r before after status) (sym is) (reduce_completes law solve before after status ends)

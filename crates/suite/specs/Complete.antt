@@ -89,10 +89,6 @@ Completes (Some (Upgrade name)) before after status =
     ListsPoints points ps → HasInput UPGRADE_LIMIT before.read.input after.read.input bytes →
     IsSpelling (grid_of_points ps).vertices bytes →
     IsWritable before after → (status ≡ 0) ⊎ (status ≡ NO_MEMORY)
-Completes (Some (Slack above ascent)) before after status =
-    (bytes : List ℕ) (ps : List Point) → HasInput TEXT_LIMIT before.read.input after.read.input bytes →
-    ListsPoints bytes ps →
-    IsWritable before after → (status ≡ 0) ⊎ (status ≡ NO_MEMORY)
 Completes (Some (Graph options)) before after status =
     (bytes : List ℕ) (file : StpValue) → HasInput TEXT_LIMIT before.read.input after.read.input bytes →
     IsTaskText bytes file →
@@ -107,4 +103,8 @@ Completes (Some (Reduce solve)) before after status =
 Completes (Some (Obstacles stp search)) before after status =
     (bytes : List ℕ) (o : ObstaclesValue) → HasInput TEXT_LIMIT before.read.input after.read.input bytes →
     IsAroundText bytes o → IsWritable before after → EndsComplete (not stp) status
+Completes (Some (Slack above ascent)) before after status =
+    (bytes : List ℕ) (ps : List Point) → HasInput TEXT_LIMIT before.read.input after.read.input bytes →
+    ListsPoints bytes ps →
+    IsWritable before after → (status ≡ 0) ⊎ (status ≡ NO_MEMORY)
 Completes None before after status = (status ≡ MISUSED) ⊎ (status ≡ NO_MEMORY)

@@ -27,7 +27,7 @@ use Rattle.requests.specs.Requests.Request.{Trial, Upgrade, Slack, Graph, Checkg
 -- the text on `err` where the words ask for nothing
 abbrev pub usage_line : List ℕ
 usage_line = codes "usage: rst points|stp2points|rfst|prunefst|bb|solve|check|dumpfst|fst2graph|plot"
-    ++ codes "|trial|upgrade|slack|graph|checkgraph|reduce|obstacles [WORDS]\n"
+    ++ codes "|trial|upgrade|graph|checkgraph|reduce|obstacles|slack [WORDS]\n"
 
 -- Memory is wanting while the words are read: nothing is read or printed.
 pub record IsShort (before after : Outside) (status : ℕ) : Type 0 where
@@ -57,11 +57,11 @@ EndsAsAsked (Some Fst2graph) before after status = EndsFst2graph before after st
 EndsAsAsked (Some (Plot points)) before after status = EndsPlot points before after status
 EndsAsAsked (Some (Trial drawing)) before after status = EndsTrial drawing.count drawing.seed before after status
 EndsAsAsked (Some (Upgrade points)) before after status = EndsUpgrade points before after status
-EndsAsAsked (Some (Slack above ascent)) before after status = EndsSlack above before after status
 EndsAsAsked (Some (Graph options)) before after status = EndsGraph options.openings before after status
 EndsAsAsked (Some (Checkgraph name)) before after status = EndsCheckgraph name before after status
 EndsAsAsked (Some (Reduce solve)) before after status = EndsReduceAs solve before after status
 EndsAsAsked (Some (Obstacles stp search)) before after status = EndsObstacles stp search.openings before after status
+EndsAsAsked (Some (Slack above ascent)) before after status = EndsSlack above before after status
 EndsAsAsked None before after status = IsMisused before after status
 
 -- A run of the program with the request that its words make.

@@ -3,9 +3,8 @@
 ghost use Rattle.std.specs.Prelude.{IfSome, map, option_map, string_bytes};
 ghost use Rattle.frame.specs.Outside.{outside};
 ghost use Rattle.requests.specs.Requests.{request_of, meaning, IsWithinLimits};
-ghost use Rattle.suite.specs.Run.{IsRun};
-ghost use Rattle.suite.specs.Headlines.{Headline, BuildHeadline, CheckHeadline, TrialHeadline, SlackHeadline};
-ghost use Rattle.suite.specs.Headlines.{GraphHeadline, CheckgraphHeadline, ReduceHeadline, ObstaclesHeadline};
+ghost use Rattle.suite.specs.Run.{EndsAsAsked, IsRun};
+ghost use Rattle.suite.specs.Headlines.{TellsTruly};
 ghost use Rattle.suite.specs.Complete.{Completes};
 
 use crate::laws::trial_is_solve;
@@ -28,7 +27,7 @@ use trial_tools::trial;
 /// What is said where the words ask for no tool.
 const USAGE_LINE: &[u8] =
     b"usage: rst points|stp2points|rfst|prunefst|bb|solve|check|dumpfst|fst2graph|plot|trial\
-      |upgrade|slack|graph|checkgraph|reduce|obstacles [WORDS]\n";
+      |upgrade|graph|checkgraph|reduce|obstacles|slack [WORDS]\n";
 
 /// Runs the tool that the words after the program's name ask for, and gives the status that the program ends with.
 ///
@@ -45,37 +44,20 @@ pub fn run<I: Source, O: Sink, R: Sink, S: Shelf>(
     ensures run { IsRun (request_of (map string_bytes words.now))
         (outside (I.state input.old) (O.state out.old) (R.state err.old) (S.state shelf.old))
         (outside (I.state input.new) (O.state out.new) (R.state err.new) (S.state shelf.new)) result }
-    ensures headline { Headline (request_of (map string_bytes words.now))
-        (outside (I.state input.old) (O.state out.old) (R.state err.old) (S.state shelf.old))
-        (outside (I.state input.new) (O.state out.new) (R.state err.new) (S.state shelf.new)) result }
-    ensures built { BuildHeadline (request_of (map string_bytes words.now))
-        (outside (I.state input.old) (O.state out.old) (R.state err.old) (S.state shelf.old))
-        (outside (I.state input.new) (O.state out.new) (R.state err.new) (S.state shelf.new)) result }
-    ensures checked { CheckHeadline (request_of (map string_bytes words.now))
-        (outside (I.state input.old) (O.state out.old) (R.state err.old) (S.state shelf.old))
-        (outside (I.state input.new) (O.state out.new) (R.state err.new) (S.state shelf.new)) result }
-    ensures tried { TrialHeadline (request_of (map string_bytes words.now))
-        (outside (I.state input.old) (O.state out.old) (R.state err.old) (S.state shelf.old))
-        (outside (I.state input.new) (O.state out.new) (R.state err.new) (S.state shelf.new)) result }
-    ensures bounded { SlackHeadline (request_of (map string_bytes words.now))
-        (outside (I.state input.old) (O.state out.old) (R.state err.old) (S.state shelf.old))
-        (outside (I.state input.new) (O.state out.new) (R.state err.new) (S.state shelf.new)) result }
-    ensures networked { GraphHeadline (request_of (map string_bytes words.now))
-        (outside (I.state input.old) (O.state out.old) (R.state err.old) (S.state shelf.old))
-        (outside (I.state input.new) (O.state out.new) (R.state err.new) (S.state shelf.new)) result }
-    ensures judged { CheckgraphHeadline (request_of (map string_bytes words.now))
-        (outside (I.state input.old) (O.state out.old) (R.state err.old) (S.state shelf.old))
-        (outside (I.state input.new) (O.state out.new) (R.state err.new) (S.state shelf.new)) result }
-    ensures reduced { ReduceHeadline (request_of (map string_bytes words.now))
-        (outside (I.state input.old) (O.state out.old) (R.state err.old) (S.state shelf.old))
-        (outside (I.state input.new) (O.state out.new) (R.state err.new) (S.state shelf.new)) result }
-    ensures routed { ObstaclesHeadline (request_of (map string_bytes words.now))
+    ensures headline { TellsTruly (request_of (map string_bytes words.now))
         (outside (I.state input.old) (O.state out.old) (R.state err.old) (S.state shelf.old))
         (outside (I.state input.new) (O.state out.new) (R.state err.new) (S.state shelf.new)) result }
     ensures complete { Completes (request_of (map string_bytes words.now))
         (outside (I.state input.old) (O.state out.old) (R.state err.old) (S.state shelf.old))
         (outside (I.state input.new) (O.state out.new) (R.state err.new) (S.state shelf.new)) result }
 {
+    located_has_no_fault();
+    spelled_has_no_fault();
+    task_has_no_fault();
+    around_has_no_fault();
+    no_edge_crosses();
+    graphs_are_read_back();
+    trial_is_solve();
     match request_in(alloc, words) {
         Ok(request) => answer(alloc, request, input, out, err, shelf),
         Err(AllocError) => {
@@ -94,48 +76,11 @@ fn answer<I: Source, O: Sink, R: Sink, S: Shelf>(
     err: &mut R,
     shelf: &mut S,
 ) -> u8
-    requires limits { IfSome request (λ asked. IsWithinLimits (meaning asked)) }
-    ensures run { IsRun (option_map meaning request.entry)
-        (outside (I.state input.old) (O.state out.old) (R.state err.old) (S.state shelf.old))
-        (outside (I.state input.new) (O.state out.new) (R.state err.new) (S.state shelf.new)) result }
-    ensures headline { Headline (option_map meaning request.entry)
-        (outside (I.state input.old) (O.state out.old) (R.state err.old) (S.state shelf.old))
-        (outside (I.state input.new) (O.state out.new) (R.state err.new) (S.state shelf.new)) result }
-    ensures built { BuildHeadline (option_map meaning request.entry)
-        (outside (I.state input.old) (O.state out.old) (R.state err.old) (S.state shelf.old))
-        (outside (I.state input.new) (O.state out.new) (R.state err.new) (S.state shelf.new)) result }
-    ensures checked { CheckHeadline (option_map meaning request.entry)
-        (outside (I.state input.old) (O.state out.old) (R.state err.old) (S.state shelf.old))
-        (outside (I.state input.new) (O.state out.new) (R.state err.new) (S.state shelf.new)) result }
-    ensures tried { TrialHeadline (option_map meaning request.entry)
-        (outside (I.state input.old) (O.state out.old) (R.state err.old) (S.state shelf.old))
-        (outside (I.state input.new) (O.state out.new) (R.state err.new) (S.state shelf.new)) result }
-    ensures bounded { SlackHeadline (option_map meaning request.entry)
-        (outside (I.state input.old) (O.state out.old) (R.state err.old) (S.state shelf.old))
-        (outside (I.state input.new) (O.state out.new) (R.state err.new) (S.state shelf.new)) result }
-    ensures networked { GraphHeadline (option_map meaning request.entry)
-        (outside (I.state input.old) (O.state out.old) (R.state err.old) (S.state shelf.old))
-        (outside (I.state input.new) (O.state out.new) (R.state err.new) (S.state shelf.new)) result }
-    ensures judged { CheckgraphHeadline (option_map meaning request.entry)
-        (outside (I.state input.old) (O.state out.old) (R.state err.old) (S.state shelf.old))
-        (outside (I.state input.new) (O.state out.new) (R.state err.new) (S.state shelf.new)) result }
-    ensures reduced { ReduceHeadline (option_map meaning request.entry)
-        (outside (I.state input.old) (O.state out.old) (R.state err.old) (S.state shelf.old))
-        (outside (I.state input.new) (O.state out.new) (R.state err.new) (S.state shelf.new)) result }
-    ensures routed { ObstaclesHeadline (option_map meaning request.entry)
-        (outside (I.state input.old) (O.state out.old) (R.state err.old) (S.state shelf.old))
-        (outside (I.state input.new) (O.state out.new) (R.state err.new) (S.state shelf.new)) result }
-    ensures complete { Completes (option_map meaning request.entry)
+    requires { IfSome request (λ asked. IsWithinLimits (meaning asked)) }
+    ensures { EndsAsAsked (option_map meaning request.entry)
         (outside (I.state input.old) (O.state out.old) (R.state err.old) (S.state shelf.old))
         (outside (I.state input.new) (O.state out.new) (R.state err.new) (S.state shelf.new)) result }
 {
-    located_has_no_fault();
-    spelled_has_no_fault();
-    task_has_no_fault();
-    around_has_no_fault();
-    no_edge_crosses();
-    graphs_are_read_back();
-    trial_is_solve();
     match request {
         Some(Request::Points(drawing)) => points(alloc, drawing.count, drawing.seed, out, err),
         Some(Request::Stp2points) => stp2points(alloc, input, out, err),
@@ -149,13 +94,13 @@ fn answer<I: Source, O: Sink, R: Sink, S: Shelf>(
         Some(Request::Plot { points }) => plot(alloc, points, input, out, err, shelf),
         Some(Request::Trial(drawing)) => trial(alloc, drawing.count, drawing.seed, out, err),
         Some(Request::Upgrade { points }) => upgrade(alloc, points, input, out, err, shelf),
-        Some(Request::Slack { above, ascent }) => slack(alloc, above, ascent, input, out, err),
         Some(Request::Graph(options)) => graph(alloc, options, input, out, err),
         Some(Request::Checkgraph { graph }) => checkgraph(alloc, graph, input, out, err, shelf),
         Some(Request::Reduce { solve }) => reduce(alloc, solve, input, out, err),
         Some(Request::Obstacles { stp, search }) => {
             obstacles(alloc, stp, search, input, out, err)
         }
+        Some(Request::Slack { above, ascent }) => slack(alloc, above, ascent, input, out, err),
         None => {
             report(err, USAGE_LINE);
             MISUSED

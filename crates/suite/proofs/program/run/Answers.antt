@@ -1,36 +1,36 @@
--- The request is what the words ask for, and a run that wants memory for the words reads and prints nothing.
-use Rattle.std.proofs.Common.{inl, refl, subst}
+-- What was told is true, and a run that nothing troubles ends with an answer, as any run does that is as the words ask.
+use Rattle.std.proofs.Common.{inl, inr, refl, subst, map, string_bytes}
 use Rattle.frame.specs.Outside.{outside}
-use Rattle.suite.specs.Headlines.{CheckHeadline, Headline, SlackHeadline, TrialHeadline}
+use Rattle.requests.specs.Requests.{request_of}
+use Rattle.suite.specs.Run.{EndsAsAsked}
+use Rattle.suite.proofs.Told.{told_by_run}
+use Rattle.suite.proofs.Complete.{completes_by_run}
 use Rattle.suite.proofs.program.run.Goals as goal
 
-pub returns-in-Ok-clause-headline : goal.returns-in-Ok-clause-headline
-returns-in-Ok-clause-headline g c =
-    subst (λ request. Headline request
+pub returns-in-Ok-clause-run : goal.returns-in-Ok-clause-run
+returns-in-Ok-clause-run g c = inr (subst (λ request. EndsAsAsked request
     (outside (g.I.Source.state c.args.input.now) (g.O.Sink.state c.args.out.now) (g.R.Sink.state c.args.err.now) (g.S.Shelf.state c.args.shelf.now))
     (outside (g.I.Source.state c.answer.new.input) (g.O.Sink.state c.answer.new.out) (g.R.Sink.state c.answer.new.err) (g.S.Shelf.state c.answer.new.shelf))
-    c.answer.result) c.in-Ok.ensures.exact c.answer.ensures.headline
-
-pub returns-in-Ok-clause-checked : goal.returns-in-Ok-clause-checked
-returns-in-Ok-clause-checked g c =
-    subst (λ request. CheckHeadline request
-    (outside (g.I.Source.state c.args.input.now) (g.O.Sink.state c.args.out.now) (g.R.Sink.state c.args.err.now) (g.S.Shelf.state c.args.shelf.now))
-    (outside (g.I.Source.state c.answer.new.input) (g.O.Sink.state c.answer.new.out) (g.R.Sink.state c.answer.new.err) (g.S.Shelf.state c.answer.new.shelf))
-    c.answer.result) c.in-Ok.ensures.exact c.answer.ensures.checked
-
-pub returns-in-Ok-clause-tried : goal.returns-in-Ok-clause-tried
-returns-in-Ok-clause-tried g c =
-    subst (λ request. TrialHeadline request
-    (outside (g.I.Source.state c.args.input.now) (g.O.Sink.state c.args.out.now) (g.R.Sink.state c.args.err.now) (g.S.Shelf.state c.args.shelf.now))
-    (outside (g.I.Source.state c.answer.new.input) (g.O.Sink.state c.answer.new.out) (g.R.Sink.state c.answer.new.err) (g.S.Shelf.state c.answer.new.shelf))
-    c.answer.result) c.in-Ok.ensures.exact c.answer.ensures.tried
-
-pub returns-in-Ok-clause-bounded : goal.returns-in-Ok-clause-bounded
-returns-in-Ok-clause-bounded g c =
-    subst (λ request. SlackHeadline request
-    (outside (g.I.Source.state c.args.input.now) (g.O.Sink.state c.args.out.now) (g.R.Sink.state c.args.err.now) (g.S.Shelf.state c.args.shelf.now))
-    (outside (g.I.Source.state c.answer.new.input) (g.O.Sink.state c.answer.new.out) (g.R.Sink.state c.answer.new.err) (g.S.Shelf.state c.answer.new.shelf))
-    c.answer.result) c.in-Ok.ensures.exact c.answer.ensures.bounded
+    c.answer.result) c.in-Ok.ensures.exact c.answer.ensures)
 
 pub returns-in-Err-clause-run : goal.returns-in-Err-clause-run
 returns-in-Err-clause-run g c = inl (record { ends = refl; read = refl; out = refl; reports = c.report.ensures })
+
+pub returns-in-Ok-clause-headline : goal.returns-in-Ok-clause-headline
+returns-in-Ok-clause-headline g c = told_by_run c.no_edge_crosses.ensures.none c.graphs_are_read_back.ensures.obstacles
+    (outside (g.I.Source.state c.args.input.now) (g.O.Sink.state c.args.out.now) (g.R.Sink.state c.args.err.now) (g.S.Shelf.state c.args.shelf.now))
+    (outside (g.I.Source.state c.answer.new.input) (g.O.Sink.state c.answer.new.out) (g.R.Sink.state c.answer.new.err) (g.S.Shelf.state c.answer.new.shelf))
+    c.answer.result (request_of (map string_bytes c.args.words.now)) (returns-in-Ok-clause-run g c)
+
+pub returns-in-Ok-clause-complete : goal.returns-in-Ok-clause-complete
+returns-in-Ok-clause-complete g c = completes_by_run
+    (record {
+      located = c.located_has_no_fault.ensures;
+      spelled = c.spelled_has_no_fault.ensures.no_fault;
+      one = c.spelled_has_no_fault.ensures.one;
+      task = c.task_has_no_fault.ensures;
+      around = c.around_has_no_fault.ensures;
+    })
+    (outside (g.I.Source.state c.args.input.now) (g.O.Sink.state c.args.out.now) (g.R.Sink.state c.args.err.now) (g.S.Shelf.state c.args.shelf.now))
+    (outside (g.I.Source.state c.answer.new.input) (g.O.Sink.state c.answer.new.out) (g.R.Sink.state c.answer.new.err) (g.S.Shelf.state c.answer.new.shelf))
+    c.answer.result (request_of (map string_bytes c.args.words.now)) (returns-in-Ok-clause-run g c)
