@@ -2,6 +2,8 @@
 #![tactic(auto)]
 
 use rst_outside::{DirShelf, StdSink, StdSource};
+use std::fs::OpenOptions;
+use std::io::Read;
 use std::process::ExitCode;
 use std::{env, io};
 use suite::run;
@@ -22,6 +24,14 @@ fn words_of(rt: &HostRuntime) -> Option<Vec<String>> {
 fn main(rt: HostRuntime) -> ExitCode {
     let Some(words) = words_of(&rt) else {
         return ExitCode::from(NO_MEMORY);
+    };
+    // A named file would take the place of a standard input that is closed, and be read as the input. So a file that
+    // can't be read takes it, until the end.
+    let is_closed = rt.stdin().read(&mut [0; 0]).is_err();
+    let _held = if is_closed {
+        OpenOptions::new().write(true).open(&rt, "/dev/null").ok()
+    } else {
+        None
     };
     let mut input = StdSource::new(rt.stdin());
     let mut out = StdSink::new(rt.stdout());
