@@ -41,6 +41,6 @@ pub trait CutFinder {
         entered: &mut Vec<u32>,
     ) -> Result<bool, AllocError>;
 
-    /// How many arcs it has looked at so far; 0 where it doesn't count them.
+    /// How many arcs it has looked at so far.
     fn looks(&self) -> u64;
 }

@@ -8,7 +8,7 @@ use Rattle.hanan_grid.specs.Grid.{xs_of, ys_of, hanan_grid_of}
 use Rattle.hanan_grid.specs.Names.{point_of_vertex}
 use Rattle.stp_text.specs.Lines.{head_text, section_end, graph_head, edge_line, terminals_head, terminal_line, coordinates_head, located_line, end_text}
 
--- the line of an edge, whose end of the lower number stands first
+-- the line of an edge, its ends in the order in which the graph has them
 abbrev pub edge_between : Edge → List ℕ
 edge_between e = edge_line (e.a + 1) (e.b + 1) e.length
 

@@ -13,7 +13,7 @@ use rst_outside::{
 use std::alloc::{AllocError, Global};
 use text_out::{Block, literal, number};
 
-/// The greatest number of bytes of a text of points that is taken whole.
+/// The greatest number of bytes of a text that is taken whole.
 pub const TEXT_LIMIT: u64 = 1 << 26;
 
 /// Why an input is not taken whole.
@@ -25,7 +25,7 @@ pub enum InputFault {
     TooLong { limit: u64 },
 }
 
-/// Why a file of points is not taken whole.
+/// Why a file is not taken whole.
 #[derive(Clone, Copy, Debug, PartialEq, Eq)]
 pub enum FileFault {
     /// A read failed.
@@ -68,7 +68,7 @@ pub fn feed_input<I: Source, C: Consumer>(
     })
 }
 
-/// All bytes of the file of points of this name, of which there may be `limit`. An `Err` is want of memory.
+/// All bytes of the file of this name, of which there may be `limit`. An `Err` is want of memory.
 pub fn take_file<S: Shelf>(
     alloc: Global,
     shelf: &mut S,
