@@ -8,9 +8,10 @@ ghost use Rattle.graph_solve.specs.Task.{edge_of, terminals_of, graph_of_stp, to
 ghost use Rattle.graph_solve.specs.Fault.{HasTerminal, HasLengths, IsTask, IsFirstApartNode, IsFirstFault};
 
 use crate::fault::TaskFault;
-use crate::whole_set::every_edge;
 use item_list::ItemList;
-use net_graph::{Edge, EdgeList, GraphFault, NetGraph, VertexList, VertexSet, first_apart};
+use net_graph::{
+    Edge, EdgeList, EdgeSet, GraphFault, NetGraph, VertexList, VertexSet, first_apart,
+};
 use std::alloc::{AllocError, Global};
 use stp_format::{StpEdge, StpFile};
 
@@ -136,7 +137,7 @@ fn first_apart_node(alloc: Global, g: &NetGraph) -> Result<Option<u32>, AllocErr
     ensures none { IfOk result (λ node. IfNone node (IsNetwork g.now (all_edges g.now))) }
     ensures first { IfOk result (λ node. IfSome node (IsFirstApartNode g.now)) }
 {
-    let all = every_edge(alloc, g)?;
+    let all = EdgeSet::full(alloc, g.edge_count())?;
     let terminals = g.terminals();
     match first_apart(alloc, g, &all)? {
         None => Ok(None),

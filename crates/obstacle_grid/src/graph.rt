@@ -9,8 +9,7 @@ ghost use Rattle.obstacle_grid.specs.Fault.{IsTask, IsFirstFault};
 
 use crate::fault::ObstacleTaskFault;
 use crate::grid::ObstacleGrid;
-use graph_solve::every_edge;
-use net_graph::{Edge, EdgeList, GraphFault, NetGraph, VertexList, first_apart};
+use net_graph::{Edge, EdgeList, EdgeSet, GraphFault, NetGraph, VertexList, first_apart};
 use obstacles_in::Obstacles;
 use std::alloc::{AllocError, Global};
 
@@ -26,7 +25,7 @@ pub fn obstacle_graph(alloc: Global, o: &Obstacles) -> Result<NetGraph, Obstacle
     ensures fault { IfErr result (IsFirstFault o.now) }
 {
     let graph = allowed_graph(alloc, o)?;
-    let all = every_edge(alloc, &graph)?;
+    let all = EdgeSet::full(alloc, graph.edge_count())?;
     match first_apart(alloc, &graph, &all)? {
         None => Ok(graph),
         Some(place) => Err(ObstacleTaskFault::Apart(place)),
