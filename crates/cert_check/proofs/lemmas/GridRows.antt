@@ -1,5 +1,5 @@
 -- A grid has at most two edges for each vertex.
-use Rattle.std.proofs.Common.{◌≡◌, ◌+◌, ◌-◌, ◌*◌, ◌≤◌, List, length, arith}
+use Rattle.std.proofs.Common.{◌-◌, ◌*◌, ◌≤◌, List, length, arith}
 use Rattle.std.proofs.lemmas.Nat.{mul-le}
 use Rattle.points_in.specs.declared.point.Point.{Point}
 use Rattle.hanan_grid.specs.Grid.{hanan_grid_of, xs_of, ys_of}
