@@ -45,7 +45,8 @@ impl<'a> Checker<'a> {
 
     /// A checker of an answer for the points of a grid that was fed no byte. The room that it is handed: an empty set
     /// of the grid's E edges for the network, an empty set of its V vertices for the cut that is read, and a row of
-    /// 3 E + max(E, 2 V) + V + 512 numbers, whatever they are. A `Workroom` has these.
+    /// 3 E + max(E, 2 V) + V + 512 numbers, which on a grid are 3 E + 3 V + 512, whatever they are. A `Workroom` has
+    /// these.
     pub fn begin(grid: &'a Grid, network: EdgeSet, members: VertexSet, work: Row) -> Checker<'a>
         requires network { network ≡ replicate (length (hanan_grid_of grid.now).edges) false }
         requires members { members ≡ replicate (hanan_grid_of grid.now).vertices false }

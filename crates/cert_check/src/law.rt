@@ -2,7 +2,8 @@
 
 ghost use Rattle.cert_check.specs.Accepted.{AcceptedBoundHolds};
 ghost use Rattle.cert_check.specs.UpgradeLaw.{UpgradingKeepsVerdict};
-ghost use Rattle.cert_check.specs.VerdictLaw.{OneVerdict};
+ghost use Rattle.cert_check.specs.RowLaw.{GridRowLength};
+ghost use Rattle.cert_check.specs.VerdictLaw.{OneVerdict, OneVerdictInGraphs, OneVerdictOnGrids};
 
 use cert_tree::tree_bounds_every_network;
 use cut_cert::{one_reading, upgraded_alike};
@@ -15,10 +16,13 @@ pub fn accepted_bound_holds()
     tree_bounds_every_network();
 }
 
-/// Terminals and bytes have one verdict at most, and one set of edges that came before it: so the cause that a verdict
-/// gives is the only one. A law: the call does nothing, and its caller knows the fact from there on.
+/// Bytes have one verdict at most as an answer in a graph whose labels are each of one edge or vertex, as they are on
+/// the grid of terminals and in a graph by numbers, and one set of edges that came before it: so the cause that a
+/// verdict gives is the only one. A law: the call does nothing, and its caller knows the fact from there on.
 pub fn one_verdict()
-    ensures { OneVerdict }
+    ensures named { OneVerdict }
+    ensures grids { OneVerdictOnGrids }
+    ensures graphs { OneVerdictInGraphs }
 {
     one_reading();
 }
@@ -31,3 +35,10 @@ pub fn upgrading_keeps_verdict()
     one_reading();
     upgraded_alike();
 }
+
+/// On the grid of terminals, with E edges and V vertices, the row of numbers in which a checker works is of length
+/// 3 E + 3 V + 512, since a grid has at most two edges for each vertex. A law: the call does nothing, and its caller
+/// knows the fact from there on.
+pub fn grid_row_length()
+    ensures { GridRowLength }
+{}

@@ -1,9 +1,10 @@
 //! The room in which a checker works.
 
-ghost use Rattle.std.specs.Prelude.{◌≡◌, false, length, replicate, IfOk};
+ghost use Rattle.std.specs.Prelude.{◌≡◌, ◌+◌, ◌*◌, false, length, replicate, IfOk};
 ghost use Rattle.hanan_grid.specs.Grid.{hanan_grid_of};
 ghost use Rattle.tree_judge.specs.Room.{row_length};
 
+use crate::law::grid_row_length;
 use cut_cert::Row;
 use hanan_grid::Grid;
 use net_graph::{EdgeSet, NetGraph, VertexSet};
@@ -16,7 +17,7 @@ pub struct Workroom {
     pub network: EdgeSet,
     /// A set of the graph's vertices, for the cut that is read.
     pub members: VertexSet,
-    /// A row of 3 E + max(E, 2 V) + V + 512 numbers for E edges and V vertices.
+    /// A row of 3 E + max(E, 2 V) + V + 512 numbers for E edges and V vertices, on a grid 3 E + 3 V + 512.
     pub work: Row,
 }
 
@@ -28,7 +29,10 @@ impl Workroom {
         ensures members { IfOk result (λ room. room.members ≡ replicate (hanan_grid_of grid.now).vertices false) }
         ensures work { IfOk result (λ room. length room.work ≡ row_length (length (hanan_grid_of grid.now).edges)
             (hanan_grid_of grid.now).vertices) }
+        ensures numbers { IfOk result (λ room. length room.work ≡ 3 * length (hanan_grid_of grid.now).edges
+            + 3 * (hanan_grid_of grid.now).vertices + 512) }
     {
+        grid_row_length();
         Workroom::in_graph(alloc, grid.graph())
     }
 

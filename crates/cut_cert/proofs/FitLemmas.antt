@@ -50,7 +50,7 @@ graph_split : (on : SplitName) → split_line version.Two on ≡ split_line vers
 graph_split (name.Edge e) = refl
 graph_split (name.Vertex p) = refl
 
-graph_tree : (t : Tree SplitName) → tree_lines version.Two t ≡ tree_lines version.Graph t
+pub graph_tree : (t : Tree SplitName) → tree_lines version.Two t ≡ tree_lines version.Graph t
 graph_tree (Leaf cuts) = refl
 graph_tree (Split on o i) = λ k. graph_split on k ∷ (graph_tree o k ++ graph_tree i k)
 

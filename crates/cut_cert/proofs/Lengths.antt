@@ -63,6 +63,27 @@ length-head_lines h =
       length-concat h,
     )
 
+-- the first five lines in a graph
+pub length-graph_head_lines : (h : AnswerHead) → length (lines_text (head_lines version.Graph h))
+    ≡ 45 + length (decimal h.length) + length (decimal h.bound) + length (decimal h.openings)
+    + length (status_word h.optimal)
+length-graph_head_lines h =
+    let status_on : List Line = line.Status h.optimal ∷ line.LastOpenings h.openings ∷ [] in
+    let bound_on : List Line = line.Bound h.bound ∷ status_on in
+    let length_on : List Line = line.Length h.length ∷ bound_on in
+    omega (
+      arith,
+      length-line (line.Title version.Graph) length_on,
+      length-line (line.Length h.length) bound_on,
+      length-line (line.Bound h.bound) status_on,
+      length-line (line.Status h.optimal) (line.LastOpenings h.openings ∷ []),
+      length-line (line.LastOpenings h.openings) [],
+      word_number (codes "length ") h.length,
+      word_number (codes "bound ") h.bound,
+      length-append (codes "status ") (status_word h.optimal),
+      word_number (codes "openings ") h.openings,
+    )
+
 -- the line of an edge's ends
 pub length-edge : (e : EdgeName) → length (line_text (line.Edge (edge.Ends e))) ≡ 4 + length (signed_decimal e.x1) + length (signed_decimal e.y1) + length (signed_decimal e.x2) + length (signed_decimal e.y2)
 length-edge e = simp length-append (omega arith)

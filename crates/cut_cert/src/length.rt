@@ -11,7 +11,8 @@ ghost use Rattle.cut_cert.specs.Lines.{head_lines, leaf_lines, line_text, lines_
 ghost use Rattle.cut_cert.specs.Lines.{network_lines, split_line, tree_lines};
 ghost use Rattle.cut_cert.specs.Text.{answer_text};
 ghost use Rattle.cert_tree.specs.Preorder.{nodes_of, packings_of};
-ghost use Rattle.cut_cert.specs.Answers.{IsAnswerOn, IsNodeOn, IsPackingOn, names_of, named, value_of};
+ghost use Rattle.cut_cert.specs.Answers.{IsAnswerOn, IsNodeOn, IsPackingOn, edge_labels, graph_value_of, labelled};
+ghost use Rattle.cut_cert.specs.Answers.{value_of};
 
 use crate::answer::Answer;
 use crate::body::{count_of, split_label};
@@ -23,7 +24,10 @@ use crate::write::{kind_of, status_word};
 use cert_tree::CertTree;
 use hanan_grid::Grid;
 use itoa::Buffer;
-use net_graph::{Cut, EdgeSet, Packing};
+use net_graph::{Cut, EdgeSet, NetGraph, Packing};
+
+// The length of the lines before the tree and behind it, `tree` and `end`.
+const AROUND_TREE: u64 = 9;
 
 /// The length of the text that `write_answer` writes, which is below 2^32. It takes no memory.
 pub fn answer_len(grid: &Grid, answer: &Answer) -> u64
@@ -36,49 +40,66 @@ pub fn answer_len(grid: &Grid, answer: &Answer) -> u64
     prove!(edges <= 4900);
     head_len(&answer.head)
         + network_len(grid, &answer.network)
-        + b"tree\nend\n".len() as u64
+        + AROUND_TREE
         + tree_len(grid, &answer.tree)
 }
 
+/// The length of the text that `write_graph_answer` writes, which is below 2^32. It takes no memory.
+pub fn graph_answer_len(graph: &NetGraph, answer: &Answer) -> u64
+    requires { IsAnswerOn graph.now answer.now }
+    ensures length { result ≡ length (answer_text (graph_value_of answer.now)) }
+    ensures short { result < 2 ^ 32 }
+{
+    // A graph has few edges: so the sums stay within 64 bits.
+    let edges = graph.edge_count();
+    prove!(edges <= 4900);
+    graph_head_len(&answer.head)
+        + network_len(graph, &answer.network)
+        + AROUND_TREE
+        + tree_len(graph, &answer.tree)
+}
+
 // The length of the network's part.
-fn network_len(grid: &Grid, network: &EdgeSet) -> u64
-    requires size { length network.now ≡ length (hanan_grid_of grid.now).edges }
+fn network_len<L: Labelled>(of: &L, network: &EdgeSet) -> u64
+    requires size { length network.now ≡ length (L.graph of.now).edges }
     requires few { length network.now ≤ 4900 }
-    ensures length { result ≡ length (lines_text (network_lines (names_of grid.now (members_of network.now)))) }
+    ensures length { result
+        ≡ length (lines_text (network_lines (edge_labels (L.labels of.now) (members_of network.now)))) }
     ensures short { result ≤ 50 + 164 * 4900 }
 {
-    7 + number_len(u128::from(count_of(network))) + edges_len(grid, network)
+    7 + number_len(u128::from(count_of(network))) + edges_len(of, network)
 }
 
 // The length of the lines of its edges.
-fn edges_len(grid: &Grid, network: &EdgeSet) -> u64
-    requires size { length network.now ≡ length (hanan_grid_of grid.now).edges }
+fn edges_len<L: Labelled>(of: &L, network: &EdgeSet) -> u64
+    requires size { length network.now ≡ length (L.graph of.now).edges }
     requires few { length network.now ≤ 4900 }
-    ensures length { result ≡ length (lines_text (map line_of.Edge (names_of grid.now (members_of network.now)))) }
+    ensures length { result
+        ≡ length (lines_text (map line_of.Edge (edge_labels (L.labels of.now) (members_of network.now)))) }
     ensures short { result ≤ 164 * 4900 }
 {
     let mut sum = 0;
     for e in 0..network.len() {
         if network.has(e) {
-            sum += edge_len(&grid.edge_label(e));
+            sum += edge_len(&of.edge_label(e));
         }
     }
     sum
 }
 
 // The length of a tree, of which no node has more than 12,760,297 bytes: a leaf's 19601 cuts have 651 each.
-fn tree_len(grid: &Grid, tree: &CertTree) -> u64
-    requires sound { IsGraph (hanan_grid_of grid.now) }
-    requires nodes { All (IsNodeOn (hanan_grid_of grid.now)) (nodes_of tree.now) }
-    requires packings { All (IsPackingOn (hanan_grid_of grid.now)) (packings_of tree.now) }
-    ensures length { result ≡ length (lines_text (tree_lines version_of.Two (named grid.now tree.now))) }
+fn tree_len<L: Labelled>(of: &L, tree: &CertTree) -> u64
+    requires sound { IsGraph (L.graph of.now) }
+    requires nodes { All (IsNodeOn (L.graph of.now)) (nodes_of tree.now) }
+    requires packings { All (IsPackingOn (L.graph of.now)) (packings_of tree.now) }
+    ensures length { result ≡ length (lines_text (tree_lines version_of.Two (labelled (L.labels of.now) tree.now))) }
     ensures short { result ≤ 175 * length (nodes_of tree.now) + 12760297 * length (packings_of tree.now) }
 {
     let mut leaf = 0;
     let mut sum = 0;
     for node in tree.nodes() {
         match node {
-            Some(on) => sum += split_len(&split_label(grid, on)),
+            Some(on) => sum += split_len(&split_label(of, on)),
             None => {
                 sum += leaf_len(tree.packing(leaf));
                 leaf += 1;
@@ -105,7 +126,7 @@ fn signed_len(number: &i64) -> u64
     Buffer::new().format(*number).len() as u64
 }
 
-// The length of the first six lines.
+// The length of the first six lines on a grid.
 fn head_len(head: &AnswerHead) -> u64
     ensures length { result ≡ length (lines_text (head_lines version_of.Two head.now)) }
     ensures short { result ≤ 300 }
@@ -116,6 +137,17 @@ fn head_len(head: &AnswerHead) -> u64
         + number_len(head.concat.total);
     let words = status_word(head.optimal).len() as u64 + kind_of(head.concat.least).len() as u64;
     55 + numbers + words
+}
+
+// The length of the first five lines in a graph, which have no note on a concatenation.
+fn graph_head_len(head: &AnswerHead) -> u64
+    ensures length { result ≡ length (lines_text (head_lines version_of.Graph head.now)) }
+    ensures short { result ≤ 300 }
+{
+    let numbers = number_len(u128::from(head.length))
+        + number_len(u128::from(head.bound))
+        + number_len(u128::from(head.openings));
+    45 + numbers + status_word(head.optimal).len() as u64
 }
 
 // The length of an edge's line.

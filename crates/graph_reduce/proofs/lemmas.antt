@@ -15,6 +15,8 @@ pub mod Soundness
 pub mod Beginning
 pub mod Fits
 pub mod Steps
+pub mod OneStep
+pub mod OneEnd
 pub mod Ending
 pub mod Renumbering
 pub mod LiftingLaw

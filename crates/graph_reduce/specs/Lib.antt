@@ -2,6 +2,7 @@ pub mod State
 pub mod Rules
 pub mod Step
 pub mod Reduction
+pub mod OneReduction
 pub mod Lifting
 pub mod Fitness
 pub mod Ending

@@ -20,7 +20,7 @@ mod tidy;
 mod work;
 mod write;
 
-pub use laws::{lifting_keeps_length, reductions_end, reductions_fit};
+pub use laws::{lifting_keeps_length, one_reduction, reductions_end, reductions_fit};
 pub use reduction::{Reduced, reduce};
 pub use set_lines::{write_count, write_set};
 pub use write::write_reduced;

@@ -4,6 +4,7 @@ ghost use Rattle.std.specs.Prelude.{◌≡◌, ℕ, ◌<◌, ◌≤◌, ◌||◌
 ghost use Rattle.net_graph.specs.Flags.{has};
 ghost use Rattle.net_graph.specs.Graph.{IsGraph, graph_of};
 ghost use Rattle.graph_reduce.specs.Reduction.{IsReductionOf, lift_of};
+ghost use Rattle.graph_reduce.specs.OneReduction.{IsOnlyReductionOf};
 ghost use Rattle.graph_reduce.specs.Fitness.{IsFitFor};
 ghost use Rattle.graph_reduce.specs.Lifting.{KeepsNetworks};
 ghost use Rattle.net_graph.specs.Members.{members_of};
@@ -49,9 +50,10 @@ fn reduced_arrays(alloc: Global, g: &NetGraph) -> Result<Arrays, AllocError>
 }
 
 /// The reduction of the graph: the rules are taken until none applies, each time the first one that does at its lowest
-/// place or node, and what is left gets new numbers. An `Err` is want of memory.
+/// place or node, and what is left gets new numbers. It is the only reduction of the graph. An `Err` is want of memory.
 pub fn reduce(alloc: Global, g: &NetGraph) -> Result<Reduced, AllocError>
     ensures reduction { IfOk result (IsReductionOf g.now) }
+    ensures only { IfOk result (IsOnlyReductionOf g.now) }
     ensures fits { IfOk result (IsFitFor g.now) }
     ensures networks { IfOk result (KeepsNetworks g.now) }
 {

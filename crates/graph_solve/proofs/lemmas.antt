@@ -1,4 +1,5 @@
 pub mod Repeats
 pub mod Parts
 pub mod Joined
+pub mod OneFault
 pub mod GraphVerdicts

@@ -31,3 +31,7 @@ IsAccepting (Refused cause) = ⊥
 -- this is the verdict on the bytes as an answer in the graph
 abbrev pub IsVerdictOn : Graph → List ℕ → GraphVerdict → Type 0
 IsVerdictOn g bytes v = (f : Finished) × IsVerdictIn (in_graph g) bytes f × (verdict_of v ≡ f.verdict)
+
+-- no other verdict is one on the bytes
+abbrev pub IsOnlyVerdictOn : Graph → List ℕ → GraphVerdict → Type 0
+IsOnlyVerdictOn g bytes v = (other : GraphVerdict) → IsVerdictOn g bytes other → other ≡ v

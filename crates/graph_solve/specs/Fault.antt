@@ -1,5 +1,5 @@
 -- What keeps a file from being a Steiner problem of the suite. Faults are judged in the order of the cases below.
-use Rattle.std.specs.Prelude.{ℕ, ◌≡◌, ◌+◌, ◌<◌, ◌≤◌, ◌^◌, [], length, All}
+use Rattle.std.specs.Prelude.{ℕ, ◌≡◌, ◌+◌, ◌<◌, ◌≤◌, ◌^◌, [], length, All, Result, Err}
 use Rattle.stp_format.specs.Value.{StpValue}
 use Rattle.net_graph.specs.Graph.{Graph}
 use Rattle.net_graph.specs.Fault.{IsFirst}
@@ -53,3 +53,13 @@ IsFirstFault file (TooLong total) = HasLengths file × (total ≡ total_of_stp f
 IsFirstFault file (Apart node) =
     HasLengths file × (total_of_stp file < 2 ^ 63) × IsFirstApartNode (graph_of_stp file) node
 IsFirstFault file (Memory error) = Unit {0}
+
+-- the file has this fault, and it is the first; want of memory is no fault of a file
+abbrev pub HasFirstFault : StpValue → TaskFault → Type 0
+HasFirstFault file (Memory error) = ⊥
+HasFirstFault file fault = IsFirstFault file fault
+
+-- what was answered is this, unless memory ran out
+abbrev pub Answers : Result Graph TaskFault → Result Graph TaskFault → Type 0
+Answers (Err (Memory error)) outcome = Unit {0}
+Answers result outcome = result ≡ outcome

@@ -1,4 +1,5 @@
 pub mod Task
 pub mod Fault
+pub mod FirstLaws
 pub mod Said
 pub mod Accepted

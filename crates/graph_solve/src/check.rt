@@ -2,7 +2,8 @@
 
 ghost use Rattle.std.specs.Prelude.{ℕ, ◌≡◌, ◌≢◌, ◌<◌, ◌≤◌, ◌^◌, Bool, List, length, IfOk};
 ghost use Rattle.net_graph.specs.Network.{IsLowerBound};
-ghost use Rattle.graph_solve.specs.Accepted.{AcceptsGraphAs, IsAccepting, IsGraphAccepted, IsVerdictOn, verdict_of};
+ghost use Rattle.graph_solve.specs.Accepted.{AcceptsGraphAs, IsAccepting, IsGraphAccepted, IsOnlyVerdictOn};
+ghost use Rattle.graph_solve.specs.Accepted.{IsVerdictOn, verdict_of};
 
 use crate::verdict::GraphVerdict;
 use cert_check::{Checker, Verdict, Workroom};
@@ -10,12 +11,13 @@ use net_graph::NetGraph;
 use std::alloc::{AllocError, Global};
 
 /// The verdict on bytes as an answer in the graph: accepted exactly where they are the text of one and all that it says
-/// is right, else the cause of the first line that is wrong. No network of the graph is shorter than the bound of an
-/// accepted answer. An `Err` is want of memory.
+/// is right, else the cause of the first line that is wrong. It is the only verdict on the bytes. No network of the
+/// graph is shorter than the bound of an accepted answer. An `Err` is want of memory.
 pub fn check_graph(alloc: Global, g: &NetGraph, bytes: &[u8]) -> Result<GraphVerdict, AllocError>
     requires terminals { length g.now.terminals ≤ 255 }
     requires few { length bytes.now < 2 ^ 32 }
     ensures verdict { IfOk result (IsVerdictOn g.now bytes.now) }
+    ensures only { IfOk result (IsOnlyVerdictOn g.now bytes.now) }
     ensures accepted { IfOk result (λ v. (length bound : ℕ) (optimal : Bool)
         → v ≡ GraphVerdict.Accepted length bound optimal
         → (network : List Bool) × AcceptsGraphAs g.now bytes.now network length bound optimal) }

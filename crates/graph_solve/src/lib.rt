@@ -7,11 +7,9 @@ mod fault;
 mod network;
 mod task;
 mod verdict;
-mod whole_set;
 
 pub use check::check_graph;
 pub use fault::TaskFault;
 pub use network::first_network;
 pub use task::graph_of;
 pub use verdict::GraphVerdict;
-pub use whole_set::every_edge;

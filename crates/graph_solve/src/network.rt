@@ -5,7 +5,6 @@ ghost use Rattle.net_graph.specs.Graph.{total_of};
 ghost use Rattle.net_graph.specs.Network.{IsNetwork, length_of};
 ghost use Rattle.graph_solve.specs.Task.{all_edges};
 
-use crate::whole_set::every_edge;
 use net_graph::{EdgeSet, NetGraph, joins};
 use network_judge::shortened;
 use network_search::propose_network;
@@ -40,6 +39,6 @@ fn network_or_all(alloc: Global, g: &NetGraph, proposed: EdgeSet) -> Result<Edge
     if joins(alloc, g, &proposed)? {
         Ok(proposed)
     } else {
-        every_edge(alloc, g)
+        EdgeSet::full(alloc, g.edge_count())
     }
 }

@@ -1,16 +1,20 @@
 //! The graph of a file.
 
 ghost use Rattle.std.specs.Prelude.{◌≡◌, ◌<◌, ◌≤◌, ◌^◌, length, map, All, IfOk, IfErr, IfNone, IfSome, OnOk, IsTrue};
+ghost use Rattle.std.specs.Prelude.{Ok, Err};
 ghost use Rattle.stp_format.specs.Value.{is_node};
 ghost use Rattle.net_graph.specs.Graph.{IsGraph, HasEndsBelow};
 ghost use Rattle.net_graph.specs.Network.{IsNetwork};
 ghost use Rattle.graph_solve.specs.Task.{edge_of, terminals_of, graph_of_stp, total_of_stp, all_edges};
-ghost use Rattle.graph_solve.specs.Fault.{HasTerminal, HasLengths, IsTask, IsFirstApartNode, IsFirstFault};
+ghost use Rattle.graph_solve.specs.Fault.{Answers, HasFirstFault, HasTerminal, HasLengths, IsTask};
+ghost use Rattle.graph_solve.specs.Fault.{IsFirstApartNode, IsFirstFault};
+ghost use Rattle.graph_solve.specs.declared.fault.TaskFault.{TaskFault};
 
 use crate::fault::TaskFault;
-use crate::whole_set::every_edge;
 use item_list::ItemList;
-use net_graph::{Edge, EdgeList, GraphFault, NetGraph, VertexList, VertexSet, first_apart};
+use net_graph::{
+    Edge, EdgeList, EdgeSet, GraphFault, NetGraph, VertexList, VertexSet, first_apart,
+};
 use std::alloc::{AllocError, Global};
 use stp_format::{StpEdge, StpFile};
 
@@ -18,6 +22,21 @@ use stp_format::{StpEdge, StpFile};
 /// terminals stand in the order of their lines, without repeats. Loops and parallel edges are edges like others. An
 /// `Err` is the first fault of the file in the order of `TaskFault`, or want of memory.
 pub fn graph_of(alloc: Global, file: &StpFile) -> Result<NetGraph, TaskFault>
+    ensures graph { IfOk result (λ g. g ≡ graph_of_stp file.now) }
+    ensures sound { IfOk result (λ g. IsGraph g) }
+    ensures few { IfOk result (λ g. length g.terminals ≤ 255) }
+    ensures joined { IfOk result (λ g. IsNetwork g (all_edges g)) }
+    ensures task { OnOk result (IsTask file.now) }
+    ensures fault { IfErr result (IsFirstFault file.now) }
+    // A problem's graph is given, and a first fault is told, unless memory runs out.
+    ensures only { IsTask file.now → Answers result (Ok (graph_of_stp file.now)) }
+    ensures only_fault { (f : TaskFault) → HasFirstFault file.now f → Answers result (Err f) }
+{
+    joined_graph(alloc, file)
+}
+
+// The graph, where all edges together join its terminals.
+fn joined_graph(alloc: Global, file: &StpFile) -> Result<NetGraph, TaskFault>
     ensures graph { IfOk result (λ g. g ≡ graph_of_stp file.now) }
     ensures sound { IfOk result (λ g. IsGraph g) }
     ensures few { IfOk result (λ g. length g.terminals ≤ 255) }
@@ -136,7 +155,7 @@ fn first_apart_node(alloc: Global, g: &NetGraph) -> Result<Option<u32>, AllocErr
     ensures none { IfOk result (λ node. IfNone node (IsNetwork g.now (all_edges g.now))) }
     ensures first { IfOk result (λ node. IfSome node (IsFirstApartNode g.now)) }
 {
-    let all = every_edge(alloc, g)?;
+    let all = EdgeSet::full(alloc, g.edge_count())?;
     let terminals = g.terminals();
     match first_apart(alloc, g, &all)? {
         None => Ok(None),

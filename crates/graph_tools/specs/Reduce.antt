@@ -3,6 +3,7 @@ use Rattle.std.specs.Prelude.{ℕ, ◌≡◌, List, codes, Result}
 use Rattle.net_graph.specs.Graph.{Graph}
 use Rattle.graph_reduce.specs.Fitness.{IsFitFor}
 use Rattle.graph_reduce.specs.Lifting.{KeepsNetworks}
+use Rattle.graph_reduce.specs.OneReduction.{IsOnlyReductionOf}
 use Rattle.graph_reduce.specs.Reduction.{Reduction, IsReductionOf}
 use Rattle.graph_reduce.specs.Text.{reduced_text}
 use Rattle.frame.specs.declared.status.AnswerStatus.TheVariants.{Done}
@@ -17,9 +18,10 @@ use Rattle.graph_inputs.specs.Reading.{ReadsGraph, graph_fault_text, graph_fault
 use Rattle.graph_tools.specs.declared.reduction.GraphReduction.{GraphReduction}
 use Rattle.graph_tools.specs.Found.{FindsIn}
 
--- This is the reduction of the graph, which is a graph again, and whose networks lift.
+-- This is the reduction of the graph, and the only one; it is a graph again, and its networks lift.
 pub record IsReduced (g : Graph) (r : Reduction) : Type 0 where
   pub reduction : IsReductionOf g r
+  pub only : IsOnlyReductionOf g r
   pub fits : IsFitFor g r
   pub networks : KeepsNetworks g r
 

@@ -1,5 +1,5 @@
 -- The answer of the tool in a graph.
-use Rattle.std.specs.Prelude.{ℕ, ◌≡◌, Bool, List, length, if◌then◌else◌}
+use Rattle.std.specs.Prelude.{ℕ, ◌≡◌, ◌<◌, ◌^◌, Bool, List, length, if◌then◌else◌}
 use Rattle.net_graph.specs.Graph.{Graph, total_of}
 use Rattle.net_graph.specs.Members.{members_of}
 use Rattle.net_graph.specs.Network.{length_of}
@@ -39,11 +39,12 @@ graph_text openings g network tree = answer_text (graph_solution openings g netw
 -- both is accepted as an answer in the graph. The tree has at most as many splits as openings are allowed, and exactly
 -- as many where its value is below the network's length; each of its leaves has few cuts, and is maximal where its
 -- value is below the length. Network and tree end a run of openings whose first network is no longer than all edges
--- together.
+-- together. The text has fewer than 2^32 bytes.
 pub record IsPermittedGraphAnswer (openings : ℕ) (g : Graph) (network : List Bool) (tree : Tree SplitOn)
     : Type 0 where
   pub accepted : IsGraphAccepted g (graph_text openings g network tree)
   pub searched : IsSearched g openings (total_of g) network tree
+  pub few_bytes : length (graph_text openings g network tree) < 2 ^ 32
 
 -- what is printed of them
 abbrev pub graph_print : ℕ → Graph → List Bool → Tree SplitOn → Print
@@ -70,13 +71,14 @@ IsSpelled s =
     SpellsAnswer (form.OfGraph (length s.graph.edges) s.graph.vertices) (solution_text s) (graph_value_of s.answer)
 
 -- The answer tells a network of the graph and a tree of cuts, as a search from a network ends with them that is no
--- longer than all edges together.
+-- longer than all edges together. Its text has fewer than 2^32 bytes.
 pub record IsFor (openings : ℕ) (g : Graph) (s : GraphSolution) : Type 0 where
   pub graph : s.graph ≡ g
   pub searched : IsSearched g openings (total_of g) s.answer.network s.answer.tree
   pub head : s.answer.head
       ≡ head_with openings (length_of g s.answer.network) (value_on g s.answer.tree) no_note
   pub fits : IsAnswerOn g s.answer
+  pub few_bytes : length (solution_text s) < 2 ^ 32
 
 -- The answer is one in this graph.
 abbrev pub IsAnswerFor : ℕ → Graph → Answer → Type 0

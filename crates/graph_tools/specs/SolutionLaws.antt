@@ -1,5 +1,5 @@
 -- What a search found in a graph is an answer in it, and one that may be printed once its text is known to spell it.
-use Rattle.std.proofs.Common.{ℕ, ◌≡◌, ◌≤◌, Bool, List, length, All, cond, refl, subst, ap, sym, arith}
+use Rattle.std.proofs.Common.{ℕ, ◌≡◌, ◌<◌, ◌≤◌, ◌^◌, Bool, List, length, All, cond, refl, subst, ap, sym, arith}
 use Rattle.net_graph.specs.Graph.{Graph, total_of}
 use Rattle.net_graph.specs.Members.{members_of}
 use Rattle.net_graph.specs.Network.{length_of}
@@ -28,12 +28,14 @@ use Rattle.graph_tools.specs.Solve.{PrintsAnswer}
 
 -- The answer of a search that began with a network no longer than all edges together.
 pub is_for : (openings first_length : ℕ) (g : Graph) (s : Solved) → openings ≤ 255 → first_length ≤ total_of g →
-    IsTold g openings first_length s → IsFor openings g (record { graph = g; answer = answer_with openings no_note s })
-is_for openings first_length g s small short is = record {
+    IsTold g openings first_length s → length (answer_text (graph_value_of (answer_with openings no_note s))) < 2 ^ 32 →
+    IsFor openings g (record { graph = g; answer = answer_with openings no_note s })
+is_for openings first_length g s small short is few = record {
   graph = refl;
   searched = searched_longer g openings first_length (total_of g) s.network s.tree short is.searched;
   head = told_head g openings first_length no_note s is;
   fits = told_fits g openings first_length no_note s small is;
+  few_bytes = few;
 }
 
 -- it can be written
@@ -92,6 +94,8 @@ permitted_answer openings g s is spells =
           (told_value openings g s is) spelled)
           is.searched is.fits.nodes is.fits.few;
       searched = is.searched;
+      few_bytes =
+          subst (λ (w : WrittenAnswer). length (answer_text w) < 2 ^ 32) (told_value openings g s is) is.few_bytes;
     }
 
 -- It is printed as the answer of the network and the tree.

@@ -1,12 +1,12 @@
 //! An answer in a graph, as the tool prints it.
 
-ghost use Rattle.std.specs.Prelude.{◌≡◌, IfOk};
+ghost use Rattle.std.specs.Prelude.{◌≡◌, ◌<◌, IfOk};
 ghost use Rattle.net_graph.specs.Network.{IsNetwork};
 ghost use Rattle.graph_solve.specs.Task.{all_edges};
 ghost use Rattle.graph_tools.specs.Solution.{IsAnswerFor, IsFor, IsPrintable, IsSpelled, solution_status, solution_text};
 
 use crate::ladder::Ladder;
-use cut_cert::{Answer as CutAnswer, ConcatNote, write_graph_answer};
+use cut_cert::{Answer as CutAnswer, ConcatNote, graph_answer_len, write_graph_answer};
 use frame::{Answer, AnswerStatus};
 use graph_search::{answer_with, searched};
 use graph_solve::first_network;
@@ -76,5 +76,7 @@ pub(crate) fn answer_in(
 {
     let first = first_network(alloc, graph)?;
     let solved = searched(alloc, graph, first, options, &Ladder { graph })?;
-    Ok(answer_with(options.openings, NO_NOTE, solved))
+    let answer = answer_with(options.openings, NO_NOTE, solved);
+    prove!(graph_answer_len(graph, &answer) < 1 << 32);
+    Ok(answer)
 }

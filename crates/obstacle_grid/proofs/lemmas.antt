@@ -4,6 +4,7 @@ pub mod Crossings
 pub mod Sizes
 pub mod Texts
 pub mod Faults
+pub mod OneFault
 pub mod Words
 pub mod Leads
 pub mod Sections

@@ -1,16 +1,16 @@
 //! The graph of points and boxes.
 
-ghost use Rattle.std.specs.Prelude.{◌≡◌, ◌<◌, ◌≤◌, ◌^◌, length, filter, IfOk, IfErr, OnOk};
+ghost use Rattle.std.specs.Prelude.{◌≡◌, ◌<◌, ◌≤◌, ◌^◌, length, filter, IfOk, IfErr, OnOk, Ok, Err};
 ghost use Rattle.net_graph.specs.Graph.{IsGraph, total_of};
 ghost use Rattle.net_graph.specs.Network.{IsNetwork};
 ghost use Rattle.graph_solve.specs.Task.{all_edges};
 ghost use Rattle.obstacle_grid.specs.Grid.{obstacle_grid_of, is_allowed, obstacle_graph_of};
-ghost use Rattle.obstacle_grid.specs.Fault.{IsTask, IsFirstFault};
+ghost use Rattle.obstacle_grid.specs.Fault.{Answers, HasFirstFault, IsTask, IsFirstFault};
+ghost use Rattle.obstacle_grid.specs.declared.fault.ObstacleTaskFault.{ObstacleTaskFault};
 
 use crate::fault::ObstacleTaskFault;
 use crate::grid::ObstacleGrid;
-use graph_solve::every_edge;
-use net_graph::{Edge, EdgeList, GraphFault, NetGraph, VertexList, first_apart};
+use net_graph::{Edge, EdgeList, EdgeSet, GraphFault, NetGraph, VertexList, first_apart};
 use obstacles_in::Obstacles;
 use std::alloc::{AllocError, Global};
 
@@ -24,9 +24,24 @@ pub fn obstacle_graph(alloc: Global, o: &Obstacles) -> Result<NetGraph, Obstacle
     ensures joined { IfOk result (λ g. IsNetwork g (all_edges g)) }
     ensures task { OnOk result (IsTask o.now) }
     ensures fault { IfErr result (IsFirstFault o.now) }
+    // The graph of what has no fault is given, and a first fault is told, unless memory runs out.
+    ensures only { IsTask o.now → Answers result (Ok (obstacle_graph_of o.now)) }
+    ensures only_fault { (f : ObstacleTaskFault) → HasFirstFault o.now f → Answers result (Err f) }
+{
+    joined_graph(alloc, o)
+}
+
+// The graph, where all allowed edges together join the points.
+fn joined_graph(alloc: Global, o: &Obstacles) -> Result<NetGraph, ObstacleTaskFault>
+    ensures graph { IfOk result (λ g. g ≡ obstacle_graph_of o.now) }
+    ensures sound { IfOk result (λ g. IsGraph g) }
+    ensures few { IfOk result (λ g. length g.terminals ≤ 255) }
+    ensures joined { IfOk result (λ g. IsNetwork g (all_edges g)) }
+    ensures task { OnOk result (IsTask o.now) }
+    ensures fault { IfErr result (IsFirstFault o.now) }
 {
     let graph = allowed_graph(alloc, o)?;
-    let all = every_edge(alloc, &graph)?;
+    let all = EdgeSet::full(alloc, graph.edge_count())?;
     match first_apart(alloc, &graph, &all)? {
         None => Ok(graph),
         Some(place) => Err(ObstacleTaskFault::Apart(place)),

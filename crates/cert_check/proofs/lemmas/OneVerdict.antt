@@ -9,7 +9,7 @@ use Rattle.tree_judge.specs.Judged.{SoFar, bound_found, nothing_told}
 use Rattle.tree_judge.specs.EndLaws.{right_without_fault, same_end_fault}
 use Rattle.tree_judge.specs.StepLaws.{IsSameFault}
 use Rattle.tree_judge.specs.StepLaws as steps
-use Rattle.cert_check.specs.Named.{IsNamed, Named, on_grid}
+use Rattle.cert_check.specs.Named.{IsNamed, Named}
 use Rattle.cert_check.specs.declared.verdict.Verdict.{Verdict}
 use Rattle.cert_check.specs.declared.verdict.Verdict.TheVariants.{Accepted, Refused, TooLong}
 use Rattle.cert_check.specs.declared.verdict.Finished.{Finished}
@@ -19,7 +19,6 @@ use Rattle.cert_check.specs.VerdictLaw.{OneVerdict}
 use Rattle.cert_check.specs.Lines.{Behind}
 use Rattle.cert_check.specs.Lines.Behind.{Ended, Ceased, Further}
 use Rattle.cert_check.specs.Verdicts.{IsJudged, IsVerdictIn, byte_limit}
-use Rattle.cert_check.proofs.lemmas.GridNames.{IsNamed-on_grid}
 use Rattle.cert_check.proofs.lemmas.Names.{ResolvesTo-both, resolved_without_fault, same_name_fault}
 use Rattle.cert_check.proofs.lemmas.SameLines.{SameReading, same_lines}
 
@@ -126,4 +125,4 @@ one_verdict_in once N names bytes f f' (inr v) (inr v') =
 
 -- the law
 pub one_verdict_lem : OneReading → OneVerdict
-one_verdict_lem once ps bytes f f' = one_verdict_in once (on_grid ps) (IsNamed-on_grid ps) bytes f f'
+one_verdict_lem once N names bytes f f' = one_verdict_in once N names bytes f f'

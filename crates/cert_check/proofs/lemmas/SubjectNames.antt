@@ -15,7 +15,7 @@ same_edge_number n n' same = cc
 pub same_vertex_number : (n n' : ℕ) → vertex.Number n ≡ vertex.Number n' → n ≡ n'
 same_vertex_number n n' same = cc
 
-IsNamed-in_graph : (g : Graph) → IsNamed (in_graph g)
+pub IsNamed-in_graph : (g : Graph) → IsNamed (in_graph g)
 IsNamed-in_graph g = record {
   edge = λ e e' inside inside' same.
       let next = same_edge_number (e + 1) (e' + 1) same in omega (arith, next);

@@ -1,7 +1,7 @@
 -- The faults that the graph of points and boxes may have, and what its edges join.
-use Rattle.std.specs.Prelude.{ℕ, ◌*◌, ◌≡◌, ◌<◌, ◌≤◌, Bool, not, List, length, filter, flat_map, get_or, All}
+use Rattle.std.specs.Prelude.{ℕ, ◌*◌, ◌≡◌, ◌<◌, ◌≤◌, Bool, true, not, List, length, filter, flat_map, get_or, All, replicate}
 use Rattle.std.specs.Prelude.{Option, Some, None, IfSome, IfNone}
-use Rattle.std.proofs.Common.{refl, ap, subst, arith}
+use Rattle.std.proofs.Common.{refl, ap, subst, ◌∙◌, arith}
 use Rattle.std.proofs.lemmas.List.{length-map, get_or_append_left}
 use Rattle.std.proofs.lemmas.List.Elements.{All-filter, All-map}
 use Rattle.std.proofs.lemmas.List.Filters.{length-filter_both}
@@ -92,6 +92,10 @@ known_fault_of_parts o g fault told are is same first =
     (subst (λ f. IsFirstFault (obstacle_graph_of o) f) same (subst (λ h. IsFirstFault h told) is first))
 
 -- ---- what the edges join
+
+-- the set of as many edges as there are is that of all
+pub whole_set : (g : Graph) (all : List Bool) (n : ℕ) → all ≡ replicate n true → n ≡ length g.edges → all ≡ all_edges g
+whole_set g all n is count = is ∙ ap (λ k. replicate k true) count
 
 -- no terminal is apart
 pub joined_by_all : (g : Graph) (all : List Bool) (place : Option ℕ) → all ≡ all_edges g → place ≡ None

@@ -1,4 +1,3 @@
-use Rattle.cut_cert.specs.Answers.{grid_labels}
 use Rattle.std.proofs.Common.{◌+◌, length, ap, sym, ◌∙◌, arith}
 use Rattle.cut_cert.specs.LineKinds as line
 use Rattle.cut_cert.specs.Lines.{line_text}
@@ -7,18 +6,18 @@ use Rattle.cut_cert.proofs.length.edges_len.Goals as goal
 use Rattle.cut_cert.proofs.length.edges_len.Goals.{then-has, else-has}
 
 pub loop-e-preserved : goal.loop-e-preserved
-loop-e-preserved c = elim c.if-has.branch [
+loop-e-preserved g c = elim c.if-has.branch [
   | then-has w ↦ record {
     length =
         let line = w.edge_len-sum.ensures.length ∙ ap (λ name. length (line_text (line.Edge name))) w.edge_label.ensures.label in
         w.sum-is ∙ ap (λ n. c.loop-e.sum + n) line
-        ∙ lines_length-member (grid_labels c.args.grid.now) c.args.network.now c.loop-e.e c.loop-e.sum (omega arith) (sym c.has.ensures.within ∙ w.if-has.true) c.loop-e.invariant.length;
+        ∙ lines_length-member (g.L.Labelled.labels c.args.of.now) c.args.network.now c.loop-e.e c.loop-e.sum (omega arith) (sym c.has.ensures.within ∙ w.if-has.true) c.loop-e.invariant.length;
     short = omega arith;
   }
   | else-has w ↦ record {
     length =
         w.sum-is ∙ c.loop-e.invariant.length
-        ∙ ap length (lines-other (grid_labels c.args.grid.now) c.args.network.now c.loop-e.e (omega arith) (sym c.has.ensures.within ∙ w.if-has.false));
+        ∙ ap length (lines-other (g.L.Labelled.labels c.args.of.now) c.args.network.now c.loop-e.e (omega arith) (sym c.has.ensures.within ∙ w.if-has.false));
     short = omega arith;
   }
 ]

@@ -2,9 +2,9 @@ use Rattle.std.proofs.Common.{◌≡◌, ◌*◌, ◌≤◌, length, map, take}
 use Rattle.net_graph.specs.Members.{members_of}
 use Rattle.cut_cert.specs.LineKinds as line
 use Rattle.cut_cert.specs.Lines.{lines_text}
-use Rattle.cut_cert.specs.Answers.{names_of}
+use Rattle.cut_cert.specs.Answers.{edge_labels}
 use Rattle.cut_cert.proofs.length.edges_len.Given as goal
 
 -- the length of the lines of the members among the numbers passed
 abbrev pub invariant-loop-e : goal.invariant-loop-e
-invariant-loop-e l = record { length : l.sum ≡ length (lines_text (map line.Edge (names_of l.grid (members_of (take l.e l.network))))); short : l.sum ≤ 164 * l.e }
+invariant-loop-e g l = record { length : l.sum ≡ length (lines_text (map line.Edge (edge_labels (g.L.Labelled.labels l.of) (members_of (take l.e l.network))))); short : l.sum ≤ 164 * l.e }

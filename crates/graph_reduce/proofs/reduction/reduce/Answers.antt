@@ -4,10 +4,12 @@ use Rattle.graph_reduce.specs.Reduction.{IsReductionOf, reduction_of}
 use Rattle.graph_reduce.specs.Left.{places_left, reduction_held, IsLaidOut}
 use Rattle.graph_reduce.specs.LeftArrays.{held_in, graph_of_left}
 use Rattle.graph_reduce.specs.Fitness.{IsFitFor}
+use Rattle.graph_reduce.specs.OneReduction.{IsOnlyReductionOf}
 use Rattle.graph_reduce.specs.Lifting.{KeepsNetworks}
 use Rattle.graph_reduce.proofs.lemmas.FitLaw.{reductions_fit_lem}
 use Rattle.graph_reduce.proofs.lemmas.LeftLaws.{few_nodes, held_reduction, is_reduction, laid_out}
 use Rattle.graph_reduce.proofs.lemmas.LiftingLaw.{lifting_keeps_length_lem}
+use Rattle.graph_reduce.proofs.lemmas.OneEnd.{one_reduction_lem}
 use Rattle.graph_reduce.proofs.reduction.reduce.Goals as goal
 use Rattle.graph_reduce.proofs.reduction.reduce.Goals.{After-drop-arrays-4}
 
@@ -48,6 +50,10 @@ of_state c =
 
 pub returns-clause-reduction : goal.returns-clause-reduction
 returns-clause-reduction c = subst (IsReductionOf c.args.g.now) (sym (reduction_is c)) (of_state c)
+
+pub returns-clause-only : goal.returns-clause-only
+returns-clause-only c = subst (IsOnlyReductionOf c.args.g.now) (sym (reduction_is c))
+    (one_reduction_lem c.args.g.now _ (of_state c))
 
 pub returns-clause-fits : goal.returns-clause-fits
 returns-clause-fits c = subst (IsFitFor c.args.g.now) (sym (reduction_is c))

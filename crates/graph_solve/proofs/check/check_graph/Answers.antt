@@ -2,7 +2,7 @@
 use Rattle.std.proofs.Common.{[], sym, ap, ◌∙◌, subst, arith}
 use Rattle.cert_check.specs.Named.{in_graph}
 use Rattle.graph_solve.specs.Accepted.{verdict_of}
-use Rattle.graph_solve.proofs.lemmas.GraphVerdicts.{accepting_of}
+use Rattle.graph_solve.proofs.lemmas.GraphVerdicts.{accepting_of, only_told}
 use Rattle.graph_solve.proofs.check.check_graph.Goals as goal
 
 pub told-requires : goal.told-requires
@@ -18,6 +18,12 @@ returns-clause-verdict c =
       c.finish-finished.ensures.verdict (in_graph c.args.g.now) c.args.bytes.now stands,
       c.told.ensures,
     )
+
+pub returns-clause-only : goal.returns-clause-only
+returns-clause-only c =
+    let stands = c.feed.ensures (in_graph c.args.g.now) [] c.in_graph-checker.ensures in
+    only_told c.args.g.now c.args.bytes.now c.finish-finished.result c.told.result c.told.ensures
+    (c.finish-finished.ensures.only (in_graph c.args.g.now) c.args.bytes.now stands)
 
 pub returns-clause-accepted : goal.returns-clause-accepted
 returns-clause-accepted c length bound optimal is =

@@ -1,14 +1,11 @@
-use Rattle.std.proofs.Common.{subst}
-use Rattle.std.specs.Prelude.{IfNone}
-use Rattle.net_graph.specs.Network.{IsNetwork}
-use Rattle.graph_solve.specs.Task.{all_edges}
+-- What was found is the file's graph, or its first fault, of which there is one.
+use Rattle.graph_solve.proofs.lemmas.OneFault.{answers_fault, answers_graph}
 use Rattle.graph_solve.proofs.task.graph_of.Goals as goal
 
-pub returns-in-None-clause-task : goal.returns-in-None-clause-task
-returns-in-None-clause-task c = record {
-  lengths = c.in_ok-graph.ensures.lengths;
-  total = c.in_ok-graph.ensures.total;
-  joined = subst (λ g. IsNetwork g (all_edges g)) c.in_ok-graph.ensures.graph
-      (subst (λ o. IfNone o (IsNetwork c.in_ok-graph.graph (all_edges c.in_ok-graph.graph))) c.in-None.is
-      c.in_ok-first_apart_node.ensures.none);
-}
+pub returns-clause-only : goal.returns-clause-only
+returns-clause-only c = λ task.
+    answers_graph c.args.file.now c.joined_graph.result c.joined_graph.ensures.graph c.joined_graph.ensures.fault task
+
+pub returns-clause-only_fault : goal.returns-clause-only_fault
+returns-clause-only_fault c = λ f first.
+    answers_fault c.args.file.now c.joined_graph.result c.joined_graph.ensures.task c.joined_graph.ensures.fault f first

@@ -26,6 +26,7 @@ returns c =
     lifted_for c.args.graph.now c.in_ok-reduced.reduced a c.lifted_by.result
     (record {
       reduction = c.in_ok-reduced.ensures.reduction;
+      only = c.in_ok-reduced.ensures.only;
       fits = c.in_ok-reduced.ensures.fits;
       networks = c.in_ok-reduced.ensures.networks;
     })

@@ -1,19 +1,11 @@
--- The search over all edges found no point apart.
-use Rattle.std.proofs.Common.{subst}
-use Rattle.net_graph.specs.Network.{IsNetwork}
-use Rattle.graph_solve.specs.Task.{all_edges}
-use Rattle.obstacle_grid.proofs.lemmas.Faults.{joined_by_all}
+-- What was found is the graph, or the first fault, of which there is one.
+use Rattle.obstacle_grid.proofs.lemmas.OneFault.{answers_fault, answers_graph}
 use Rattle.obstacle_grid.proofs.graph.obstacle_graph.Goals as goal
 
-pub returns-in-None-clause-joined : goal.returns-in-None-clause-joined
-returns-in-None-clause-joined c =
-    joined_by_all c.in_ok-graph.graph c.in_ok-all.all c.in_ok-first_apart.field-0 c.in_ok-all.ensures c.in-None.is
-    c.in_ok-first_apart.ensures.none
+pub returns-clause-only : goal.returns-clause-only
+returns-clause-only c = λ task.
+    answers_graph c.args.o.now c.joined_graph.result c.joined_graph.ensures.graph c.joined_graph.ensures.fault task
 
-pub returns-in-None-clause-task : goal.returns-in-None-clause-task
-returns-in-None-clause-task c = record {
-  total = c.in_ok-graph.ensures.total;
-  joined = subst (λ g. IsNetwork g (all_edges g)) c.in_ok-graph.ensures.graph
-      (joined_by_all c.in_ok-graph.graph c.in_ok-all.all c.in_ok-first_apart.field-0 c.in_ok-all.ensures c.in-None.is
-      c.in_ok-first_apart.ensures.none);
-}
+pub returns-clause-only_fault : goal.returns-clause-only_fault
+returns-clause-only_fault c = λ f first.
+    answers_fault c.args.o.now c.joined_graph.result c.joined_graph.ensures.task c.joined_graph.ensures.fault f first

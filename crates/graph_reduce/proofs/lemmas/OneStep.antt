@@ -1,0 +1,138 @@
+-- A step of a reduction is determined: each rule at its place leads to one state, and one rule at one place is first.
+use Rattle.std.specs.Prelude.{ℕ, ◌≡◌, ◌⊎◌, ◌==◌, ◌<◌, nat_lt, ◌+◌, false, slice_set, Some, None, if◌then◌else◌}
+use Rattle.std.proofs.Common.{refl, sym, ap, ◌∙◌, inl, inr, subst, arith}
+use Rattle.std.proofs.lemmas.Bool.{cases_lt}
+use Rattle.net_graph.specs.Network.{HasEnds}
+use Rattle.graph_reduce.specs.State.{Bundle, State, HasEdge, EndsIn, HasOneEdge, union}
+use Rattle.graph_reduce.specs.Rules.{DropsParallel, JoinsEdges, ForcesEdge, AreParallel, joined, moved}
+use Rattle.graph_reduce.specs.Rules.{without_edge, without_node}
+use Rattle.graph_reduce.specs.Step.{Rule, Takes, IsStep, order_of}
+use Rattle.graph_reduce.specs.Step.Rule.{OneTerminal, Loop, Parallel, Leaf, Passed, TerminalLeaf}
+use Rattle.graph_reduce.proofs.lemmas.Ends.{first_end, other_is, same_edge}
+
+-- a number that is neither below nor above another is that one
+pub neither_less : (n m : ℕ) → (n < m → ⊥) → (m < n → ⊥) → n ≡ m
+neither_less n m not_below not_above = elim (cases_lt n m) [
+  | inl below ↦ absurd (not_below below)
+  | inr past ↦ elim (cases_lt m n) [
+    | inl above ↦ absurd (not_above above)
+    | inr least ↦ omega (arith, past, least)
+  ]
+]
+
+-- ---- the rules, each at its place
+
+-- the next parallel edge is one
+not_earlier : (at : ℕ) (old new new' : State) (d : DropsParallel at old new) (d' : DropsParallel at old new') →
+    d.later < d'.later → ⊥
+not_earlier at old new new' d d' below =
+    let same = same_edge old at d.x d'.x d.parallel.first_at d'.parallel.first_at in
+    d'.next d.later d.y below (subst (λ x. AreParallel old at d.later x d.y) same d.parallel)
+
+one_parallel : (at : ℕ) (old new new' : State) → DropsParallel at old new → DropsParallel at old new' → new ≡ new'
+one_parallel at old new new' d d' =
+    let later = neither_less d.later d'.later (not_earlier at old new new' d d') (not_earlier at old new' new d' d) in
+    let x = same_edge old at d.x d'.x d.parallel.first_at d'.parallel.first_at in
+    let y = same_edge old d'.later d.y d'.y (subst (λ n. HasEdge old n d.y) later d.parallel.second_at)
+    d'.parallel.second_at in
+    d.becomes
+    ∙ (λ i. without_edge old (if nat_lt (y i).edge.length (x i).edge.length then at else later i)) ∙ sym d'.becomes
+
+-- an edge of a node ends there
+ends_there : (s : State) (v place : ℕ) (x : Bundle) (other : ℕ) → HasOneEdge s v place x other → EndsIn s v place
+ends_there s v place x other e = (x, e.at, first_end x v other e.ends)
+
+-- the one edge of a node is one
+one_place : (s : State) (v p p' : ℕ) (x x' : Bundle) (o o' : ℕ) → HasOneEdge s v p x o → HasOneEdge s v p' x' o' →
+    p ≡ p'
+one_place s v p p' x x' o o' e e' = e'.only p (ends_there s v p x o e)
+
+one_leaf : (v : ℕ) (old new new' : State) → Takes Leaf v old new → Takes Leaf v old new' → new ≡ new'
+one_leaf v old new new' (inl d) (inl d') = d.becomes ∙ sym d'.becomes
+one_leaf v old new new' (inl d) (inr d') = absurd (d.none d'.place (ends_there old v d'.place d'.x d'.other d'.edge))
+one_leaf v old new new' (inr d) (inl d') = absurd (d'.none d.place (ends_there old v d.place d.x d.other d.edge))
+one_leaf v old new new' (inr d) (inr d') =
+    let place = one_place old v d.place d'.place d.x d'.x d.other d'.other d.edge d'.edge in
+    d.becomes ∙ ap (without_edge (without_node old v)) place ∙ sym d'.becomes
+
+-- two numbers among two others, both pairs in order
+both_are : (a b c d : ℕ) → a < b → c < d → (a ≡ c) ⊎ (a ≡ d) → (b ≡ c) ⊎ (b ≡ d) → (a ≡ c) × (b ≡ d)
+both_are a b c d one two (inl p) (inl q) = absurd (omega (arith, one, p, q))
+both_are a b c d one two (inl p) (inr q) = (p, q)
+both_are a b c d one two (inr p) (inl q) = absurd (omega (arith, one, two, p, q))
+both_are a b c d one two (inr p) (inr q) = absurd (omega (arith, one, p, q))
+
+one_joined : (v : ℕ) (old new new' : State) → JoinsEdges v old new → JoinsEdges v old new' → new ≡ new'
+one_joined v old new new' j k =
+    let places = both_are j.earlier j.later k.earlier k.later j.order k.order
+    (k.only j.earlier (j.x, j.earlier_at, first_end j.x v j.u j.earlier_ends))
+    (k.only j.later (j.y, j.later_at, first_end j.y v j.w j.later_ends)) in
+    let x = same_edge old k.earlier j.x k.x (subst (λ n. HasEdge old n j.x) places.0 j.earlier_at) k.earlier_at in
+    let y = same_edge old k.later j.y k.y (subst (λ n. HasEdge old n j.y) places.1 j.later_at) k.later_at in
+    let u = other_is k.x.edge v j.u k.u (subst (λ (b : Bundle). HasEnds b.edge v j.u) x j.earlier_ends)
+    k.earlier_ends in
+    let w = other_is k.y.edge v j.w k.w (subst (λ (b : Bundle). HasEnds b.edge v j.w) y j.later_ends) k.later_ends in
+    j.becomes
+    ∙ (λ i. record old {
+      nodes = slice_set old.nodes v false;
+      edges = slice_set (slice_set old.edges (places.0 i) (Some (joined (x i) (y i) (u i) (w i)))) (places.1 i) None;
+    })
+    ∙ sym k.becomes
+
+one_forced : (v : ℕ) (old new new' : State) → ForcesEdge v old new → ForcesEdge v old new' → new ≡ new'
+one_forced v old new new' f g =
+    let place = one_place old v f.place g.place f.x g.x f.other g.other f.edge g.edge in
+    let x = same_edge old g.place f.x g.x (subst (λ n. HasEdge old n f.x) place f.edge.at) g.edge.at in
+    let other = other_is g.x.edge v f.other g.other
+    (subst (λ (b : Bundle). HasEnds b.edge v f.other) x f.edge.ends) g.edge.ends in
+    f.becomes
+    ∙ (λ i. record {
+      nodes = slice_set old.nodes v false;
+      edges = slice_set old.edges (place i) None;
+      terminals = moved old.terminals v (other i);
+      forced = union old.forced (x i).originals;
+      offset = old.offset + (x i).edge.length;
+    })
+    ∙ sym g.becomes
+
+one_taken : (rule : Rule) (at : ℕ) (old new new' : State) → Takes rule at old new → Takes rule at old new' →
+    new ≡ new'
+one_taken OneTerminal at old new new' d d' = d.becomes ∙ sym d'.becomes
+one_taken Loop at old new new' d d' = d.becomes ∙ sym d'.becomes
+one_taken Parallel at old new new' d d' = one_parallel at old new new' d d'
+one_taken Leaf at old new new' d d' = one_leaf at old new new' d d'
+one_taken Passed at old new new' d d' = one_joined at old new new' d d'
+one_taken TerminalLeaf at old new new' d d' = one_forced at old new new' d d'
+
+-- ---- the first rule, at its lowest place
+
+-- a rule is told by its place in their order
+abbrev rule_at : ℕ → Rule
+rule_at n =
+    if n == 1 then OneTerminal
+    else if n == 2 then Loop
+    else if n == 3 then Parallel else if n == 4 then Leaf else if n == 5 then Passed else TerminalLeaf
+
+rule_again : (rule : Rule) → rule_at (order_of rule) ≡ rule
+rule_again OneTerminal = refl
+rule_again Loop = refl
+rule_again Parallel = refl
+rule_again Leaf = refl
+rule_again Passed = refl
+rule_again TerminalLeaf = refl
+
+same_rule : (rule rule' : Rule) → order_of rule ≡ order_of rule' → rule ≡ rule'
+same_rule rule rule' is = sym (rule_again rule) ∙ ap rule_at is ∙ rule_again rule'
+
+-- a step leads to one state
+pub one_step : (old new new' : State) → IsStep old new → IsStep old new' → new ≡ new'
+one_step old new new' s t =
+    let order = neither_less (order_of s.rule) (order_of t.rule)
+    (λ below. t.first s.rule s.at (inl below) (new, s.takes))
+    (λ above. s.first t.rule t.at (inl above) (new', t.takes)) in
+    let place = neither_less s.at t.at
+    (λ below. t.first s.rule s.at (inr (order, below)) (new, s.takes))
+    (λ above. s.first t.rule t.at (inr (sym order, above)) (new', t.takes)) in
+    let rule = same_rule s.rule t.rule order in
+    one_taken t.rule t.at old new new'
+    (subst (λ at. Takes t.rule at old new) place (subst (λ r. Takes r s.at old new) rule s.takes)) t.takes
