@@ -9,6 +9,6 @@ use Rattle.graph_tools.proofs.solution.answer_in.Goals as goal
 pub returns : goal.returns
 returns c =
     let small : c.args.options.openings ≤ 255 = omega arith in
-    subst (λ (a : Answer). IsAnswerFor c.args.options.openings c.args.graph.now a) (sym c.answer_with.ensures)
-    (is_for c.args.options.openings (length_of c.args.graph.now c.in_ok-first.first) c.args.graph.now
+    subst (λ (a : Answer). IsAnswerFor c.args.options c.args.graph.now a) (sym c.answer_with.ensures)
+    (is_for c.args.options (length_of c.args.graph.now c.in_ok-first.first) c.args.graph.now
     c.in_ok-solved.solved small c.in_ok-first.ensures.length c.in_ok-solved.ensures)
