@@ -7,10 +7,10 @@ use Rattle.net_graph.specs.Graph.{Graph}
 use Rattle.net_graph.specs.declared.edge.Edge.{Edge}
 use Rattle.net_graph.specs.declared.state.EdgeState.{EdgeState}
 use Rattle.net_graph.specs.declared.state.EdgeState.TheVariants.{Undecided}
-use Rattle.net_graph.specs.Decision.{Decided, IsUndecided, IsVertexUndecided, states_of}
+use Rattle.net_graph.specs.Decision.{Decided, IsUndecided, states_of}
 use Rattle.dual_ascent.specs.declared.candidate.Candidate.{Candidate}
-use Rattle.branch.specs.Meeting.{edges_at}
-use Rattle.branch.specs.Notes.{IsEdgeCandidate, HasNoEdgeCandidate, IsVertexCandidate, HasNoVertexCandidate}
+use Rattle.branch.specs.Candidates.{IsEdgeToSplit, IsVertexToSplit, HasNoEdgeToSplit, HasNoVertexToSplit}
+use Rattle.branch.specs.Notes.{IsEdgeCandidate, IsVertexCandidate}
 
 -- each of the list is a candidate, and where it is empty no number below a limit is sought
 pub record IsGathered (IsCandidate : Candidate → Type 0) (IsSought : ℕ → Type 0) (seen : ℕ) (list : List Candidate) : Type 0 where
@@ -38,39 +38,30 @@ module _ (IsCandidate : Candidate → Type 0) (IsSought : ℕ → Type 0) where
     every = λ empty. below_more (λ n. IsSought n → ⊥) seen (so_far.every empty) none;
   }
 
--- the edge is an undecided one of the set
-abbrev pub IsSoughtEdge : Graph → Decided → List Bool → ℕ → Type 0
-IsSoughtEdge g d set n = (slice_get set n ≡ Some true) × IsUndecided g d n
-
--- the vertex is an undecided end of an edge of the set
-abbrev pub IsSoughtVertex : Graph → Decided → List Bool → ℕ → Type 0
-IsSoughtVertex g d set v = (0 < edges_at g.edges set v) × IsVertexUndecided g d v
-
 pub edge_candidate : (g : Graph) (d : Decided) (set : List Bool) (n : ℕ) (c : Candidate) (edge : Edge) → c.number ≡ n →
     slice_get set n ≡ Some true → IsUndecided g d n → slice_get g.edges n ≡ Some edge → c.size ≡ edge.length → IsEdgeCandidate g d set c
 edge_candidate g d set n c edge is within undecided at size = record {
-  within = subst (λ (m : ℕ). slice_get set m ≡ Some true) (sym is) within;
-  undecided = subst (λ (m : ℕ). IsUndecided g d m) (sym is) undecided;
+  edge = subst (IsEdgeToSplit g d set) (sym is) (record { within = within; undecided = undecided });
   size = λ other other_at.
       let found : slice_get g.edges n ≡ Some other = subst (λ (m : ℕ). slice_get g.edges m ≡ Some other) is other_at in
       size ∙ ap (λ (e : Edge). e.length) (same_Some edge other (sym at ∙ found));
 }
 
 pub no_edge : (g : Graph) (d : Decided) (set : List Bool) (seen : ℕ) (list : List Candidate) →
-    IsGathered (IsEdgeCandidate g d set) (IsSoughtEdge g d set) seen list → length set ≤ seen → list ≡ [] → HasNoEdgeCandidate g d set
-no_edge g d set seen list so_far all empty = λ n within undecided.
-    so_far.every empty n (let below : n < length set = slice_get_within set n true within in omega arith) (within, undecided)
+    IsGathered (IsEdgeCandidate g d set) (IsEdgeToSplit g d set) seen list → length set ≤ seen → list ≡ [] → HasNoEdgeToSplit g d set
+no_edge g d set seen list so_far all empty = λ n sought.
+    so_far.every empty n (let below : n < length set = slice_get_within set n true sought.within in omega arith) sought
 
 pub no_vertex : (g : Graph) (d : Decided) (set : List Bool) (seen : ℕ) (list : List Candidate) →
-    IsGathered (IsVertexCandidate g d set) (IsSoughtVertex g d set) seen list → g.vertices ≤ seen → list ≡ [] → HasNoVertexCandidate g d set
-no_vertex g d set seen list so_far all empty = λ v some undecided.
-    so_far.every empty v (let below : v < g.vertices = undecided.vertex in omega arith) (some, undecided)
+    IsGathered (IsVertexCandidate g d set) (IsVertexToSplit g d set) seen list → g.vertices ≤ seen → list ≡ [] → HasNoVertexToSplit g d set
+no_vertex g d set seen list so_far all empty = λ v sought.
+    so_far.every empty v (let below : v < g.vertices = sought.undecided.vertex in omega arith) sought
 
 -- an edge that isn't in the set
-pub not_within : (g : Graph) (d : Decided) (set : List Bool) (n : ℕ) → slice_get set n ≡ Some false → IsSoughtEdge g d set n → ⊥
-not_within g d set n out = λ sought. let no : Some false ≡ Some true = sym out ∙ sought.0 in absurd (cc)
+pub not_within : (g : Graph) (d : Decided) (set : List Bool) (n : ℕ) → slice_get set n ≡ Some false → IsEdgeToSplit g d set n → ⊥
+not_within g d set n out = λ sought. let no : Some false ≡ Some true = sym out ∙ sought.within in absurd (cc)
 
 -- an edge with another state
 pub not_undecided : (g : Graph) (d : Decided) (set : List Bool) (n : ℕ) (state : EdgeState) → slice_get (states_of g d) n ≡ Some state →
-    (state ≡ Undecided → ⊥) → IsSoughtEdge g d set n → ⊥
-not_undecided g d set n state at other = λ sought. other (let same : Some state ≡ Some Undecided = sym at ∙ sought.1 in cc)
+    (state ≡ Undecided → ⊥) → IsEdgeToSplit g d set n → ⊥
+not_undecided g d set n state at other = λ sought. other (let same : Some state ≡ Some Undecided = sym at ∙ sought.undecided in cc)

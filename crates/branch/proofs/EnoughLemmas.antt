@@ -28,7 +28,7 @@ use Rattle.branch.specs.declared.split_kind.SplitKind.TheVariants as kind
 use Rattle.branch.specs.Leaves.{DecidedLeaf, leaf_under, leaves_of}
 use Rattle.branch.specs.States.{IsReadyLeaf, IsOpenLeaf, IsState, leaf_value}
 use Rattle.branch.specs.Runs.{EndsOpenings}
-use Rattle.branch.specs.Searching.{SplitsEdges}
+use Rattle.branch.specs.Kinds.{SplitsEdges}
 use Rattle.branch.specs.Solving.{IsSolved, ways_of}
 use Rattle.branch.proofs.ListLemmas.{all_at, place_cases}
 use Rattle.branch.proofs.TreeLemmas.{least_leaf}

@@ -1,5 +1,5 @@
 -- Elements of lists by their places, and lists of the same length side by side.
-use Rattle.std.proofs.Common.{ℕ, zero, suc, ◌≡◌, ◌+◌, ◌<◌, ◌⊎◌, inl, inr, ⊎_elim, List, [], ◌∷◌, ◌++◌, length, slice_get, slice_set, Some, All, refl, ap, sym, ◌∙◌, subst, arith, get_or}
+use Rattle.std.proofs.Common.{ℕ, zero, suc, ◌≡◌, ◌+◌, ◌<◌, ◌⊎◌, inl, inr, ⊎_elim, List, [], ◌∷◌, ◌++◌, length, take, slice_get, slice_set, Some, All, refl, ap, sym, ◌∙◌, subst, arith, get_or}
 use Rattle.std.specs.List.{AllZip, insert}
 use Rattle.std.proofs.lemmas.Option.{slice_get-get_or, slice_get_within, get_or_from_slice_get}
 
@@ -73,6 +73,13 @@ AllZip-weaker R S weaker [] [] all = tt
 AllZip-weaker R S weaker [] (y ∷ ys) all = absurd all
 AllZip-weaker R S weaker (x ∷ xs) [] all = absurd all
 AllZip-weaker R S weaker (x ∷ xs) (y ∷ ys) all = (weaker x y all.0, AllZip-weaker R S weaker xs ys all.1)
+
+pub AllZip-take : {A B : Type 0} (R : A → B → Type 0) (k : ℕ) (xs : List A) (ys : List B) → AllZip R xs ys → AllZip R (take k xs) (take k ys)
+AllZip-take R zero xs ys all = tt
+AllZip-take R (suc k) [] [] all = tt
+AllZip-take R (suc k) [] (y ∷ ys) all = absurd all
+AllZip-take R (suc k) (x ∷ xs) [] all = absurd all
+AllZip-take R (suc k) (x ∷ xs) (y ∷ ys) all = (all.0, AllZip-take R k xs ys all.1)
 
 pub AllZip-length : {A B : Type 0} (R : A → B → Type 0) (xs : List A) (ys : List B) → AllZip R xs ys → length xs ≡ length ys
 AllZip-length R [] [] all = refl

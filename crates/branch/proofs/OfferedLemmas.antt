@@ -16,7 +16,8 @@ use Rattle.branch.specs.Searching.{IsSearch, is_anew_at}
 use Rattle.branch.specs.States.{IsState}
 use Rattle.branch.proofs.ListLemmas.{AllZip-weaker}
 use Rattle.branch.proofs.VariantLemmas.{variant_state}
-use Rattle.branch.proofs.SearchLemmas.{shorter_own, state_of}
+use Rattle.branch.proofs.SearchLemmas.{state_of}
+use Rattle.branch.proofs.ShorterLemmas.{shorter_own}
 
 -- a run ends with a shorter network, too
 shorter_run : (g : Graph) (first_length n : ℕ) (network less : List Bool) (tree : Tree SplitOn) → EndsOpenings g first_length n network tree →

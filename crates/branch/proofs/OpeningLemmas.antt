@@ -24,19 +24,18 @@ use Rattle.branch.specs.declared.leaf.NewLeaf.{NewLeaf}
 use Rattle.branch.specs.declared.best.Best.{Best}
 use Rattle.branch.specs.declared.frontier.Frontier.{Frontier}
 use Rattle.branch.specs.Leaves.{DecidedLeaf, leaf_under, leaves_of}
-use Rattle.branch.specs.States.{IsOpenLeaf, leaf_value}
+use Rattle.branch.specs.States.{IsOpenLeaf, IsSameOrShorter, IsShownBy, leaf_value}
 use Rattle.branch.specs.declared.split_kind.SplitKind.{SplitKind}
 use Rattle.branch.specs.declared.split_kind.SplitKind.TheVariants as kind
-use Rattle.branch.specs.Meeting.{edges_at}
+use Rattle.branch.specs.Candidates.{IsCandidate, IsEdgeToSplit, IsVertexToSplit}
 use Rattle.branch.specs.Openings.{IsSplitEdge, IsSplitVertex, IsSplitOf}
 use Rattle.dual_ascent.specs.Costs.{costs_of}
-use Rattle.branch.specs.Notes.{IsBest, ShowsOwn, IsNoteOf, IsUpToOwn, IsKeptNote, IsNextNote, CanSplit, IsOfOwn, IsEdgeOfOwn, IsEndOfOwn, IsAsAsked}
+use Rattle.branch.specs.Notes.{IsBest, ShowsOwn, IsNoteOf, IsUpToOwn, IsKeptNote, IsNextNote, CanSplit, IsChoice}
 use Rattle.branch.specs.declared.opening.Opening.{Opening}
 use Rattle.branch.specs.Variants.{in_units, MayBe, MayBeNone, MayBegin}
-use Rattle.branch.specs.Searching.{search_state, is_anew_at, IsSearch, IsOpeningOf, IsPlain, IsOfKind, CanSplitAt}
+use Rattle.branch.specs.Searching.{search_state, is_anew_at, IsSearch, IsOpeningOf, IsPlain, CanSplitAt}
 use Rattle.branch.proofs.ListLemmas.{beside_left, beside_right}
 use Rattle.branch.proofs.TreeLemmas.{length-leaves_of, packing_at}
-use Rattle.branch.proofs.SearchLemmas.{shorter_own}
 use Rattle.branch.proofs.UnitLemmas.{carried-in_units}
 use Rattle.branch.proofs.VariantLemmas.{flag_at}
 use Rattle.std.proofs.lemmas.Bool.{cases_Bool}
@@ -54,7 +53,7 @@ pub record IsNextLeaf (g : Graph) (kept : Frontier) (place : ℕ) (note : LeafNo
 pub next_leaf : (g : Graph) (kept : Frontier) (place : ℕ) (note : LeafNote) → IsSearch g kept → IsNextNote kept.best.length kept.notes.items place →
     note ≡ get_or kept.notes.items place note → (leaf : DecidedLeaf) × IsNextLeaf g kept place note leaf
 next_leaf g kept place note search next is =
-    let (found, at, below, least) = next in
+    let (found, at, below, least, earlier) = next in
     let within : place < length kept.notes.items = slice_get_within kept.notes.items place found at in
     let same : found ≡ note = same_Some found note (sym at ∙ slice_get_read kept.notes.items (length kept.notes.items) place note refl within is) in
     let here : slice_get kept.notes.items place ≡ Some note = at ∙ ap (λ (n : LeafNote). Some n) same in
@@ -87,10 +86,19 @@ saturated_inside g d packing n arc other =
     (λ (inside : slice_get d.edges n ≡ Some Inside). inside)
     (saturated_cases g d packing n arc)
 
--- what is of a leaf's own network is undecided
-pub own_undecided : (g : Graph) (note : LeafNote) (on : SplitOn) → IsOfOwn g note on → IsUndecidedSplit g note.decision on
-own_undecided g note (split.Edge e) of_own = of_own.undecided
-own_undecided g note (split.Vertex v) of_own = of_own.undecided
+-- what a split of a kind may be on, of each sort
+candidate_edge : (asked : SplitKind) (g : Graph) (d : Decided) (set : List Bool) (e : ℕ) → IsCandidate asked g d set (split.Edge e) → IsEdgeToSplit g d set e
+candidate_edge kind.Edges g d set e is = is
+candidate_edge kind.Vertices g d set e is = is.0
+
+candidate_vertex : (asked : SplitKind) (g : Graph) (d : Decided) (set : List Bool) (v : ℕ) → IsCandidate asked g d set (split.Vertex v) → IsVertexToSplit g d set v
+candidate_vertex kind.Edges g d set v is = absurd is
+candidate_vertex kind.Vertices g d set v is = is
+
+-- what is chosen is undecided
+pub choice_undecided : (g : Graph) (note : LeafNote) (asked : SplitKind) (on : SplitOn) → IsChoice g note asked on → IsUndecidedSplit g note.decision on
+choice_undecided g note asked (split.Edge e) choice = (candidate_edge asked g note.decision choice.set e choice.candidate).undecided
+choice_undecided g note asked (split.Vertex v) choice = (candidate_vertex asked g note.decision choice.set v choice.candidate).undecided
 
 -- a decision and what a split adds to it
 pub one_more_outside : (g : Graph) (d now : Decided) (on : SplitOn) → IsUndecidedSplit g d on → now ≡ outside_of d on → DecidesOneMore g d now
@@ -100,12 +108,6 @@ one_more_outside g d now (split.Vertex v) undecided is = inr (v, Missed, undecid
 pub one_more_inside : (g : Graph) (d now : Decided) (on : SplitOn) → IsUndecidedSplit g d on → now ≡ inside_of d on → DecidesOneMore g d now
 one_more_inside g d now (split.Edge e) undecided is = inl (e, Inside, undecided, is)
 one_more_inside g d now (split.Vertex v) undecided is = inr (v, Met, undecided, is)
-
--- what is asked for is of the kind
-pub asked_kind : (g : Graph) (note : LeafNote) (asked : SplitKind) (on : SplitOn) → IsAsAsked g note asked on → IsOfKind asked on
-asked_kind g note kind.Edges (split.Edge e) is = tt
-asked_kind g note kind.Edges (split.Vertex v) is = is
-asked_kind g note kind.Vertices on is = tt
 
 -- the leaf that a caller may split on a vertex
 pub leaf_to_split : (g : Graph) (kept : Frontier) (place v : ℕ) (note : LeafNote) → IsSearch g kept →
@@ -193,7 +195,10 @@ module _ (g : Graph) (kept : Frontier) (place : ℕ) (note : LeafNote) (search :
         some = λ none.
             let covered = inside-covers g.edges leaf.decision.edges set
             (λ n at. saturated_inside g leaf.decision leaf.packing n (shows.arcs.arcs n at)
-            (λ undecided. none n at (subst (λ (d : Decided). IsUndecided g d n) (sym is_next.of_note.decision) undecided))) in
+            (λ undecided. none n (record {
+              within = at;
+              undecided = subst (λ (d : Decided). IsUndecided g d n) (sym is_next.of_note.decision) undecided;
+            }))) in
             let below : leaf_value g leaf < length_of g kept.best.network = is_next.below in
             let length_is = search.best.length in
             omega arith;
@@ -224,49 +229,50 @@ module _ (g : Graph) (kept : Frontier) (place : ℕ) (note : LeafNote) (search :
       ∙ ap (λ (p : List Cut). costs_of g.edges (states_of g leaf.decision) p) (parent_is parent at)
       ∙ ap (λ (d : Decided). costs_of g.edges (states_of g d) parent) (sym is_next.of_note.decision)
 
-  own_edge : (e : ℕ) → IsEdgeOfOwn g note e → IsSplitEdge g leaf e
-  own_edge e of_own = go note.network refl is_next.of_note.own
-    where
-      go : (own : Option (List Bool)) → note.network ≡ own → ShowsOwn g leaf own → IsSplitEdge g leaf e
-      go None same shows = let no : Some of_own.set ≡ None = sym of_own.own ∙ same in absurd cc
-      go (Some set) same shows =
-          let sets : of_own.set ≡ set = same_Some of_own.set set (sym of_own.own ∙ same) in
-          record {
-            undecided = subst (λ (d : Decided). IsUndecided g d e) is_next.of_note.decision of_own.undecided;
-            saturated = shows.arcs.arcs e (subst (λ (s : List Bool). slice_get s e ≡ Some true) sets of_own.within);
-          }
+  -- the leaf shows the network from which a split is chosen
+  pub choice_shown : (asked : SplitKind) (on : SplitOn) (choice : IsChoice g note asked on) → IsShownBy g leaf choice.set
+  choice_shown asked on choice = subst (λ (own : Option (List Bool)). ShowsOwn g leaf own) choice.own is_next.of_note.own
+
+  pub choice_candidate : (asked : SplitKind) (on : SplitOn) (choice : IsChoice g note asked on) →
+      IsCandidate asked g leaf.decision choice.set on
+  choice_candidate asked on choice =
+      subst (λ (d : Decided). IsCandidate asked g d choice.set on) is_next.of_note.decision choice.candidate
+
+  shown_edge : (set : List Bool) (e : ℕ) → IsShownBy g leaf set → IsEdgeToSplit g leaf.decision set e → IsSplitEdge g leaf e
+  shown_edge set e shows sought = record {
+    undecided = sought.undecided;
+    saturated = shows.arcs.arcs e sought.within;
+  }
 
   -- an undecided vertex is no end of an inside edge, so that an edge of the network is undecided there
-  own_vertex : (v : ℕ) → IsEndOfOwn g note v → IsSplitVertex g leaf v
-  own_vertex v of_own = go note.network refl is_next.of_note.own
-    where
-      go : (own : Option (List Bool)) → note.network ≡ own → ShowsOwn g leaf own → IsSplitVertex g leaf v
-      go None same shows = let no : Some of_own.set ≡ None = sym of_own.own ∙ same in absurd cc
-      go (Some set) same shows =
-          let sets : of_own.set ≡ set = same_Some of_own.set set (sym of_own.own ∙ same) in
-          let undecided : IsVertexUndecided g leaf.decision v =
-          subst (λ (d : Decided). IsVertexUndecided g d v) is_next.of_note.decision of_own.undecided in
-          let met = meeting g.edges set v (subst (λ (s : List Bool). 0 < edges_at g.edges s v) sets of_own.some) in
-          let arc = shows.arcs.arcs met.number met.within in
-          record {
-            undecided = undecided;
-            number = met.number;
-            edge = met.edge;
-            at = met.at;
-            ends = met.ends;
-            splits = record {
-              undecided = ⊎_elim
-                  (λ (yes : IsUndecided g leaf.decision met.number). yes)
-                  (λ (inside : slice_get leaf.decision.edges met.number ≡ Some Inside).
-                  absurd (undecided.not_required (inr (inl (met.number, met.edge, inside, met.at, met.ends)))))
-                  (saturated_cases g leaf.decision leaf.packing met.number arc);
-              saturated = arc;
-            };
-          }
+  shown_vertex : (set : List Bool) (v : ℕ) → IsShownBy g leaf set → IsVertexToSplit g leaf.decision set v → IsSplitVertex g leaf v
+  shown_vertex set v shows sought =
+      let undecided = sought.undecided in
+      let met = meeting g.edges set v sought.some in
+      let arc = shows.arcs.arcs met.number met.within in
+      record {
+        undecided = undecided;
+        number = met.number;
+        edge = met.edge;
+        at = met.at;
+        ends = met.ends;
+        splits = record {
+          undecided = ⊎_elim
+              (λ (yes : IsUndecided g leaf.decision met.number). yes)
+              (λ (inside : slice_get leaf.decision.edges met.number ≡ Some Inside).
+              absurd (undecided.not_required (inr (inl (met.number, met.edge, inside, met.at, met.ends)))))
+              (saturated_cases g leaf.decision leaf.packing met.number arc);
+          saturated = arc;
+        };
+      }
 
-  own_splits : (on : SplitOn) → IsOfOwn g note on → IsSplitOf g leaf on
-  own_splits (split.Edge e) of_own = own_edge e of_own
-  own_splits (split.Vertex v) of_own = own_vertex v of_own
+  choice_splits : (asked : SplitKind) (on : SplitOn) → IsChoice g note asked on → IsSplitOf g leaf on
+  choice_splits asked (split.Edge e) choice =
+      shown_edge choice.set e (choice_shown asked (split.Edge e) choice)
+      (candidate_edge asked g leaf.decision choice.set e (choice_candidate asked (split.Edge e) choice))
+  choice_splits asked (split.Vertex v) choice =
+      shown_vertex choice.set v (choice_shown asked (split.Vertex v) choice)
+      (candidate_vertex asked g leaf.decision choice.set v (choice_candidate asked (split.Vertex v) choice))
 
   -- a child, once its decision is known to be one more on the leaf's
   child_note : (next : Decided → Decided) (now : Decided) (child : NewLeaf) → now ≡ next note.decision →
@@ -288,13 +294,13 @@ module _ (g : Graph) (kept : Frontier) (place : ℕ) (note : LeafNote) (search :
       subst (λ (cuts : List Cut). BeginsWith packing cuts) (child_carried next now parent same at) begins
 
   -- all together
-  module _ (on : SplitOn) (d_out d_in : Decided) (parent : List Cut) (outside inside : NewLeaf) (copy second best : Best)
+  module _ (on : SplitOn) (d_out d_in : Decided) (parent : List Cut) (outside inside : NewLeaf) (best : Best)
       (out_is : d_out ≡ outside_of note.decision on) (in_is : d_in ≡ inside_of note.decision on)
       (parent_at : slice_get (packings_of kept.tree) place ≡ Some parent)
       (out_note : IsNoteOf g (leaf_under d_out outside.packing) outside.note)
       (in_note : IsNoteOf g (leaf_under d_in inside.packing) inside.note)
-      (copy_is : copy ≡ kept.best) (second_less : second.length ≤ copy.length) (second_own : IsUpToOwn g second.length outside.note.network)
-      (is_best : IsBest g best) (best_less : best.length ≤ second.length) (best_own : IsUpToOwn g best.length inside.note.network) where
+      (is_best : IsBest g best) (which : IsSameOrShorter g kept.best.network best.network)
+      (out_own : IsUpToOwn g best.length outside.note.network) (in_own : IsUpToOwn g best.length inside.note.network) where
     abbrev made : Opening
     made = record { leaf = place; on = on; outside = outside; inside = inside; best = best }
 
@@ -314,24 +320,27 @@ module _ (g : Graph) (kept : Frontier) (place : ℕ) (note : LeafNote) (search :
       outside_begins = outside_begins;
       inside_begins = inside_begins;
       best = is_best;
-      no_longer = let same : copy.length ≡ kept.best.length = ap (λ (b : Best). b.length) copy_is in omega arith;
-      outside_own = shorter_own g second.length best.length outside.note.network best_less second_own;
-      inside_own = best_own;
+      network_is = which;
+      outside_own = out_own;
+      inside_own = in_own;
     }
 
     module _ (out_begins : BeginsWith outside.packing (carried g d_out parent))
         (in_begins : BeginsWith inside.packing (carried g d_in parent)) where
       -- both begin with what is carried to them
-      pub plain_opening : IsPlain g kept made
-      plain_opening = record {
+      pub plain_opening : IsChoice g note kept.kind on → IsPlain g kept made
+      plain_opening choice = record {
         leaf = leaf;
         at = is_next.at;
+        set = choice.set;
+        shown = choice_shown kept.kind on choice;
+        candidate = choice_candidate kept.kind on choice;
         outside = child_begins (λ d. outside_of d on) d_out parent outside.packing out_is parent_at out_begins;
         inside = child_begins (λ d. inside_of d on) d_in parent inside.packing in_is parent_at in_begins;
       }
 
-      pub is_opening : IsOfOwn g note on → outside.note.is_anew ≡ false → inside.note.is_anew ≡ false → IsOpeningOf g kept made
-      is_opening of_own out_flag in_flag = opening_as leaf.packing (inl refl) (own_splits on of_own)
+      pub is_opening : IsChoice g note kept.kind on → outside.note.is_anew ≡ false → inside.note.is_anew ≡ false → IsOpeningOf g kept made
+      is_opening choice out_flag in_flag = opening_as leaf.packing (inl refl) (choice_splits kept.kind on choice)
           (record { begins = λ _. child_begins (λ d. outside_of d on) d_out parent outside.packing out_is parent_at out_begins; none = λ yes. let never : true ≡ false = sym yes ∙ out_flag in absurd cc })
           (record { begins = λ _. child_begins (λ d. inside_of d on) d_in parent inside.packing in_is parent_at in_begins; none = λ yes. let never : true ≡ false = sym yes ∙ in_flag in absurd cc })
 

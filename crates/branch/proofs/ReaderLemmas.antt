@@ -47,7 +47,7 @@ note_within g kept s k search view within =
 pub next_within : (g : Graph) (kept : Frontier) (place : ℕ) → IsSearch g kept →
     IsNextNote kept.best.length kept.notes.items place →
     place < length (packings_of kept.tree)
-next_within g kept place search (note, at, below, least) =
+next_within g kept place search (note, at, below, least, earlier) =
     let within = slice_get_within kept.notes.items place note at in
     omega (arith, notes_length g kept search)
 

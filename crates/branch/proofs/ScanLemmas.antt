@@ -6,10 +6,13 @@ use Rattle.std.proofs.lemmas.Option.{slice_get_read}
 use Rattle.branch.specs.declared.note.LeafNote.{LeafNote}
 use Rattle.branch.specs.Notes.{IsNextNote}
 
--- what was found has the least value, which is below the limit; where nothing was found the limit stands for it
+-- What was found has the least value, which is below the limit, and those before it have greater ones; where nothing was
+-- found the limit stands for it.
 abbrev pub HasLeast : ℕ → List LeafNote → ℕ → Option ℕ → Type 0
 HasLeast limit notes least None = least ≡ limit
-HasLeast limit notes least (Some place) = (note : LeafNote) × (slice_get notes place ≡ Some note) × (note.value ≡ least) × (least < limit)
+HasLeast limit notes least (Some place) =
+    (note : LeafNote) × (slice_get notes place ≡ Some note) × (note.value ≡ least) × (least < limit)
+    × All (λ other. least < other.value) (take place notes)
 
 -- the least value so far
 pub record IsLeastSoFar (limit : ℕ) (notes : List LeafNote) (seen least : ℕ) (found : Option ℕ) : Type 0 where
@@ -28,7 +31,13 @@ least_lower limit notes seen least found note so_far within is lower =
       each = All-more (λ (n : LeafNote). note.value ≤ n.value) notes seen note within
           (All-weaker (λ (n : LeafNote). least ≤ n.value) (λ (n : LeafNote). note.value ≤ n.value) (λ n h. omega arith) (take seen notes) so_far.each)
           (subst (λ (n : LeafNote). note.value ≤ n.value) is (omega arith));
-      has = (note, slice_get_read notes (length notes) seen note refl within is, refl, omega arith);
+      has = (
+        note,
+        slice_get_read notes (length notes) seen note refl within is,
+        refl,
+        omega arith,
+        All-weaker (λ (n : LeafNote). least ≤ n.value) (λ (n : LeafNote). note.value < n.value) (λ n h. omega arith) (take seen notes) so_far.each,
+      );
     }
 
 -- a note with none
@@ -55,10 +64,11 @@ pub some_below : (limit : ℕ) (notes : List LeafNote) (seen least : ℕ) (found
     IsLeastSoFar limit notes seen least found → IfSome found (IsNextNote limit notes)
 some_below limit notes seen least None all so_far = tt
 some_below limit notes seen least (Some place) all so_far =
-    let (note, at, value, below) = so_far.has in (
+    let (note, at, value, below, earlier) = so_far.has in (
       note,
       at,
       omega arith,
       subst (λ (n : ℕ). All (λ (other : LeafNote). n ≤ other.value) notes) (sym value)
           (subst (λ (xs : List LeafNote). All (λ (other : LeafNote). least ≤ other.value) xs) (take_all seen notes all) so_far.each),
+      subst (λ (n : ℕ). All (λ (other : LeafNote). n < other.value) (take place notes)) (sym value) earlier,
     )

@@ -22,20 +22,21 @@ use Rattle.branch.specs.declared.note.LeafNote.{LeafNote}
 use Rattle.branch.specs.declared.best.Best.{Best}
 use Rattle.branch.specs.declared.frontier.Frontier.{Frontier}
 use Rattle.branch.specs.declared.opening.Opening.{Opening}
-use Rattle.branch.specs.declared.split_kind.SplitKind.{SplitKind}
-use Rattle.branch.specs.declared.split_kind.SplitKind.TheVariants as kind
 use Rattle.branch.specs.Leaves.{DecidedLeaf, leaf_under, leaves_of}
-use Rattle.branch.specs.States.{IsReadyLeaf, IsOpenLeaf, IsState, leaf_value}
+use Rattle.branch.specs.States.{IsReadyLeaf, IsOpenLeaf, IsSameOrShorter, IsShownBy, IsState, leaf_value}
+use Rattle.branch.specs.Candidates.{IsCandidate}
+use Rattle.branch.specs.PlainOpenings.{IsOpenNext, IsPlainOpening}
 use Rattle.branch.specs.Openings.{IsOpening, IsSplitOf, BeginsAt}
 use Rattle.branch.specs.Runs.{EndsOpenings, EndsRunOfOpenings}
 use Rattle.branch.specs.Notes.{IsBest, ShowsOwn, IsNoteOf, IsUpToOwn, IsKeptNote, AreNotesOf}
 use Rattle.branch.specs.Variants.{in_units, MayBe, IsVariant, MayBegin}
 use Rattle.branch.specs.declared.leaf.NewLeaf.{NewLeaf}
-use Rattle.branch.specs.Searching.{search_state, is_anew_at, AreOfKind, IsOfKind, IsSearch, IsOpeningOf, IsPlain, IsOpened, OpensTo, IsSplitAt}
+use Rattle.branch.specs.Searching.{search_state, is_anew_at, IsSearch, IsOpeningOf, IsPlain, IsOpened, OpensTo, IsSplitAt}
 use Rattle.branch.proofs.ListLemmas.{two_at, insert-set, AllZip-two_at, AllZip-weaker, AllZip-length, beside_left, all_from_places}
 use Rattle.branch.proofs.VariantLemmas.{IsLike-may_be, like_value, like_split, variant_same, variant_splits, variant_state, variant_split}
 use Rattle.branch.proofs.VariantLemmas.{new_notes, flags_same_before, flags_same_behind, flag_of_outside, flag_of_inside}
-use Rattle.branch.proofs.TreeLemmas.{leaves_of-replaced, IsValidTree-replaced, split_count-replaced, SplitsEdges-replaced}
+use Rattle.branch.proofs.TreeLemmas.{leaves_of-replaced, IsValidTree-replaced, split_count-replaced}
+use Rattle.branch.proofs.ShorterLemmas.{IsSameOrShorter-le, shorter_own}
 
 -- an open leaf can be opened
 own_ready : (g : Graph) (network : List Bool) (leaf : DecidedLeaf) (own : Option (List Bool)) → ShowsOwn g leaf own →
@@ -63,20 +64,10 @@ state_of g best tree notes is_best valid are = record {
       (subst (λ (n : ℕ). IsUpToOwn g n note.network) is_best.length kept.1) below);
 }
 
--- a shorter length is still no longer than a leaf's own network
-pub shorter_own : (g : Graph) (length less : ℕ) (own : Option (List Bool)) → less ≤ length → IsUpToOwn g length own → IsUpToOwn g less own
-shorter_own g length less None le up_to = tt
-shorter_own g length less (Some set) le up_to = omega arith
-
 -- what may be split is undecided
 split_undecided : (g : Graph) (leaf : DecidedLeaf) (on : SplitOn) → IsSplitOf g leaf on → IsUndecidedSplit g leaf.decision on
 split_undecided g leaf (split.Edge e) splits = splits.undecided
 split_undecided g leaf (split.Vertex v) splits = splits.undecided
-
--- where edges are asked for, a split is on one
-on_edge : (asked : SplitKind) (on : SplitOn) → asked ≡ kind.Edges → IsOfKind asked on → (e : ℕ) × (on ≡ split.Edge e)
-on_edge asked (split.Edge e) is of_kind = (e, refl)
-on_edge asked (split.Vertex v) is of_kind = absurd (subst (λ (k : SplitKind). IsOfKind k (split.Vertex v)) is of_kind)
 
 -- a new leaf that may have another packing begins with what is carried to it
 may_begin : (g : Graph) (parent : List Cut) (d : Decided) (leaf : NewLeaf) (packing : List Cut) → MayBegin g parent d leaf →
@@ -111,11 +102,11 @@ module _ (g : Graph) (old : Frontier) (opening : Opening) (search : IsSearch g o
       IsValidTree-replaced opening.on opening.outside.packing opening.inside.packing g (nothing_decided g) old.tree opening.leaf op.leaf op.at
       search.valid (split_undecided g op.leaf opening.on op.splits) op.outside.feasible op.inside.feasible
 
-  opened_edges : IsOfKind old.kind opening.on → AreOfKind old.kind old.tree → AreOfKind old.kind opened_tree
-  opened_edges of_kind were = λ asked.
-      let (e, is) = on_edge old.kind opening.on asked of_kind in
-      SplitsEdges-replaced opening.on opening.outside.packing opening.inside.packing e is (nothing_decided g) old.tree
-      opening.leaf op.leaf op.at (were asked)
+  opened_shorter : length_of g opening.best.network ≤ length_of g old.best.network
+  opened_shorter = IsSameOrShorter-le g old.best.network opening.best.network op.network_is
+
+  opened_less : opening.best.length ≤ old.best.length
+  opened_less = let less = opened_shorter in let before = search.best.length in let after = op.best.length in omega arith
 
   opened_within : opening.leaf < length old.notes.items
   opened_within =
@@ -131,7 +122,7 @@ module _ (g : Graph) (old : Frontier) (opening : Opening) (search : IsSearch g o
       let notes = insert-set old.notes.items opening.leaf opening.outside.note opening.inside.note (omega arith) in
       let all : AllZip (IsKeptNote g opening.best.length) first_leaves old.notes.items =
       AllZip-weaker (IsKeptNote g old.best.length) (IsKeptNote g opening.best.length)
-      (λ leaf note kept. (kept.0, shorter_own g old.best.length opening.best.length note.network op.no_longer kept.1))
+      (λ leaf note kept. (kept.0, shorter_own g old.best.length opening.best.length note.network opened_less kept.1))
       first_leaves old.notes.items search.notes in
       subst (λ (xs : List DecidedLeaf). AllZip (IsKeptNote g opening.best.length) xs
       (insert (slice_set old.notes.items opening.leaf opening.outside.note) (opening.leaf + 1) opening.inside.note)) (sym leaves)
@@ -142,25 +133,30 @@ module _ (g : Graph) (old : Frontier) (opening : Opening) (search : IsSearch g o
   opened_count : split_count opened_tree ≡ split_count old.tree + 1
   opened_count = split_count-replaced opening.on opening.outside.packing opening.inside.packing (nothing_decided g) old.tree opening.leaf op.leaf op.at
 
-  opened_shorter : length_of g opening.best.network ≤ length_of g old.best.network
-  opened_shorter = let less = op.no_longer in let before = search.best.length in let after = op.best.length in omega arith
-
-  opened_opening : IsPlain g old opening → IsOpening g old.best.network opening.best.network old.tree opened_tree
-  opened_opening plain =
+  opened_plain : IsPlain g old opening → IsOpenNext g old.best.network old.tree opening.leaf →
+      IsPlainOpening old.kind g old.best.network opening.best.network old.tree opened_tree
+  opened_plain plain next =
       let same : plain.leaf ≡ op.leaf = same_Some plain.leaf op.leaf (sym plain.at ∙ op.at) in
       record {
-        place = opening.leaf;
-        leaf = op.leaf;
-        on = opening.on;
-        outside = opening.outside.packing;
-        inside = opening.inside.packing;
-        at = op.at;
-        below = op.below;
-        splits = op.splits;
-        tree_is = refl;
-        outside_begins = subst (λ (l : DecidedLeaf). BeginsAt g l (outside_of l.decision opening.on) opening.outside.packing) same plain.outside;
-        inside_begins = subst (λ (l : DecidedLeaf). BeginsAt g l (inside_of l.decision opening.on) opening.inside.packing) same plain.inside;
-        no_longer = opened_shorter;
+        opening = record {
+          place = opening.leaf;
+          leaf = op.leaf;
+          on = opening.on;
+          outside = opening.outside.packing;
+          inside = opening.inside.packing;
+          at = op.at;
+          below = op.below;
+          splits = op.splits;
+          tree_is = refl;
+          outside_begins = subst (λ (l : DecidedLeaf). BeginsAt g l (outside_of l.decision opening.on) opening.outside.packing) same plain.outside;
+          inside_begins = subst (λ (l : DecidedLeaf). BeginsAt g l (inside_of l.decision opening.on) opening.inside.packing) same plain.inside;
+          no_longer = opened_shorter;
+        };
+        next = next;
+        set = plain.set;
+        shown = subst (λ (l : DecidedLeaf). IsShownBy g l plain.set) same plain.shown;
+        candidate = subst (λ (l : DecidedLeaf). IsCandidate old.kind g l.decision plain.set opening.on) same plain.candidate;
+        network_is = op.network_is;
       }
 
   opened_state : IsState g opening.best.network opened_tree
@@ -248,13 +244,14 @@ search_opened g old new opening search op opened =
           (subst (λ (n : ℕ). EndsRunOfOpenings g n opening.best.network other) first
           (opened_run g old opening search op other of_opened));
       no_longer = subst (λ (b : Best). b.length ≤ new.first_length) best
-          (let less = op.no_longer in let before = search.no_longer in omega arith);
+          (let less = opened_less g old opening search op in let before = search.no_longer in omega arith);
     }
 
--- where both new leaves begin with what is carried to them, and the split is of the kind, the step is an opening
+-- Where the leaf is the one that is open next, the split is on what the kind asks, and both new leaves begin with what is
+-- carried to them, the step is a plain opening.
 pub opens_to : (g : Graph) (old new : Frontier) (opening : Opening) → IsSearch g old → IsOpeningOf g old opening → IsPlain g old opening →
-    IsOfKind old.kind opening.on → IsOpened opening old new → OpensTo (search_state g old) (search_state g new)
-opens_to g old new opening search op plain of_kind opened =
+    IsOpenNext g old.best.network old.tree opening.leaf → IsOpened opening old new → OpensTo (search_state g old) (search_state g new)
+opens_to g old new opening search op plain next opened =
     let tree : opened_tree g old opening search op ≡ new.tree = sym opened.tree in
     let best : opening.best ≡ new.best = sym opened.best in
     record {
@@ -262,12 +259,9 @@ opens_to g old new opening search op plain of_kind opened =
       kind = opened.kind;
       first_length = opened.first_length;
       splits = ap split_count (sym tree) ∙ opened_count g old opening search op;
-      opening = subst (λ (b : Best). IsOpening g old.best.network b.network old.tree new.tree) best
-          (subst (λ (t : Tree SplitOn). IsOpening g old.best.network opening.best.network old.tree t) tree
-          (opened_opening g old opening search op plain));
-      of_kind = λ were.
-          subst (λ (k : SplitKind). AreOfKind k new.tree) (sym opened.kind)
-          (subst (λ (t : Tree SplitOn). AreOfKind old.kind t) tree (opened_edges g old opening search op of_kind were));
+      opening = subst (λ (b : Best). IsPlainOpening old.kind g old.best.network b.network old.tree new.tree) best
+          (subst (λ (t : Tree SplitOn). IsPlainOpening old.kind g old.best.network opening.best.network old.tree t) tree
+          (opened_plain g old opening search op plain next));
     }
 
 -- the step splits the leaf of the opening on its vertex
@@ -286,7 +280,7 @@ splits_to g old new opening place v search op opened leaf_is on_is =
       inside = opening.inside.packing;
       tree = subst (λ (n : ℕ). new.tree ≡ replaced n (split_with (split.Vertex v) opening.outside.packing opening.inside.packing) old.tree) leaf_is
           (subst (λ (u : SplitOn). new.tree ≡ replaced opening.leaf (split_with u opening.outside.packing opening.inside.packing) old.tree) on_is opened.tree);
-      no_longer = subst (λ (b : Best). length_of g b.network ≤ length_of g old.best.network) best (opened_shorter g old opening search op);
+      network_is = subst (λ (b : Best). IsSameOrShorter g old.best.network b.network) best op.network_is;
       run = (search_opened g old new opening search op opened).run new.tree (variant_same (is_anew_at new.notes.items) 0 new.tree);
     }
 

@@ -1,5 +1,5 @@
 -- What a search comes to.
-use Rattle.std.proofs.Common.{ℕ, ◌≡◌, ◌+◌, ◌*◌, ◌<◌, ◌≤◌, ⊎_elim, Bool, true, false, List, length, min, slice_get, Option, None, Some, All, IsTrue, ◌↔◌, refl, sym, ◌∙◌, subst, arith}
+use Rattle.std.proofs.Common.{ℕ, ◌≡◌, ◌+◌, ◌*◌, ◌<◌, ◌≤◌, ⊎_elim, Bool, true, false, List, length, min, take, slice_get, Option, None, Some, All, IsTrue, ◌↔◌, refl, sym, ◌∙◌, subst, arith}
 use Rattle.std.specs.Prelude.{IfNone, IfSome, is_some, not}
 use Rattle.std.proofs.Math.Nat.{min-le_left, min-le_right, le-min}
 use Rattle.std.proofs.lemmas.Option.{slice_get_within, slice_get-get_or, same_Some}
@@ -18,7 +18,7 @@ use Rattle.branch.specs.States.{IsOpenLeaf, IsReadyLeaf, IsState, leaf_value}
 use Rattle.branch.specs.Notes.{IsKeptNote, IsLesserOfNotes, IsNextNote}
 use Rattle.branch.specs.Searching.{search_state, is_anew_at, IsSearch, IsSettled, IsOpenAt}
 use Rattle.branch.specs.Solving.{IsSolved}
-use Rattle.branch.proofs.ListLemmas.{all_at, all_from_places, beside_left, beside_right}
+use Rattle.branch.proofs.ListLemmas.{AllZip-take, all_at, all_from_places, beside_left, beside_right}
 use Rattle.branch.proofs.TreeLemmas.{length-leaves_of, packing_at, le-tree_value, tree_value-le}
 use Rattle.branch.proofs.SearchLemmas.{state_of}
 use Rattle.branch.proofs.VariantLemmas.{variant_same}
@@ -108,7 +108,7 @@ module _ (g : Graph) (kept : Frontier) (search : IsSearch g kept) where
   settled_where_none None true is each next = (λ yes. settled each, λ holds. refl)
   settled_where_none None false is each next = absurd cc
   settled_where_none (Some place) true is each next = absurd cc
-  settled_where_none (Some place) false is each (note, at, below, least) = (
+  settled_where_none (Some place) false is each (note, at, below, least, earlier) = (
     λ yes. absurd cc,
     λ holds.
         let (leaf, leaf_at, kept_note) = beside_right (IsKeptNote g kept.best.length) leaves kept.notes.items place note search.notes at in
@@ -117,9 +117,19 @@ module _ (g : Graph) (kept : Frontier) (search : IsSearch g kept) where
         let length_is = search.best.length in absurd (omega arith),
   )
 
-  -- the next note's leaf is open, and no leaf's value is less
+  -- the leaves before one whose note is the next have greater values
+  earlier_leaves : (place value : ℕ) → All (λ (other : LeafNote). value < other.value) (take place kept.notes.items) →
+      All (λ (other : DecidedLeaf). value < leaf_value g other) (take place leaves)
+  earlier_leaves place value earlier = all_from_places (λ (other : DecidedLeaf). value < leaf_value g other) (take place leaves)
+      (λ k leaf at.
+      let both = AllZip-take (IsKeptNote g kept.best.length) place leaves kept.notes.items search.notes in
+      let (note, note_at, kept_note) = beside_left (IsKeptNote g kept.best.length) (take place leaves) (take place kept.notes.items) k leaf both at in
+      let more : value < note.value = all_at (λ (n : LeafNote). value < n.value) (take place kept.notes.items) k note earlier note_at in
+      let value_is = kept_note.0.value in omega arith)
+
+  -- the next note's leaf is the one that is open next
   pub next_is_open : (place : ℕ) → IsNextNote kept.best.length kept.notes.items place → IsOpenAt (search_state g kept) place
-  next_is_open place (note, at, below, least) =
+  next_is_open place (note, at, below, least, earlier) =
       let (leaf, leaf_at, kept_note) = beside_right (IsKeptNote g kept.best.length) leaves kept.notes.items place note search.notes at in
       let above : tree_value g (nothing_decided g) kept.tree ≤ leaf_value g leaf =
       tree_value-le g (nothing_decided g) kept.tree place leaf leaf_at in
@@ -127,4 +137,12 @@ module _ (g : Graph) (kept : Frontier) (search : IsSearch g kept) where
       let value = kept_note.0.value in
       let length_is = search.best.length in
       let lower : note.value < kept.best.length = below in
-      (leaf, leaf_at, omega arith, omega arith)
+      let least_is : note.value ≡ tree_value g (nothing_decided g) kept.tree = omega arith in
+      record {
+        leaf = leaf;
+        at = leaf_at;
+        below = omega arith;
+        least = omega arith;
+        earlier = subst (λ (n : ℕ). All (λ (other : DecidedLeaf). n < leaf_value g other) (take place leaves)) least_is
+            (earlier_leaves place note.value earlier);
+      }

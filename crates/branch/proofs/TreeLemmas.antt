@@ -8,7 +8,6 @@ use Rattle.net_graph.specs.Graph.{Graph}
 use Rattle.net_graph.specs.Decision.{Decided}
 use Rattle.net_graph.specs.Packing.{IsFeasible, packing_value}
 use Rattle.cert_tree.specs.declared.split.SplitOn.{SplitOn}
-use Rattle.cert_tree.specs.declared.split.SplitOn.TheVariants as split
 use Rattle.cert_tree.specs.Tree.{Tree, split_with}
 use Rattle.cert_tree.specs.Tree.Tree.{Leaf, Split}
 use Rattle.cert_tree.specs.Preorder.{packings_of, split_count}
@@ -18,7 +17,6 @@ use Rattle.cert_tree.specs.Decisions.{outside_of, inside_of, IsUndecidedSplit}
 use Rattle.cert_tree.specs.TreeValue.{IsValidTree, tree_value}
 use Rattle.branch.specs.Leaves.{DecidedLeaf, leaf_under, leaves_of}
 use Rattle.branch.specs.States.{leaf_value}
-use Rattle.branch.specs.Searching.{SplitsEdges}
 use Rattle.branch.proofs.ListLemmas.{two_at, two_at-append_left, two_at-append_right, place_cases, slice_get-append_left, slice_get-append_right}
 
 -- a tree has a leaf for each packing
@@ -119,27 +117,6 @@ module _ (on : SplitOn) (a b : List Cut) where
       ap split_count (replaced-inside s k r.0 (split_with on a b) o i (omega (arith, length-leaves_of (outside_of d s) o)))
       ∙ omega (arith, split_count-replaced (inside_of d s) i r.0 leaf r.2))
       (place_cases os is k leaf at)
-
-  -- its splits are on edges where they were and the new one is
-  pub SplitsEdges-replaced : (e : ℕ) → on ≡ split.Edge e → (d : Decided) (t : Tree SplitOn) (k : ℕ) (leaf : DecidedLeaf) →
-      slice_get (leaves_of d t) k ≡ Some leaf → SplitsEdges t → SplitsEdges (replaced k (split_with on a b) t)
-  SplitsEdges-replaced e is d (Leaf cuts) zero leaf at edges =
-      subst (λ (s : SplitOn). SplitsEdges (split_with s a b)) (sym is) (tt, tt)
-  SplitsEdges-replaced e is d (Leaf cuts) (suc k) leaf at edges = absurd cc
-  SplitsEdges-replaced e is d (Split (split.Vertex v) o i) k leaf at edges = absurd edges
-  SplitsEdges-replaced e is d (Split (split.Edge n) o i) k leaf at edges =
-      let os = leaves_of (outside_of d (split.Edge n)) o in
-      let ins = leaves_of (inside_of d (split.Edge n)) i in
-      ⊎_elim
-      (λ (l : (k < length os) × (slice_get os k ≡ Some leaf)).
-      let within : k < length os = l.0 in
-      subst SplitsEdges (sym (replaced-outside (split.Edge n) k (split_with on a b) o i (omega (arith, length-leaves_of (outside_of d (split.Edge n)) o))))
-      (SplitsEdges-replaced e is (outside_of d (split.Edge n)) o k leaf l.1 edges.0, edges.1))
-      (λ (r : (m : ℕ) × (k ≡ length os + m) × (slice_get ins m ≡ Some leaf)).
-      let same : k ≡ length os + r.0 = r.1 in
-      subst SplitsEdges (sym (replaced-inside (split.Edge n) k r.0 (split_with on a b) o i (omega (arith, length-leaves_of (outside_of d (split.Edge n)) o))))
-      (edges.0, SplitsEdges-replaced e is (inside_of d (split.Edge n)) i r.0 leaf r.2 edges.1))
-      (place_cases os ins k leaf at)
 
 -- the value of a tree is at least what the value of each leaf is at least
 pub le-tree_value : (g : Graph) (d : Decided) (t : Tree SplitOn) (bound : ℕ) →

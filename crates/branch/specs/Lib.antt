@@ -2,6 +2,10 @@ pub mod Leaves
 pub mod SaturatedArcs
 pub mod States
 pub mod Openings
+pub mod Kinds
+pub mod KindLaws
+pub mod Candidates
+pub mod PlainOpenings
 pub mod Runs
 pub mod RunLaws
 pub mod Meeting

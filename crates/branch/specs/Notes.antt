@@ -1,32 +1,24 @@
 -- What a search keeps beside the leaves of its tree.
 use Rattle.std.specs.Prelude.{ℕ, ◌≡◌, ◌+◌, ◌*◌, ◌<◌, ◌≤◌, Bool, true, List, [], ◌∷◌, length, slice_get, Option, Some}
-use Rattle.std.specs.Prelude.{None, IfSome, All, ◌⊎◌, nat_le, if◌then◌else◌}
+use Rattle.std.specs.Prelude.{None, IfSome, All, take, ◌⊎◌, nat_le, if◌then◌else◌}
 use Rattle.std.specs.List.{AllZip}
 use Rattle.net_graph.specs.declared.edge.Edge.{Edge}
 use Rattle.net_graph.specs.Graph.{Graph, total_of}
 use Rattle.net_graph.specs.Network.{length_of}
 use Rattle.net_graph.specs.Decision.{Decided, IsDecisionFor, IsUndecided, IsVertexUndecided, states_of}
 use Rattle.net_graph.specs.Packing.{IsFeasible}
-use Rattle.net_graph.specs.Saturation.{IsMaximal}
 use Rattle.dual_ascent.specs.declared.candidate.Candidate.{Candidate}
 use Rattle.dual_ascent.specs.declared.costs.EdgeCosts.{EdgeCosts}
 use Rattle.dual_ascent.specs.Costs.{costs_of}
 use Rattle.cert_tree.specs.declared.split.SplitOn.{SplitOn}
-use Rattle.cert_tree.specs.declared.split.SplitOn.TheVariants as split
 use Rattle.branch.specs.declared.split_kind.SplitKind.{SplitKind}
-use Rattle.branch.specs.declared.split_kind.SplitKind.TheVariants as kind
 use Rattle.branch.specs.declared.note.LeafNote.{LeafNote}
 use Rattle.branch.specs.declared.best.Best.{Best}
+use Rattle.branch.specs.Candidates.{IsCandidate, IsEdgeToSplit, IsVertexToSplit, HasNoEdgeToSplit}
 use Rattle.branch.specs.Leaves.{DecidedLeaf}
 use Rattle.branch.specs.Meeting.{edges_at}
 use Rattle.branch.specs.SaturatedArcs.{IsUsedUpEdge}
-use Rattle.branch.specs.States.{IsNetworkOf, AreSaturated, leaf_value}
-
--- the leaf is maximal, and the set is a network whose edges each have a saturated arc there
-pub record IsShownBy (g : Graph) (leaf : DecidedLeaf) (set : List Bool) : Type 0 where
-  pub maximal : IsMaximal g leaf.decision leaf.packing
-  pub network_of : IsNetworkOf g set
-  pub arcs : AreSaturated g leaf.decision leaf.packing set
+use Rattle.branch.specs.States.{IsNetworkOf, IsShownBy, leaf_value}
 
 -- a leaf shows the network that is kept beside it; where there is none, its value is at least the sum of all lengths
 abbrev pub ShowsOwn : Graph → DecidedLeaf → Option (List Bool) → Type 0
@@ -70,11 +62,11 @@ IsKeptNote g length leaf note = IsNoteOf g leaf note × IsUpToOwn g length note.
 abbrev pub AreNotesOf : Graph → ℕ → List DecidedLeaf → List LeafNote → Type 0
 AreNotesOf g length leaves notes = AllZip (IsKeptNote g length) leaves notes
 
--- the value that is kept at the place is below the length, and no other one is less
+-- The value that is kept at the place is below the length, no other one is less, and each one before it is greater.
 abbrev pub IsNextNote : ℕ → List LeafNote → ℕ → Type 0
 IsNextNote length notes place =
     (note : LeafNote) × (slice_get notes place ≡ Some note) × (note.value < length)
-    × All (λ other. note.value ≤ other.value) notes
+    × All (λ other. note.value ≤ other.value) notes × All (λ other. note.value < other.value) (take place notes)
 
 -- the number is the lesser of the length and the least value that is kept
 pub record IsLesserOfNotes (length : ℕ) (notes : List LeafNote) (bound : ℕ) : Type 0 where
@@ -88,63 +80,28 @@ pub record IsBest (g : Graph) (best : Best) : Type 0 where
   pub network_of : IsNetworkOf g best.network
   pub length : best.length ≡ length_of g best.network
 
--- the edge of the candidate is in the set and undecided, and its size is its length
+-- the candidate is an undecided edge of the set, and its size is its length
 pub record IsEdgeCandidate (g : Graph) (d : Decided) (set : List Bool) (c : Candidate) : Type 0 where
-  pub within : slice_get set c.number ≡ Some true
-  pub undecided : IsUndecided g d c.number
+  pub edge : IsEdgeToSplit g d set c.number
   pub size : (e : Edge) → slice_get g.edges c.number ≡ Some e → c.size ≡ e.length
 
--- no edge of the set is undecided
-abbrev pub HasNoEdgeCandidate : Graph → Decided → List Bool → Type 0
-HasNoEdgeCandidate g d set = (n : ℕ) → slice_get set n ≡ Some true → IsUndecided g d n → ⊥
-
--- the vertex of the candidate is undecided and an end of edges of the set, of as many as its size says
+-- the candidate is an undecided end of edges of the set, of as many as its size says
 pub record IsVertexCandidate (g : Graph) (d : Decided) (set : List Bool) (c : Candidate) : Type 0 where
-  pub undecided : IsVertexUndecided g d c.number
-  pub some : 0 < c.size
+  pub vertex : IsVertexToSplit g d set c.number
   pub size : c.size ≡ edges_at g.edges set c.number
-
--- no end of an edge of the set is undecided
-abbrev pub HasNoVertexCandidate : Graph → Decided → List Bool → Type 0
-HasNoVertexCandidate g d set = (v : ℕ) → 0 < edges_at g.edges set v → IsVertexUndecided g d v → ⊥
 
 -- The leaf that the note stands for can be split on an edge: it has a network, of which some edge is undecided.
 pub record CanSplit (g : Graph) (note : LeafNote) : Type 0 where
   pub set : List Bool
   pub own : note.network ≡ Some set
   pub size : length set ≡ length g.edges
-  pub some : HasNoEdgeCandidate g note.decision set → ⊥
+  pub some : HasNoEdgeToSplit g note.decision set → ⊥
 
--- the edge is an undecided one of the leaf's own network
-pub record IsEdgeOfOwn (g : Graph) (note : LeafNote) (e : ℕ) : Type 0 where
+-- a split of the kind may be on this, by the leaf's own network
+pub record IsChoice (g : Graph) (note : LeafNote) (asked : SplitKind) (on : SplitOn) : Type 0 where
   pub set : List Bool
   pub own : note.network ≡ Some set
-  pub within : slice_get set e ≡ Some true
-  pub undecided : IsUndecided g note.decision e
-
--- the vertex is undecided and an end of an edge of the leaf's own network
-pub record IsEndOfOwn (g : Graph) (note : LeafNote) (v : ℕ) : Type 0 where
-  pub set : List Bool
-  pub own : note.network ≡ Some set
-  pub some : 0 < edges_at g.edges set v
-  pub undecided : IsVertexUndecided g note.decision v
-
--- what the split is on is undecided and of the leaf's own network: one of its edges, or an end of one
-abbrev pub IsOfOwn : Graph → LeafNote → SplitOn → Type 0
-IsOfOwn g note (split.Edge e) = IsEdgeOfOwn g note e
-IsOfOwn g note (split.Vertex v) = IsEndOfOwn g note v
-
--- no end of an edge of the leaf's own network is undecided
-abbrev pub HasNoEndOfOwn : Graph → LeafNote → Type 0
-HasNoEndOfOwn g note = IfSome note.network (HasNoVertexCandidate g note.decision)
-
--- A split is as the kind asks: of the kind Edges on an edge, and of the kind Vertices on an edge only where no end of
--- an edge of the leaf's own network is undecided.
-abbrev pub IsAsAsked : Graph → LeafNote → SplitKind → SplitOn → Type 0
-IsAsAsked g note kind.Edges (split.Edge e) = Unit {0}
-IsAsAsked g note kind.Edges (split.Vertex v) = ⊥
-IsAsAsked g note kind.Vertices (split.Edge e) = HasNoEndOfOwn g note
-IsAsAsked g note kind.Vertices (split.Vertex v) = Unit {0}
+  pub candidate : IsCandidate asked g note.decision set on
 
 -- an undecided edge ends at the vertex, and nothing is left of the room of one of its arcs
 pub record EndsUsedUpEdge (g : Graph) (d : Decided) (costs : List EdgeCosts) (v : ℕ) : Type 0 where

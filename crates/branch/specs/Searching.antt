@@ -1,5 +1,5 @@
 -- What a search keeps, and its steps.
-use Rattle.std.specs.Prelude.{ℕ, zero, suc, ◌≡◌, ◌+◌, ◌≤◌, min, Bool, false, List, [], ◌∷◌, slice_get, slice_set}
+use Rattle.std.specs.Prelude.{ℕ, zero, suc, ◌≡◌, ◌+◌, ◌≤◌, Bool, false, List, [], ◌∷◌, slice_get, slice_set}
 use Rattle.std.specs.Prelude.{Option, Some, All, length}
 use Rattle.std.specs.List.{insert}
 use Rattle.net_graph.specs.declared.packing.Cut.{Cut}
@@ -10,7 +10,6 @@ use Rattle.net_graph.specs.Packing.{packing_value}
 use Rattle.cert_tree.specs.declared.split.SplitOn.{SplitOn}
 use Rattle.cert_tree.specs.declared.split.SplitOn.TheVariants as split
 use Rattle.cert_tree.specs.Tree.{Tree, split_with}
-use Rattle.cert_tree.specs.Tree.Tree.{Leaf, Split}
 use Rattle.cert_tree.specs.Replaced.{replaced}
 use Rattle.cert_tree.specs.Preorder.{split_count}
 use Rattle.cert_tree.specs.Decisions.{outside_of, inside_of}
@@ -20,12 +19,13 @@ use Rattle.branch.specs.declared.note.LeafNote.{LeafNote}
 use Rattle.branch.specs.declared.offered.Offered.{Offered}
 use Rattle.branch.specs.declared.opening.Opening.{Opening}
 use Rattle.branch.specs.declared.split_kind.SplitKind.{SplitKind}
-use Rattle.branch.specs.declared.split_kind.SplitKind.TheVariants as kind
 use Rattle.branch.specs.declared.step.Step.{Step}
 use Rattle.branch.specs.declared.step.Step.TheVariants as step
 use Rattle.branch.specs.Leaves.{DecidedLeaf, leaf_under, leaves_of}
-use Rattle.branch.specs.States.{IsOpenLeaf, leaf_value}
-use Rattle.branch.specs.Openings.{IsOpening, IsSplitOf, IsSplitVertex, BeginsAt}
+use Rattle.branch.specs.Candidates.{IsCandidate}
+use Rattle.branch.specs.States.{IsOpenLeaf, IsSameOrShorter, IsShownBy}
+use Rattle.branch.specs.Openings.{IsSplitOf, IsSplitVertex, BeginsAt}
+use Rattle.branch.specs.PlainOpenings.{IsOpenNext, IsPlainOpening}
 use Rattle.branch.specs.Runs.{EndsRunOfOpenings}
 use Rattle.branch.specs.Variants.{IsVariant, MayBe, MayBegin}
 use Rattle.branch.specs.Notes.{IsBest, ShowsOwn, AreNotesOf, IsNoteOf, IsUpToOwn, shorter_of, shown_first}
@@ -58,22 +58,6 @@ IsShownFirst s =
     (leaf : DecidedLeaf) × (slice_get (leaves_of (nothing_decided s.graph) s.tree) 0 ≡ Some leaf)
     × ShowsOwn s.graph leaf s.shown
 
--- each split of the tree is on an edge
-abbrev pub SplitsEdges : Tree SplitOn → Type 0
-SplitsEdges (Leaf cuts) = Unit {0}
-SplitsEdges (Split (split.Edge e) outside inside) = SplitsEdges outside × SplitsEdges inside
-SplitsEdges (Split (split.Vertex v) outside inside) = ⊥
-
--- a split is on an edge, where edges are what is asked for
-abbrev pub IsOfKind : SplitKind → SplitOn → Type 0
-IsOfKind kind.Edges (split.Edge e) = Unit {0}
-IsOfKind kind.Edges (split.Vertex v) = ⊥
-IsOfKind kind.Vertices on = Unit {0}
-
--- each split of the tree is of the kind
-abbrev pub AreOfKind : SplitKind → Tree SplitOn → Type 0
-AreOfKind asked tree = asked ≡ kind.Edges → SplitsEdges tree
-
 -- whether the leaf at a place began with no cut, by what is kept beside it
 abbrev pub is_anew_at : List LeafNote → ℕ → Bool
 is_anew_at [] place = false
@@ -93,8 +77,8 @@ pub record IsSearch (g : Graph) (kept : Frontier) : Type 0 where
   pub no_longer : kept.best.length ≤ kept.first_length
 
 -- What an opening of a search makes of one of its leaves: two new leaves, with what is kept beside them, and a
--- best network that is no longer than before or than theirs. The new leaves begin as they may with one packing that the
--- leaf may have.
+-- best network that is the same as before or shorter, and no longer than theirs. The new leaves begin as they may with
+-- one packing that the leaf may have.
 pub record IsOpeningOf (g : Graph) (kept : Frontier) (opening : Opening) : Type 0 where
   pub leaf : DecidedLeaf
   pub at : slice_get (leaves_of (nothing_decided g) kept.tree) opening.leaf ≡ Some leaf
@@ -109,14 +93,18 @@ pub record IsOpeningOf (g : Graph) (kept : Frontier) (opening : Opening) : Type 
   pub outside_begins : MayBegin g as_if (outside_of leaf.decision opening.on) opening.outside
   pub inside_begins : MayBegin g as_if (inside_of leaf.decision opening.on) opening.inside
   pub best : IsBest g opening.best
-  pub no_longer : opening.best.length ≤ kept.best.length
+  pub network_is : IsSameOrShorter g kept.best.network opening.best.network
   pub outside_own : IsUpToOwn g opening.best.length opening.outside.note.network
   pub inside_own : IsUpToOwn g opening.best.length opening.inside.note.network
 
--- both new leaves begin with what the leaf's own packing carries to them
+-- The split is on what the kind asks of a network that the leaf shows, and both new leaves begin with what the leaf's
+-- own packing carries to them.
 pub record IsPlain (g : Graph) (kept : Frontier) (opening : Opening) : Type 0 where
   pub leaf : DecidedLeaf
   pub at : slice_get (leaves_of (nothing_decided g) kept.tree) opening.leaf ≡ Some leaf
+  pub set : List Bool
+  pub shown : IsShownBy g leaf set
+  pub candidate : IsCandidate kept.kind g leaf.decision set opening.on
   pub outside : BeginsAt g leaf (outside_of leaf.decision opening.on) opening.outside.packing
   pub inside : BeginsAt g leaf (inside_of leaf.decision opening.on) opening.inside.packing
 
@@ -151,40 +139,36 @@ pub record IsRaised (cuts : List Cut) (old new : SearchState) : Type 0 where
       ≤ tree_value new.graph (nothing_decided new.graph) new.tree
   pub network : new.network ≡ shorter_of old.graph old.network new.shown
 
--- The best network is the shorter one of what it was and another, and nothing else has changed.
+-- The best network is the shorter one of what it was and another, and what it was on a tie. Nothing else has changed.
 pub record IsOffered (network : List Bool) (old new : SearchState) : Type 0 where
   pub graph : new.graph ≡ old.graph
   pub kind : new.kind ≡ old.kind
   pub first_length : new.first_length ≡ old.first_length
   pub tree : new.tree ≡ old.tree
   pub shown : new.shown ≡ old.shown
-  pub shorter : length_of old.graph new.network ≡ min (length_of old.graph old.network) (length_of old.graph network)
+  pub network_is : new.network ≡ shorter_of old.graph old.network (Some network)
 
 -- no leaf's value is below the best network's length
 abbrev pub IsSettled : SearchState → Type 0
 IsSettled s = length_of s.graph s.network ≤ tree_value s.graph (nothing_decided s.graph) s.tree
 
--- the one state leads to the other by an opening
+-- the one state leads to the other by a plain opening of its kind
 pub record OpensTo (old new : SearchState) : Type 0 where
   pub graph : new.graph ≡ old.graph
   pub kind : new.kind ≡ old.kind
   pub first_length : new.first_length ≡ old.first_length
   pub splits : split_count new.tree ≡ split_count old.tree + 1
-  pub opening : IsOpening old.graph old.network new.network old.tree new.tree
-  pub of_kind : AreOfKind old.kind old.tree → AreOfKind new.kind new.tree
+  pub opening : IsPlainOpening old.kind old.graph old.network new.network old.tree new.tree
 
 -- What a step of a search does: settled, no leaf's value is below the best network's length, and the search
--- stays as it was; else it makes an opening.
+-- stays as it was; else it makes a plain opening.
 abbrev pub TakesStep : SearchState → SearchState → Step → Type 0
 TakesStep old new step.Settled = IsSettled old × (new ≡ old)
 TakesStep old new step.Split = OpensTo old new
 
--- the leaf at the place is open, and no leaf's value is less
+-- the leaf at the place is the one that is open next
 abbrev pub IsOpenAt : SearchState → ℕ → Type 0
-IsOpenAt s place =
-    (leaf : DecidedLeaf) × (slice_get (leaves_of (nothing_decided s.graph) s.tree) place ≡ Some leaf)
-    × IsOpenLeaf s.graph (length_of s.graph s.network) leaf
-    × (leaf_value s.graph leaf ≡ tree_value s.graph (nothing_decided s.graph) s.tree)
+IsOpenAt s place = IsOpenNext s.graph s.network s.tree place
 
 -- the decision is that of the leaf at the place
 abbrev pub IsDecidedAt : SearchState → ℕ → Decided → Type 0
@@ -204,8 +188,8 @@ pub record AreOfSize (vertices : ℕ) (offered : Offered) : Type 0 where
   pub outside : All (λ c. length c.members ≡ vertices) offered.outside
   pub inside : All (λ c. length c.members ≡ vertices) offered.inside
 
--- The leaf at the place is split on the vertex, the other leaves stay, and the network is no longer than before. Both
--- end a run of openings whose first network is no longer than the one that the search began with.
+-- The leaf at the place is split on the vertex, the other leaves stay, and the network is the same or a shorter one.
+-- Both end a run of openings whose first network is no longer than the one that the search began with.
 pub record IsSplitAt (place vertex : ℕ) (old new : SearchState) : Type 0 where
   pub graph : new.graph ≡ old.graph
   pub kind : new.kind ≡ old.kind
@@ -214,5 +198,5 @@ pub record IsSplitAt (place vertex : ℕ) (old new : SearchState) : Type 0 where
   pub outside : List Cut
   pub inside : List Cut
   pub tree : new.tree ≡ replaced place (split_with (split.Vertex vertex) outside inside) old.tree
-  pub no_longer : length_of old.graph new.network ≤ length_of old.graph old.network
+  pub network_is : IsSameOrShorter old.graph old.network new.network
   pub run : EndsRunOfOpenings new.graph new.first_length new.network new.tree

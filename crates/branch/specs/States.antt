@@ -1,5 +1,5 @@
 -- The states of a search: a network with a certificate tree.
-use Rattle.std.specs.Prelude.{ℕ, ◌≡◌, ◌<◌, ◌≤◌, Bool, true, List, length, slice_get, Some, All}
+use Rattle.std.specs.Prelude.{ℕ, ◌≡◌, ◌<◌, ◌≤◌, ◌⊎◌, Bool, true, List, length, slice_get, Some, All}
 use Rattle.net_graph.specs.declared.packing.Cut.{Cut}
 use Rattle.net_graph.specs.Graph.{Graph}
 use Rattle.net_graph.specs.Network.{IsNetwork, length_of}
@@ -21,6 +21,16 @@ pub record IsNetworkOf (g : Graph) (set : List Bool) : Type 0 where
 pub record AreSaturated (g : Graph) (d : Decided) (packing : List Cut) (set : List Bool) : Type 0 where
   pub size : length set ≡ length g.edges
   pub arcs : (n : ℕ) → slice_get set n ≡ Some true → HasSaturatedArc g d packing n
+
+-- the leaf is maximal, and the set is a network whose edges each have a saturated arc there
+pub record IsShownBy (g : Graph) (leaf : DecidedLeaf) (set : List Bool) : Type 0 where
+  pub maximal : IsMaximal g leaf.decision leaf.packing
+  pub network_of : IsNetworkOf g set
+  pub arcs : AreSaturated g leaf.decision leaf.packing set
+
+-- the later network is the same one or a shorter one
+abbrev pub IsSameOrShorter : Graph → List Bool → List Bool → Type 0
+IsSameOrShorter g network later = (later ≡ network) ⊎ (length_of g later < length_of g network)
 
 -- the value of a leaf
 abbrev pub leaf_value : Graph → DecidedLeaf → ℕ

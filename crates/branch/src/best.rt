@@ -16,6 +16,7 @@ pub(crate) struct Best {
 
 impl Best {
     ghost use Rattle.branch.specs.Notes.{IsBest, IsOwnNetwork, IsUpToOwn, shorter_of};
+    ghost use Rattle.branch.specs.States.{IsSameOrShorter};
 
     /// The network with its length.
     pub fn of(g: &NetGraph, network: EdgeSet) -> Best
@@ -51,5 +52,26 @@ impl Best {
             Some(network) if length(g, network) < self.length => Ok(Best::of(g, network.copy()?)),
             _ => Ok(self),
         }
+    }
+
+    /// The shortest one of this network and the own ones of a leaf's two children: this one on a tie, and else that of
+    /// the first child. An `Err` is want of memory.
+    pub fn with_children(
+        &self,
+        g: &NetGraph,
+        outside: &LeafNote,
+        inside: &LeafNote,
+    ) -> Result<Best, AllocError>
+        requires best { IsBest g.now self.now }
+        requires outside { IsOwnNetwork g.now outside.now.network }
+        requires inside { IsOwnNetwork g.now inside.now.network }
+        ensures best { IfOk result (λ best. IsBest g.now best) }
+        ensures which { IfOk result (λ best. IsSameOrShorter g.now self.now.network best.network) }
+        ensures outside { IfOk result (λ best. IsUpToOwn g.now best.length outside.now.network) }
+        ensures inside { IfOk result (λ best. IsUpToOwn g.now best.length inside.now.network) }
+    {
+        let best = self.copy()?;
+        let best = best.or_shorter(g, outside)?;
+        best.or_shorter(g, inside)
     }
 }

@@ -3,7 +3,7 @@
 ghost use Rattle.std.specs.Prelude.{◌≡◌, ◌<◌, IfOk};
 ghost use Rattle.cert_tree.specs.Preorder.{split_count};
 ghost use Rattle.branch.specs.Notes.{IsNextNote};
-ghost use Rattle.branch.specs.Searching.{IsSearch, IsOpeningOf, IsPlain, IsOfKind, CanSplitAt, AreOfSize, search_state};
+ghost use Rattle.branch.specs.Searching.{IsSearch, IsOpeningOf, IsPlain, CanSplitAt, AreOfSize, search_state};
 
 use crate::frontier::Frontier;
 use crate::offered::Offered;
@@ -29,7 +29,7 @@ pub(crate) fn opening_at<F: Rule, G: Rule>(
     requires few { split_count kept.now.tree < 255 }
     ensures opening { IfOk result (IsOpeningOf g.now kept.now) }
     ensures plain { IfOk result (IsPlain g.now kept.now) }
-    ensures kind { IfOk result (λ opening. IsOfKind kept.now.kind opening.on) }
+    ensures leaf { IfOk result (λ opening. opening.leaf ≡ place) }
 {
     let note = &kept.notes[place];
     let on = split_choice(alloc, g, note, kept.kind, split)?;
@@ -51,9 +51,7 @@ pub(crate) fn opening_at<F: Rule, G: Rule>(
         decided_inside(g, before, on)?,
         ascent,
     )?;
-    let best = kept.best.copy()?;
-    let best = best.or_shorter(g, &outside.note)?;
-    let best = best.or_shorter(g, &inside.note)?;
+    let best = kept.best.with_children(g, &outside.note, &inside.note)?;
     Ok(Opening {
         leaf: place as u32,
         on,
@@ -104,9 +102,7 @@ pub(crate) fn opening_on<F: Rule>(
         offered.inside,
         ascent,
     )?;
-    let best = kept.best.copy()?;
-    let best = best.or_shorter(g, &outside.note)?;
-    let best = best.or_shorter(g, &inside.note)?;
+    let best = kept.best.with_children(g, &outside.note, &inside.note)?;
     Ok(Opening {
         leaf: place as u32,
         on,

@@ -54,7 +54,10 @@ impl<'a, F: Rule, G: Rule> Model for Search<'a, F, G> {
 impl<'a, F: Rule, G: Rule> Search<'a, F, G> {
     ghost use Rattle.branch.specs.States.{IsNetworkOf};
     ghost use Rattle.branch.specs.Notes.{shorter_of};
-    ghost use Rattle.branch.specs.Searching.{IsRaised, IsOffered, IsSettled, IsShownFirst, AreOfKind, TakesStep};
+    ghost use Rattle.branch.specs.Kinds.{AreOfKind};
+    ghost use Rattle.branch.specs.PlainOpenings.{LeadsByOpenings};
+    ghost use Rattle.branch.specs.Runs.{EndsRunOfOpenings};
+    ghost use Rattle.branch.specs.Searching.{IsRaised, IsOffered, IsSettled, IsShownFirst, TakesStep};
     ghost use Rattle.branch.specs.Searching.{IsOpenAt, IsDecidedAt, CanSplitAt, IsSplitAt, AreOfSize};
     ghost use Rattle.branch.specs.Solving.{IsSolved, ways_of};
 
@@ -209,6 +212,10 @@ impl<'a, F: Rule, G: Rule> Search<'a, F, G> {
         ensures stopped { IfOk result (λ s. s.optimal ≡ false → split_count s.tree ≡ allowed) }
         ensures below { IfOk result (λ s. s.optimal ≡ false
             → tree_value self.entry.graph (nothing_decided self.entry.graph) s.tree < s.length) }
+        // The search at hand ends a run of openings, and plain openings of its kind lead from there to what is told.
+        ensures began { EndsRunOfOpenings self.entry.graph self.entry.first_length self.entry.network self.entry.tree }
+        ensures plain { IfOk result (λ s.
+            LeadsByOpenings self.entry.kind self.entry.graph self.entry.network self.entry.tree s.network s.tree) }
         // With as many allowed splits as there are ways to decide what is split on, but one, it is optimal, where all
         // splits are of the kind.
         ensures enough { AreOfKind self.entry.kind self.entry.tree → IfOk result
@@ -256,9 +263,10 @@ impl<'a, F: Rule, G: Rule> Search<'a, F, G> {
         &self.kept.tree
     }
 
-    /// How many splits the tree has. It takes no memory.
+    /// How many splits the tree has: so many openings made it. It takes no memory.
     pub fn splits(&self) -> u32
-        ensures { result ≡ split_count self.now.tree }
+        ensures count { result ≡ split_count self.now.tree }
+        ensures run { EndsRunOfOpenings self.now.graph self.now.first_length self.now.network self.now.tree }
     {
         self.kept.tree.splits()
     }

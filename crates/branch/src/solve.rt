@@ -6,6 +6,7 @@ ghost use Rattle.net_graph.specs.Decision.{nothing_decided};
 ghost use Rattle.cert_tree.specs.Preorder.{split_count};
 ghost use Rattle.cert_tree.specs.TreeValue.{tree_value};
 ghost use Rattle.branch.specs.States.{IsNetworkOf};
+ghost use Rattle.branch.specs.PlainOpenings.{EndsPlainOpenings};
 ghost use Rattle.branch.specs.Solving.{IsSolved, ways_of};
 
 use crate::search::Search;
@@ -33,6 +34,8 @@ pub fn solve_graph<F: Rule, G: Rule>(
     ensures stopped { IfOk result (λ s. s.optimal ≡ false → split_count s.tree ≡ allowed) }
     ensures below { IfOk result
         (λ s. s.optimal ≡ false → tree_value g.now (nothing_decided g.now) s.tree < s.length) }
+    // Plain openings of the kind lead to it from a tree of one leaf.
+    ensures plain { IfOk result (λ s. EndsPlainOpenings kind g.now (length_of g.now first) s.network s.tree) }
     // With as many allowed splits as there are ways to decide what is split on, but one, it is optimal.
     ensures enough { IfOk result (λ s. ways_of kind g.now ≤ allowed + 1 → s.optimal ≡ true) }
 {

@@ -3,8 +3,8 @@
 ghost use Rattle.std.specs.Prelude.{ℕ, ◌≡◌, ◌+◌, ◌<◌, ◌≤◌, [], All, IfOk, IfSome, IfNone, length, slice_index};
 ghost use Rattle.net_graph.specs.Decision.{IsDecisionFor};
 ghost use Rattle.branch.specs.Meeting.{end_count, edges_at};
-ghost use Rattle.branch.specs.Notes.{IsEdgeCandidate, HasNoEdgeCandidate, IsVertexCandidate, HasNoVertexCandidate, CanSplit};
-ghost use Rattle.branch.specs.Notes.{IsOfOwn, IsEdgeOfOwn, IsEndOfOwn, HasNoEndOfOwn, IsAsAsked};
+ghost use Rattle.branch.specs.Candidates.{HasNoEdgeToSplit, HasNoVertexToSplit};
+ghost use Rattle.branch.specs.Notes.{IsEdgeCandidate, IsVertexCandidate, CanSplit, IsChoice};
 
 use crate::note::LeafNote;
 use crate::split_kind::SplitKind;
@@ -25,8 +25,7 @@ pub(crate) fn split_choice<G: Rule>(
 ) -> Result<SplitOn, AllocError>
     requires decision { IsDecisionFor g.now note.now.decision }
     requires can { CanSplit g.now note.now }
-    ensures own { IfOk result (IsOfOwn g.now note.now) }
-    ensures kind { IfOk result (IsAsAsked g.now note.now kind) }
+    ensures { IfOk result (IsChoice g.now note.now kind) }
 {
     if kind == SplitKind::Vertices {
         if let Some(v) = vertex_to_split(alloc, g, note, rule)? {
@@ -47,8 +46,10 @@ fn vertex_to_split<G: Rule>(
 ) -> Result<Option<u32>, AllocError>
     requires decision { IsDecisionFor g.now note.now.decision }
     requires can { CanSplit g.now note.now }
-    ensures some { IfOk result (λ found. IfSome found (IsEndOfOwn g.now note.now)) }
-    ensures none { IfOk result (λ found. IfNone found (HasNoEndOfOwn g.now note.now)) }
+    ensures some { IfOk result (λ found.
+        IfSome found (λ v. IsChoice g.now note.now SplitKind.Vertices (SplitOn.Vertex v))) }
+    ensures none { IfOk result (λ found.
+        IfNone found (IfSome note.now.network (HasNoVertexToSplit g.now note.now.decision))) }
 {
     let Some(network) = &note.network else {
         unreachable!()
@@ -70,7 +71,7 @@ fn edge_to_split<G: Rule>(
 ) -> Result<u32, AllocError>
     requires decision { IsDecisionFor g.now note.now.decision }
     requires can { CanSplit g.now note.now }
-    ensures { IfOk result (IsEdgeOfOwn g.now note.now) }
+    ensures { IfOk result (λ e. IsChoice g.now note.now SplitKind.Edges (SplitOn.Edge e)) }
 {
     let Some(network) = &note.network else {
         unreachable!()
@@ -91,7 +92,7 @@ fn undecided_vertices(
     requires decision { IsDecisionFor g.now d.now }
     requires size { length network.now ≡ length g.now.edges }
     ensures each { IfOk result (λ list. All (IsVertexCandidate g.now d.now network.now) list.items) }
-    ensures every { IfOk result (λ list. list.items ≡ [] → HasNoVertexCandidate g.now d.now network.now) }
+    ensures every { IfOk result (λ list. list.items ≡ [] → HasNoVertexToSplit g.now d.now network.now) }
 {
     let counts = edges_at_vertices(alloc, g, network)?;
     let mut list = Vec::new(alloc);
@@ -147,7 +148,7 @@ fn undecided_edges(
     requires decision { IsDecisionFor g.now d.now }
     requires size { length network.now ≡ length g.now.edges }
     ensures each { IfOk result (λ list. All (IsEdgeCandidate g.now d.now network.now) list.items) }
-    ensures every { IfOk result (λ list. list.items ≡ [] → HasNoEdgeCandidate g.now d.now network.now) }
+    ensures every { IfOk result (λ list. list.items ≡ [] → HasNoEdgeToSplit g.now d.now network.now) }
 {
     let mut list = Vec::new(alloc);
     for e in 0..g.edge_count() {

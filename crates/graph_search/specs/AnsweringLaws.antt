@@ -6,6 +6,7 @@ use Rattle.net_graph.specs.Decision.{nothing_decided}
 use Rattle.cert_tree.specs.declared.split.SplitOn.{SplitOn}
 use Rattle.cert_tree.specs.Tree.{Tree}
 use Rattle.branch.specs.declared.solved.Solved.{Solved}
+use Rattle.branch.specs.declared.split_kind.SplitKind.{SplitKind}
 use Rattle.branch.specs.RunLaws.{EndsRunOfOpenings-longer}
 use Rattle.cut_cert.specs.declared.head.AnswerHead.{AnswerHead}
 use Rattle.cut_cert.specs.declared.head.ConcatNote.{ConcatNote}
@@ -15,9 +16,9 @@ use Rattle.graph_search.specs.Answering.{answer_with, head_with}
 use Rattle.graph_search.specs.TreeLaws.{nodes_on, packings_on}
 
 -- The answer can be written.
-pub told_fits : (g : Graph) (openings first_length : ℕ) (note : ConcatNote) (s : Solved) → openings ≤ 255 →
-    IsTold g openings first_length s → IsAnswerOn g (answer_with openings note s)
-told_fits g openings first_length note s small is = record {
+pub told_fits : (g : Graph) (asked : SplitKind) (openings first_length : ℕ) (note : ConcatNote) (s : Solved) →
+    openings ≤ 255 → IsTold g asked openings first_length s → IsAnswerOn g (answer_with openings note s)
+told_fits g asked openings first_length note s small is = record {
   network = is.searched.network_of.size;
   few = let few = is.searched.few in omega arith;
   nodes = nodes_on g (nothing_decided g) s.tree is.searched.valid;
@@ -25,10 +26,10 @@ told_fits g openings first_length note s small is = record {
 }
 
 -- Its head tells the network, the tree and the note.
-pub told_head : (g : Graph) (openings first_length : ℕ) (note : ConcatNote) (s : Solved) →
-    IsTold g openings first_length s →
+pub told_head : (g : Graph) (asked : SplitKind) (openings first_length : ℕ) (note : ConcatNote) (s : Solved) →
+    IsTold g asked openings first_length s →
     (answer_with openings note s).head ≡ head_with openings (length_of g s.network) (value_on g s.tree) note
-told_head g openings first_length note s is =
+told_head g asked openings first_length note s is =
     let head : ℕ → ℕ → Bool → AnswerHead =
     λ length bound optimal. record {
       length = length;
@@ -42,9 +43,9 @@ told_head g openings first_length note s is =
     ∙ ap (λ (b : ℕ). head (length_of g s.network) b (eqb b (length_of g s.network))) is.bound
 
 -- A search from a first length is one from each greater length.
-pub searched_longer : (g : Graph) (openings first later : ℕ) (network : List Bool) (tree : Tree SplitOn) →
-    first ≤ later → IsSearched g openings first network tree → IsSearched g openings later network tree
-searched_longer g openings first later network tree longer searched = record {
+pub searched_longer : (g : Graph) (asked : SplitKind) (openings first later : ℕ) (network : List Bool)
+    (tree : Tree SplitOn) → first ≤ later → IsSearched g asked openings first network tree → IsSearched g asked openings later network tree
+searched_longer g asked openings first later network tree longer searched = record {
   network_of = searched.network_of;
   valid = searched.valid;
   bounds = searched.bounds;
@@ -53,4 +54,12 @@ searched_longer g openings first later network tree longer searched = record {
   cuts = searched.cuts;
   maximal = searched.maximal;
   run = EndsRunOfOpenings-longer g first later network tree longer searched.run;
+  by_kind = record {
+    before = searched.by_kind.before;
+    before_tree = searched.by_kind.before_tree;
+    run = EndsRunOfOpenings-longer g first later searched.by_kind.before searched.by_kind.before_tree longer
+        searched.by_kind.run;
+    vertices = searched.by_kind.vertices;
+    plain = searched.by_kind.plain;
+  };
 }

@@ -9,7 +9,10 @@ use Rattle.cert_tree.specs.Tree.{Tree}
 use Rattle.cert_tree.specs.Preorder.{packings_of, split_count}
 use Rattle.cert_tree.specs.TreeValue.{IsValidTree, tree_value}
 use Rattle.branch.specs.declared.solved.Solved.{Solved}
+use Rattle.branch.specs.declared.split_kind.SplitKind.{SplitKind}
+use Rattle.branch.specs.Kinds.{SplitsVertices}
 use Rattle.branch.specs.Leaves.{leaves_of}
+use Rattle.branch.specs.PlainOpenings.{LeadsByOpenings}
 use Rattle.branch.specs.States.{IsNetworkOf, IsOpenLeaf}
 use Rattle.branch.specs.Runs.{EndsRunOfOpenings}
 
@@ -21,12 +24,22 @@ value_on g tree = tree_value g (nothing_decided g) tree
 abbrev pub bound_of : Graph → List Bool → Tree SplitOn → ℕ
 bound_of g network tree = min (value_on g tree) (length_of g network)
 
--- A network and a tree of cuts as a search of at most so many openings may end with them. The tree is valid where
--- nothing is decided, and no network is shorter than the bound that it gives. It has as many splits as openings are
--- allowed where its value is below the network's length, and never more. Each leaf has few cuts, and one whose value
--- is below the length is maximal. Network and tree end a run of openings whose first network is no longer than a
--- first length.
-pub record IsSearched (g : Graph) (openings first_length : ℕ) (network : List Bool)
+-- A network and a tree come by plain openings of a kind from others, which end a run of openings whose first network is
+-- no longer than a first length, and each of whose splits is on a vertex: such splits are made before plain ones.
+pub record EndsByKind (g : Graph) (asked : SplitKind) (first_length : ℕ) (network : List Bool)
+    (tree : Tree SplitOn) : Type 0 where
+  pub before : List Bool
+  pub before_tree : Tree SplitOn
+  pub run : EndsRunOfOpenings g first_length before before_tree
+  pub vertices : SplitsVertices before_tree
+  pub plain : LeadsByOpenings asked g before before_tree network tree
+
+-- A network and a tree of cuts as a search of at most so many openings may end with them whose plain splits are of a
+-- kind. The tree is valid where nothing is decided, and no network is shorter than the bound that it gives. It has as
+-- many splits as openings are allowed where its value is below the network's length, and never more. Each leaf has few
+-- cuts, and one whose value is below the length is maximal. Network and tree end a run of openings whose first network
+-- is no longer than a first length, and behind splits on vertices its openings are plain ones of the kind.
+pub record IsSearched (g : Graph) (asked : SplitKind) (openings first_length : ℕ) (network : List Bool)
     (tree : Tree SplitOn) : Type 0 where
   pub network_of : IsNetworkOf g network
   pub valid : IsValidTree g (nothing_decided g) tree
@@ -37,10 +50,11 @@ pub record IsSearched (g : Graph) (openings first_length : ℕ) (network : List 
   pub maximal : All (λ leaf. IsOpenLeaf g (length_of g network) leaf → IsMaximal g leaf.decision leaf.packing)
       (leaves_of (nothing_decided g) tree)
   pub run : EndsRunOfOpenings g first_length network tree
+  pub by_kind : EndsByKind g asked first_length network tree
 
 -- What a search of at most so many openings found is told as it is, and the network is no longer than a first length.
-pub record IsTold (g : Graph) (openings first_length : ℕ) (solved : Solved) : Type 0 where
-  pub searched : IsSearched g openings first_length solved.network solved.tree
+pub record IsTold (g : Graph) (asked : SplitKind) (openings first_length : ℕ) (solved : Solved) : Type 0 where
+  pub searched : IsSearched g asked openings first_length solved.network solved.tree
   pub length : solved.length ≡ length_of g solved.network
   pub bound : solved.bound ≡ bound_of g solved.network solved.tree
   pub optimal : solved.optimal ≡ (solved.bound == solved.length)

@@ -6,6 +6,7 @@ use Rattle.net_graph.specs.Network.{length_of}
 use Rattle.cert_tree.specs.declared.split.SplitOn.{SplitOn}
 use Rattle.cert_tree.specs.Tree.{Tree}
 use Rattle.cert_tree.specs.Preorder.{split_count}
+use Rattle.branch.specs.declared.split_kind.SplitKind.{SplitKind}
 use Rattle.branch.specs.Runs.{EndsOpenings}
 use Rattle.frame.specs.Statuses.{answer_code}
 use Rattle.graph_search.specs.Searched.{IsSearched, bound_of, value_on}
@@ -13,11 +14,12 @@ use Rattle.graph_search.specs.Status.{status_of_bound}
 use Rattle.graph_search.specs.StatusLaws.{zero_where_equal, value_below}
 use Rattle.graph_search.specs.Truth.{EndsTruly}
 
-pub ends_truly : (g : Graph) (openings first_length : ℕ) (network : List Bool) (tree : Tree SplitOn) (status : ℕ) →
-    IsSearched g openings first_length network tree →
+pub ends_truly : (g : Graph) (asked : SplitKind) (openings first_length : ℕ) (network : List Bool)
+    (tree : Tree SplitOn) (status : ℕ) →
+    IsSearched g asked openings first_length network tree →
     status ≡ answer_code (status_of_bound (bound_of g network tree) (length_of g network)) →
     EndsTruly g openings first_length network tree status
-ends_truly g openings first_length network tree status searched ends =
+ends_truly g asked openings first_length network tree status searched ends =
     let exact : (status ≡ 0) ↔ (bound_of g network tree ≡ length_of g network) =
     zero_where_equal (bound_of g network tree) (length_of g network) status ends in record {
       bound = searched.bounds;

@@ -90,6 +90,7 @@ impl Exchanges<'_> {
         requires graph { self.now.graph.now ≡ search.old.graph }
         requires leaf { split_count search.old.tree ≡ 0 }
         ensures graph { search.new.graph ≡ search.old.graph }
+        ensures kind { search.new.kind ≡ search.old.kind }
         ensures first { search.new.first_length ≡ search.old.first_length }
         ensures leaf { split_count search.new.tree ≡ 0 }
     {
@@ -147,6 +148,7 @@ impl Exchanges<'_> {
             length_of search.old.graph search.new.network < length_of search.old.graph search.old.network
             → turn.end ≡ TurnEnd.Shorter) }
         ensures graph { search.new.graph ≡ search.old.graph }
+        ensures kind { search.new.kind ≡ search.old.kind }
         ensures first { search.new.first_length ≡ search.old.first_length }
         ensures leaf { split_count search.new.tree ≡ 0 }
     {
@@ -195,6 +197,7 @@ impl Exchanges<'_> {
     ) -> Result<(), AllocError>
         requires graph { self.now.graph.now ≡ search.old.graph }
         ensures graph { search.new.graph ≡ search.old.graph }
+        ensures kind { search.new.kind ≡ search.old.kind }
         ensures first { search.new.first_length ≡ search.old.first_length }
         ensures tree { search.new.tree ≡ search.old.tree }
     {

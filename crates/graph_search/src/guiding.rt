@@ -20,6 +20,7 @@ pub(crate) fn raise_along_network<F: Rule, G: Rule>(
     requires graph { graph.now ≡ search.old.graph }
     requires leaf { split_count search.old.tree ≡ 0 }
     ensures graph { search.new.graph ≡ search.old.graph }
+    ensures kind { search.new.kind ≡ search.old.kind }
     ensures first { search.new.first_length ≡ search.old.first_length }
     ensures leaf { split_count search.new.tree ≡ 0 }
 {
@@ -43,6 +44,7 @@ fn raise_once<F: Rule, G: Rule>(
     requires graph { graph.now ≡ search.old.graph }
     requires leaf { split_count search.old.tree ≡ 0 }
     ensures graph { search.new.graph ≡ search.old.graph }
+    ensures kind { search.new.kind ≡ search.old.kind }
     ensures first { search.new.first_length ≡ search.old.first_length }
     ensures leaf { split_count search.new.tree ≡ 0 }
 {

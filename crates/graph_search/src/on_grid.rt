@@ -4,6 +4,7 @@ ghost use Rattle.std.specs.Prelude.{IfOk};
 ghost use Rattle.net_graph.specs.Network.{length_of};
 ghost use Rattle.hanan_grid.specs.Grid.{hanan_grid_of};
 ghost use Rattle.branch.specs.States.{IsNetworkOf};
+ghost use Rattle.graph_search.specs.Kinds.{kind_of};
 ghost use Rattle.graph_search.specs.Searched.{IsTold};
 
 use crate::exchanging::Exchanges;
@@ -25,7 +26,7 @@ pub fn searched_on(
     options: GraphOptions,
 ) -> Result<Solved, AllocError>
     requires { IsNetworkOf (hanan_grid_of grid.now) first }
-    ensures { IfOk result (IsTold (hanan_grid_of grid.now) options.openings
+    ensures { IfOk result (IsTold (hanan_grid_of grid.now) (kind_of options.split) options.openings
         (length_of (hanan_grid_of grid.now) first)) }
 {
     let exchanges = Exchanges::on_lines(grid.graph());

@@ -2,6 +2,7 @@
 
 ghost use Rattle.std.specs.Prelude.{◌≡◌, ◌≤◌};
 ghost use Rattle.net_graph.specs.Graph.{Graph};
+ghost use Rattle.branch.specs.Kinds.{SplitsVertices};
 ghost use Rattle.cert_tree.specs.Preorder.{split_count};
 
 use branch::Search;
@@ -13,8 +14,8 @@ pub trait Raising {
     /// It is made for searches in this graph.
     ghost is_for: { Self → Graph → Type 0 };
 
-    /// Raises a search, with at most so many splits. An `Err` is want of memory, and leaves a search that may be raised
-    /// less far.
+    /// Raises a search, with at most so many splits, each on a vertex. An `Err` is want of memory, and leaves a search
+    /// that may be raised less far.
     fn raise<F: Rule, G: Rule>(
         &self,
         alloc: Global,
@@ -24,6 +25,8 @@ pub trait Raising {
         requires graph { is_for self.now search.old.graph }
         requires leaf { split_count search.old.tree ≡ 0 }
         ensures graph { search.new.graph ≡ search.old.graph }
+        ensures kind { search.new.kind ≡ search.old.kind }
         ensures first { search.new.first_length ≡ search.old.first_length }
-        ensures few { split_count search.new.tree ≤ openings };
+        ensures few { split_count search.new.tree ≤ openings }
+        ensures vertices { SplitsVertices search.new.tree };
 }

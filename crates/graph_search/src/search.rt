@@ -25,7 +25,7 @@ pub fn searched<A: Raising>(
 ) -> Result<Solved, AllocError>
     requires network { IsNetworkOf g.now first }
     requires raising { A.is_for raising.now g.now }
-    ensures { IfOk result (IsTold g.now options.openings (length_of g.now first)) }
+    ensures { IfOk result (IsTold g.now (kind_of options.split) options.openings (length_of g.now first)) }
 {
     let GraphOptions {
         openings,
@@ -77,7 +77,7 @@ fn searched_by<F: Rule, G: Rule, A: Raising>(
     requires ascent_place { AnswersAPlace (F.chooses ascent) }
     requires split_callable { IsCallableOnSome (G.may_choose split) }
     requires split_place { AnswersAPlace (G.chooses split) }
-    ensures { IfOk result (IsTold g.now openings (length_of g.now first)) }
+    ensures { IfOk result (IsTold g.now kind openings (length_of g.now first)) }
 {
     let mut search = Search::start(
         alloc,

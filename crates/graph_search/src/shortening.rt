@@ -46,6 +46,7 @@ pub fn offer_shorter<F: Rule, G: Rule>(
 ) -> Result<(), AllocError>
     requires graph { g.now ≡ search.old.graph }
     ensures graph { search.new.graph ≡ search.old.graph }
+    ensures kind { search.new.kind ≡ search.old.kind }
     ensures first { search.new.first_length ≡ search.old.first_length }
     ensures tree { search.new.tree ≡ search.old.tree }
     ensures err { OnErr result (search.new ≡ search.old) }

@@ -5,6 +5,7 @@ ghost use Rattle.std.specs.List.{insert};
 ghost use Rattle.net_graph.specs.Graph.{Graph};
 ghost use Rattle.net_graph.specs.Decision.{IsDecisionFor};
 ghost use Rattle.cert_tree.specs.Preorder.{packings_of, split_count};
+ghost use Rattle.branch.specs.Kinds.{SplitsVertices};
 ghost use Rattle.branch.specs.Searching.{CanSplitAt};
 ghost use Rattle.packing_judge.specs.Outcome.{IsOutcomeFor};
 ghost use Rattle.graph_search.specs.Plans.{IsPlanIn, IsChildIn};
@@ -66,8 +67,10 @@ impl Splitting {
         requires graph { graph.now ≡ search.old.graph }
         requires leaf { split_count search.old.tree ≡ 0 }
         ensures graph { search.new.graph ≡ search.old.graph }
+        ensures kind { search.new.kind ≡ search.old.kind }
         ensures first { search.new.first_length ≡ search.old.first_length }
         ensures few { split_count search.new.tree ≤ openings }
+        ensures vertices { SplitsVertices search.new.tree }
     {
         let mut plans = Vec::new(alloc);
         plans.push(Plan {
@@ -100,10 +103,13 @@ impl Splitting {
     ) -> Result<bool, AllocError>
         requires graph { graph.now ≡ search.old.graph }
         requires few { split_count search.old.tree < 255 }
+        requires vertices { SplitsVertices search.old.tree }
         requires plans { All (IsPlanIn search.old.graph) plans.old.items }
         ensures graph { search.new.graph ≡ search.old.graph }
+        ensures kind { search.new.kind ≡ search.old.kind }
         ensures first { search.new.first_length ≡ search.old.first_length }
         ensures few { split_count search.new.tree ≤ split_count search.old.tree + 1 }
+        ensures vertices { SplitsVertices search.new.tree }
         ensures plans { OnOk result (All (IsPlanIn search.old.graph) plans.new.items) }
     {
         let Some(leaf) = search.next_open() else {
@@ -196,10 +202,7 @@ impl Splitting {
         if joins(alloc, under, network)? && length(under, network) == length(graph, network) {
             return Ok(Some(network.copy()?));
         }
-        let mut all = EdgeSet::empty(alloc, under.edge_count())?;
-        for edge in 0..under.edge_count() {
-            all.add(edge);
-        }
+        let all = EdgeSet::full(alloc, under.edge_count())?;
         if !joins(alloc, under, &all)? {
             return Ok(None);
         }
@@ -286,6 +289,7 @@ fn offer_network<F: Rule, G: Rule>(
     requires graph { graph.now ≡ search.old.graph }
     requires size { length network.now ≡ length graph.now.edges }
     ensures graph { search.new.graph ≡ search.old.graph }
+    ensures kind { search.new.kind ≡ search.old.kind }
     ensures first { search.new.first_length ≡ search.old.first_length }
     ensures tree { search.new.tree ≡ search.old.tree }
 {

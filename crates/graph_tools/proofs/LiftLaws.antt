@@ -14,6 +14,7 @@ use Rattle.graph_reduce.specs.Fitness.{IsFitFor}
 use Rattle.graph_reduce.specs.Lifting.{KeepsNetworks}
 use Rattle.graph_reduce.specs.Reduction.{Reduction}
 use Rattle.graph_solve.specs.Task.{all_edges}
+use Rattle.search_rules.specs.Options.{usual_in_graph}
 use Rattle.graph_tools.specs.declared.lifted.Lifted.{Lifted}
 use Rattle.graph_tools.specs.Lifted.{IsLiftedFor, lifted_by}
 use Rattle.graph_tools.specs.Reduce.{IsReduced}
@@ -47,22 +48,22 @@ pub offset_small : (g : Graph) (r : Reduction) → IsGraph g → IsFitFor g r �
 offset_small g r graph fits = omega (arith, graph.total, fits.offset)
 
 -- length and bound of an answer, with the offset, are numbers of 64 bits
-pub length_small : (r : Reduction) (a : Answer) → IsGraph r.graph → IsAnswerFor 100 r.graph a →
+pub length_small : (r : Reduction) (a : Answer) → IsGraph r.graph → IsAnswerFor usual_in_graph r.graph a →
     a.head.length < 2 ^ 63
 length_small r a graph is =
     let same = ap (λ (h : AnswerHead). h.length) is.head in
     let small = length_of-small r.graph a.network graph in omega (arith, same, small)
 
-pub bound_small : (r : Reduction) (a : Answer) → IsGraph r.graph → IsAnswerFor 100 r.graph a → a.head.bound < 2 ^ 63
+pub bound_small : (r : Reduction) (a : Answer) → IsGraph r.graph → IsAnswerFor usual_in_graph r.graph a → a.head.bound < 2 ^ 63
 bound_small r a graph is =
     let same = ap (λ (h : AnswerHead). h.bound) is.head in
     let small = length_of-small r.graph a.network graph in omega (arith, same, small)
 
 -- the network of an answer in the reduced graph, lifted, is one that is lifted in the graph
 pub lifted_for : {E : Type 0} (g : Graph) (r : Reduction) (a : Answer) (result : Result Lifted E) → IsReduced g r →
-    IsAnswerFor 100 r.graph a → IsSpelled (record { graph = r.graph; answer = a }) →
+    IsAnswerFor usual_in_graph r.graph a → IsSpelled (record { graph = r.graph; answer = a }) →
     IfOk result (λ l. l ≡ lifted_by r a.network a.tree) → IfOk result (IsLiftedFor g)
 lifted_for g r a (Ok l) reduced is spells same =
-    let permitted = permitted_answer 100 r.graph (record { graph = r.graph; answer = a }) is spells in
+    let permitted = permitted_answer usual_in_graph r.graph (record { graph = r.graph; answer = a }) is spells in
     (r, a.network, a.tree, reduced, permitted, same)
 lifted_for g r a (Err memory) reduced is spells same = tt

@@ -18,6 +18,7 @@ use Rattle.frame.specs.Leaves.{LeavesShelf}
 use Rattle.graph_search.specs.Searched.{bound_of}
 use Rattle.graph_inputs.specs.declared.text_fault.GraphTextFault.{GraphTextFault}
 use Rattle.graph_inputs.specs.Reading.{ReadsGraph, graph_fault_text, graph_fault_status}
+use Rattle.search_rules.specs.Options.{usual_in_graph}
 use Rattle.graph_tools.specs.Found.{FindsIn}
 use Rattle.graph_tools.specs.declared.lifted.Lifted.{Lifted}
 use Rattle.graph_tools.specs.Reduce.{IsReduced, EndsReduce}
@@ -57,11 +58,11 @@ lifted_print r network tree = record {
   status = lifted_status (lifted_by r network tree);
 }
 
--- The network is lifted from the network of an answer that may be printed in the graph's reduction, with 100 openings
--- allowed.
+-- The network is lifted from the network of an answer that may be printed in the graph's reduction where no word asks
+-- for anything else.
 abbrev pub IsLiftedFor : Graph → Lifted → Type 0
 IsLiftedFor g l = (r : Reduction) × (network : List Bool) × (tree : Tree SplitOn) × IsReduced g r
-    × IsPermittedGraphAnswer 100 r.graph network tree × (l ≡ lifted_by r network tree)
+    × IsPermittedGraphAnswer usual_in_graph r.graph network tree × (l ≡ lifted_by r network tree)
 
 -- What `reduce --solve` finds in a text, before it writes.
 abbrev pub FindsLifted : List ℕ → Result Lifted GraphTextFault → Type 0
@@ -71,7 +72,7 @@ FindsLifted = FindsIn ReadsGraph IsLiftedFor
 -- that the text is, lifted.
 abbrev pub PrintsLifted : Graph → Print → Type 0
 PrintsLifted g print = (r : Reduction) × (network : List Bool) × (tree : Tree SplitOn) × IsReduced g r
-    × IsPermittedGraphAnswer 100 r.graph network tree × (print ≡ lifted_print r network tree)
+    × IsPermittedGraphAnswer usual_in_graph r.graph network tree × (print ≡ lifted_print r network tree)
 
 abbrev pub LiftsGraph : List ℕ → Result Print GraphTextFault → Type 0
 LiftsGraph = FindsIn ReadsGraph PrintsLifted

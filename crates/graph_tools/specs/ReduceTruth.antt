@@ -14,6 +14,7 @@ use Rattle.graph_reduce.specs.Text.{reduced_text}
 use Rattle.graph_solve.specs.Task.{graph_of_stp}
 use Rattle.frame.specs.Outside.{Outside}
 use Rattle.graph_inputs.specs.Reading.{IsTaskText}
+use Rattle.search_rules.specs.Options.{usual_in_graph}
 use Rattle.graph_tools.specs.Reduce.{IsReduced}
 use Rattle.graph_tools.specs.Lifted.{lifted_by, lifted_text}
 use Rattle.graph_tools.specs.Solution.{IsPermittedGraphAnswer}
@@ -24,8 +25,8 @@ PrintsReductionTruly g before after status =
     (r : Reduction) × IsReduced g r × (status ≡ 0)
     × Appended before.written.out.taken (reduced_text r) after.written.out.taken
 
--- `out` gained what is told of the lifted network of an answer that may be printed in the graph's reduction, with 100
--- openings allowed. The printed set is a network of the graph with the printed length, and no network of the graph is
+-- `out` gained what is told of the lifted network of an answer that may be printed in the graph's reduction where no
+-- word asks for anything else. The printed set is a network of the graph with the printed length, and no network of the graph is
 -- shorter than the printed bound. It says optimal, and the status is 0, exactly where both agree, and then the network
 -- is a shortest one. The status is 3 only where the answer's tree has 100 splits, each of them made by an opening.
 pub record LiftsTruly (g : Graph) (before after : Outside) (status : ℕ) : Type 0 where
@@ -33,7 +34,7 @@ pub record LiftsTruly (g : Graph) (before after : Outside) (status : ℕ) : Type
   pub network : List Bool
   pub tree : Tree SplitOn
   pub reduced : IsReduced g reduction
-  pub permitted : IsPermittedGraphAnswer 100 reduction.graph network tree
+  pub permitted : IsPermittedGraphAnswer usual_in_graph reduction.graph network tree
   pub printed : Appended before.written.out.taken (lifted_text (lifted_by reduction network tree))
       after.written.out.taken
   pub joins : IsNetwork g (lifted_by reduction network tree).network

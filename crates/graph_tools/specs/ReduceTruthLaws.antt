@@ -19,9 +19,11 @@ use Rattle.frame.specs.EndLaws.{printed_ends}
 use Rattle.frame.specs.FaultTexts.{text_fault_text, text_fault_status}
 use Rattle.frame.specs.FromText.{FromText}
 use Rattle.frame.specs.Leaves.{LeavesShelf}
+use Rattle.graph_search.specs.Kinds.{kind_of}
 use Rattle.graph_search.specs.Searched.{bound_of}
 use Rattle.graph_search.specs.TruthLaws.{ends_truly}
 use Rattle.graph_inputs.specs.Reading.{graph_fault_text, graph_fault_status}
+use Rattle.search_rules.specs.Options.{usual_in_graph}
 use Rattle.graph_tools.specs.Reduce.{IsReduced, EndsReduce, ReducesGraph}
 use Rattle.graph_tools.specs.Lifted.{EndsReduceAs, EndsReduceSolve, LiftsGraph, lifted_by, lifted_status, lifted_text}
 use Rattle.graph_tools.specs.ReduceTruth.{LiftsTruly, ReducesTruly}
@@ -39,13 +41,15 @@ agree_with_offset bound length offset = (
 
 -- What is told of a lifted network, with its status, is true.
 lifts_truly : (g : Graph) (r : Reduction) (network : List Bool) (tree : Tree SplitOn) (before after : Outside)
-    (status : ℕ) → IsReduced g r → IsPermittedGraphAnswer 100 r.graph network tree →
+    (status : ℕ) → IsReduced g r → IsPermittedGraphAnswer usual_in_graph r.graph network tree →
     Appended before.written.out.taken (lifted_text (lifted_by r network tree)) after.written.out.taken →
     status ≡ answer_code (lifted_status (lifted_by r network tree)) → LiftsTruly g before after status
 lifts_truly g r network tree before after status reduced permitted appended answers =
     let bound = bound_of r.graph network tree in
     let length = length_of r.graph network in
-    let ends = ends_truly r.graph 100 (total_of r.graph) network tree status permitted.searched answers in
+    let asked = kind_of usual_in_graph.split in
+    let openings = usual_in_graph.openings in
+    let ends = ends_truly r.graph asked openings (total_of r.graph) network tree status permitted.searched answers in
     let joins = permitted.searched.network_of.joins in record {
       reduction = r;
       network = network;

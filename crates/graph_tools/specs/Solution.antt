@@ -16,9 +16,11 @@ use Rattle.cut_cert.specs.Answers.{IsAnswerOn, edge_labels, graph_value_of, labe
 use Rattle.frame.specs.declared.status.AnswerStatus.{AnswerStatus}
 use Rattle.frame.specs.declared.status.AnswerStatus.TheVariants.{Done, Stopped}
 use Rattle.frame.specs.Ends.{Print}
+use Rattle.graph_search.specs.Kinds.{kind_of}
 use Rattle.graph_search.specs.Searched.{IsSearched, bound_of, value_on}
 use Rattle.graph_search.specs.Answering.{head_with}
 use Rattle.graph_search.specs.Status.{status_of_bound}
+use Rattle.search_rules.specs.declared.options.GraphOptions.{GraphOptions}
 use Rattle.graph_solve.specs.Accepted.{IsGraphAccepted}
 use Rattle.graph_tools.specs.declared.solution.GraphSolution.{GraphSolution}
 
@@ -35,16 +37,17 @@ graph_solution openings g network tree = record {
 abbrev pub graph_text : ℕ → Graph → List Bool → Tree SplitOn → List ℕ
 graph_text openings g network tree = answer_text (graph_solution openings g network tree)
 
--- A network and a tree of cuts that an answer may tell in a graph, with so many openings allowed. The text that tells
--- both is accepted as an answer in the graph. The tree has at most as many splits as openings are allowed, and exactly
--- as many where its value is below the network's length; each of its leaves has few cuts, and is maximal where its
--- value is below the length. Network and tree end a run of openings whose first network is no longer than all edges
--- together. The text has fewer than 2^32 bytes.
-pub record IsPermittedGraphAnswer (openings : ℕ) (g : Graph) (network : List Bool) (tree : Tree SplitOn)
+-- A network and a tree of cuts that an answer may tell in a graph under these options. The text that tells both is
+-- accepted as an answer in the graph. The tree has at most as many splits as openings are allowed, and exactly as many
+-- where its value is below the network's length; each of its leaves has few cuts, and is maximal where its value is
+-- below the length. Network and tree end a run of openings whose first network is no longer than all edges together;
+-- behind splits on vertices they are plain ones of the kind that the rule for splits asks for. The text has fewer than
+-- 2^32 bytes.
+pub record IsPermittedGraphAnswer (options : GraphOptions) (g : Graph) (network : List Bool) (tree : Tree SplitOn)
     : Type 0 where
-  pub accepted : IsGraphAccepted g (graph_text openings g network tree)
-  pub searched : IsSearched g openings (total_of g) network tree
-  pub few_bytes : length (graph_text openings g network tree) < 2 ^ 32
+  pub accepted : IsGraphAccepted g (graph_text options.openings g network tree)
+  pub searched : IsSearched g (kind_of options.split) options.openings (total_of g) network tree
+  pub few_bytes : length (graph_text options.openings g network tree) < 2 ^ 32
 
 -- what is printed of them
 abbrev pub graph_print : ℕ → Graph → List Bool → Tree SplitOn → Print
@@ -72,14 +75,14 @@ IsSpelled s =
 
 -- The answer tells a network of the graph and a tree of cuts, as a search from a network ends with them that is no
 -- longer than all edges together. Its text has fewer than 2^32 bytes.
-pub record IsFor (openings : ℕ) (g : Graph) (s : GraphSolution) : Type 0 where
+pub record IsFor (options : GraphOptions) (g : Graph) (s : GraphSolution) : Type 0 where
   pub graph : s.graph ≡ g
-  pub searched : IsSearched g openings (total_of g) s.answer.network s.answer.tree
+  pub searched : IsSearched g (kind_of options.split) options.openings (total_of g) s.answer.network s.answer.tree
   pub head : s.answer.head
-      ≡ head_with openings (length_of g s.answer.network) (value_on g s.answer.tree) no_note
+      ≡ head_with options.openings (length_of g s.answer.network) (value_on g s.answer.tree) no_note
   pub fits : IsAnswerOn g s.answer
   pub few_bytes : length (solution_text s) < 2 ^ 32
 
 -- The answer is one in this graph.
-abbrev pub IsAnswerFor : ℕ → Graph → Answer → Type 0
-IsAnswerFor openings g a = IsFor openings g (record { graph = g; answer = a })
+abbrev pub IsAnswerFor : GraphOptions → Graph → Answer → Type 0
+IsAnswerFor options g a = IsFor options g (record { graph = g; answer = a })

@@ -9,29 +9,30 @@ use Rattle.frame.specs.Ends.{Print, Ends}
 use Rattle.frame.specs.FaultTexts.{text_fault_text, text_fault_status}
 use Rattle.frame.specs.FromText.{FromText}
 use Rattle.frame.specs.Leaves.{LeavesShelf}
+use Rattle.search_rules.specs.declared.options.GraphOptions.{GraphOptions}
 use Rattle.graph_inputs.specs.declared.text_fault.GraphTextFault.{GraphTextFault}
 use Rattle.graph_tools.specs.declared.solution.GraphSolution.{GraphSolution}
 use Rattle.graph_inputs.specs.Reading.{ReadsGraph, graph_fault_text, graph_fault_status}
 use Rattle.graph_tools.specs.Found.{FindsIn}
 use Rattle.graph_tools.specs.Solution.{IsFor, IsPermittedGraphAnswer, graph_print}
 
--- What is printed of a network and a tree of cuts in a graph: an answer that may be printed there.
-abbrev pub PrintsAnswer : ℕ → Graph → Print → Type 0
-PrintsAnswer openings g print =
-    (network : List Bool) × (tree : Tree SplitOn) × IsPermittedGraphAnswer openings g network tree
-    × (print ≡ graph_print openings g network tree)
+-- What is printed of a network and a tree of cuts in a graph: an answer that may be printed there under these options.
+abbrev pub PrintsAnswer : GraphOptions → Graph → Print → Type 0
+PrintsAnswer options g print =
+    (network : List Bool) × (tree : Tree SplitOn) × IsPermittedGraphAnswer options g network tree
+    × (print ≡ graph_print options.openings g network tree)
 
 -- What `graph` finds in a text, before it writes: an answer in the graph of the STP file that it is; or why it gives
 -- no Steiner problem.
-abbrev pub FindsAnswer : ℕ → List ℕ → Result GraphSolution GraphTextFault → Type 0
-FindsAnswer openings = FindsIn ReadsGraph (IsFor openings)
+abbrev pub FindsAnswer : GraphOptions → List ℕ → Result GraphSolution GraphTextFault → Type 0
+FindsAnswer options = FindsIn ReadsGraph (IsFor options)
 
 -- What it prints of a text.
-abbrev pub SolvesGraph : ℕ → List ℕ → Result Print GraphTextFault → Type 0
-SolvesGraph openings = FindsIn ReadsGraph (PrintsAnswer openings)
+abbrev pub SolvesGraph : GraphOptions → List ℕ → Result Print GraphTextFault → Type 0
+SolvesGraph options = FindsIn ReadsGraph (PrintsAnswer options)
 
--- A run of `graph` with so many openings allowed.
-abbrev pub EndsGraph : ℕ → Outside → Outside → ℕ → Type 0
-EndsGraph openings before after status =
+-- A run of `graph` under these options.
+abbrev pub EndsGraph : GraphOptions → Outside → Outside → ℕ → Type 0
+EndsGraph options before after status =
     Ends (text_fault_status graph_fault_status) (text_fault_text graph_fault_text) (codes "graph")
-    (FromText TEXT_LIMIT (SolvesGraph openings)) LeavesShelf before after status
+    (FromText TEXT_LIMIT (SolvesGraph options)) LeavesShelf before after status

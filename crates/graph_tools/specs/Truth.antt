@@ -12,17 +12,18 @@ use Rattle.graph_solve.specs.Accepted.{AcceptsGraphAs, IsGraphAccepted}
 use Rattle.frame.specs.Outside.{Outside}
 use Rattle.verdict_line.specs.Verdicts.{accepted_line}
 use Rattle.graph_search.specs.Truth.{EndsTruly}
+use Rattle.search_rules.specs.declared.options.GraphOptions.{GraphOptions}
 use Rattle.graph_tools.specs.Check.{FileIsTask}
 use Rattle.graph_tools.specs.Solution.{IsPermittedGraphAnswer, graph_text}
 
--- `out` gained an answer that may be printed in the graph with so many openings allowed. No network of the graph is
+-- `out` gained an answer that may be printed in the graph under these options. No network of the graph is
 -- shorter than its bound, and what the status tells of it is true (`EndsTruly`).
-pub record SolvesTruly (openings : ℕ) (g : Graph) (before after : Outside) (status : ℕ) : Type 0 where
+pub record SolvesTruly (options : GraphOptions) (g : Graph) (before after : Outside) (status : ℕ) : Type 0 where
   pub network : List Bool
   pub tree : Tree SplitOn
-  pub permitted : IsPermittedGraphAnswer openings g network tree
-  pub printed : Appended before.written.out.taken (graph_text openings g network tree) after.written.out.taken
-  pub ends : EndsTruly g openings (total_of g) network tree status
+  pub permitted : IsPermittedGraphAnswer options g network tree
+  pub printed : Appended before.written.out.taken (graph_text options.openings g network tree) after.written.out.taken
+  pub ends : EndsTruly g options.openings (total_of g) network tree status
 
 -- `out` gained the line of an answer that is accepted in the graph, no network of the graph is shorter than its bound,
 -- and where it says optimal its network is a shortest one.

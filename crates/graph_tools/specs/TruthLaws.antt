@@ -15,25 +15,27 @@ use Rattle.graph_solve.specs.Accepted.{AcceptsGraphAs}
 use Rattle.frame.specs.Statuses.{answer_code}
 use Rattle.frame.specs.Outside.{Outside}
 use Rattle.verdict_line.specs.Verdicts.{graph_line_text, graph_line_status}
+use Rattle.graph_search.specs.Kinds.{kind_of}
 use Rattle.graph_search.specs.Searched.{bound_of}
 use Rattle.graph_search.specs.Status.{status_of_bound}
 use Rattle.graph_search.specs.TruthLaws.{ends_truly}
+use Rattle.search_rules.specs.declared.options.GraphOptions.{GraphOptions}
 use Rattle.graph_tools.specs.Check.{IsGraphChecked, line_of}
 use Rattle.graph_tools.specs.Solution.{IsPermittedGraphAnswer, graph_text}
 use Rattle.graph_tools.specs.Truth.{ChecksGraphTruly, SolvesTruly}
 
 -- An answer that may be printed and was, with its status, is true.
-pub solves_truly : (openings : ℕ) (g : Graph) (network : List Bool) (tree : Tree SplitOn) (before after : Outside)
-    (status : ℕ) → IsPermittedGraphAnswer openings g network tree →
-    Appended before.written.out.taken (graph_text openings g network tree) after.written.out.taken →
+pub solves_truly : (options : GraphOptions) (g : Graph) (network : List Bool) (tree : Tree SplitOn)
+    (before after : Outside) (status : ℕ) → IsPermittedGraphAnswer options g network tree →
+    Appended before.written.out.taken (graph_text options.openings g network tree) after.written.out.taken →
     status ≡ answer_code (status_of_bound (bound_of g network tree) (length_of g network)) →
-    SolvesTruly openings g before after status
-solves_truly openings g network tree before after status permitted appended ends = record {
+    SolvesTruly options g before after status
+solves_truly options g network tree before after status permitted appended ends = record {
   network = network;
   tree = tree;
   permitted = permitted;
   printed = appended;
-  ends = ends_truly g openings (total_of g) network tree status permitted.searched ends;
+  ends = ends_truly g (kind_of options.split) options.openings (total_of g) network tree status permitted.searched ends;
 }
 
 -- the network of an accepted answer that says optimal is a shortest one

@@ -3,6 +3,7 @@
 ghost use Rattle.std.specs.Prelude.{◌≡◌, ◌+◌, ◌<◌, ◌^◌, IfOk};
 ghost use Rattle.net_graph.specs.Network.{IsNetwork};
 ghost use Rattle.graph_solve.specs.Task.{all_edges};
+ghost use Rattle.search_rules.specs.Options.{usual_in_graph};
 ghost use Rattle.graph_tools.specs.Lifted.{IsLiftedFor, lifted_by};
 ghost use Rattle.graph_tools.specs.Solution.{IsAnswerFor};
 
@@ -31,7 +32,7 @@ pub(crate) fn lifted_in(alloc: Global, graph: &NetGraph) -> Result<Lifted, Alloc
 
 // What is told of an answer's network in the reduced graph, once it is lifted. An `Err` is want of memory.
 fn lifted_by(alloc: Global, reduced: &Reduced, answer: &CutAnswer) -> Result<Lifted, AllocError>
-    requires answer { IsAnswerFor 100 reduced.now.graph answer.now }
+    requires answer { IsAnswerFor usual_in_graph reduced.now.graph answer.now }
     requires offset { reduced.now.offset < 2 ^ 63 }
     ensures { IfOk result (λ lifted. lifted ≡ lifted_by reduced.now answer.now.network answer.now.tree) }
 {

@@ -58,7 +58,7 @@ pub fn solution_in(
     options: GraphOptions,
 ) -> Result<GraphSolution, AllocError>
     requires { IsNetwork graph (all_edges graph) }
-    ensures { IfOk result (IsFor options.openings graph) }
+    ensures { IfOk result (IsFor options graph) }
 {
     let answer = answer_in(alloc, &graph, options)?;
     Ok(GraphSolution { graph, answer })
@@ -72,7 +72,7 @@ pub(crate) fn answer_in(
     options: GraphOptions,
 ) -> Result<CutAnswer, AllocError>
     requires { IsNetwork graph.now (all_edges graph.now) }
-    ensures { IfOk result (IsAnswerFor options.openings graph.now) }
+    ensures { IfOk result (IsAnswerFor options graph.now) }
 {
     let first = first_network(alloc, graph)?;
     let solved = searched(alloc, graph, first, options, &Ladder { graph })?;

@@ -23,7 +23,7 @@ pub fn graph<I: Source, O: Sink, R: Sink>(
     out: &mut O,
     err: &mut R,
 ) -> u8
-    ensures { (shelf : ShelfState) → EndsGraph options.openings
+    ensures { (shelf : ShelfState) → EndsGraph options
         (outside (I.state input.old) (O.state out.old) (R.state err.old) shelf)
         (outside (I.state input.new) (O.state out.new) (R.state err.new) shelf) result }
 {
@@ -38,7 +38,7 @@ fn find<I: Source>(
     options: GraphOptions,
     input: &mut I,
 ) -> Result<Result<GraphSolution, TextFault<GraphTextFault>>, AllocError>
-    ensures finds { (shelf : ShelfState) → IfOk result (FromText TEXT_LIMIT (FindsAnswer options.openings)
+    ensures finds { (shelf : ShelfState) → IfOk result (FromText TEXT_LIMIT (FindsAnswer options)
         (readable (I.state input.old) shelf) (readable (I.state input.new) shelf)) }
     ensures takes { TakesSome (I.state input.old) (I.state input.new) }
 {

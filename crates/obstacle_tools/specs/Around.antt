@@ -9,6 +9,7 @@ use Rattle.frame.specs.Ends.{Print, Ends}
 use Rattle.frame.specs.FaultTexts.{text_fault_text, text_fault_status}
 use Rattle.frame.specs.FromText.{FromText}
 use Rattle.frame.specs.Leaves.{LeavesShelf}
+use Rattle.search_rules.specs.declared.options.GraphOptions.{GraphOptions}
 use Rattle.graph_tools.specs.declared.solution.GraphSolution.{GraphSolution}
 use Rattle.graph_tools.specs.Found.{FindsIn}
 use Rattle.graph_tools.specs.Solution.{IsFor}
@@ -19,18 +20,18 @@ use Rattle.obstacle_tools.specs.Reading.{ReadsAround, around_fault_text, around_
 
 -- What `obstacles` finds in a text, before it writes: an answer in the graph of the points and boxes that it spells; or
 -- why it gives no Steiner problem.
-abbrev pub FindsAround : ℕ → List ℕ → Result GraphSolution ObstacleTextFault → Type 0
-FindsAround openings = FindsIn ReadsAround (IsFor openings)
+abbrev pub FindsAround : GraphOptions → List ℕ → Result GraphSolution ObstacleTextFault → Type 0
+FindsAround options = FindsIn ReadsAround (IsFor options)
 
 -- What it prints of a text.
-abbrev pub SolvesAround : ℕ → List ℕ → Result Print ObstacleTextFault → Type 0
-SolvesAround openings = FindsIn ReadsAround (PrintsAnswer openings)
+abbrev pub SolvesAround : GraphOptions → List ℕ → Result Print ObstacleTextFault → Type 0
+SolvesAround options = FindsIn ReadsAround (PrintsAnswer options)
 
--- A run of `obstacles` that prints an answer, with so many openings allowed.
-abbrev pub EndsObstaclesSolve : ℕ → Outside → Outside → ℕ → Type 0
-EndsObstaclesSolve openings before after status =
+-- A run of `obstacles` that prints an answer, under these options.
+abbrev pub EndsObstaclesSolve : GraphOptions → Outside → Outside → ℕ → Type 0
+EndsObstaclesSolve options before after status =
     Ends (text_fault_status around_fault_status) (text_fault_text around_fault_text) (codes "obstacles")
-    (FromText TEXT_LIMIT (SolvesAround openings)) LeavesShelf before after status
+    (FromText TEXT_LIMIT (SolvesAround options)) LeavesShelf before after status
 
 -- the text of a graph as a file
 abbrev pub graph_file_text : GraphFile → List ℕ
@@ -58,6 +59,6 @@ EndsObstaclesStp before after status =
     (FromText TEXT_LIMIT WritesGraph) LeavesShelf before after status
 
 -- A run of `obstacles`, with or without its flag.
-abbrev pub EndsObstacles : Bool → ℕ → Outside → Outside → ℕ → Type 0
-EndsObstacles true openings before after status = EndsObstaclesStp before after status
-EndsObstacles false openings before after status = EndsObstaclesSolve openings before after status
+abbrev pub EndsObstacles : Bool → GraphOptions → Outside → Outside → ℕ → Type 0
+EndsObstacles true options before after status = EndsObstaclesStp before after status
+EndsObstacles false options before after status = EndsObstaclesSolve options before after status

@@ -10,6 +10,7 @@ use Rattle.obstacle_grid.specs.Grid.{obstacle_graph_of}
 use Rattle.obstacle_grid.specs.ReadBack.{IsProblemOf}
 use Rattle.obstacle_grid.specs.Text.{graph_stp_text}
 use Rattle.frame.specs.Outside.{Outside}
+use Rattle.search_rules.specs.declared.options.GraphOptions.{GraphOptions}
 use Rattle.graph_tools.specs.Truth.{SolvesTruly}
 use Rattle.obstacle_tools.specs.Reading.{IsTaskText}
 
@@ -25,9 +26,9 @@ IsPrintedGraph o = IsProblemOf (graph_stp_text (obstacle_graph_of o)) (obstacle_
 -- `out` gained an answer that may be printed in the graph of the points and boxes, and what it says is true of that
 -- graph (`SolvesTruly`), which is the one that `--stp` prints: so the answer is accepted beside that file. Its network
 -- crosses the interior of no box.
-pub record SolvesAroundTruly (o : ObstaclesValue) (openings : ℕ) (before after : Outside) (status : ℕ)
+pub record SolvesAroundTruly (o : ObstaclesValue) (options : GraphOptions) (before after : Outside) (status : ℕ)
     : Type 0 where
-  pub solves : SolvesTruly openings (obstacle_graph_of o) before after status
+  pub solves : SolvesTruly options (obstacle_graph_of o) before after status
   pub avoids : AvoidsBoxes o solves.network
   pub stp : IsPrintedGraph o
 
@@ -38,15 +39,15 @@ pub record WritesGraphTruly (o : ObstaclesValue) (before after : Outside) (statu
   pub stp : IsPrintedGraph o
 
 -- What was printed of points and boxes, with or without the flag, is true.
-abbrev pub PrintsTruly : Bool → ℕ → ObstaclesValue → Outside → Outside → ℕ → Type 0
-PrintsTruly true openings o before after status = WritesGraphTruly o before after status
-PrintsTruly false openings o before after status = SolvesAroundTruly o openings before after status
+abbrev pub PrintsTruly : Bool → GraphOptions → ObstaclesValue → Outside → Outside → ℕ → Type 0
+PrintsTruly true options o before after status = WritesGraphTruly o before after status
+PrintsTruly false options o before after status = SolvesAroundTruly o options before after status
 
 -- The input was read to its end, it spells points and boxes that are a Steiner problem, and what was printed of them is
 -- true.
-abbrev pub ObstaclesTruly : Bool → ℕ → Outside → Outside → ℕ → Type 0
-ObstaclesTruly stp openings before after status =
+abbrev pub ObstaclesTruly : Bool → GraphOptions → Outside → Outside → ℕ → Type 0
+ObstaclesTruly stp options before after status =
     (bytes : List ℕ) × (o : ObstaclesValue)
     × CameToTheEnd before.read.input.rest bytes after.read.input.rest
     × IsTaskText bytes o
-    × PrintsTruly stp openings o before after status
+    × PrintsTruly stp options o before after status

@@ -18,6 +18,7 @@ use Rattle.frame.specs.EndLaws.{printed_ends}
 use Rattle.frame.specs.FaultTexts.{text_fault_text, text_fault_status}
 use Rattle.frame.specs.FromText.{FromText}
 use Rattle.frame.specs.Leaves.{LeavesShelf}
+use Rattle.search_rules.specs.declared.options.GraphOptions.{GraphOptions}
 use Rattle.graph_tools.specs.Truth.{SolvesTruly}
 use Rattle.graph_tools.specs.TruthLaws.{solves_truly}
 use Rattle.obstacle_tools.specs.Reading.{around_fault_text, around_fault_status}
@@ -31,16 +32,16 @@ avoids_boxes law o network = λ n e member at.
     subst (CrossesNone o) (get_or_from_slice_get edges n e e at) (law o n e (slice_get_within edges n e at))
 
 -- an answer that was printed, with the status that the run ended with
-answer_printed : NoEdgeCrosses → ObstaclesAreReadBack → (openings : ℕ) (before after : Outside) (status : ℕ)
-    (s : AnswerStatus) → status ≡ answer_code s → EndsObstaclesSolve openings before after status →
-    ObstaclesTruly false openings before after status
-answer_printed law read openings before after status s is ends =
+answer_printed : NoEdgeCrosses → ObstaclesAreReadBack → (options : GraphOptions) (before after : Outside) (status : ℕ)
+    (s : AnswerStatus) → status ≡ answer_code s → EndsObstaclesSolve options before after status →
+    ObstaclesTruly false options before after status
+answer_printed law read options before after status s is ends =
     let (print, (bytes, whole, (g, (o, task, same), (network, tree, permitted, of_graph))), printed) =
     printed_ends (text_fault_status around_fault_status) (text_fault_text around_fault_text) (codes "obstacles")
-    (FromText TEXT_LIMIT (SolvesAround openings)) LeavesShelf before after status s is ends in
-    let solves : SolvesTruly openings (obstacle_graph_of o) before after status =
-    subst (λ h. SolvesTruly openings h before after status) same
-    (solves_truly openings g network tree before after status permitted
+    (FromText TEXT_LIMIT (SolvesAround options)) LeavesShelf before after status s is ends in
+    let solves : SolvesTruly options (obstacle_graph_of o) before after status =
+    subst (λ h. SolvesTruly options h before after status) same
+    (solves_truly options g network tree before after status permitted
     (subst (λ (p : Print). Appended before.written.out.taken p.text after.written.out.taken) of_graph
     printed.wrote.appended)
     (printed.ends ∙ ap (λ (p : Print). answer_code p.status) of_graph)) in (
@@ -56,9 +57,9 @@ answer_printed law read openings before after status s is ends =
     )
 
 -- a graph that was printed
-graph_printed : ObstaclesAreReadBack → (openings : ℕ) (before after : Outside) (status : ℕ) (s : AnswerStatus) →
-    status ≡ answer_code s → EndsObstaclesStp before after status → ObstaclesTruly true openings before after status
-graph_printed read openings before after status s is ends =
+graph_printed : ObstaclesAreReadBack → (options : GraphOptions) (before after : Outside) (status : ℕ)
+    (s : AnswerStatus) → status ≡ answer_code s → EndsObstaclesStp before after status → ObstaclesTruly true options before after status
+graph_printed read options before after status s is ends =
     let (print, (bytes, whole, (g, (o, task, same), of_graph)), printed) =
     printed_ends (text_fault_status around_fault_status) (text_fault_text around_fault_text) (codes "obstacles")
     (FromText TEXT_LIMIT WritesGraph) LeavesShelf before after status s is ends in (
@@ -76,19 +77,19 @@ graph_printed read openings before after status s is ends =
       },
     )
 
-prints_with : NoEdgeCrosses → ObstaclesAreReadBack → (stp : Bool) (openings : ℕ) (before after : Outside)
-    (status : ℕ) (s : AnswerStatus) → status ≡ answer_code s → EndsObstacles stp openings before after status →
-    ObstaclesTruly stp openings before after status
-prints_with law read true openings before after status s is ends =
-    graph_printed read openings before after status s is ends
-prints_with law read false openings before after status s is ends =
-    answer_printed law read openings before after status s is ends
+prints_with : NoEdgeCrosses → ObstaclesAreReadBack → (stp : Bool) (options : GraphOptions) (before after : Outside)
+    (status : ℕ) (s : AnswerStatus) → status ≡ answer_code s → EndsObstacles stp options before after status →
+    ObstaclesTruly stp options before after status
+prints_with law read true options before after status s is ends =
+    graph_printed read options before after status s is ends
+prints_with law read false options before after status s is ends =
+    answer_printed law read options before after status s is ends
 
 -- What `obstacles` printed is true.
-pub obstacles_truly : NoEdgeCrosses → ObstaclesAreReadBack → (stp : Bool) (openings : ℕ) (before after : Outside)
-    (status : ℕ) → EndsObstacles stp openings before after status → (status ≡ 0) ⊎ (status ≡ 3) →
-    ObstaclesTruly stp openings before after status
-obstacles_truly law read stp openings before after status ends (inl zero) =
-    prints_with law read stp openings before after status Done zero ends
-obstacles_truly law read stp openings before after status ends (inr three) =
-    prints_with law read stp openings before after status Stopped three ends
+pub obstacles_truly : NoEdgeCrosses → ObstaclesAreReadBack → (stp : Bool) (options : GraphOptions)
+    (before after : Outside) (status : ℕ) → EndsObstacles stp options before after status → (status ≡ 0) ⊎ (status ≡ 3) →
+    ObstaclesTruly stp options before after status
+obstacles_truly law read stp options before after status ends (inl zero) =
+    prints_with law read stp options before after status Done zero ends
+obstacles_truly law read stp options before after status ends (inr three) =
+    prints_with law read stp options before after status Stopped three ends

@@ -27,7 +27,7 @@ pub fn obstacles<I: Source, O: Sink, R: Sink>(
     out: &mut O,
     err: &mut R,
 ) -> u8
-    ensures { (shelf : ShelfState) → EndsObstacles stp options.openings
+    ensures { (shelf : ShelfState) → EndsObstacles stp options
         (outside (I.state input.old) (O.state out.old) (R.state err.old) shelf)
         (outside (I.state input.new) (O.state out.new) (R.state err.new) shelf) result }
 {
@@ -46,7 +46,7 @@ fn print_answer<I: Source, O: Sink, R: Sink>(
     out: &mut O,
     err: &mut R,
 ) -> u8
-    ensures { (shelf : ShelfState) → EndsObstaclesSolve options.openings
+    ensures { (shelf : ShelfState) → EndsObstaclesSolve options
         (outside (I.state input.old) (O.state out.old) (R.state err.old) shelf)
         (outside (I.state input.new) (O.state out.new) (R.state err.new) shelf) result }
 {
@@ -76,7 +76,7 @@ fn find_answer<I: Source>(
     options: GraphOptions,
     input: &mut I,
 ) -> Result<Result<GraphSolution, TextFault<ObstacleTextFault>>, AllocError>
-    ensures finds { (shelf : ShelfState) → IfOk result (FromText TEXT_LIMIT (FindsAround options.openings)
+    ensures finds { (shelf : ShelfState) → IfOk result (FromText TEXT_LIMIT (FindsAround options)
         (readable (I.state input.old) shelf) (readable (I.state input.new) shelf)) }
     ensures takes { TakesSome (I.state input.old) (I.state input.new) }
 {

@@ -124,10 +124,13 @@ fn step_again<F: Rule, G: Rule>(search: &mut Search<F, G>) -> Result<Step, Fault
     Ok(search.split_one()?)
 }
 
-// Tells the network, and how far the search is.
+// Tells the network, how far the search is, and by its place the leaf that is open next, if one is.
 fn tell_search<F: Rule, G: Rule>(answer: &mut String, search: &Search<F, G>) -> Result<(), Fault> {
     tell_edges(answer, "network", search.network())?;
     writeln!(answer, "settled {}", search.is_settled())?;
+    if let Some(place) = search.next_open() {
+        writeln!(answer, "next {place}")?;
+    }
     writeln!(answer, "splits {}", search.splits())?;
     Ok(writeln!(answer, "leaves {}", search.tree().leaves())?)
 }

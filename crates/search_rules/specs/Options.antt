@@ -12,3 +12,7 @@ usual_options = record { openings = 100; concat = 4000; ascent = Least; split = 
 -- the same choices without that of concatenations
 abbrev pub in_graph : SearchOptions → GraphOptions
 in_graph search = record { openings = search.openings; ascent = search.ascent; split = search.split }
+
+-- .. where no word asks for anything else
+abbrev pub usual_in_graph : GraphOptions
+usual_in_graph = in_graph usual_options

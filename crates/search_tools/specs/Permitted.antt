@@ -14,6 +14,7 @@ use Rattle.cert_tree.specs.Tree.{Tree}
 use Rattle.cert_check.specs.Accepted.{IsAccepted}
 use Rattle.frame.specs.Ends.{Print}
 use Rattle.search_rules.specs.declared.options.SearchOptions.{SearchOptions}
+use Rattle.graph_search.specs.Kinds.{kind_of}
 use Rattle.graph_search.specs.Searched.{IsSearched, bound_of}
 use Rattle.graph_search.specs.Status.{status_of_bound}
 use Rattle.search_tools.specs.Solution.{solution}
@@ -38,12 +39,13 @@ search_text openings ps network tree note = answer_text (solution openings ps ne
 -- options. The text that tells all of this is accepted as an answer for the points. The tree has at most as many splits
 -- as openings are allowed, and exactly as many where its value is below the network's length; each of its leaves has
 -- few cuts, and is maximal where its value is below the length. The note is true of the full trees, and the network is
--- no longer than its total. Network and tree end a run of openings whose first network is no longer than this total.
--- The text has fewer than 2^32 bytes.
+-- no longer than its total. Network and tree end a run of openings whose first network is no longer than this total;
+-- behind splits on vertices they are plain ones of the kind that the rule for splits asks for. The text has fewer than
+-- 2^32 bytes.
 pub record IsPermitted (options : SearchOptions) (ps : List Point) (trees : List FullTree) (network : List Bool)
     (tree : Tree SplitOn) (note : ConcatNote) : Type 0 where
   pub accepted : IsAccepted ps (search_text options.openings ps network tree note)
-  pub searched : IsSearched (hanan_grid_of ps) options.openings note.total network tree
+  pub searched : IsSearched (hanan_grid_of ps) (kind_of options.split) options.openings note.total network tree
   pub concat : IsConcatNote options.concat (length ps) trees note
   pub short : length_of (hanan_grid_of ps) network ≤ note.total
   pub few_bytes : length (search_text options.openings ps network tree note) < 2 ^ 32

@@ -7,6 +7,7 @@ use Rattle.net_graph.specs.Members.{members_of}
 use Rattle.cert_tree.specs.declared.split.SplitOn.{SplitOn}
 use Rattle.cert_tree.specs.Tree.{Tree}
 use Rattle.cert_tree.specs.Preorder.{nodes_of, split_count}
+use Rattle.branch.specs.declared.split_kind.SplitKind.{SplitKind}
 use Rattle.cut_cert.specs.declared.head.AnswerHead.{AnswerHead}
 use Rattle.cut_cert.specs.Answers.{IsAnswerOn, IsNodeOn, named, names_of, value_of}
 use Rattle.cut_cert.specs.declared.head.ConcatNote.{ConcatNote}
@@ -20,19 +21,20 @@ use Rattle.frame.specs.declared.status.AnswerStatus.TheVariants.{Done, Stopped}
 use Rattle.frame.specs.Ends.{Print}
 use Rattle.search_rules.specs.declared.options.SearchOptions.{SearchOptions}
 use Rattle.search_tools.specs.declared.solution.Solution.{Solution}
+use Rattle.graph_search.specs.Kinds.{kind_of}
 use Rattle.graph_search.specs.Searched.{IsSearched}
 use Rattle.search_tools.specs.Solution.{solution}
 use Rattle.search_tools.specs.Permitted.{IsPermitted, search_text, search_print}
 use Rattle.search_tools.specs.Steps.{IsFor, IsSpelled, solution_text, solution_status}
 
 -- a text that spells the answer of a network and a tree is accepted
-accepted_solution : (openings first_length : ℕ) (ps : List Point) (set : List Bool) (tree : Tree SplitOn)
-    (note : ConcatNote) →
+accepted_solution : (asked : SplitKind) (openings first_length : ℕ) (ps : List Point) (set : List Bool)
+    (tree : Tree SplitOn) (note : ConcatNote) →
     let g = hanan_grid_of ps in
     SpellsAnswer (form.OnGrid g.vertices) (search_text openings ps set tree note) (solution openings ps set tree note) →
-    IsSearched g openings first_length set tree → All (IsNodeOn g) (nodes_of tree) → split_count tree ≤ 255 →
+    IsSearched g asked openings first_length set tree → All (IsNodeOn g) (nodes_of tree) → split_count tree ≤ 255 →
     IsAccepted ps (search_text openings ps set tree note)
-accepted_solution openings first_length ps set tree note spells searched nodes few = (
+accepted_solution asked openings first_length ps set tree note spells searched nodes few = (
   solution openings ps set tree note,
   set,
   tree,
@@ -77,7 +79,7 @@ permitted_answer options ps trees s is spells =
     let fits : IsAnswerOn (hanan_grid_of ps) s.answer =
     subst (λ (h : List Point). IsAnswerOn (hanan_grid_of h) s.answer) is.grid is.fits in record {
       accepted =
-          accepted_solution options.openings note.total ps s.answer.network s.answer.tree note
+          accepted_solution (kind_of options.split) options.openings note.total ps s.answer.network s.answer.tree note
           (subst (λ (h : List Point). SpellsAnswer (form.OnGrid (hanan_grid_of h).vertices) text written) is.grid
           (subst (λ (w : WrittenAnswer).
           SpellsAnswer (form.OnGrid (hanan_grid_of s.grid).vertices) (answer_text w) w) told spells))

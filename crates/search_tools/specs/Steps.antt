@@ -33,6 +33,7 @@ use Rattle.search_tools.specs.declared.build_fault.BuildFault.{BuildFault}
 use Rattle.search_tools.specs.declared.build_fault.BuildFault.TheVariants.{InFile, Apart}
 use Rattle.search_tools.specs.declared.network.Found.{Found}
 use Rattle.search_tools.specs.declared.solution.Solution.{Solution}
+use Rattle.graph_search.specs.Kinds.{kind_of}
 use Rattle.graph_search.specs.Searched.{IsSearched, value_on}
 use Rattle.graph_search.specs.Answering.{head_with}
 use Rattle.search_tools.specs.Permitted.{IsConcatNote}
@@ -75,7 +76,8 @@ IsSpelled s =
 pub record IsFor (options : SearchOptions) (ps : List Point) (trees : List FullTree) (s : Solution) : Type 0 where
   pub grid : s.grid ≡ ps
   pub searched :
-      IsSearched (hanan_grid_of ps) options.openings s.answer.head.concat.total s.answer.network s.answer.tree
+      IsSearched (hanan_grid_of ps) (kind_of options.split) options.openings s.answer.head.concat.total s.answer.network
+      s.answer.tree
   pub concat : IsConcatNote options.concat (length ps) trees s.answer.head.concat
   pub short : length_of (hanan_grid_of ps) s.answer.network ≤ s.answer.head.concat.total
   pub head : s.answer.head

@@ -11,6 +11,7 @@ use Rattle.cert_tree.specs.Tree.{Tree}
 use Rattle.frame.specs.Statuses.{answer_code}
 use Rattle.frame.specs.Outside.{Outside}
 use Rattle.search_rules.specs.declared.options.SearchOptions.{SearchOptions}
+use Rattle.graph_search.specs.Kinds.{kind_of}
 use Rattle.graph_search.specs.Searched.{bound_of}
 use Rattle.graph_search.specs.Status.{status_of_bound}
 use Rattle.graph_search.specs.TruthLaws.{ends_truly}
@@ -32,5 +33,6 @@ searches_truly options ps trees network tree note before after status permitted 
   permitted = permitted;
   printed = appended;
   ends =
-      ends_truly (hanan_grid_of ps) options.openings note.total network tree status permitted.searched ends;
+      ends_truly (hanan_grid_of ps) (kind_of options.split) options.openings note.total network tree status
+      permitted.searched ends;
 }

@@ -29,11 +29,11 @@ use Rattle.suite.specs.Complete.{Completes}
 use Rattle.suite.proofs.Completeness.{zero_or_one, zero_or_three}
 
 pub network_completes : TaskHasNoFault → (options : GraphOptions) (before after : Outside) (status : ℕ) →
-    EndsGraph options.openings before after status → Completes (Some (Graph options)) before after status
+    EndsGraph options before after status → Completes (Some (Graph options)) before after status
 network_completes law options before after status ends = λ bytes file has task writes.
     elim (complete_ends (text_fault_status graph_fault_status) (text_fault_text graph_fault_text) (codes "graph")
-    (FromText TEXT_LIMIT (SolvesGraph options.openings)) LeavesShelf before after status
-    (found_faultless ReadsGraph (PrintsAnswer options.openings) before.read after.read bytes has
+    (FromText TEXT_LIMIT (SolvesGraph options)) LeavesShelf before after status
+    (found_faultless ReadsGraph (PrintsAnswer options) before.read after.read bytes has
     (λ fault. law bytes file fault task)) writes ends) [
       | inl seven ↦ inr seven
       | inr (print, (taken, whole, (g, reads, (network, tree, permitted, of_graph))), answers) ↦

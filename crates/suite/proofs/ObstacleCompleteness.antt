@@ -22,12 +22,12 @@ use Rattle.suite.proofs.Completeness.{zero_or_three}
 
 -- with an answer a run ends as the answer says
 answer_completes : AroundHasNoFault → (search : GraphOptions) (before after : Outside) (status : ℕ) →
-    EndsObstaclesSolve search.openings before after status →
+    EndsObstaclesSolve search before after status →
     Completes (Some (Obstacles false search)) before after status
 answer_completes law search before after status ends = λ bytes o has task writes.
     elim (complete_ends (text_fault_status around_fault_status) (text_fault_text around_fault_text) (codes "obstacles")
-    (FromText TEXT_LIMIT (SolvesAround search.openings)) LeavesShelf before after status
-    (found_faultless ReadsAround (PrintsAnswer search.openings) before.read after.read bytes has
+    (FromText TEXT_LIMIT (SolvesAround search)) LeavesShelf before after status
+    (found_faultless ReadsAround (PrintsAnswer search) before.read after.read bytes has
     (λ fault. law bytes o fault task)) writes ends) [
       | inl seven ↦ inr seven
       | inr (print, (taken, whole, (g, reads, (network, tree, permitted, of_graph))), answers) ↦
@@ -49,6 +49,6 @@ graph_completes law search before after status ends = λ bytes o has task writes
     ]
 
 pub obstacles_completes : AroundHasNoFault → (stp : Bool) (search : GraphOptions) (before after : Outside) (status : ℕ) →
-    EndsObstacles stp search.openings before after status → Completes (Some (Obstacles stp search)) before after status
+    EndsObstacles stp search before after status → Completes (Some (Obstacles stp search)) before after status
 obstacles_completes law true search before after status ends = graph_completes law search before after status ends
 obstacles_completes law false search before after status ends = answer_completes law search before after status ends

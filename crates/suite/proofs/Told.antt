@@ -104,18 +104,18 @@ trial_told n seed before after status s is ends =
 
 -- what `graph` printed, with the status that it ended with
 graph_printed : (options : GraphOptions) (before after : Outside) (status : ℕ) (s : AnswerStatus) →
-    status ≡ answer_code s → EndsGraph options.openings before after status →
+    status ≡ answer_code s → EndsGraph options before after status →
     SolvesFileTruly options before after status
 graph_printed options before after status s is ends =
     let (print, (bytes, whole, (g, (file, task, in_graph), (network, tree, permitted, of_graph))), printed) =
     printed_ends (text_fault_status graph_fault_status) (text_fault_text graph_fault_text) (codes "graph")
-    (FromText TEXT_LIMIT (SolvesGraph options.openings)) LeavesShelf before after status s is ends in (
+    (FromText TEXT_LIMIT (SolvesGraph options)) LeavesShelf before after status s is ends in (
       bytes,
       file,
       whole.came,
       task,
-      subst (λ h. SolvesTruly options.openings h before after status) in_graph
-          (solves_truly options.openings g network tree before after status permitted
+      subst (λ h. SolvesTruly options h before after status) in_graph
+          (solves_truly options g network tree before after status permitted
           (subst (λ (p : Print). Appended before.written.out.taken p.text after.written.out.taken) of_graph
           printed.wrote.appended)
           (printed.ends ∙ ap (λ (p : Print). answer_code p.status) of_graph)),
@@ -174,7 +174,7 @@ module _ (crosses : NoEdgeCrosses) (read : ObstaclesAreReadBack) (before after :
   told_as_asked (Some (Checkgraph name)) ends (inr one) = checkgraph_told name before after status Refused one ends
   told_as_asked (Some (Reduce solve)) ends answered = reduces_truly solve before after status ends answered
   told_as_asked (Some (Obstacles stp search)) ends answered =
-      obstacles_truly crosses read stp search.openings before after status ends answered
+      obstacles_truly crosses read stp search before after status ends answered
   told_as_asked (Some (Slack above ascent)) ends zero = slack_printed above before after status ends zero
   told_as_asked None ends = tt
 

@@ -65,7 +65,7 @@ SolvesFileTruly options before after status =
     (bytes : List ℕ) × (file : StpValue)
     × CameToTheEnd before.read.input.rest bytes after.read.input.rest
     × IsTaskText bytes file
-    × SolvesTruly options.openings (graph_of_stp file) before after status
+    × SolvesTruly options (graph_of_stp file) before after status
 
 -- The headline: what the program told is true, a case for each tool.
 --
@@ -112,6 +112,6 @@ TellsTruly (Some (Checkgraph name)) before after status =
     HasJudged status → ChecksGraphTruly name before after status
 TellsTruly (Some (Reduce solve)) before after status = HasAnswered status → ReducesTruly solve before after status
 TellsTruly (Some (Obstacles stp search)) before after status =
-    HasAnswered status → ObstaclesTruly stp search.openings before after status
+    HasAnswered status → ObstaclesTruly stp search before after status
 TellsTruly (Some (Slack above ascent)) before after status = status ≡ 0 → BoundsTruly above before after
 TellsTruly None before after status = Unit {0}

@@ -57,10 +57,10 @@ EndsAsAsked (Some Fst2graph) before after status = EndsFst2graph before after st
 EndsAsAsked (Some (Plot points)) before after status = EndsPlot points before after status
 EndsAsAsked (Some (Trial drawing)) before after status = EndsTrial drawing.count drawing.seed before after status
 EndsAsAsked (Some (Upgrade points)) before after status = EndsUpgrade points before after status
-EndsAsAsked (Some (Graph options)) before after status = EndsGraph options.openings before after status
+EndsAsAsked (Some (Graph options)) before after status = EndsGraph options before after status
 EndsAsAsked (Some (Checkgraph name)) before after status = EndsCheckgraph name before after status
 EndsAsAsked (Some (Reduce solve)) before after status = EndsReduceAs solve before after status
-EndsAsAsked (Some (Obstacles stp search)) before after status = EndsObstacles stp search.openings before after status
+EndsAsAsked (Some (Obstacles stp search)) before after status = EndsObstacles stp search before after status
 EndsAsAsked (Some (Slack above ascent)) before after status = EndsSlack above before after status
 EndsAsAsked None before after status = IsMisused before after status
 

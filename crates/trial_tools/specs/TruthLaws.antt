@@ -6,6 +6,7 @@ use Rattle.cert_tree.specs.Tree.{Tree}
 use Rattle.frame.specs.Statuses.{answer_code}
 use Rattle.frame.specs.Outside.{Outside}
 use Rattle.search_rules.specs.Options.{usual_options}
+use Rattle.graph_search.specs.Kinds.{kind_of}
 use Rattle.graph_search.specs.TruthLaws.{ends_truly}
 use Rattle.trial_tools.specs.TrialLine.{trial_text, trial_status}
 use Rattle.trial_tools.specs.Trial.{IsTried, drawn_grid, line_for}
@@ -22,6 +23,6 @@ tries_truly n seed network tree before after status tried appended ends = record
   tried = tried;
   printed = appended;
   ends =
-      ends_truly (drawn_grid n seed) usual_options.openings tried.note.total network tree status
-      tried.permitted.searched ends;
+      ends_truly (drawn_grid n seed) (kind_of usual_options.split) usual_options.openings tried.note.total network tree
+      status tried.permitted.searched ends;
 }

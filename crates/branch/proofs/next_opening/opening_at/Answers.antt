@@ -1,6 +1,6 @@
 -- How an open leaf is opened.
 use Rattle.std.proofs.Common.{◌<◌, ◌^◌, arith}
-use Rattle.branch.proofs.OpeningLemmas.{note_decided, note_can_split, place_within, place_small, parent_costs, parent_feasible, own_undecided, one_more_outside, one_more_inside, next_leaf, asked_kind, plain_opening, is_opening}
+use Rattle.branch.proofs.OpeningLemmas.{note_decided, note_can_split, place_within, place_small, parent_costs, parent_feasible, choice_undecided, one_more_outside, one_more_inside, next_leaf, plain_opening, is_opening}
 use Rattle.branch.proofs.next_opening.opening_at.Goals as goal
 
 pub split_choice-requires-clause-decision : goal.split_choice-requires-clause-decision
@@ -45,39 +45,34 @@ overflow_cast-result _ c =
     let small : c.args.place < 2 ^ 31 = place_small _ _ _ _ c.requires.search _ (next_leaf _ _ _ _ c.requires.search c.requires.next c.index-note.ensures).1 c.requires.few in omega arith
 
 pub decided_outside-requires-clause-undecided : goal.decided_outside-requires-clause-undecided
-decided_outside-requires-clause-undecided _ c = own_undecided _ _ _ c.in_ok-on.ensures.own
+decided_outside-requires-clause-undecided _ c = choice_undecided _ _ _ _ c.in_ok-on.ensures
 
 pub decided_inside-requires-clause-undecided : goal.decided_inside-requires-clause-undecided
-decided_inside-requires-clause-undecided _ c = own_undecided _ _ _ c.in_ok-on.ensures.own
+decided_inside-requires-clause-undecided _ c = choice_undecided _ _ _ _ c.in_ok-on.ensures
 
 pub child_of-requires-clause-one_more : goal.child_of-requires-clause-one_more
 child_of-requires-clause-one_more _ c =
-    one_more_outside _ _ _ _ (own_undecided _ _ _ c.in_ok-on.ensures.own) c.in_ok-decided_outside.ensures.value
+    one_more_outside _ _ _ _ (choice_undecided _ _ _ _ c.in_ok-on.ensures) c.in_ok-decided_outside.ensures.value
 
 pub child_of-requires-2-clause-one_more : goal.child_of-requires-2-clause-one_more
 child_of-requires-2-clause-one_more _ c =
-    one_more_inside _ _ _ _ (own_undecided _ _ _ c.in_ok-on.ensures.own) c.in_ok-decided_inside.ensures.value
+    one_more_inside _ _ _ _ (choice_undecided _ _ _ _ c.in_ok-on.ensures) c.in_ok-decided_inside.ensures.value
 
 pub returns-clause-opening : goal.returns-clause-opening
 returns-clause-opening _ c =
     is_opening _ _ _ _ c.requires.search _ (next_leaf _ _ _ _ c.requires.search c.requires.next c.index-note.ensures).1 _ _ _ _
-    c.in_ok-outside.outside c.in_ok-inside.inside c.in_ok-best.best c.in_ok-best-2.best c.in_ok-best-3.best
+    c.in_ok-outside.outside c.in_ok-inside.inside c.in_ok-best.best
     c.in_ok-decided_outside.ensures.value c.in_ok-decided_inside.ensures.value c.packing-parent.ensures
     c.in_ok-outside.ensures.note c.in_ok-inside.ensures.note
-    c.in_ok-best.ensures c.in_ok-best-2.ensures.no_longer c.in_ok-best-2.ensures.own
-    c.in_ok-best-3.ensures.best c.in_ok-best-3.ensures.no_longer c.in_ok-best-3.ensures.own
+    c.in_ok-best.ensures.best c.in_ok-best.ensures.which c.in_ok-best.ensures.outside c.in_ok-best.ensures.inside
     c.in_ok-outside.ensures.begins c.in_ok-inside.ensures.begins
-    c.in_ok-on.ensures.own c.in_ok-outside.ensures.anew c.in_ok-inside.ensures.anew
+    c.in_ok-on.ensures c.in_ok-outside.ensures.anew c.in_ok-inside.ensures.anew
 
 pub returns-clause-plain : goal.returns-clause-plain
 returns-clause-plain _ c =
     plain_opening _ _ _ _ c.requires.search _ (next_leaf _ _ _ _ c.requires.search c.requires.next c.index-note.ensures).1 _ _ _ _
-    c.in_ok-outside.outside c.in_ok-inside.inside c.in_ok-best.best c.in_ok-best-2.best c.in_ok-best-3.best
+    c.in_ok-outside.outside c.in_ok-inside.inside c.in_ok-best.best
     c.in_ok-decided_outside.ensures.value c.in_ok-decided_inside.ensures.value c.packing-parent.ensures
     c.in_ok-outside.ensures.note c.in_ok-inside.ensures.note
-    c.in_ok-best.ensures c.in_ok-best-2.ensures.no_longer c.in_ok-best-2.ensures.own
-    c.in_ok-best-3.ensures.best c.in_ok-best-3.ensures.no_longer c.in_ok-best-3.ensures.own
-    c.in_ok-outside.ensures.begins c.in_ok-inside.ensures.begins
-
-pub returns-clause-kind : goal.returns-clause-kind
-returns-clause-kind _ c = asked_kind _ c.index-note.result.now _ _ c.in_ok-on.ensures.kind
+    c.in_ok-best.ensures.best c.in_ok-best.ensures.which c.in_ok-best.ensures.outside c.in_ok-best.ensures.inside
+    c.in_ok-outside.ensures.begins c.in_ok-inside.ensures.begins c.in_ok-on.ensures

@@ -93,11 +93,10 @@ pub returns-clause-opening : goal.returns-clause-opening
 returns-clause-opening _ c =
     let (leaf, is_next, splits) = leaf_to_split _ _ _ _ _ c.requires.search c.requires.can c.index-note.ensures in
     chosen_opening _ _ _ _ c.requires.search leaf is_next _ _ _ _
-    c.in_ok-outside.outside c.in_ok-inside.inside c.in_ok-best.best c.in_ok-best-2.best c.in_ok-best-3.best
+    c.in_ok-outside.outside c.in_ok-inside.inside c.in_ok-best.best
     c.in_ok-decided_outside.ensures.value c.in_ok-decided_inside.ensures.value c.packing-parent.ensures
     c.in_ok-outside.ensures.note c.in_ok-inside.ensures.note
-    c.in_ok-best.ensures c.in_ok-best-2.ensures.no_longer c.in_ok-best-2.ensures.own
-    c.in_ok-best-3.ensures.best c.in_ok-best-3.ensures.no_longer c.in_ok-best-3.ensures.own
+    c.in_ok-best.ensures.best c.in_ok-best.ensures.which c.in_ok-best.ensures.outside c.in_ok-best.ensures.inside
     splits (λ _. refl)
     c.in_ok-outside.ensures.begins c.in_ok-inside.ensures.begins
     c.in_ok-outside.ensures.anew c.in_ok-inside.ensures.anew

@@ -1,9 +1,10 @@
--- A search that begins with one leaf has only splits of its kind.
+-- A search that begins with one leaf has only splits of its kind, and plain openings of the kind lead from there.
 use Rattle.std.proofs.Common.{◌≡◌, ◌+◌, ◌≤◌, true, IfOk, subst}
 use Rattle.net_graph.specs.Graph.{Graph}
 use Rattle.branch.specs.declared.solved.Solved.{Solved}
 use Rattle.branch.specs.declared.split_kind.SplitKind.{SplitKind}
 use Rattle.branch.specs.Solving.{ways_of}
+use Rattle.branch.proofs.LeadsLemmas.{ends_plain}
 use Rattle.branch.proofs.SolvingLemmas.{no_split_of_kind}
 use Rattle.branch.proofs.solve.solve_graph.Goals as goal
 
@@ -19,3 +20,9 @@ returns-clause-enough _ c =
     (λ (g : Graph). IfOk c.solve.result
     (λ (s : Solved). ways_of start.kind g ≤ c.args.allowed + 1 → s.optimal ≡ true))
     c.in_ok-start.ensures.graph enough)
+
+pub returns-clause-plain : goal.returns-clause-plain
+returns-clause-plain _ c =
+    let start = c.in_ok-start.field-0 in
+    ends_plain _ _ c.args.first start c.solve.result c.in_ok-start.ensures.graph c.in_ok-start.ensures.kind
+    c.in_ok-start.ensures.leaf c.in_ok-start.ensures.network c.solve.ensures.plain

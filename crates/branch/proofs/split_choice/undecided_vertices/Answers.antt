@@ -18,16 +18,18 @@ loop-v-preserved c =
       | then-size-gt0+then-vertex_undecided+in_ok-push w ↦
           rw (w.list-is, w.in_ok-push.ensures.items)
           (gathered_more _ _ _ _ _ c.loop-v.invariant (record {
-            undecided = w.vertex_undecided.ensures.0 w.if-vertex_undecided.true;
-            some = let from = w.from.ensures in omega arith;
+            vertex = record {
+              some = let from = w.from.ensures in omega arith;
+              undecided = w.vertex_undecided.ensures.0 w.if-vertex_undecided.true;
+            };
             size = let from = w.from.ensures in omega arith;
           }))
       | else-size-gt0 w ↦ rw w.list-is (gathered_kept _ _ _ _ c.loop-v.invariant (
           elim w.else-size-gt0.branch [
             | else-size-gt0-via-then-size-gt0+else-vertex_undecided v ↦ λ sought.
-                let yes = v.vertex_undecided.ensures.1 sought.1 in
+                let yes = v.vertex_undecided.ensures.1 sought.undecided in
                 let no : true ≡ false = sym yes ∙ v.if-vertex_undecided.false in absurd cc
-            | else-size-gt0-via-else-size-gt0 v ↦ λ sought. let some = sought.0 in let none = v.if-size-gt0 in absurd (omega arith)
+            | else-size-gt0-via-else-size-gt0 v ↦ λ sought. let some = sought.some in let none = v.if-size-gt0 in absurd (omega arith)
           ]))
     ]
 

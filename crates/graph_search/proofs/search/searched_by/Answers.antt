@@ -6,7 +6,9 @@ use Rattle.graph_search.proofs.search.searched_by.Goals as goal
 
 pub returns : goal.returns
 returns _ c =
-    told_or_not c.args.g.now _ c.args.openings (length_of c.args.g.now c.args.first) _ c.solve.result
+    told_or_not c.args.g.now c.args.kind c.args.openings (length_of c.args.g.now c.args.first) c.raise.new.search c.solve.result
     (c.raise.ensures.graph ∙ c.in_ok-search.ensures.graph)
+    (c.raise.ensures.kind ∙ c.in_ok-search.ensures.kind)
     (c.raise.ensures.first ∙ c.in_ok-search.ensures.first)
-    c.solve.ensures.solved c.solve.ensures.few c.solve.ensures.stopped
+    c.raise.ensures.vertices c.solve.ensures.began
+    c.solve.ensures.solved c.solve.ensures.few c.solve.ensures.stopped c.solve.ensures.plain

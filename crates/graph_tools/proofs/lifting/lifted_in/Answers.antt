@@ -7,6 +7,7 @@ use Rattle.cut_cert.specs.Answers.{graph_value_of}
 use Rattle.cut_cert.specs.Spelling.{SpellsAnswer}
 use Rattle.cut_cert.specs.Text.{answer_text}
 use Rattle.graph_solve.specs.Task.{all_edges}
+use Rattle.search_rules.specs.Options.{usual_in_graph}
 use Rattle.graph_tools.specs.Solution.{IsAnswerFor}
 use Rattle.graph_tools.proofs.LiftLaws.{lifted_for, offset_small, reduced_joined}
 use Rattle.graph_tools.proofs.lifting.lifted_in.Goals as goal
@@ -30,7 +31,7 @@ returns c =
       fits = c.in_ok-reduced.ensures.fits;
       networks = c.in_ok-reduced.ensures.networks;
     })
-    (subst (λ (h : Graph). IsAnswerFor 100 h a) c.graph.ensures.graph c.in_ok-answer.ensures)
+    (subst (λ (h : Graph). IsAnswerFor usual_in_graph h a) c.graph.ensures.graph c.in_ok-answer.ensures)
     (subst (λ (h : Graph). SpellsAnswer (form.OfGraph (length h.edges) h.vertices) (answer_text (graph_value_of a)) (graph_value_of a))
     c.graph-2.ensures.graph c.write_graph_answer-spelled.ensures.spells)
     c.lifted_by.ensures

@@ -6,6 +6,7 @@ use Rattle.cut_cert.specs.Answers.{IsAnswerOn, graph_value_of}
 use Rattle.cut_cert.specs.Notes.{no_note}
 use Rattle.cut_cert.specs.Text.{answer_text}
 use Rattle.graph_search.specs.AnsweringLaws.{told_fits}
+use Rattle.graph_search.specs.Kinds.{kind_of}
 use Rattle.graph_tools.specs.Solution.{IsAnswerFor}
 use Rattle.graph_tools.specs.SolutionLaws.{is_for}
 use Rattle.graph_tools.proofs.solution.answer_in.Goals as goal
@@ -14,7 +15,7 @@ pub graph_answer_len-requires : goal.graph_answer_len-requires
 graph_answer_len-requires c =
     let small : c.args.options.openings ≤ 255 = omega arith in
     subst (λ (a : Answer). IsAnswerOn c.args.graph.now a) (sym c.answer_with-answer.ensures)
-    (told_fits c.args.graph.now c.args.options.openings (length_of c.args.graph.now c.in_ok-first.first) no_note
+    (told_fits c.args.graph.now (kind_of c.args.options.split) c.args.options.openings (length_of c.args.graph.now c.in_ok-first.first) no_note
     c.in_ok-solved.solved small c.in_ok-solved.ensures)
 
 pub returns : goal.returns
@@ -25,7 +26,7 @@ returns c =
     let is = c.graph_answer_len.ensures.length in
     let short = c.graph_answer_len.ensures.short in
     omega (arith, is, short) in
-    subst (λ (a : Answer). IsAnswerFor c.args.options.openings c.args.graph.now a) (sym same)
-    (is_for c.args.options.openings (length_of c.args.graph.now c.in_ok-first.first) c.args.graph.now
+    subst (λ (a : Answer). IsAnswerFor c.args.options c.args.graph.now a) (sym same)
+    (is_for c.args.options (length_of c.args.graph.now c.in_ok-first.first) c.args.graph.now
     c.in_ok-solved.solved small c.in_ok-first.ensures.length c.in_ok-solved.ensures
     (subst (λ (a : Answer). length (answer_text (graph_value_of a)) < 2 ^ 32) same few))

@@ -24,7 +24,7 @@ pub returns-in_ok-solution_in-in-Ok-clause-finds : goal.returns-in_ok-solution_i
 returns-in_ok-solution_in-in-Ok-clause-finds g c = λ shelf.
     let before = readable (g.I.Source.state c.args.input.now) shelf in
     let after = readable (g.I.Source.state c.take_graph.new.input) shelf in
-    found_in_text ReadsGraph (IsFor c.args.options.openings) before after c.in-Ok.graph
+    found_in_text ReadsGraph (IsFor c.args.options) before after c.in-Ok.graph
     c.in_ok-solution_in-in-Ok.field-0
     (subst (λ found. FromText {V = Graph} TEXT_LIMIT ReadsGraph before after found) c.in-Ok.is (c.in_ok-graph.ensures.reads shelf))
     c.in_ok-solution_in-in-Ok.ensures
@@ -33,5 +33,5 @@ pub returns-in-Err-clause-finds : goal.returns-in-Err-clause-finds
 returns-in-Err-clause-finds g c = λ shelf.
     let before = readable (g.I.Source.state c.args.input.now) shelf in
     let after = readable (g.I.Source.state c.take_graph.new.input) shelf in
-    fault_in_text ReadsGraph (IsFor c.args.options.openings) before after c.in-Err.fault
+    fault_in_text ReadsGraph (IsFor c.args.options) before after c.in-Err.fault
     (subst (λ found. FromText {V = Graph} TEXT_LIMIT ReadsGraph before after found) c.in-Err.is (c.in_ok-graph.ensures.reads shelf))

@@ -15,21 +15,21 @@ use Rattle.graph_tools.proofs.solving.graph.Goals as goal
 
 pub conclude-requires : goal.conclude-requires
 conclude-requires g c =
-    let openings = c.args.options.openings in
-    all_found_holds ReadsGraph (IsFor openings) IsPrintable (for_fits openings)
+    let options = c.args.options in
+    all_found_holds ReadsGraph (IsFor options) IsPrintable (for_fits options)
     (g.I.Source.state c.args.input.now) (g.I.Source.state c.find-found.new.input) c.find-found.result
     c.find-found.ensures.finds
 
 pub returns : goal.returns
 returns g c = λ shelf.
-    let openings = c.args.options.openings in
+    let options = c.args.options in
     let before = outside (g.I.Source.state c.args.input.now) (g.O.Sink.state c.args.out.now) (g.R.Sink.state c.args.err.now) shelf in
     let after = outside (g.I.Source.state c.find-found.new.input) (g.O.Sink.state c.conclude.new.out) (g.R.Sink.state c.conclude.new.err) shelf in
     ends_with solution_text solution_status (text_fault_status graph_fault_status) (text_fault_text graph_fault_text)
-    (codes "graph") (FromText TEXT_LIMIT (SolvesGraph openings)) LeavesShelf before after
+    (codes "graph") (FromText TEXT_LIMIT (SolvesGraph options)) LeavesShelf before after
     c.conclude.result c.find-found.result
-    (printed_or_not ReadsGraph (IsFor openings) IsSpelled (PrintsAnswer openings) solution_text solution_status
-    (answer_printed openings)
+    (printed_or_not ReadsGraph (IsFor options) IsSpelled (PrintsAnswer options) solution_text solution_status
+    (answer_printed options)
     (readable (g.I.Source.state c.args.input.now) shelf) (readable (g.I.Source.state c.find-found.new.input) shelf)
     c.find-found.result (c.find-found.ensures.finds shelf) c.conclude.ensures.told)
     (record { input = c.find-found.ensures.takes; shelf = refl })

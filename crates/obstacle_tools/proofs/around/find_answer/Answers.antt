@@ -25,7 +25,7 @@ pub returns-in_ok-solution_in-in-Ok-clause-finds : goal.returns-in_ok-solution_i
 returns-in_ok-solution_in-in-Ok-clause-finds g c = λ shelf.
     let before = readable (g.I.Source.state c.args.input.now) shelf in
     let after = readable (g.I.Source.state c.take_around.new.input) shelf in
-    found_in_text ReadsAround (IsFor c.args.options.openings) before after c.in-Ok.graph
+    found_in_text ReadsAround (IsFor c.args.options) before after c.in-Ok.graph
     c.in_ok-solution_in-in-Ok.field-0
     (subst (λ found. FromText {V = Graph} TEXT_LIMIT ReadsAround before after found) c.in-Ok.is
     (c.in_ok-graph.ensures.reads shelf))
@@ -35,6 +35,6 @@ pub returns-in-Err-clause-finds : goal.returns-in-Err-clause-finds
 returns-in-Err-clause-finds g c = λ shelf.
     let before = readable (g.I.Source.state c.args.input.now) shelf in
     let after = readable (g.I.Source.state c.take_around.new.input) shelf in
-    fault_in_text ReadsAround (IsFor c.args.options.openings) before after c.in-Err.fault
+    fault_in_text ReadsAround (IsFor c.args.options) before after c.in-Err.fault
     (subst (λ found. FromText {V = Graph} TEXT_LIMIT ReadsAround before after found) c.in-Err.is
     (c.in_ok-graph.ensures.reads shelf))

@@ -16,22 +16,22 @@ use Rattle.obstacle_tools.proofs.around.print_answer.Goals as goal
 
 pub conclude-requires : goal.conclude-requires
 conclude-requires g c =
-    let openings = c.args.options.openings in
-    all_found_holds ReadsAround (IsFor openings) IsPrintable (for_fits openings)
+    let options = c.args.options in
+    all_found_holds ReadsAround (IsFor options) IsPrintable (for_fits options)
     (g.I.Source.state c.args.input.now) (g.I.Source.state c.find_answer-found.new.input) c.find_answer-found.result
     c.find_answer-found.ensures.finds
 
 pub returns : goal.returns
 returns g c = λ shelf.
-    let openings = c.args.options.openings in
+    let options = c.args.options in
     ends_with solution_text solution_status (text_fault_status around_fault_status) (text_fault_text around_fault_text)
-    (codes "obstacles") (FromText TEXT_LIMIT (SolvesAround openings)) LeavesShelf
+    (codes "obstacles") (FromText TEXT_LIMIT (SolvesAround options)) LeavesShelf
     (outside (g.I.Source.state c.args.input.now) (g.O.Sink.state c.args.out.now) (g.R.Sink.state c.args.err.now) shelf)
     (outside (g.I.Source.state c.find_answer-found.new.input) (g.O.Sink.state c.conclude.new.out)
     (g.R.Sink.state c.conclude.new.err) shelf)
     c.conclude.result c.find_answer-found.result
-    (printed_or_not ReadsAround (IsFor openings) IsSpelled (PrintsAnswer openings) solution_text solution_status
-    (answer_printed openings)
+    (printed_or_not ReadsAround (IsFor options) IsSpelled (PrintsAnswer options) solution_text solution_status
+    (answer_printed options)
     (readable (g.I.Source.state c.args.input.now) shelf)
     (readable (g.I.Source.state c.find_answer-found.new.input) shelf)
     c.find_answer-found.result (c.find_answer-found.ensures.finds shelf) c.conclude.ensures.told)

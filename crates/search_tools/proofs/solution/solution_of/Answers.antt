@@ -8,6 +8,7 @@ use Rattle.cut_cert.specs.Text.{answer_text}
 use Rattle.cut_cert.specs.Answers.{IsAnswerOn, value_of}
 use Rattle.search_tools.specs.Steps.{FindsNetwork, IsFor}
 use Rattle.graph_search.specs.AnsweringLaws.{told_fits}
+use Rattle.graph_search.specs.Kinds.{kind_of}
 use Rattle.search_tools.proofs.SearchedLaws.{is_for, told_by}
 use Rattle.search_tools.proofs.solution.solution_of.Goals as goal
 
@@ -19,7 +20,7 @@ answer_len-requires c =
     let ps = c.file.inside.grid in
     let small : c.args.options.openings ≤ 255 = omega arith in
     subst (λ (a : Answer). IsAnswerOn (hanan_grid_of ps) a) (sym c.answer_with-answer.ensures)
-    (told_fits (hanan_grid_of ps) c.args.options.openings (length_of (hanan_grid_of ps) c.in-Ok.found.network) c.in-Ok.found.note c.in_ok-solved.solved
+    (told_fits (hanan_grid_of ps) (kind_of c.args.options.split) c.args.options.openings (length_of (hanan_grid_of ps) c.in-Ok.found.network) c.in-Ok.found.note c.in_ok-solved.solved
     small (told_by c.args.options c.in_graph.result (hanan_grid_of ps) (length_of (hanan_grid_of ps) c.in-Ok.found.network) c.in_ok-solved.solved
     c.in_graph.ensures c.in_ok-solved.ensures))
 

@@ -1,12 +1,23 @@
 -- Each turn makes a split, and where none is made the answer is optimal.
-use Rattle.std.proofs.Common.{ℕ, ◌≡◌, ◌+◌, true, false, ap, subst, sym, ◌∙◌, arith}
+use Rattle.std.proofs.Common.{ℕ, ◌≡◌, ◌+◌, true, false, refl, ap, subst, sym, rules, ◌∙◌, arith}
 use Rattle.cert_tree.specs.Preorder.{split_count}
 use Rattle.cert_tree.specs.declared.split.SplitOn.{SplitOn}
 use Rattle.cert_tree.specs.Tree.{Tree}
-use Rattle.branch.specs.Searching.{SearchState, SplitsEdges}
+use Rattle.branch.specs.Kinds.{AreOfKind}
+use Rattle.branch.specs.Searching.{SearchState}
 use Rattle.branch.proofs.SolvingLemmas.{took_settled, took_none, took_split, solved_of, below_length, settled_optimal}
+use Rattle.branch.proofs.LeadsLemmas.{leads_more, leads_of_kind, leads_told}
 use Rattle.branch.proofs.EnoughLemmas.{enough_optimal}
 use Rattle.branch.proofs.search.Search.solve.Goals as goal
+
+pub loop-made-init : goal.loop-made-init
+loop-made-init _ c = record {
+  graph = refl;
+  first_length = refl;
+  count = search rules;
+  kind = refl;
+  leads = (0, (refl, refl));
+}
 
 pub loop-made-preserved : goal.loop-made-preserved
 loop-made-preserved _ c =
@@ -16,8 +27,8 @@ loop-made-preserved _ c =
       graph = opens.graph ∙ before.graph;
       first_length = opens.first_length ∙ before.first_length;
       count = opens.splits ∙ ap (λ (n : ℕ). n + 1) before.count;
-      of_kind = λ were asked. opens.of_kind (λ _. before.of_kind were asked) (opens.kind ∙ before.kind ∙ asked);
       kind = opens.kind ∙ before.kind;
+      leads = leads_more _ _ _ _ c.loop-made.self c.split_one.new.self before.kind before.graph before.leads opens;
     }
 
 pub returns-in-Settled-clause-solved : goal.returns-in-Settled-clause-solved
@@ -82,4 +93,17 @@ returns-clause-enough _ c = λ of_kind enough.
     let count : split_count c.finish-2.result.tree ≡ c.loop-made._made =
     ap (λ (t : Tree SplitOn). split_count t) c.finish-2.ensures.tree ∙ before.count in
     enough_optimal _ _ _ c.args.allowed c.finish-2.result (solved_of c.loop-made.self _ _ c.finish-2.result before.graph before.first_length c.finish-2.ensures.solved)
-    (λ asked. subst SplitsEdges (sym c.finish-2.ensures.tree) (before.of_kind of_kind asked)) (λ stopped. omega arith) enough
+    (subst (AreOfKind _) (sym c.finish-2.ensures.tree) (leads_of_kind _ _ _ _ before.leads.0 _ _ before.leads.1 of_kind)) (λ stopped. omega arith) enough
+
+pub returns-in-Settled-clause-plain : goal.returns-in-Settled-clause-plain
+returns-in-Settled-clause-plain _ c =
+    let same = took_none c.loop-made.self c.split_one.new.self c.in_ok-split_one.field-0 c.in_ok-split_one.ensures.step c.in-Settled.is in
+    let leads = c.loop-made.invariant.leads in
+    leads_told _ _ _ _ c.loop-made.self c.finish.result
+    (c.finish.ensures.network ∙ ap (λ (s : SearchState). s.network) same)
+    (c.finish.ensures.tree ∙ ap (λ (s : SearchState). s.tree) same) leads
+
+pub returns-clause-plain : goal.returns-clause-plain
+returns-clause-plain _ c =
+    leads_told _ _ _ _ c.loop-made.self c.finish-2.result c.finish-2.ensures.network c.finish-2.ensures.tree
+    c.loop-made.invariant.leads

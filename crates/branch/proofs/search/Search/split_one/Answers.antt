@@ -1,9 +1,11 @@
 -- A step settles the search or makes an opening.
-use Rattle.std.proofs.Common.{◌≤◌, List, All, refl, subst}
+use Rattle.std.proofs.Common.{ℕ, ◌≤◌, List, All, refl, sym, subst}
 use Rattle.branch.specs.declared.note.LeafNote.{LeafNote}
+use Rattle.branch.specs.Notes.{IsNextNote}
+use Rattle.branch.specs.PlainOpenings.{IsOpenNext}
 use Rattle.branch.specs.Searching.{SearchState, search_state, IsSettled, OpensTo}
 use Rattle.branch.proofs.SearchLemmas.{search_opened, opens_to}
-use Rattle.branch.proofs.SettledLemmas.{settled}
+use Rattle.branch.proofs.SettledLemmas.{settled, next_is_open}
 use Rattle.branch.proofs.OpenedLemmas.{opens_within, opens_within_notes, opens_few}
 use Rattle.branch.proofs.search.Search.split_one.Goals as goal
 
@@ -28,6 +30,12 @@ invariant_of-self-2 _ c = search_opened _ _ _ _ c.self.invariant c.in_ok-opening
 
 pub returns-clause-step : goal.returns-clause-step
 returns-clause-step _ c =
+    let kept = c.self.inside.kept in
+    let next_note = subst (λ (xs : List LeafNote). IsNextNote kept.best.length xs c.in-Some.place)
+    c.as_slice.ensures.value c.in-Some.ensures.open in
+    let next : IsOpenNext c.self.inside.graph.now kept.best.network kept.tree c.in_ok-opening.opening.leaf =
+    subst (λ (n : ℕ). IsOpenNext c.self.inside.graph.now kept.best.network kept.tree n) (sym c.in_ok-opening.ensures.leaf)
+    (next_is_open _ _ c.self.invariant c.in-Some.place next_note) in
     subst (λ (s : SearchState). OpensTo s (search_state c.self.inside.graph.now c.open.new.self)) c.self.view_is
-    (opens_to _ _ _ _ c.self.invariant c.in_ok-opening.ensures.opening c.in_ok-opening.ensures.plain c.in_ok-opening.ensures.kind
+    (opens_to _ _ _ _ c.self.invariant c.in_ok-opening.ensures.opening c.in_ok-opening.ensures.plain next
     c.in_ok-open.ensures.ok)
