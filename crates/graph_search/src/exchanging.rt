@@ -48,6 +48,7 @@ pub struct Exchanges<'a> {
 impl Raising for Exchanges<'_> {
     ghost is_for = { λ exchanges g. exchanges.graph.now ≡ g };
 
+    #[tactic(auto, using(branch::specs::KindLaws::leaf_splits_vertices))]
     fn raise<F: Rule, G: Rule>(
         &self,
         alloc: Global,

@@ -20,6 +20,7 @@ pub struct Shortening<'a> {
 impl Raising for Shortening<'_> {
     ghost is_for = { λ shortening g. shortening.graph.now ≡ g };
 
+    #[tactic(auto, using(branch::specs::KindLaws::leaf_splits_vertices))]
     fn raise<F: Rule, G: Rule>(
         &self,
         alloc: Global,

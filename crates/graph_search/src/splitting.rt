@@ -6,7 +6,7 @@ ghost use Rattle.net_graph.specs.Graph.{Graph};
 ghost use Rattle.net_graph.specs.Decision.{IsDecisionFor};
 ghost use Rattle.cert_tree.specs.Preorder.{packings_of, split_count};
 ghost use Rattle.branch.specs.Kinds.{SplitsVertices};
-ghost use Rattle.branch.specs.Searching.{CanSplitAt};
+ghost use Rattle.branch.specs.Searching.{AreOfSize, CanSplitAt};
 ghost use Rattle.packing_judge.specs.Outcome.{IsOutcomeFor};
 ghost use Rattle.graph_search.specs.Plans.{IsPlanIn, IsChildIn};
 
@@ -56,6 +56,7 @@ impl Splitting {
     /// Splits the leaves of a search, of those that are open the one of the least value first, on vertices that the
     /// last exchange for each leaf guesses, as long as there is such a guess, and makes no more than so many splits. An
     /// `Err` is want of memory.
+    #[tactic(auto, using(branch::specs::KindLaws::leaf_splits_vertices))]
     pub(crate) fn split<F: Rule, G: Rule>(
         &self,
         alloc: Global,
@@ -132,7 +133,7 @@ impl Splitting {
             outside: outside.packing,
             inside: inside.packing,
         };
-        search.split_at(leaf, vertex, offered)?;
+        split_leaf(search, leaf, vertex, offered)?;
         offer_network(alloc, graph, search, &outside.plan.network)?;
         offer_network(alloc, graph, search, &inside.plan.network)?;
         put_plans(plans, place, outside.plan, inside.plan)?;
@@ -210,6 +211,29 @@ impl Splitting {
         let grown = shortened_by_shares(alloc, under, &all, shares, self.draws, self.descents)?;
         Ok(Some(grown))
     }
+}
+
+// Splits a leaf on a vertex, where all splits so far are on vertices. An `Err` is want of memory, and leaves the search
+// as it was.
+#[tactic(auto, using(crate::proofs::SplitLemmas::split_on_vertex))]
+fn split_leaf<F: Rule, G: Rule>(
+    search: &mut Search<'_, F, G>,
+    leaf: u32,
+    vertex: u32,
+    offered: Offered,
+) -> Result<(), AllocError>
+    requires few { split_count search.old.tree < 255 }
+    requires can { CanSplitAt search.old leaf vertex }
+    requires sizes { AreOfSize search.old.graph.vertices offered }
+    requires vertices { SplitsVertices search.old.tree }
+    ensures graph { search.new.graph ≡ search.old.graph }
+    ensures kind { search.new.kind ≡ search.old.kind }
+    ensures first { search.new.first_length ≡ search.old.first_length }
+    ensures few { split_count search.new.tree ≤ split_count search.old.tree + 1 }
+    ensures vertices { SplitsVertices search.new.tree }
+{
+    search.split_at(leaf, vertex, offered)?;
+    Ok(())
 }
 
 // Puts the plans of two children in place of that of their parent. An `Err` is want of memory.
