@@ -1,5 +1,5 @@
 -- What was printed is true.
-use Rattle.std.proofs.Common.{ℕ, ◌≡◌, List, codes, Option, Some, None, inl, inr, subst, ap, ◌∙◌, tt, arith}
+use Rattle.std.proofs.Common.{ℕ, ◌≡◌, List, codes, Option, Some, None, inl, inr, subst, ap, ◌∙◌, arith}
 use Rattle.rst_outside.specs.Sink.{Appended}
 use Rattle.points_in.specs.Terminals.{terminals_of}
 use Rattle.obstacle_grid.specs.Crossing.{NoEdgeCrosses}
@@ -145,38 +145,58 @@ slack_printed above before after status ends zero =
     printed.wrote.appended)
 
 -- What the tool that the words ask for told is true.
-module _ (crosses : NoEdgeCrosses) (read : ObstaclesAreReadBack) (before after : Outside) (status : ℕ) where
-  told_as_asked : (request : Option Request) → EndsAsAsked request before after status →
-      TellsTruly request before after status
-  told_as_asked (Some (Points drawing)) ends = tt
-  told_as_asked (Some Stp2points) ends = tt
-  told_as_asked (Some (Rfst size)) ends = tt
-  told_as_asked (Some Prunefst) ends = tt
-  told_as_asked (Some (Bb search)) ends (inl zero) = bb_printed search before after status Done zero ends
-  told_as_asked (Some (Bb search)) ends (inr three) = bb_printed search before after status Stopped three ends
-  told_as_asked (Some (Solve size search)) ends (inl zero) =
-      solve_printed size search before after status Done zero ends
-  told_as_asked (Some (Solve size search)) ends (inr three) =
-      solve_printed size search before after status Stopped three ends
-  told_as_asked (Some (Check name)) ends (inl zero) = check_told name before after status Done zero ends
-  told_as_asked (Some (Check name)) ends (inr one) = check_told name before after status Refused one ends
-  told_as_asked (Some (Dumpfst pieces)) ends = tt
-  told_as_asked (Some Fst2graph) ends = tt
-  told_as_asked (Some (Plot name)) ends = tt
-  told_as_asked (Some (Trial drawing)) ends (inl zero) =
-      trial_told drawing.count drawing.seed before after status Done zero ends
-  told_as_asked (Some (Trial drawing)) ends (inr three) =
-      trial_told drawing.count drawing.seed before after status Stopped three ends
-  told_as_asked (Some (Upgrade name)) ends = tt
-  told_as_asked (Some (Graph options)) ends (inl zero) = graph_printed options before after status Done zero ends
-  told_as_asked (Some (Graph options)) ends (inr three) = graph_printed options before after status Stopped three ends
-  told_as_asked (Some (Checkgraph name)) ends (inl zero) = checkgraph_told name before after status Done zero ends
-  told_as_asked (Some (Checkgraph name)) ends (inr one) = checkgraph_told name before after status Refused one ends
-  told_as_asked (Some (Reduce solve)) ends answered = reduces_truly solve before after status ends answered
-  told_as_asked (Some (Obstacles stp search)) ends answered =
-      obstacles_truly crosses read stp search before after status ends answered
-  told_as_asked (Some (Slack above ascent)) ends zero = slack_printed above before after status ends zero
-  told_as_asked None ends = tt
+module _ (before after : Outside) (status : ℕ) where
+  solve_told : (size : ℕ) (options : SearchOptions) → EndsSolve options size before after status → HasAnswered status →
+      SolvesPointsTruly size options before after status
+  solve_told size options ends (inl zero) = solve_printed size options before after status Done zero ends
+  solve_told size options ends (inr three) = solve_printed size options before after status Stopped three ends
+
+  bb_told : (options : SearchOptions) → EndsBb options before after status → HasAnswered status →
+      BuildsTruly options before after status
+  bb_told options ends (inl zero) = bb_printed options before after status Done zero ends
+  bb_told options ends (inr three) = bb_printed options before after status Stopped three ends
+
+  check_judged : (name : List ℕ) → EndsCheck name before after status → HasJudged status →
+      ChecksTruly name before after status
+  check_judged name ends (inl zero) = check_told name before after status Done zero ends
+  check_judged name ends (inr one) = check_told name before after status Refused one ends
+
+  trial_answered : (n seed : ℕ) → EndsTrial n seed before after status → HasAnswered status →
+      TriesTruly n seed before after status
+  trial_answered n seed ends (inl zero) = trial_told n seed before after status Done zero ends
+  trial_answered n seed ends (inr three) = trial_told n seed before after status Stopped three ends
+
+  graph_told : (options : GraphOptions) → EndsGraph options before after status → HasAnswered status →
+      SolvesFileTruly options before after status
+  graph_told options ends (inl zero) = graph_printed options before after status Done zero ends
+  graph_told options ends (inr three) = graph_printed options before after status Stopped three ends
+
+  checkgraph_judged : (name : List ℕ) → EndsCheckgraph name before after status → HasJudged status →
+      ChecksGraphTruly name before after status
+  checkgraph_judged name ends (inl zero) = checkgraph_told name before after status Done zero ends
+  checkgraph_judged name ends (inr one) = checkgraph_told name before after status Refused one ends
+
+  told_as_asked : NoEdgeCrosses → ObstaclesAreReadBack → (request : Option Request) →
+      EndsAsAsked request before after status → TellsTruly request before after status
+  told_as_asked crosses read (Some (Points drawing)) ends = tt
+  told_as_asked crosses read (Some Stp2points) ends = tt
+  told_as_asked crosses read (Some (Rfst size)) ends = tt
+  told_as_asked crosses read (Some Prunefst) ends = tt
+  told_as_asked crosses read (Some (Bb options)) ends = bb_told options ends
+  told_as_asked crosses read (Some (Solve size options)) ends = solve_told size options ends
+  told_as_asked crosses read (Some (Check name)) ends = check_judged name ends
+  told_as_asked crosses read (Some (Dumpfst pieces)) ends = tt
+  told_as_asked crosses read (Some Fst2graph) ends = tt
+  told_as_asked crosses read (Some (Plot name)) ends = tt
+  told_as_asked crosses read (Some (Trial drawing)) ends = trial_answered drawing.count drawing.seed ends
+  told_as_asked crosses read (Some (Upgrade name)) ends = tt
+  told_as_asked crosses read (Some (Graph options)) ends = graph_told options ends
+  told_as_asked crosses read (Some (Checkgraph name)) ends = checkgraph_judged name ends
+  told_as_asked crosses read (Some (Reduce solve)) ends = reduces_truly solve before after status ends
+  told_as_asked crosses read (Some (Obstacles stp options)) ends =
+      obstacles_truly crosses read stp options before after status ends
+  told_as_asked crosses read (Some (Slack above ascent)) ends = slack_printed above before after status ends
+  told_as_asked crosses read None ends = tt
 
   -- where memory is wanting while the words are read, nothing is told
   none_answered : IsShort before after status → HasAnswered status → ⊥
@@ -192,8 +212,8 @@ module _ (crosses : NoEdgeCrosses) (read : ObstaclesAreReadBack) (before after :
   told_short (Some Stp2points) short = tt
   told_short (Some (Rfst size)) short = tt
   told_short (Some Prunefst) short = tt
-  told_short (Some (Bb search)) short = λ answered. absurd (none_answered short answered)
-  told_short (Some (Solve size search)) short = λ answered. absurd (none_answered short answered)
+  told_short (Some (Bb options)) short = λ answered. absurd (none_answered short answered)
+  told_short (Some (Solve size options)) short = λ answered. absurd (none_answered short answered)
   told_short (Some (Check name)) short = λ judged. absurd (none_judged short judged)
   told_short (Some (Dumpfst pieces)) short = tt
   told_short (Some Fst2graph) short = tt
@@ -203,12 +223,12 @@ module _ (crosses : NoEdgeCrosses) (read : ObstaclesAreReadBack) (before after :
   told_short (Some (Graph options)) short = λ answered. absurd (none_answered short answered)
   told_short (Some (Checkgraph name)) short = λ judged. absurd (none_judged short judged)
   told_short (Some (Reduce solve)) short = λ answered. absurd (none_answered short answered)
-  told_short (Some (Obstacles stp search)) short = λ answered. absurd (none_answered short answered)
+  told_short (Some (Obstacles stp options)) short = λ answered. absurd (none_answered short answered)
   told_short (Some (Slack above ascent)) short = λ zero. absurd (omega (arith, short.ends))
   told_short None short = tt
 
   -- The headline of a run.
-  pub told_by_run : (request : Option Request) → IsRun request before after status →
-      TellsTruly request before after status
-  told_by_run request (inl short) = told_short request short
-  told_by_run request (inr ends) = told_as_asked request ends
+  pub told_by_run : NoEdgeCrosses → ObstaclesAreReadBack → (request : Option Request) →
+      IsRun request before after status → TellsTruly request before after status
+  told_by_run crosses read request (inl short) = told_short request short
+  told_by_run crosses read request (inr ends) = told_as_asked crosses read request ends

@@ -1,5 +1,5 @@
 -- What is true of what the program printed.
-use Rattle.std.specs.Prelude.{ℕ, ◌≡◌, Unit, List, Option, Some, None, ◌⊎◌}
+use Rattle.std.specs.Prelude.{ℕ, ◌≡◌, List, Option, Some, None, ◌⊎◌}
 use Rattle.rst_outside.specs.Source.{CameToTheEnd}
 use Rattle.points_in.specs.declared.point.Point.{Point}
 use Rattle.points_in.specs.Terminals.{terminals_of}
