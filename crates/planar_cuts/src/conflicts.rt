@@ -132,14 +132,16 @@ impl Conflicts {
     fn merge_own(&mut self, edge: u32, into: u32, merged: &mut Pair) -> bool {
         let bottom = at(&self.bottoms, edge, 0);
         for _ in bottom..count(&self.pairs) {
-            let pair = self.pairs.pop().unwrap_or(NO_PAIR).with_left_empty();
+            let pair = self.top().with_left_empty();
+            self.pairs.pop();
             if !pair.left.is_empty() {
                 return false;
             }
             if self.low(pair.right.low) > self.low(into) {
                 merged.right = self.joined(merged.right, pair.right);
             } else {
-                self.refer(pair.right.low, at(&self.lowest, into, NONE));
+                let reference = at(&self.lowest, into, NONE);
+                self.refer(pair.right.low, reference);
             }
         }
         true
