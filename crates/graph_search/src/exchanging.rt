@@ -15,7 +15,7 @@ use branch::Search;
 use dual_ascent::Rule;
 use net_graph::{NetGraph, Packing, length};
 use network_judge::shortened_by_shares;
-use packing_judge::{Bound, Exchanged, Outcome, exchange};
+use packing_judge::{Bound, Exchanged, Ground, Outcome, exchange};
 use std::alloc::{AllocError, Global};
 use tight_packing::{Budget, Guesses};
 
@@ -27,6 +27,8 @@ use tight_packing::{Budget, Guesses};
 pub struct Exchanges<'a> {
     /// The graph of the search.
     pub graph: &'a NetGraph,
+    /// Its ground, on which they are carried out.
+    pub ground: &'a Ground,
     /// At most so many are made, each but the first against a shorter network, or with a new budget and other draws.
     pub most: u8,
     /// At most so many ascents are made along the network before each.
@@ -57,7 +59,7 @@ impl Raising for Exchanges<'_> {
     ) -> Result<(), AllocError> {
         let guesses = self.raise_first(alloc, search, openings)?;
         self.splitting
-            .split(alloc, self.graph, search, guesses, openings)
+            .split(alloc, self.graph, self.ground, search, guesses, openings)
     }
 }
 
@@ -157,7 +159,7 @@ impl Exchanges<'_> {
         let before = length(graph, search.network());
         let start = Packing::empty(alloc);
         let network = search.network();
-        let found = exchange(alloc, graph, network, before, &start, budget)?;
+        let found = exchange(alloc, graph, self.ground, network, before, &start, budget)?;
         let Exchanged { outcome, guesses } = found;
         let is_spent = matches!(outcome, Outcome::Exhausted(_));
         let further = self.splitting.may_follow(&outcome);

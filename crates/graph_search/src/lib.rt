@@ -5,8 +5,8 @@
 mod answering;
 mod exchanging;
 mod guiding;
+mod in_plane;
 mod on_grid;
-mod on_lines;
 mod raising;
 mod search;
 mod shortening;

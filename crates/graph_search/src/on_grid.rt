@@ -12,6 +12,7 @@ use crate::search::searched;
 use branch::Solved;
 use hanan_grid::Grid;
 use net_graph::EdgeSet;
+use packing_judge::Ground;
 use search_rules::GraphOptions;
 use std::alloc::{AllocError, Global};
 
@@ -29,6 +30,7 @@ pub fn searched_on(
     ensures { IfOk result (IsTold (hanan_grid_of grid.now) (kind_of options.split) options.openings
         (length_of (hanan_grid_of grid.now) first)) }
 {
-    let exchanges = Exchanges::on_lines(grid.graph());
+    let ground = Ground::of(alloc, grid.graph())?;
+    let exchanges = Exchanges::in_plane(grid.graph(), &ground);
     searched(alloc, grid.graph(), first, options, &exchanges)
 }

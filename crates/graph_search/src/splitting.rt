@@ -16,7 +16,7 @@ use branch::{Offered, Search};
 use dual_ascent::Rule;
 use net_graph::{Decision, EdgeSet, NetGraph, Packing, joins, length, total_weight};
 use network_judge::shortened_by_shares;
-use packing_judge::{Exchanged, Outcome, exchange};
+use packing_judge::{Exchanged, Ground, Outcome, exchange};
 use std::alloc::{AllocError, Global};
 use tight_packing::{Budget, Guesses};
 
@@ -53,14 +53,15 @@ pub(crate) struct Child {
 }
 
 impl Splitting {
-    /// Splits the leaves of a search, of those that are open the one of the least value first, on vertices that the
-    /// last exchange for each leaf guesses, as long as there is such a guess, and makes no more than so many splits. An
+    /// Splits the leaves of a search in a graph with this ground, of those that are open the one of the least value
+    /// first, on vertices that the last exchange for each leaf guesses, as long as there is such a guess, and makes no more than so many splits. An
     /// `Err` is want of memory.
     #[tactic(auto, using(branch::specs::KindLaws::leaf_splits_vertices))]
     pub(crate) fn split<F: Rule, G: Rule>(
         &self,
         alloc: Global,
         graph: &NetGraph,
+        ground: &Ground,
         search: &mut Search<'_, F, G>,
         guesses: Guesses,
         openings: u8,
@@ -79,7 +80,7 @@ impl Splitting {
             guesses,
         })?;
         for _made in 0..openings.min(self.most_in(graph)) {
-            if !self.split_next(alloc, graph, search, &mut plans)? {
+            if !self.split_next(alloc, graph, ground, search, &mut plans)? {
                 break;
             }
         }
@@ -99,6 +100,7 @@ impl Splitting {
         &self,
         alloc: Global,
         graph: &NetGraph,
+        ground: &Ground,
         search: &mut Search<'_, F, G>,
         plans: &mut Vec<Plan>,
     ) -> Result<bool, AllocError>
@@ -127,8 +129,8 @@ impl Splitting {
         let missed = search.decision(leaf).with_missed(graph, vertex)?;
         let met = search.decision(leaf).with_met(graph, vertex)?;
         let start = search.tree().packing(leaf);
-        let outside = self.child(alloc, graph, search, plan, start, &missed)?;
-        let inside = self.child(alloc, graph, search, plan, start, &met)?;
+        let outside = self.child(alloc, graph, ground, search, plan, start, &missed)?;
+        let inside = self.child(alloc, graph, ground, search, plan, start, &met)?;
         let offered = Offered {
             outside: outside.packing,
             inside: inside.packing,
@@ -146,6 +148,7 @@ impl Splitting {
         &self,
         alloc: Global,
         graph: &NetGraph,
+        ground: &Ground,
         search: &Search<'_, F, G>,
         plan: &Plan,
         start: &Packing,
@@ -163,7 +166,8 @@ impl Splitting {
         let Some(network) = self.network_under(alloc, graph, &under, plan)? else {
             return without_plan(alloc, plan);
         };
-        let found = exchange(alloc, &under, &network, wanted, start, self.budget)?;
+        let own = ground.under(alloc, &under)?;
+        let found = exchange(alloc, &under, &own, &network, wanted, start, self.budget)?;
         let Exchanged { outcome, guesses } = found;
         let guesses = if self.may_follow(&outcome) {
             guesses

@@ -6,7 +6,7 @@ use branch::Search;
 use dual_ascent::Rule;
 use graph_search::{Exchanges, Raising, Shortening, Splitting};
 use net_graph::NetGraph;
-use planar_cuts::is_drawn_on_lines;
+use packing_judge::Ground;
 use std::alloc::{AllocError, Global};
 use tight_packing::Budget;
 
@@ -16,7 +16,7 @@ const DESCENTS: u32 = 20;
 // So many ascents are made along a network before cuts are exchanged along it.
 const MOST_ASCENTS: u8 = 3;
 
-// So many exchanges are made at most in a graph that isn't drawn on lines: a network that is a little too long takes
+// So many exchanges are made at most in a graph that can't be drawn in the plane: a network that is a little too long takes
 // some of them.
 const MOST_EXCHANGES: u8 = 6;
 
@@ -61,9 +61,9 @@ const SPLITTING: Splitting = Splitting {
     descents: DESCENTS,
 };
 
-// The looks of each exchange in a graph that is drawn on lines are so many divided by the square of the number of
+// The looks of each exchange in a graph that can be drawn in the plane are so many divided by the square of the number of
 // edges.
-const LOOKS_ON_LINES: u64 = 800_000_000_000_000;
+const LOOKS_IN_PLANE: u64 = 800_000_000_000_000;
 
 // So many rounds are played there for each terminal at most, and so many in an exchange for a child of a split. Where
 // the network is a little too long or there is a gap, rounds are played in vain; what can be closed takes fewer rounds
@@ -73,7 +73,7 @@ const ROUNDS: u32 = 12;
 const CHILD_ROUNDS: u32 = 3;
 
 // In how many descents a network is made shorter there once cuts were exchanged.
-const DESCENTS_ON_LINES: u32 = 10;
+const DESCENTS_IN_PLANE: u32 = 10;
 
 /// The steps that raise a search in a graph, each where the ones before didn't settle it: a local search makes the
 /// network that the first leaf shows shorter; ascents are made along the network; then cuts are exchanged along it.
@@ -96,21 +96,22 @@ impl Raising for Ladder<'_> {
             descents: DESCENTS,
         };
         shortening.raise(alloc, search, 0)?;
-        let exchanges = if is_drawn_on_lines(alloc, self.graph)? {
-            exchanges_on_lines(self.graph)
+        let ground = Ground::of(alloc, self.graph)?;
+        let exchanges = if ground.is_in_plane() {
+            exchanges_in_plane(self.graph, &ground)
         } else {
-            exchanges_by_flows(self.graph)
+            exchanges_by_flows(self.graph, &ground)
         };
         exchanges.raise(alloc, search, openings)
     }
 }
 
-// Exchanges as they fit a graph that is drawn on lines.
-fn exchanges_on_lines(graph: &NetGraph) -> Exchanges<'_>
+// Exchanges as they fit a graph that can be drawn in the plane.
+fn exchanges_in_plane<'a>(graph: &'a NetGraph, ground: &'a Ground) -> Exchanges<'a>
     ensures { result.graph.now ≡ graph.now }
 {
-    let looks = looks_in(graph, LOOKS_ON_LINES);
-    let usual = Exchanges::on_lines(graph);
+    let looks = looks_in(graph, LOOKS_IN_PLANE);
+    let usual = Exchanges::in_plane(graph, ground);
     Exchanges {
         ascents: MOST_ASCENTS,
         goes_on: false,
@@ -122,7 +123,7 @@ fn exchanges_on_lines(graph: &NetGraph) -> Exchanges<'_>
             looks,
             ..with_rounds(usual.further, graph, ROUNDS)
         },
-        descents: DESCENTS_ON_LINES,
+        descents: DESCENTS_IN_PLANE,
         splitting: Splitting {
             edge_splits: SPLITTING.edge_splits,
             descents: DESCENTS,
@@ -143,12 +144,13 @@ fn with_rounds(budget: Budget, graph: &NetGraph, rounds: u32) -> Budget {
 }
 
 // Exchanges as they fit a graph whose cuts are found by flows.
-fn exchanges_by_flows(graph: &NetGraph) -> Exchanges<'_>
+fn exchanges_by_flows<'a>(graph: &'a NetGraph, ground: &'a Ground) -> Exchanges<'a>
     ensures { result.graph.now ≡ graph.now }
 {
     let looks = looks_in(graph, LOOKS);
     Exchanges {
         graph,
+        ground,
         most: MOST_EXCHANGES,
         ascents: MOST_ASCENTS,
         goes_on: false,

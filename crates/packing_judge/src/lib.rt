@@ -2,11 +2,13 @@
 #![tactic(auto)]
 
 mod bound;
+mod ground;
 mod guiding;
 mod method;
 mod outcome;
 
 pub use bound::Bound;
+pub use ground::Ground;
 pub use guiding::guided;
 pub use method::{Exchanged, exchange};
 pub use outcome::Outcome;

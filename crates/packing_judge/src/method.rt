@@ -5,12 +5,13 @@ ghost use Rattle.net_graph.specs.Network.{length_of};
 ghost use Rattle.packing_judge.specs.Outcome.{IsOutcomeFor};
 ghost use Rattle.packing_judge.specs.Proposed.{HasCutsIn};
 
+use crate::ground::Ground;
 use crate::outcome::{Goal, Outcome};
 use cut_groups::Tree;
 use flow_cuts::FlowCuts;
 use graph_lift::Smaller;
 use net_graph::{EdgeSet, NetGraph, Packing};
-use planar_cuts::PlanarCuts;
+use planar_cuts::{Faces, PlanarCuts};
 use std::alloc::{AllocError, Global};
 use tight_packing::{Aims, Budget, Guesses, Proposal, Settings, propose};
 
@@ -25,12 +26,12 @@ pub struct Exchanged {
 
 /// Looks for a packing of a wanted value along a network, of which what it is more than the network's length counts
 /// for nothing; it begins with given cuts, of which nothing is asked. The exchange cleans the network first: an edge of
-/// each cycle goes, and what joins no terminal. Where the numbers of the graph's vertices tell lines on which it is
-/// drawn, as those of a grid do, cheapest cuts are closed curves; else they are found by flows, in the smaller graph
-/// where there is one. Equal arguments give equal results. An `Err` is want of memory.
+/// each cycle goes, and what joins no terminal. It is carried out on the ground of the graph: on that of another one it
+/// finds nothing of use. Equal arguments give equal results. An `Err` is want of memory.
 pub fn exchange(
     alloc: Global,
     graph: &NetGraph,
+    ground: &Ground,
     network: &EdgeSet,
     wanted: u64,
     start: &Packing,
@@ -41,7 +42,7 @@ pub fn exchange(
         (min wanted (length_of graph.now network.now)) found.outcome) }
 {
     let goal = Goal::of(graph, network, wanted);
-    match proposed(alloc, graph, network, aims_of(goal, start), budget)? {
+    match proposed(alloc, graph, ground, network, aims_of(goal, start), budget)? {
         Some(proposal) => concluded(alloc, graph, goal, proposal),
         None => Ok(without_tree(alloc)),
     }
@@ -70,6 +71,7 @@ fn without_tree(alloc: Global) -> Exchanged
 fn proposed(
     alloc: Global,
     graph: &NetGraph,
+    ground: &Ground,
     network: &EdgeSet,
     aims: Aims<'_>,
     budget: Budget,
@@ -77,43 +79,20 @@ fn proposed(
     requires { length network.now ≡ length graph.now.edges }
     ensures { IfOk result (HasCutsIn graph.now) }
 {
-    if let Some(proposal) = proposed_on_lines(alloc, graph, network, aims, budget)? {
-        return Ok(Some(proposal));
+    let faces = ground.faces.as_ref();
+    match &ground.smaller {
+        Some(smaller) => proposed_below(alloc, graph, smaller, faces, network, aims, budget),
+        None => proposed_in(alloc, graph, faces, network, aims, budget),
     }
-    if let Some(proposal) = proposed_below(alloc, graph, network, aims, budget)? {
-        return Ok(Some(proposal));
-    }
-    proposed_by_flows(alloc, graph, network, aims, budget)
 }
 
-// What an exchange proposes with closed curves for cuts. `None` where the graph isn't drawn on lines, or the network
-// does not join the terminals. An `Err` is want of memory.
-fn proposed_on_lines(
-    alloc: Global,
-    graph: &NetGraph,
-    network: &EdgeSet,
-    aims: Aims<'_>,
-    budget: Budget,
-) -> Result<Option<Proposal>, AllocError>
-    requires { length network.now ≡ length graph.now.edges }
-    ensures { IfOk result (HasCutsIn graph.now) }
-{
-    let Some(tree) = Tree::of(alloc, graph, network)? else {
-        return Ok(None);
-    };
-    let Some(mut finder) = PlanarCuts::new(alloc, graph, &tree)? else {
-        return Ok(None);
-    };
-    let settings = Settings::GRIDS;
-    let proposal = propose(alloc, graph, tree, aims, &mut finder, settings, budget)?;
-    Ok(Some(proposal))
-}
-
-// What an exchange proposes in the smaller graph, brought back to the given one. `None` where there is no smaller
-// graph, or the network does not join the terminals. An `Err` is want of memory.
+// What an exchange proposes in the smaller graph, brought back to the given one. `None` where the network does not join
+// the terminals. An `Err` is want of memory.
 fn proposed_below(
     alloc: Global,
     graph: &NetGraph,
+    smaller: &Smaller,
+    faces: Option<&Faces>,
     network: &EdgeSet,
     aims: Aims<'_>,
     budget: Budget,
@@ -121,25 +100,23 @@ fn proposed_below(
     requires { length network.now ≡ length graph.now.edges }
     ensures { IfOk result (HasCutsIn graph.now) }
 {
-    let Some(smaller) = Smaller::of(alloc, graph)? else {
-        return Ok(None);
-    };
     let small = smaller.graph();
     let left = smaller.network(alloc, graph, network)?;
     let start = smaller.below(alloc, aims.start)?;
     let wanted = aims.wanted.saturating_sub(smaller.taken());
     let goal = Goal::of(small, &left, wanted);
-    match proposed_by_flows(alloc, small, &left, aims_of(goal, &start), budget)? {
-        Some(proposal) => Ok(Some(lifted(alloc, graph, &smaller, &proposal)?)),
+    match proposed_in(alloc, small, faces, &left, aims_of(goal, &start), budget)? {
+        Some(proposal) => Ok(Some(lifted(alloc, graph, smaller, &proposal)?)),
         None => Ok(None),
     }
 }
 
-// What an exchange proposes with cuts that flows find. `None` where the network does not join the terminals. An `Err`
-// is want of memory.
-fn proposed_by_flows(
+// What an exchange proposes with closed curves for cuts where the graph has faces, and else with cuts that flows find.
+// `None` where the network does not join the terminals. An `Err` is want of memory.
+fn proposed_in(
     alloc: Global,
     graph: &NetGraph,
+    faces: Option<&Faces>,
     network: &EdgeSet,
     aims: Aims<'_>,
     budget: Budget,
@@ -150,9 +127,18 @@ fn proposed_by_flows(
     let Some(tree) = Tree::of(alloc, graph, network)? else {
         return Ok(None);
     };
-    let mut finder = FlowCuts::new(alloc, graph, &tree)?;
-    let settings = Settings::GRAPHS;
-    let proposal = propose(alloc, graph, tree, aims, &mut finder, settings, budget)?;
+    let proposal = match faces {
+        Some(faces) => {
+            let mut finder = PlanarCuts::new(alloc, graph, &tree, faces)?;
+            let settings = Settings::GRIDS;
+            propose(alloc, graph, tree, aims, &mut finder, settings, budget)?
+        }
+        None => {
+            let mut finder = FlowCuts::new(alloc, graph, &tree)?;
+            let settings = Settings::GRAPHS;
+            propose(alloc, graph, tree, aims, &mut finder, settings, budget)?
+        }
+    };
     Ok(Some(proposal))
 }
 

@@ -1,13 +1,18 @@
-//! Cheapest cuts of the groups of a tree in a graph that is drawn on lines, as shortest closed curves in the dual,
-//! searched from both ends.
+//! Cheapest cuts of the groups of a tree in a graph that can be drawn in the plane, as shortest closed curves in the
+//! dual of a drawing that it finds itself, searched from both ends.
 #![tactic(auto)]
 
 mod buckets;
+mod conflicts;
+mod descent;
 mod faces;
 mod front;
-mod lattice;
+mod leaving;
+mod nesting;
+mod rotation;
 mod search;
 mod steps;
+mod tour;
 
-pub use lattice::is_drawn_on_lines;
+pub use faces::Faces;
 pub use search::PlanarCuts;

@@ -1,15 +1,14 @@
-//! Cheapest cuts as shortest closed curves in the dual of a graph that is drawn on lines (after Reif 1983), searched
-//! from both sides of the group's arc (after Pohl 1971) with buckets for queues (Dial 1969).
+//! Cheapest cuts as shortest closed curves in the dual of a graph that is drawn in the plane (after Reif 1983),
+//! searched from both sides of the group's arc (after Pohl 1971) with buckets for queues (Dial 1969).
 
 use crate::faces::{Faces, Sides};
 use crate::front::{Front, Meeting, Search};
-use crate::lattice::Lattice;
 use crate::steps::{Direction, Steps};
-use cut_groups::{BLOCKED, CutFinder, NONE, Tree, Wanted, at, ends_of};
+use cut_groups::{BLOCKED, CutFinder, NONE, Tree, Wanted, at};
 use net_graph::NetGraph;
 use std::alloc::{AllocError, Global};
 
-/// Finds cheapest cuts in a graph that is drawn on lines.
+/// Finds cheapest cuts in a graph that is drawn in the plane.
 #[derive(Drop)]
 pub struct PlanarCuts {
     // The faces to the left and to the right of each group's arc.
@@ -28,31 +27,26 @@ const NO_SIDES: Sides = Sides {
 };
 
 impl PlanarCuts {
-    /// What finds cuts in a graph with a tree; `None` where the numbers of its vertices don't tell the lines on which
-    /// it is drawn. An `Err` is want of memory.
+    /// What finds cuts in a graph with a tree, by the faces of a drawing. An `Err` is want of memory.
     pub fn new(
         alloc: Global,
         graph: &NetGraph,
         tree: &Tree,
-    ) -> Result<Option<PlanarCuts>, AllocError> {
-        let Some(lattice) = Lattice::of(alloc, graph)? else {
-            return Ok(None);
-        };
-        let faces = Faces::of(alloc, &lattice)?;
+        faces: &Faces,
+    ) -> Result<PlanarCuts, AllocError> {
         let mut sides = Vec::new(alloc);
         for group in 0..tree.groups() {
-            let ends = ends_of(graph, tree.arc(group));
-            sides.push(faces.beside(ends.tail, ends.head))?;
+            sides.push(faces.beside(tree.arc(group)))?;
         }
-        let along = Steps::of(alloc, graph, &faces, tree, Direction::Along)?;
-        let against = Steps::of(alloc, graph, &faces, tree, Direction::Against)?;
-        Ok(Some(PlanarCuts {
+        let along = Steps::of(alloc, graph, faces, tree, Direction::Along)?;
+        let against = Steps::of(alloc, graph, faces, tree, Direction::Against)?;
+        Ok(PlanarCuts {
             sides,
             ahead: Front::new(alloc, along)?,
             back: Front::new(alloc, against)?,
             searches: 0,
             looks: 0,
-        }))
+        })
     }
 
     // Goes on from both ends to the cheapest curve. An `Err` is want of memory.

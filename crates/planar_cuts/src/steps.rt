@@ -94,7 +94,10 @@ fn push_both(
     arc: u32,
     direction: Direction,
 ) -> Result<(), AllocError> {
-    let sides = faces.beside(edge.a, edge.b);
+    let sides = faces.beside(arc);
+    if sides.left >= faces.count() || sides.right >= faces.count() {
+        return Ok(());
+    }
     let (from, face) = match direction {
         Direction::Along => (sides.left, sides.right),
         Direction::Against => (sides.right, sides.left),

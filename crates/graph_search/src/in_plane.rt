@@ -1,10 +1,11 @@
-//! How much is exchanged in a graph that is drawn on lines.
+//! How much is exchanged in a graph that can be drawn in the plane.
 
 ghost use Rattle.std.specs.Prelude.{◌≡◌};
 
 use crate::exchanging::Exchanges;
 use crate::splitting::Splitting;
 use net_graph::NetGraph;
+use packing_judge::Ground;
 use tight_packing::Budget;
 
 // So many exchanges are made at most.
@@ -43,12 +44,14 @@ const SPLITTING: Splitting = Splitting {
 };
 
 impl<'a> Exchanges<'a> {
-    /// Exchanges as they fit a graph that is drawn on lines, of which the cheapest cuts are found fast.
-    pub fn on_lines(graph: &'a NetGraph) -> Exchanges<'a>
+    /// Exchanges on the ground of a graph as they fit one that can be drawn in the plane, of which the cheapest cuts are
+    /// found fast.
+    pub fn in_plane(graph: &'a NetGraph, ground: &'a Ground) -> Exchanges<'a>
         ensures { result.graph.now ≡ graph.now }
     {
         Exchanges {
             graph,
+            ground,
             most: MOST_EXCHANGES,
             ascents: 0,
             goes_on: true,
