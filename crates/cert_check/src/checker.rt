@@ -37,8 +37,7 @@ pub struct Checker<'a> {
     fault: Option<Cause>,
     /// How many bytes were fed, or 2^64-1 where it is more.
     fed: u64,
-    ghost underway: { IsUnderway (named_of subject) reader judge fault fed }
-        by { IsUnderway-prop (named_of subject) reader judge fault fed },
+    ghost underway: { IsUnderway (named_of subject) reader judge fault fed } by { IsUnderway-prop (named_of subject) reader judge fault fed },
 }
 
 impl<'a> Checker<'a> {
