@@ -46,11 +46,7 @@ impl Answer for VerdictLine {
 // Writes the line, with edges and vertices so counted. An `Err` says that the sink failed, and that the line was cut
 // short.
 #[tactic(auto, using(text_out::specs::GatherLaws::pieces))]
-fn write_whole<O: Sink>(
-    out: &mut O,
-    counting: Counting,
-    ruling: Ruling,
-) -> Result<(), PutFault>
+fn write_whole<O: Sink>(out: &mut O, counting: Counting, ruling: Ruling) -> Result<(), PutFault>
     ensures { Writes (O.state out.old) (line_text_by counting ruling) (O.state out.new) result }
 {
     let mut block = Block::new();
