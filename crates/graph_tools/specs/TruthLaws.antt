@@ -1,5 +1,5 @@
 -- What follows of an answer in a graph that was printed, and of a verdict that was told.
-use Rattle.std.proofs.Common.{ℕ, ◌≡◌, Bool, List, arith}
+use Rattle.std.proofs.Common.{ℕ, ◌≡◌, ◌≤◌, ◌^◌, Bool, List, length, arith}
 use Rattle.rst_outside.specs.Sink.{Appended}
 use Rattle.net_graph.specs.Graph.{Graph, total_of}
 use Rattle.net_graph.specs.Network.{length_of}
@@ -46,7 +46,7 @@ pub checks_graph_truly : (name : List ℕ) (before after : Outside) (file : StpV
     Appended before.written.out.taken (line_text_by FromOne ruling) after.written.out.taken →
     status ≡ answer_code (ruling_status ruling) → ChecksGraphTruly name before after status
 checks_graph_truly name before after file bytes f ruling status is checked told ends =
-    let within = checked.input.within in (
+    let within : length bytes ≤ 2 ^ 28 = checked.input.within in (
       file,
       bytes,
       checked.task,
