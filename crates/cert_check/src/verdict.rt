@@ -37,8 +37,8 @@ pub enum Verdict {
 impl Verdict {
     /// The same verdict, where the answer isn't too long.
     pub fn ruled(self) -> Option<Ruling>
-        ensures ruling { IfSome result (λ ruling. self.entry ≡ verdict_of ruling) }
-        ensures none { IfNone result (self.entry ≡ Verdict.TooLong) }
+        ensures ruling { IfSome result (λ ruling. self ≡ verdict_of ruling) }
+        ensures none { IfNone result (self ≡ Verdict.TooLong) }
     {
         match self {
             Verdict::Accepted {

@@ -6,12 +6,12 @@ use Rattle.cert_check.specs.Rulings.{verdict_of}
 use Rattle.graph_solve.proofs.lemmas.GraphVerdicts.{only_told}
 use Rattle.graph_solve.proofs.check.check_graph.Goals as goal
 
-pub in-None-unreachable : goal.in-None-unreachable
-in-None-unreachable c =
+pub unreachable-requires : goal.unreachable-requires
+unreachable-requires c =
     let stands = c.feed.ensures (in_graph c.args.g.now) [] c.on-checker.ensures in
     let many = (c.finish-finished.ensures.too_long (in_graph c.args.g.now) c.args.bytes.now stands).0
     c.in-None.ensures.none in
-    absurd (omega (arith, many, c.requires.few))
+    omega (arith, many, c.requires.few)
 
 pub returns-in-Some-clause-verdict : goal.returns-in-Some-clause-verdict
 returns-in-Some-clause-verdict c =
