@@ -13,37 +13,37 @@ unreachable-requires c =
     c.in-None.ensures.none in
     omega (arith, many, c.requires.few)
 
-pub returns-in-Some-clause-verdict : goal.returns-in-Some-clause-verdict
-returns-in-Some-clause-verdict c =
+pub returns-clause-verdict : goal.returns-clause-verdict
+returns-clause-verdict c =
     let stands = c.feed.ensures (in_graph c.args.g.now) [] c.on-checker.ensures in (
       c.finish-finished.result,
       c.finish-finished.ensures.verdict (in_graph c.args.g.now) c.args.bytes.now stands,
       sym c.in-Some.ensures.ruling,
     )
 
-pub returns-in-Some-clause-only : goal.returns-in-Some-clause-only
-returns-in-Some-clause-only c =
+pub returns-clause-only : goal.returns-clause-only
+returns-clause-only c =
     let stands = c.feed.ensures (in_graph c.args.g.now) [] c.on-checker.ensures in
     only_told c.args.g.now c.args.bytes.now c.finish-finished.result c.in-Some.ruling (sym c.in-Some.ensures.ruling)
     (c.finish-finished.ensures.only (in_graph c.args.g.now) c.args.bytes.now stands)
 
-pub returns-in-Some-clause-accepted : goal.returns-in-Some-clause-accepted
-returns-in-Some-clause-accepted c length bound optimal is =
+pub returns-clause-accepted : goal.returns-clause-accepted
+returns-clause-accepted c length bound optimal is =
     let stands = c.feed.ensures (in_graph c.args.g.now) [] c.on-checker.ensures in (
       c.finish-finished.result.network,
       c.finish-finished.ensures.accepted (in_graph c.args.g.now) c.args.bytes.now stands length bound optimal
           (c.in-Some.ensures.ruling ∙ ap verdict_of is),
     )
 
-pub returns-in-Some-clause-complete : goal.returns-in-Some-clause-complete
-returns-in-Some-clause-complete c accepted =
+pub returns-clause-complete : goal.returns-clause-complete
+returns-clause-complete c accepted =
     let stands = c.feed.ensures (in_graph c.args.g.now) [] c.on-checker.ensures in
     subst IsAccepting c.in-Some.ensures.ruling
     (c.finish-finished.ensures.complete (in_graph c.args.g.now) c.args.bytes.now stands
     (omega (arith, c.requires.few)) accepted)
 
-pub returns-in-Some-clause-bound : goal.returns-in-Some-clause-bound
-returns-in-Some-clause-bound c length bound optimal is =
+pub returns-clause-bound : goal.returns-clause-bound
+returns-clause-bound c length bound optimal is =
     let stands = c.feed.ensures (in_graph c.args.g.now) [] c.on-checker.ensures in
     c.finish-finished.ensures.bound (in_graph c.args.g.now) c.args.bytes.now stands length bound optimal
     (c.in-Some.ensures.ruling ∙ ap verdict_of is)
