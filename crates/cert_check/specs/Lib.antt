@@ -1,6 +1,7 @@
 pub mod Strips
 pub mod Named
 pub mod Resolved
+pub mod Rulings
 pub mod Ends
 pub mod Lines
 pub mod Judged

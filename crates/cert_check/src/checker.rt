@@ -3,11 +3,10 @@
 ghost use Rattle.std.specs.Prelude.{ℕ, ◌≡◌, ◌+◌, ◌-◌, ◌^◌, ◌<◌, ◌≤◌, ◌↔◌, ◌⊎◌, Bool, false, IsTrue, List, [], ◌∷◌};
 ghost use Rattle.std.specs.Prelude.{◌++◌, length, replicate, take, IsSome, None};
 ghost use Rattle.net_graph.specs.Network.{IsLowerBound};
-ghost use Rattle.cut_cert.specs.Reader.{Reads};
 ghost use Rattle.hanan_grid.specs.Grid.{hanan_grid_of};
 ghost use Rattle.tree_judge.specs.Room.{row_length};
 ghost use Rattle.cert_check.specs.declared.verdict.Finished.{Finished};
-ghost use Rattle.cert_check.specs.Named.{Named, in_graph, named_of};
+ghost use Rattle.cert_check.specs.Named.{Named, named_of};
 ghost use Rattle.cert_check.specs.Accepted.{AcceptsAsIn, IsAcceptedIn, IsAccepting};
 ghost use Rattle.cert_check.specs.Verdicts.{IsJudged, IsVerdictIn, byte_limit};
 ghost use Rattle.cert_check.specs.Underway.{IsUnderway};
@@ -17,10 +16,11 @@ use crate::judging::{finished, judge_on, refused};
 use crate::read::read_byte;
 use crate::subject::Subject;
 use crate::verdict::{Finished, Verdict};
+use crate::workroom::Workroom;
 use cert_tree::tree_bounds_every_network;
 use cut_cert::{EventReader, Row, one_reading};
 use hanan_grid::Grid;
-use net_graph::{EdgeSet, NetGraph, VertexSet};
+use net_graph::{EdgeSet, VertexSet};
 use tree_judge::{Cause, Judge};
 
 /// An answer has no more bytes than this.
@@ -56,35 +56,32 @@ impl<'a> Checker<'a> {
     {
         let terminals = grid.points().len();
         prove!(terminals <= 50);
-        let reader = EventReader::begin(grid.graph().vertex_count(), members);
-        Checker::over(Subject::OnGrid(grid), reader, network, work)
+        let room = Workroom {
+            network,
+            members,
+            work,
+        };
+        Checker::on(Subject::OnGrid(grid), room)
     }
 
-    /// A checker of an answer in a graph with at most 255 terminals that was fed no byte, with such room as
-    /// `Workroom::in_graph` has.
-    pub fn in_graph(g: &'a NetGraph, network: EdgeSet, members: VertexSet, work: Row) -> Checker<'a>
-        requires terminals { length g.now.terminals ≤ 255 }
-        requires network { network ≡ replicate (length g.now.edges) false }
-        requires members { members ≡ replicate g.now.vertices false }
-        requires work { length work ≡ row_length (length g.now.edges) g.now.vertices }
-        ensures { StandsForBytesIn (in_graph g.now) [] result }
-    {
-        let reader = EventReader::of_graph(g.edge_count(), g.vertex_count(), members);
-        Checker::over(Subject::InGraph(g), reader, network, work)
-    }
-
-    // A checker that was fed no byte, with a reader that was fed none.
-    fn over(subject: Subject<'a>, reader: EventReader, network: EdgeSet, work: Row) -> Checker<'a>
-        requires reads { Reads (named_of subject).form [] [] reader }
+    /// A checker of an answer about a subject of at most 255 terminals that was fed no byte, in such room as
+    /// `Workroom::of` gives.
+    pub fn on(subject: Subject<'a>, room: Workroom) -> Checker<'a>
         requires terminals { length (named_of subject).graph.terminals ≤ 255 }
-        requires network { network ≡ replicate (length (named_of subject).graph.edges) false }
-        requires work { length work ≡ row_length (length (named_of subject).graph.edges)
+        requires network { room.network ≡ replicate (length (named_of subject).graph.edges) false }
+        requires members { room.members ≡ replicate (named_of subject).graph.vertices false }
+        requires work { length room.work ≡ row_length (length (named_of subject).graph.edges)
             (named_of subject).graph.vertices }
         ensures { StandsForBytesIn (named_of subject.entry) [] result }
     {
+        let Workroom {
+            network,
+            members,
+            work,
+        } = room;
         Checker {
             subject,
-            reader,
+            reader: subject.reader(members),
             judge: judge_on(subject, network, work),
             fault: None,
             fed: 0,

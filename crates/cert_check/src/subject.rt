@@ -1,12 +1,13 @@
 //! What an answer's text is about, and what its labels name there.
 
-ghost use Rattle.std.specs.Prelude.{◌≡◌, ◌<◌, ◌+◌, ◌⊎◌, IfSome, IfNone, length};
+ghost use Rattle.std.specs.Prelude.{◌≡◌, ◌<◌, ◌+◌, ◌⊎◌, [], IfSome, IfNone, false, length, replicate};
+ghost use Rattle.cut_cert.specs.Reader.{Reads};
 ghost use Rattle.cert_check.specs.Named.{in_graph, named_of, on_grid};
 ghost use Rattle.cert_check.specs.Resolved.{IsLabelOfEdge, IsLabelOfVertex, LabelsNoEdge, LabelsNoVertex};
 
-use cut_cert::{EdgeLabel, VertexLabel};
+use cut_cert::{EdgeLabel, EventReader, VertexLabel};
 use hanan_grid::Grid;
-use net_graph::NetGraph;
+use net_graph::{NetGraph, VertexSet};
 
 /// What an answer's text is about: it decides how the text names edges and vertices.
 #[derive(Clone, Copy)]
@@ -25,6 +26,17 @@ impl<'a> Subject<'a> {
         match self {
             Subject::OnGrid(grid) => grid.graph(),
             Subject::InGraph(g) => g,
+        }
+    }
+
+    /// A reader of its answer's text that was fed no byte, which keeps the set of a cut in the one that it is handed.
+    pub(crate) fn reader(self, members: VertexSet) -> EventReader
+        requires { members ≡ replicate (named_of self).graph.vertices false }
+        ensures { Reads (named_of self.entry).form [] [] result }
+    {
+        match self {
+            Subject::OnGrid(grid) => EventReader::begin(grid.graph().vertex_count(), members),
+            Subject::InGraph(g) => EventReader::of_graph(g.edge_count(), g.vertex_count(), members),
         }
     }
 

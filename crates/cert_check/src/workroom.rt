@@ -3,11 +3,13 @@
 ghost use Rattle.std.specs.Prelude.{◌≡◌, ◌+◌, ◌*◌, false, length, replicate, IfOk};
 ghost use Rattle.hanan_grid.specs.Grid.{hanan_grid_of};
 ghost use Rattle.tree_judge.specs.Room.{row_length};
+ghost use Rattle.cert_check.specs.Named.{named_of};
 
 use crate::law::grid_row_length;
+use crate::subject::Subject;
 use cut_cert::Row;
 use hanan_grid::Grid;
-use net_graph::{EdgeSet, NetGraph, VertexSet};
+use net_graph::{EdgeSet, VertexSet};
 use std::alloc::{AllocError, Global};
 
 /// What a checker of an answer works in, which is handed to it whole.
@@ -33,15 +35,18 @@ impl Workroom {
             + 3 * (hanan_grid_of grid.now).vertices + 512) }
     {
         grid_row_length();
-        Workroom::in_graph(alloc, grid.graph())
+        Workroom::of(alloc, Subject::OnGrid(grid))
     }
 
-    /// The room for a checker in a graph, with empty sets. An `Err` is want of memory.
-    pub fn in_graph(alloc: Global, g: &NetGraph) -> Result<Workroom, AllocError>
-        ensures network { IfOk result (λ room. room.network ≡ replicate (length g.now.edges) false) }
-        ensures members { IfOk result (λ room. room.members ≡ replicate g.now.vertices false) }
-        ensures work { IfOk result (λ room. length room.work ≡ row_length (length g.now.edges) g.now.vertices) }
+    /// The room for a checker of an answer about the subject, with empty sets. An `Err` is want of memory.
+    pub fn of(alloc: Global, subject: Subject) -> Result<Workroom, AllocError>
+        ensures network { IfOk result (λ room.
+            room.network ≡ replicate (length (named_of subject.entry).graph.edges) false) }
+        ensures members { IfOk result (λ room. room.members ≡ replicate (named_of subject.entry).graph.vertices false) }
+        ensures work { IfOk result (λ room. length room.work ≡ row_length
+            (length (named_of subject.entry).graph.edges) (named_of subject.entry).graph.vertices) }
     {
+        let g = subject.graph();
         let edges = g.edge_count();
         let vertices = g.vertex_count();
         Ok(Workroom {

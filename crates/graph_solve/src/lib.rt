@@ -6,10 +6,9 @@ mod check;
 mod fault;
 mod network;
 mod task;
-mod verdict;
 
+pub use cert_check::Ruling as GraphVerdict;
 pub use check::check_graph;
 pub use fault::TaskFault;
 pub use network::first_network;
 pub use task::graph_of;
-pub use verdict::GraphVerdict;

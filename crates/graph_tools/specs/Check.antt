@@ -1,14 +1,15 @@
 -- What `checkgraph` finds, by what it read.
-use Rattle.std.specs.Prelude.{ℕ, ◌≡◌, Bool, List, codes, Result, Ok, Err}
+use Rattle.std.specs.Prelude.{ℕ, ◌≡◌, List, codes, Result, Ok, Err}
 use Rattle.rst_outside.specs.Shelf.{ShelfState}
 use Rattle.net_graph.specs.Graph.{Graph}
-use Rattle.net_graph.specs.Network.{IsLowerBound}
 use Rattle.stp_format.specs.Value.{StpValue}
-use Rattle.graph_solve.specs.declared.verdict.GraphVerdict.{GraphVerdict}
-use Rattle.graph_solve.specs.declared.verdict.GraphVerdict.TheVariants.{Accepted, Refused}
+use Rattle.cert_check.specs.declared.verdict.Finished.{Finished}
+use Rattle.cert_check.specs.declared.verdict.Ruling.{Ruling}
+use Rattle.cert_check.specs.Named.{in_graph}
+use Rattle.cert_check.specs.Rulings.{verdict_of}
 use Rattle.graph_solve.specs.Task.{graph_of_stp}
-use Rattle.graph_solve.specs.Accepted.{AcceptsGraphAs, IsAccepting, IsGraphAccepted, IsVerdictOn}
 use Rattle.frame.specs.declared.status.FaultStatus.{FaultStatus}
+use Rattle.frame.specs.declared.status.TheConstants.{NO_MEMORY}
 use Rattle.frame.specs.declared.take.FileFault.{FileFault}
 use Rattle.frame.specs.declared.take.FileFault.TheVariants as file_fault
 use Rattle.frame.specs.declared.take.TheConstants.{TEXT_LIMIT}
@@ -17,14 +18,14 @@ use Rattle.frame.specs.Ends.{Print, Ends}
 use Rattle.frame.specs.Leaves.{LeavesFiles}
 use Rattle.frame.specs.FaultTexts.{file_fault_status, input_fault_text, input_fault_status, too_long_text}
 use Rattle.frame.specs.Taking.{IsFileFault, IsInputFault, IsWholeFile, IsWholeInput}
-use Rattle.verdict_line.specs.declared.line.VerdictLine.TheVariants as said
-use Rattle.verdict_line.specs.declared.graph_line.GraphVerdictLine.{GraphVerdictLine}
-use Rattle.verdict_line.specs.Verdicts.{graph_line_print}
+use Rattle.verdict_line.specs.declared.counting.Counting.TheVariants.{FromOne}
+use Rattle.verdict_line.specs.Judging.{JudgesBytes}
+use Rattle.verdict_line.specs.Verdicts.{line_print}
 use Rattle.graph_inputs.specs.declared.text_fault.GraphTextFault.{GraphTextFault}
+use Rattle.graph_inputs.specs.Reading.{IsTaskText, ReadsGraph, graph_fault_text, graph_fault_status}
 use Rattle.graph_tools.specs.declared.checking.CheckgraphFault.{CheckgraphFault}
 use Rattle.graph_tools.specs.declared.checking.CheckgraphFault.TheVariants.{File, Graph as OfGraph, Input}
 use Rattle.graph_tools.specs.declared.checking.TheConstants.{GRAPH_ANSWER_LIMIT}
-use Rattle.graph_inputs.specs.Reading.{IsTaskText, ReadsGraph, graph_fault_text, graph_fault_status}
 
 -- what is said where the STP file isn't taken whole
 abbrev pub graph_file_text : FileFault → List ℕ
@@ -43,24 +44,6 @@ checkgraph_fault_status (File fault) = file_fault_status fault
 checkgraph_fault_status (OfGraph fault) = graph_fault_status fault
 checkgraph_fault_status (Input fault) = input_fault_status fault
 
--- the line of a verdict
-abbrev pub line_of : GraphVerdict → GraphVerdictLine
-line_of (Accepted length bound optimal) = record { line = said.Accepted length bound optimal }
-line_of (Refused cause) = record { line = said.Refused cause }
-
--- The verdict on bytes as an answer in a graph, with what follows of it: it accepts exactly those that should be
--- accepted, it says what the answer says, and no network of the graph is shorter than the bound.
-pub record JudgesGraph (g : Graph) (bytes : List ℕ) (v : GraphVerdict) : Type 0 where
-  pub verdict : IsVerdictOn g bytes v
-  pub accepted : (length bound : ℕ) (optimal : Bool) → v ≡ Accepted length bound optimal →
-      (network : List Bool) × AcceptsGraphAs g bytes network length bound optimal
-  pub complete : IsGraphAccepted g bytes → IsAccepting v
-  pub bound : (length bound : ℕ) (optimal : Bool) → v ≡ Accepted length bound optimal → IsLowerBound g bound
-
--- the line tells the verdict
-abbrev pub IsJudged : Graph → List ℕ → GraphVerdictLine → Type 0
-IsJudged g bytes line = (v : GraphVerdict) × JudgesGraph g bytes v × (line ≡ line_of v)
-
 -- the file of this name is this STP file, which is a Steiner problem of the suite
 abbrev pub FileIsTask : ShelfState → List ℕ → StpValue → Type 0
 FileIsTask shelf name file =
@@ -72,7 +55,7 @@ IsGraphFileFault shelf name fault =
     (bytes : List ℕ) × IsWholeFile TEXT_LIMIT shelf name bytes × ReadsGraph bytes (Err fault)
 
 -- Why an answer isn't judged, under the name of an STP file: the file isn't taken whole, or gives no Steiner problem,
--- and the input is as before; or the input isn't taken whole.
+-- and the input is as before; or the input isn't read to its end.
 abbrev pub IsCheckgraphFault : List ℕ → Readable → Readable → CheckgraphFault → Type 0
 IsCheckgraphFault name before after (File fault) =
     IsFileFault TEXT_LIMIT before.shelf after.shelf name fault × (after.input ≡ before.input)
@@ -85,17 +68,18 @@ IsCheckgraphFault name before after (Input fault) =
 -- The file is this Steiner problem, the input was read to its end, and this is the verdict on its bytes as an answer in
 -- the file's graph.
 pub record IsGraphChecked (name : List ℕ) (before after : Readable) (file : StpValue) (bytes : List ℕ)
-    (v : GraphVerdict) : Type 0 where
+    (f : Finished) : Type 0 where
   pub task : FileIsTask before.shelf name file
   pub input : IsWholeInput GRAPH_ANSWER_LIMIT before.input after.input bytes
-  pub judges : JudgesGraph (graph_of_stp file) bytes v
+  pub judges : JudgesBytes (in_graph (graph_of_stp file)) bytes f
 
 -- What `checkgraph` finds under the name of a file: the line that tells the verdict, with its status; or why it judges
 -- nothing.
 abbrev pub ChecksGraph : List ℕ → Readable → Readable → Result Print CheckgraphFault → Type 0
 ChecksGraph name before after (Ok print) =
-    (file : StpValue) × (bytes : List ℕ) × (v : GraphVerdict)
-    × IsGraphChecked name before after file bytes v × (print ≡ graph_line_print (line_of v))
+    (file : StpValue) × (bytes : List ℕ) × (f : Finished) × (ruling : Ruling)
+    × IsGraphChecked name before after file bytes f × (f.verdict ≡ verdict_of ruling)
+    × (print ≡ line_print FromOne ruling)
 ChecksGraph name before after (Err fault) = IsCheckgraphFault name before after fault
 
 -- The graph of the STP file of this name; or why there is none.
@@ -106,7 +90,8 @@ ReadsGraphFile shelf shelf' name (Err (File fault)) = IsFileFault TEXT_LIMIT she
 ReadsGraphFile shelf shelf' name (Err (OfGraph fault)) = IsGraphFileFault shelf name fault
 ReadsGraphFile shelf shelf' name (Err (Input fault)) = ⊥
 
--- A run of `checkgraph` under the name of a file.
-abbrev pub EndsCheckgraph : List ℕ → Outside → Outside → ℕ → Type 0
-EndsCheckgraph name =
-    Ends checkgraph_fault_status checkgraph_fault_text (codes "checkgraph") (ChecksGraph name) LeavesFiles
+-- A run of `checkgraph` under the name of a file. Memory is wanting only while the input is as before the call.
+pub record EndsCheckgraph (name : List ℕ) (before after : Outside) (status : ℕ) : Type 0 where
+  pub ends : Ends checkgraph_fault_status checkgraph_fault_text (codes "checkgraph") (ChecksGraph name) LeavesFiles
+      before after status
+  pub unread : status ≡ NO_MEMORY → after.read.input ≡ before.read.input

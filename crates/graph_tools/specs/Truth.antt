@@ -1,16 +1,15 @@
 -- What is true where `graph` printed an answer, and where `checkgraph` told a verdict.
-use Rattle.std.specs.Prelude.{ℕ, ◌≡◌, Bool, true, List, ◌↔◌}
+use Rattle.std.specs.Prelude.{ℕ, Bool, List}
 use Rattle.rst_outside.specs.Source.{CameToTheEnd}
-use Rattle.rst_outside.specs.Sink.{SinkState, Appended}
+use Rattle.rst_outside.specs.Sink.{Appended}
 use Rattle.net_graph.specs.Graph.{Graph, total_of}
-use Rattle.net_graph.specs.Network.{IsLowerBound, IsShortest}
 use Rattle.stp_format.specs.Value.{StpValue}
 use Rattle.cert_tree.specs.declared.split.SplitOn.{SplitOn}
 use Rattle.cert_tree.specs.Tree.{Tree}
+use Rattle.cert_check.specs.Named.{in_graph}
 use Rattle.graph_solve.specs.Task.{graph_of_stp}
-use Rattle.graph_solve.specs.Accepted.{AcceptsGraphAs, IsGraphAccepted}
 use Rattle.frame.specs.Outside.{Outside}
-use Rattle.verdict_line.specs.Verdicts.{accepted_line}
+use Rattle.verdict_line.specs.Truth.{JudgesTruly}
 use Rattle.graph_search.specs.Truth.{EndsTruly}
 use Rattle.search_rules.specs.declared.options.GraphOptions.{GraphOptions}
 use Rattle.graph_tools.specs.Check.{FileIsTask}
@@ -25,20 +24,10 @@ pub record SolvesTruly (options : GraphOptions) (g : Graph) (before after : Outs
   pub printed : Appended before.written.out.taken (graph_text options.openings g network tree) after.written.out.taken
   pub ends : EndsTruly g options.openings (total_of g) network tree status
 
--- `out` gained the line of an answer that is accepted in the graph, no network of the graph is shorter than its bound,
--- and where it says optimal its network is a shortest one.
-abbrev pub TellsGraphAccepted : Graph → List ℕ → SinkState → SinkState → Type 0
-TellsGraphAccepted g bytes out out' =
-    (network : List Bool) × (length : ℕ) × (bound : ℕ) × (optimal : Bool)
-    × AcceptsGraphAs g bytes network length bound optimal
-    × Appended out.taken (accepted_line length bound optimal) out'.taken
-    × IsLowerBound g bound × (optimal ≡ true → IsShortest g network)
-
 -- The file is a Steiner problem and the input was read to its end; the status is 0 exactly where its bytes are accepted
--- as an answer in the file's graph, and then `out` gained the line that says so.
+-- as an answer in the file's graph, and then `out` gained the line that says so, which is true of the graph.
 abbrev pub ChecksGraphTruly : List ℕ → Outside → Outside → ℕ → Type 0
 ChecksGraphTruly name before after status =
     (file : StpValue) × (bytes : List ℕ) × FileIsTask before.read.shelf name file
     × CameToTheEnd before.read.input.rest bytes after.read.input.rest
-    × ((status ≡ 0) ↔ IsGraphAccepted (graph_of_stp file) bytes)
-    × (status ≡ 0 → TellsGraphAccepted (graph_of_stp file) bytes before.written.out after.written.out)
+    × JudgesTruly (in_graph (graph_of_stp file)) bytes before.written.out after.written.out status

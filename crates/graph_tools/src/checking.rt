@@ -1,26 +1,24 @@
 //! The tool `checkgraph`: an STP file and an answer in its graph come in, the verdict on the answer goes out.
 
-ghost use Rattle.std.specs.Prelude.{◌≡◌, ◌≤◌, ◌^◌, length, IfOk};
+ghost use Rattle.std.specs.Prelude.{◌≡◌, IfOk, OnErr};
 ghost use Rattle.text_out.specs.Gathers.{Gathers};
 ghost use Rattle.frame.specs.Outside.{readable, outside};
 ghost use Rattle.frame.specs.Ends.{print_of};
 ghost use Rattle.frame.specs.Leaves.{LeavesFiles};
 ghost use Rattle.frame.specs.Taking.{KeepsFiles};
-ghost use Rattle.graph_solve.specs.Accepted.{verdict_of};
-ghost use Rattle.verdict_line.specs.Verdicts.{graph_line_text, graph_line_status, verdict_told};
-ghost use Rattle.graph_tools.specs.Check.{ChecksGraph, EndsCheckgraph, IsJudged, ReadsGraphFile, line_of};
+ghost use Rattle.verdict_line.specs.Verdicts.{line_text, line_status};
+ghost use Rattle.graph_tools.specs.Check.{ChecksGraph, EndsCheckgraph, ReadsGraphFile};
 ghost use Rattle.graph_tools.specs.Check.{checkgraph_fault_text, checkgraph_fault_status, graph_file_text};
 
-use frame::{
-    Fault, FaultStatus, FileFault, InputFault, TEXT_LIMIT, conclude, take_file, take_input,
-};
+use cert_check::Subject;
+use frame::{Fault, FaultStatus, FileFault, InputFault, TEXT_LIMIT, conclude, take_file};
 use graph_inputs::{GraphTextFault, graph_in};
-use graph_solve::{GraphVerdict, check_graph};
 use net_graph::NetGraph;
 use rst_outside::{Shelf, Sink, Source};
 use std::alloc::{AllocError, Global};
+use std::marker::Brand;
 use text_out::{Block, literal};
-use verdict_line::{GraphVerdictLine, VerdictLine};
+use verdict_line::{Counting, VerdictLine, judge_input};
 
 /// The greatest number of bytes of an answer in a graph that is judged.
 pub const GRAPH_ANSWER_LIMIT: u64 = 1 << 28;
@@ -32,7 +30,7 @@ pub enum CheckgraphFault {
     File(FileFault),
     /// It gives no Steiner problem.
     Graph(GraphTextFault),
-    /// The answer isn't taken whole.
+    /// The answer isn't read to its end.
     Input(InputFault),
 }
 
@@ -68,8 +66,9 @@ fn write_file_fault<R: Sink>(block: &mut Block, err: &mut R, fault: FileFault)
     }
 }
 
-/// Runs `checkgraph`: reads the STP file of this name, then takes an answer from the input whole, and prints the line
-/// of the verdict on it as an answer in the file's graph. Gives the status that the program ends with.
+/// Runs `checkgraph`: reads the STP file of this name, then judges an answer in the file's graph as it comes from the
+/// input, and prints the line of the verdict. Gives the status that the program ends with. Memory is taken before the
+/// input is touched alone.
 pub fn checkgraph<I: Source, O: Sink, R: Sink, S: Shelf>(
     alloc: Global,
     graph_name: &str,
@@ -87,16 +86,17 @@ pub fn checkgraph<I: Source, O: Sink, R: Sink, S: Shelf>(
 }
 
 // The line of the verdict on the input as an answer in the graph of a file. A fault has the cause that it names. An
-// `Err` is want of memory.
+// `Err` is want of memory, before the input is touched.
 fn verdict_on<I: Source, S: Shelf>(
     alloc: Global,
     graph_name: &str,
     input: &mut I,
     shelf: &mut S,
-) -> Result<Result<GraphVerdictLine, CheckgraphFault>, AllocError>
+) -> Result<Result<VerdictLine, CheckgraphFault>, AllocError>
     ensures finds { IfOk result (λ found. ChecksGraph graph_name.now
         (readable (I.state input.old) (S.state shelf.old)) (readable (I.state input.new) (S.state shelf.new))
-        (print_of graph_line_text graph_line_status found)) }
+        (print_of line_text line_status found)) }
+    ensures unread { OnErr result (I.state input.new ≡ I.state input.old) }
     ensures leaves { LeavesFiles
         (readable (I.state input.old) (S.state shelf.old)) (readable (I.state input.new) (S.state shelf.new)) }
 {
@@ -104,11 +104,13 @@ fn verdict_on<I: Source, S: Shelf>(
         Ok(graph) => graph,
         Err(fault) => return Ok(Err(fault)),
     };
-    let bytes = match take_input(alloc, input, GRAPH_ANSWER_LIMIT)? {
-        Ok(bytes) => bytes,
-        Err(fault) => return Ok(Err(CheckgraphFault::Input(fault))),
-    };
-    Ok(Ok(judged(alloc, &graph, bytes.as_slice())?))
+    match judge_input::<Brand, I>(alloc, Subject::InGraph(&graph), input, GRAPH_ANSWER_LIMIT)? {
+        Ok(judged) => Ok(Ok(VerdictLine {
+            counting: Counting::FromOne,
+            ruling: judged.ruling,
+        })),
+        Err(fault) => Ok(Err(CheckgraphFault::Input(fault))),
+    }
 }
 
 // The graph of the STP file of this name; or why there is none. An `Err` is want of memory.
@@ -128,33 +130,4 @@ fn read_graph_file<S: Shelf>(
         Ok(graph) => Ok(Ok(graph)),
         Err(fault) => Ok(Err(CheckgraphFault::Graph(fault))),
     }
-}
-
-// The line of the verdict on bytes as an answer in a graph. An `Err` is want of memory.
-fn judged(alloc: Global, graph: &NetGraph, bytes: &[u8]) -> Result<GraphVerdictLine, AllocError>
-    requires terminals { length graph.now.terminals ≤ 255 }
-    requires few { length bytes.now ≤ 2 ^ 28 }
-    ensures { IfOk result (IsJudged graph.now bytes.now) }
-{
-    let verdict = check_graph(alloc, graph, bytes)?;
-    Ok(line_of(verdict))
-}
-
-// The line of a verdict.
-fn line_of(verdict: GraphVerdict) -> GraphVerdictLine
-    ensures { result ≡ line_of verdict }
-{
-    let line = match verdict {
-        GraphVerdict::Accepted {
-            length,
-            bound,
-            optimal,
-        } => VerdictLine::Accepted {
-            length,
-            bound,
-            optimal,
-        },
-        GraphVerdict::Refused(cause) => VerdictLine::Refused(cause),
-    };
-    GraphVerdictLine { line }
 }

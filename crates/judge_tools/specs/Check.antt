@@ -2,6 +2,8 @@
 use Rattle.std.specs.Prelude.{ℕ, ◌≡◌, List, codes, Result, Ok, Err}
 use Rattle.points_in.specs.declared.point.Point.{Point}
 use Rattle.cert_check.specs.declared.verdict.Finished.{Finished}
+use Rattle.cert_check.specs.declared.verdict.Ruling.{Ruling}
+use Rattle.cert_check.specs.Rulings.{verdict_of}
 use Rattle.frame.specs.declared.status.FaultStatus.{FaultStatus}
 use Rattle.frame.specs.declared.status.TheConstants.{NO_MEMORY}
 use Rattle.frame.specs.Outside.{Readable, Outside}
@@ -10,17 +12,16 @@ use Rattle.frame.specs.Leaves.{LeavesFiles}
 use Rattle.frame.specs.FaultTexts.{input_fault_text, input_fault_status, points_fault_text, points_fault_status}
 use Rattle.judge_tools.specs.declared.judge.CheckFault.{CheckFault}
 use Rattle.judge_tools.specs.declared.judge.CheckFault.TheVariants.{Points, Input}
-use Rattle.verdict_line.specs.declared.line.VerdictLine.{VerdictLine}
-use Rattle.verdict_line.specs.Verdicts.{verdict_told, line_print}
+use Rattle.verdict_line.specs.declared.counting.Counting.TheVariants.{FromZero}
+use Rattle.verdict_line.specs.Verdicts.{line_print}
 use Rattle.judge_tools.specs.Judging.{IsChecked, IsCheckFault}
 
 -- What `check` finds under the name of a file: the line that tells the verdict, with its status; or why it judges
 -- nothing.
 abbrev pub Checks : List ℕ → Readable → Readable → Result Print CheckFault → Type 0
 Checks name before after (Ok print) =
-    (ps : List Point) × (bytes : List ℕ) × (f : Finished) × (line : VerdictLine)
-    × IsChecked name before after ps bytes f
-    × (f.verdict ≡ verdict_told line) × (print ≡ line_print line)
+    (ps : List Point) × (bytes : List ℕ) × (f : Finished) × (ruling : Ruling)
+    × IsChecked name before after ps bytes f × (f.verdict ≡ verdict_of ruling) × (print ≡ line_print FromZero ruling)
 Checks name before after (Err fault) = IsCheckFault name before after fault
 
 -- what is said of a fault

@@ -11,7 +11,7 @@ use crate::judge::{CheckFault, judge};
 use frame::conclude;
 use rst_outside::{Shelf, Sink, Source};
 use std::alloc::{AllocError, Global};
-use verdict_line::VerdictLine;
+use verdict_line::{Counting, VerdictLine};
 
 /// Runs `check`: reads the points of a file, then judges an answer as it comes from the input, and prints the line of
 /// the verdict. Gives the status that the program ends with. Memory is taken before the input is touched alone.
@@ -47,7 +47,10 @@ fn verdict_on<I: Source, S: Shelf>(
         (readable (I.state input.old) (S.state shelf.old)) (readable (I.state input.new) (S.state shelf.new)) }
 {
     match judge(alloc, points_name, input, shelf)? {
-        Ok(judgement) => Ok(Ok(judgement.judged.line)),
+        Ok(judgement) => Ok(Ok(VerdictLine {
+            counting: Counting::FromZero,
+            ruling: judgement.judged.ruling,
+        })),
         Err(fault) => Ok(Err(fault)),
     }
 }

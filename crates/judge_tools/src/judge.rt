@@ -6,13 +6,14 @@ ghost use Rattle.frame.specs.Leaves.{LeavesFiles};
 ghost use Rattle.judge_tools.specs.Judging.{FindsJudgement};
 ghost use Rattle.judge_tools.specs.Check.{check_fault_text, check_fault_status};
 
-use crate::judging::{Judged, judge_input};
+use cert_check::Subject;
 use frame::{Fault, FaultStatus, InputFault, PointsFault, TEXT_LIMIT, read_points_file};
 use hanan_grid::Grid;
 use rst_outside::{Shelf, Sink, Source};
 use std::alloc::{AllocError, Global};
 use std::marker::Brand;
 use text_out::Block;
+use verdict_line::{Judged, judge_input};
 
 /// The greatest number of bytes of an answer that is judged.
 pub const ANSWER_LIMIT: u64 = (1 << 32) - 1;
@@ -71,7 +72,9 @@ pub(crate) fn judge<I: Source, S: Shelf>(
         Ok(grid) => grid,
         Err(fault) => return Ok(Err(CheckFault::Points(fault))),
     };
-    match judge_input::<Brand, I>(alloc, &grid, input)? {
+    let terminals = grid.points().len();
+    prove!(terminals <= 50);
+    match judge_input::<Brand, I>(alloc, Subject::OnGrid(&grid), input, ANSWER_LIMIT)? {
         Ok(judged) => Ok(Ok(Judgement { grid, judged })),
         Err(fault) => Ok(Err(CheckFault::Input(fault))),
     }

@@ -3,7 +3,6 @@
 
 mod checking;
 mod judge;
-mod judging;
 mod picture;
 mod plotting;
 mod upgrading;

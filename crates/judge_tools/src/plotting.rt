@@ -11,12 +11,12 @@ ghost use Rattle.judge_tools.specs.Plot.{Plots, EndsPlot, plot_fault_text, plot_
 
 use crate::judge::{CheckFault, judge};
 use crate::picture::Picture;
-use cert_check::Cause;
+use cert_check::{Cause, Ruling};
 use frame::{Fault, FaultStatus, conclude};
 use rst_outside::{Shelf, Sink, Source};
 use std::alloc::{AllocError, Global};
 use text_out::Block;
-use verdict_line::{VerdictLine, write_refusal};
+use verdict_line::write_refusal;
 
 /// Why `plot` refuses.
 #[derive(Clone, Copy, Debug, PartialEq, Eq)]
@@ -86,11 +86,11 @@ fn picture_of<I: Source, S: Shelf>(
         Ok(judgement) => judgement,
         Err(fault) => return Ok(Err(PlotFault::Unjudged(fault))),
     };
-    match judgement.judged.line {
-        VerdictLine::Accepted { .. } => Ok(Ok(Picture {
+    match judgement.judged.ruling {
+        Ruling::Accepted { .. } => Ok(Ok(Picture {
             grid: judgement.grid,
             network: judgement.judged.network,
         })),
-        VerdictLine::Refused(cause) => Ok(Err(PlotFault::Refused(cause))),
+        Ruling::Refused(cause) => Ok(Err(PlotFault::Refused(cause))),
     }
 }

@@ -29,9 +29,9 @@ use Rattle.search_tools.specs.Solve.{Solves, EndsSolve}
 use Rattle.judge_tools.specs.declared.judge.TheConstants.{ANSWER_LIMIT}
 use Rattle.judge_tools.specs.declared.judge.CheckFault.{CheckFault}
 use Rattle.judge_tools.specs.declared.judge.CheckFault.TheVariants as check_fault
-use Rattle.verdict_line.specs.declared.line.VerdictLine.{VerdictLine}
-use Rattle.verdict_line.specs.declared.line.VerdictLine.TheVariants as said
-use Rattle.verdict_line.specs.Verdicts.{line_status}
+use Rattle.cert_check.specs.declared.verdict.Ruling.{Ruling}
+use Rattle.cert_check.specs.declared.verdict.Ruling.TheVariants as said
+use Rattle.verdict_line.specs.Verdicts.{ruling_status}
 use Rattle.judge_tools.specs.declared.plotting.PlotFault.{PlotFault}
 use Rattle.judge_tools.specs.declared.plotting.PlotFault.TheVariants as plot_fault
 use Rattle.judge_tools.specs.Check.{Checks, EndsCheck, check_fault_text, check_fault_status}
@@ -87,8 +87,8 @@ check_faultless name before after points bytes ps file lists has (check_fault.Po
 check_faultless name before after points bytes ps file lists has (check_fault.Input fault) (grid, is) =
     input_is_taken ANSWER_LIMIT before.input after.input bytes fault has is
 
--- The status of a line is 0 or 1.
-pub zero_or_one : (line : VerdictLine) (status : ℕ) → status ≡ answer_code (line_status line) → (status ≡ 0) ⊎ (status ≡ 1)
+-- The status of a verdict is 0 or 1.
+pub zero_or_one : (ruling : Ruling) (status : ℕ) → status ≡ answer_code (ruling_status ruling) → (status ≡ 0) ⊎ (status ≡ 1)
 zero_or_one (said.Accepted length bound optimal) status is = inl is
 zero_or_one (said.Refused cause) status is = inr is
 
@@ -97,8 +97,8 @@ check_completes name before after status ends = λ points bytes ps file lists ha
     elim (complete_ends check_fault_status check_fault_text (codes "check") (Checks name) LeavesFiles before after status
     (check_faultless name before.read after.read points bytes ps file lists has) writes ends.ends) [
       | inl seven ↦ inr seven
-      | inr (print, (qs, taken, f, line, checked, tells, of_line), answers) ↦
-          inl (zero_or_one line status (answers ∙ ap (λ (p : Print). answer_code p.status) of_line))
+      | inr (print, (qs, taken, f, ruling, checked, tells, of_line), answers) ↦
+          inl (zero_or_one ruling status (answers ∙ ap (λ (p : Print). answer_code p.status) of_line))
     ]
 
 -- such a file and an input that is accepted for its points have none

@@ -22,7 +22,7 @@ use Rattle.graph_inputs.specs.declared.text_fault.GraphTextFault.{GraphTextFault
 use Rattle.graph_inputs.specs.Reading.{IsTaskText, ReadsGraph, TaskHasNoFault, graph_fault_text, graph_fault_status}
 use Rattle.graph_tools.specs.FoundLaws.{found_faultless}
 use Rattle.graph_tools.specs.Solve.{EndsGraph, PrintsAnswer, SolvesGraph}
-use Rattle.graph_tools.specs.Check.{ChecksGraph, EndsCheckgraph, checkgraph_fault_text, checkgraph_fault_status, line_of}
+use Rattle.graph_tools.specs.Check.{ChecksGraph, EndsCheckgraph, checkgraph_fault_text, checkgraph_fault_status}
 use Rattle.search_rules.specs.declared.options.GraphOptions.{GraphOptions}
 use Rattle.requests.specs.Requests.Request.{Graph, Checkgraph}
 use Rattle.suite.specs.Complete.{Completes}
@@ -61,8 +61,8 @@ pub checkgraph_completes : TaskHasNoFault → (name : List ℕ) (before after : 
 checkgraph_completes law name before after status ends = λ text bytes file has task input writes.
     elim (complete_ends checkgraph_fault_status checkgraph_fault_text (codes "checkgraph") (ChecksGraph name)
     LeavesFiles before after status
-    (checkgraph_faultless law name before.read after.read text bytes file has task input) writes ends) [
+    (checkgraph_faultless law name before.read after.read text bytes file has task input) writes ends.ends) [
       | inl seven ↦ inr seven
-      | inr (print, (other, taken, v, checked, of_line), answers) ↦
-          inl (zero_or_one (line_of v).line status (answers ∙ ap (λ (p : Print). answer_code p.status) of_line))
+      | inr (print, (other, taken, f, ruling, checked, tells, of_line), answers) ↦
+          inl (zero_or_one ruling status (answers ∙ ap (λ (p : Print). answer_code p.status) of_line))
     ]

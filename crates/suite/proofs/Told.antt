@@ -85,9 +85,9 @@ bb_printed search before after status s is ends =
 check_told : (name : List ℕ) (before after : Outside) (status : ℕ) (s : AnswerStatus) → status ≡ answer_code s → EndsCheck name before after status →
     ChecksTruly name before after status
 check_told name before after status s is ends =
-    let (print, (ps, bytes, f, line, checked, tells, of_line), printed) =
+    let (print, (ps, bytes, f, ruling, checked, tells, of_line), printed) =
     printed_ends check_fault_status check_fault_text (codes "check") (Checks name) LeavesFiles before after status s is ends.ends in
-    checks_truly name before after ps bytes f line status tells checked
+    checks_truly name before after ps bytes f ruling status tells checked
     (subst (λ (p : Print). Appended before.written.out.taken p.text after.written.out.taken) of_line printed.wrote.appended)
     (printed.ends ∙ ap (λ (p : Print). answer_code p.status) of_line)
 
@@ -125,10 +125,10 @@ graph_printed options before after status s is ends =
 checkgraph_told : (name : List ℕ) (before after : Outside) (status : ℕ) (s : AnswerStatus) → status ≡ answer_code s →
     EndsCheckgraph name before after status → ChecksGraphTruly name before after status
 checkgraph_told name before after status s is ends =
-    let (print, (file, bytes, v, checked, of_line), printed) =
+    let (print, (file, bytes, f, ruling, checked, tells, of_line), printed) =
     printed_ends checkgraph_fault_status checkgraph_fault_text (codes "checkgraph") (ChecksGraph name) LeavesFiles
-    before after status s is ends in
-    checks_graph_truly name before after file bytes v status checked
+    before after status s is ends.ends in
+    checks_graph_truly name before after file bytes f ruling status tells checked
     (subst (λ (p : Print). Appended before.written.out.taken p.text after.written.out.taken) of_line
     printed.wrote.appended)
     (printed.ends ∙ ap (λ (p : Print). answer_code p.status) of_line)

@@ -1,1 +1,5 @@
 pub mod Verdicts
+pub mod Judging
+pub mod Truth
+pub mod TruthLaws
+pub mod UnreadLaws

@@ -3,14 +3,12 @@ use Rattle.std.specs.Prelude.{ℕ, ◌+◌, Bool, List, ◌++◌, codes, decimal
 use Rattle.cut_cert.specs.Text.{status_word}
 use Rattle.tree_judge.specs.declared.cause.Cause.{Cause}
 use Rattle.tree_judge.specs.declared.cause.Cause.TheVariants.{NotAnswer, OffGrid, OffGridVertex, EdgeOrder, NotJoined, WrongLength, Decided, DecidedVertex, TooDeep, RootInCut, IdleCut, Overload, WrongBound, WrongStatus}
-use Rattle.cert_check.specs.declared.verdict.Verdict.{Verdict}
-use Rattle.cert_check.specs.declared.verdict.Verdict.TheVariants as verdict
+use Rattle.cert_check.specs.declared.verdict.Ruling.{Ruling}
+use Rattle.cert_check.specs.declared.verdict.Ruling.TheVariants.{Accepted, Refused}
 use Rattle.frame.specs.declared.status.AnswerStatus.{AnswerStatus}
 use Rattle.frame.specs.declared.status.AnswerStatus.TheVariants as ends
 use Rattle.frame.specs.Ends.{Print}
 use Rattle.verdict_line.specs.declared.line.VerdictLine.{VerdictLine}
-use Rattle.verdict_line.specs.declared.line.VerdictLine.TheVariants.{Accepted, Refused}
-use Rattle.verdict_line.specs.declared.graph_line.GraphVerdictLine.{GraphVerdictLine}
 use Rattle.verdict_line.specs.declared.counting.Counting.{Counting}
 use Rattle.verdict_line.specs.declared.counting.Counting.TheVariants.{FromZero, FromOne}
 
@@ -78,33 +76,21 @@ refused_line_by counting cause = refusal_by counting cause ++ codes "\n"
 abbrev pub refusal : Cause → List ℕ
 refusal = refusal_by FromZero
 
--- the verdict that a line tells
-abbrev pub verdict_told : VerdictLine → Verdict
-verdict_told (Accepted length bound optimal) = verdict.Accepted length bound optimal
-verdict_told (Refused cause) = verdict.Refused cause
-
--- the text of a line, and the status that the tool ends with
-abbrev pub line_text_by : Counting → VerdictLine → List ℕ
+-- the text of a line, with edges and vertices so counted, and the status that the tool ends with
+abbrev pub line_text_by : Counting → Ruling → List ℕ
 line_text_by counting (Accepted length bound optimal) = accepted_line length bound optimal
 line_text_by counting (Refused cause) = refused_line_by counting cause
 
-abbrev pub line_status : VerdictLine → AnswerStatus
-line_status (Accepted length bound optimal) = ends.Done
-line_status (Refused cause) = ends.Refused
+abbrev pub ruling_status : Ruling → AnswerStatus
+ruling_status (Accepted length bound optimal) = ends.Done
+ruling_status (Refused cause) = ends.Refused
 
--- the text of a line for points, and what is printed of it
 abbrev pub line_text : VerdictLine → List ℕ
-line_text = line_text_by FromZero
+line_text line = line_text_by line.counting line.ruling
 
-abbrev pub line_print : VerdictLine → Print
-line_print line = record { text = line_text line; status = line_status line }
+abbrev pub line_status : VerdictLine → AnswerStatus
+line_status line = ruling_status line.ruling
 
--- the text of a line in the graph of an STP file, its status, and what is printed of it
-abbrev pub graph_line_text : GraphVerdictLine → List ℕ
-graph_line_text told = line_text_by FromOne told.line
-
-abbrev pub graph_line_status : GraphVerdictLine → AnswerStatus
-graph_line_status told = line_status told.line
-
-abbrev pub graph_line_print : GraphVerdictLine → Print
-graph_line_print told = record { text = graph_line_text told; status = graph_line_status told }
+-- what is printed of a verdict, with edges and vertices so counted
+abbrev pub line_print : Counting → Ruling → Print
+line_print counting ruling = record { text = line_text_by counting ruling; status = ruling_status ruling }

@@ -5,7 +5,7 @@ ghost use Rattle.verdict_line.specs.Verdicts.{counted};
 
 /// From which number the edges and the vertices count that a line tells.
 #[derive(Clone, Copy, Debug, PartialEq, Eq)]
-pub(crate) enum Counting {
+pub enum Counting {
     /// From 0, as in the grid of points.
     FromZero,
     /// From 1, as in an STP file.

@@ -1,11 +1,12 @@
-//! The line that tells the verdict on an answer, which the tools that judge print and end with.
+//! Judges an answer as it comes in, and tells the verdict in a line, which the tools that judge print and end with.
 #![tactic(auto)]
 
 mod cause;
 mod counting;
-mod graph_line;
+mod judging;
 mod line;
 
 pub use cause::write_refusal;
-pub use graph_line::GraphVerdictLine;
+pub use counting::Counting;
+pub use judging::{About, Judged, judge_input};
 pub use line::VerdictLine;

@@ -1,52 +1,25 @@
 //! The line of a verdict.
 
-ghost use Rattle.std.specs.Prelude.{◌≡◌, IfSome, IfNone};
 ghost use Rattle.rst_outside.specs.Sink.{Writes};
 ghost use Rattle.text_out.specs.Gathers.{Gathers};
-ghost use Rattle.verdict_line.specs.Verdicts.{accepted_line, refused_line_by, verdict_told};
+ghost use Rattle.verdict_line.specs.Verdicts.{accepted_line, refused_line_by};
 ghost use Rattle.verdict_line.specs.Verdicts.{line_text, line_text_by, line_status};
 
 use crate::cause::write_refusal_by;
 use crate::counting::Counting;
-use cert_check::{Cause, Verdict};
+use cert_check::{Cause, Ruling};
 use cut_cert::status_word;
 use frame::{Answer, AnswerStatus};
 use rst_outside::{PutFault, Sink};
 use text_out::{Block, finish, literal, number};
 
-/// The line of a verdict, where the answer isn't too long.
+/// The line of a verdict on an answer that isn't too long.
 #[derive(Clone, Copy, Debug, PartialEq, Eq)]
-pub enum VerdictLine {
-    /// The answer is accepted, and says this length, this bound and whether it is optimal.
-    Accepted {
-        length: u64,
-        bound: u64,
-        optimal: bool,
-    },
-    /// It is refused.
-    Refused(Cause),
-}
-
-impl VerdictLine {
-    /// The line that tells a verdict. None where the answer is too long.
-    pub fn of(verdict: Verdict) -> Option<VerdictLine>
-        ensures line { IfSome result (λ line. verdict ≡ verdict_told line) }
-        ensures none { IfNone result (verdict ≡ Verdict.TooLong) }
-    {
-        match verdict {
-            Verdict::Accepted {
-                length,
-                bound,
-                optimal,
-            } => Some(VerdictLine::Accepted {
-                length,
-                bound,
-                optimal,
-            }),
-            Verdict::Refused(cause) => Some(VerdictLine::Refused(cause)),
-            Verdict::TooLong => None,
-        }
-    }
+pub struct VerdictLine {
+    /// From which number edges and vertices count in the line.
+    pub counting: Counting,
+    /// What the line tells. In a cause edges and vertices count from 0, as everywhere but in the text.
+    pub ruling: Ruling,
 }
 
 impl Answer for VerdictLine {
@@ -59,43 +32,39 @@ impl Answer for VerdictLine {
     ghost told = { λ _. Unit {0} };
 
     fn status(&self) -> AnswerStatus {
-        match self {
-            VerdictLine::Accepted { .. } => AnswerStatus::Done,
-            VerdictLine::Refused(_) => AnswerStatus::Refused,
+        match self.ruling {
+            Ruling::Accepted { .. } => AnswerStatus::Done,
+            Ruling::Refused(_) => AnswerStatus::Refused,
         }
     }
 
     fn write<O: Sink>(&self, out: &mut O) -> Result<(), PutFault> {
-        write_whole(out, Counting::FromZero, *self)
+        write_whole(out, self.counting, self.ruling)
     }
 }
 
-/// Writes the line, with edges and vertices so counted. An `Err` says that the sink failed, and that the line was cut
-/// short.
+// Writes the line, with edges and vertices so counted. An `Err` says that the sink failed, and that the line was cut
+// short.
 #[tactic(auto, using(text_out::specs::GatherLaws::pieces))]
-pub(crate) fn write_whole<O: Sink>(
-    out: &mut O,
-    counting: Counting,
-    line: VerdictLine,
-) -> Result<(), PutFault>
-    ensures { Writes (O.state out.old) (line_text_by counting line) (O.state out.new) result }
+fn write_whole<O: Sink>(out: &mut O, counting: Counting, ruling: Ruling) -> Result<(), PutFault>
+    ensures { Writes (O.state out.old) (line_text_by counting ruling) (O.state out.new) result }
 {
     let mut block = Block::new();
-    write_line(&mut block, out, counting, line);
+    write_line(&mut block, out, counting, ruling);
     finish(block, out)
 }
 
 // The line, of which the last bytes wait in the block.
-fn write_line<O: Sink>(block: &mut Block, out: &mut O, counting: Counting, line: VerdictLine)
-    ensures { Gathers (O.state out.old) block.old (line_text_by counting line) (O.state out.new) block.new }
+fn write_line<O: Sink>(block: &mut Block, out: &mut O, counting: Counting, ruling: Ruling)
+    ensures { Gathers (O.state out.old) block.old (line_text_by counting ruling) (O.state out.new) block.new }
 {
-    match line {
-        VerdictLine::Accepted {
+    match ruling {
+        Ruling::Accepted {
             length,
             bound,
             optimal,
         } => write_accepted(block, out, length, bound, optimal),
-        VerdictLine::Refused(cause) => write_refused(block, out, counting, cause),
+        Ruling::Refused(cause) => write_refused(block, out, counting, cause),
     }
 }
 

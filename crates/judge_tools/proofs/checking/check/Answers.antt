@@ -5,7 +5,7 @@ use Rattle.frame.specs.Leaves.{LeavesFiles}
 use Rattle.frame.specs.EndLaws.{ends_with}
 use Rattle.verdict_line.specs.Verdicts.{line_text, line_status}
 use Rattle.judge_tools.specs.Check.{Checks, check_fault_text, check_fault_status}
-use Rattle.judge_tools.proofs.Verdict.{without_memory}
+use Rattle.verdict_line.specs.UnreadLaws.{without_memory}
 use Rattle.judge_tools.proofs.checking.check.Goals as goal
 
 pub returns : goal.returns

@@ -5,7 +5,7 @@ use Rattle.frame.specs.Leaves.{LeavesFiles}
 use Rattle.frame.specs.EndLaws.{ends_with}
 use Rattle.judge_tools.specs.Pictures.{picture_text, picture_status}
 use Rattle.judge_tools.specs.Plot.{Plots, plot_fault_text, plot_fault_status}
-use Rattle.judge_tools.proofs.Verdict.{without_memory}
+use Rattle.verdict_line.specs.UnreadLaws.{without_memory}
 use Rattle.judge_tools.proofs.plotting.plot.Goals as goal
 
 pub returns : goal.returns

@@ -1,9 +1,9 @@
 use Rattle.std.proofs.Common.{arith}
-use Rattle.cert_check.proofs.checker.Checker.in_graph.Goals as goal
+use Rattle.cert_check.proofs.subject.Subject.reader.Goals as goal
 
 -- a graph has a terminal, and that is one of its vertices
-pub of_graph-reader-requires-clause-some : goal.of_graph-reader-requires-clause-some
-of_graph-reader-requires-clause-some c =
+pub of_graph-requires-clause-some : goal.of_graph-requires-clause-some
+of_graph-requires-clause-some c =
     let is = c.edge_count.ensures.graph in
     let below = is.terminals 0 0 is.terminal in
     omega (arith, below)

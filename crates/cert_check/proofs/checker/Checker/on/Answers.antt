@@ -1,12 +1,12 @@
 use Rattle.std.proofs.Common.{[], arith}
 use Rattle.std.proofs.lemmas.Grind.{merely}
-use Rattle.cert_check.proofs.checker.Checker.over.Goals as goal
+use Rattle.cert_check.proofs.checker.Checker.on.Goals as goal
 
 pub invariant_of-result : goal.invariant_of-result
 invariant_of-result c = record {
   underway = record {
     sizes = c.judge_on.ensures.sizes;
-    few = omega (arith, c.requires.reads.count);
-    reads = merely ([], [], c.requires.reads);
+    few = omega (arith, c.reader.ensures.count);
+    reads = merely ([], [], c.reader.ensures);
   };
 }
