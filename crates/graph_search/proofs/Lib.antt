@@ -1,2 +1,3 @@
 pub mod SearchedLaws
 pub mod SplitLemmas
+pub mod ChainLemmas

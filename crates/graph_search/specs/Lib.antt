@@ -1,6 +1,7 @@
 pub mod Kinds
 pub mod Plans
 pub mod Searched
+pub mod Chains
 pub mod Answering
 pub mod TreeLaws
 pub mod AnsweringLaws

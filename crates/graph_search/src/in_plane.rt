@@ -44,8 +44,8 @@ const SPLITTING: Splitting = Splitting {
 };
 
 impl<'a> Exchanges<'a> {
-    /// Exchanges on the ground of a graph as they fit one that can be drawn in the plane, of which the cheapest cuts are
-    /// found fast.
+    /// Exchanges on the ground of a graph as they fit one that can be drawn in the plane, of which the cheapest cuts
+    /// are found fast.
     pub fn in_plane(graph: &'a NetGraph, ground: &'a Ground) -> Exchanges<'a>
         ensures { result.graph.now ≡ graph.now }
     {

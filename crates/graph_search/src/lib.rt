@@ -3,6 +3,7 @@
 #![tactic(auto)]
 
 mod answering;
+mod chains;
 mod exchanging;
 mod guiding;
 mod in_plane;

@@ -7,6 +7,7 @@ ghost use Rattle.branch.specs.States.{IsNetworkOf};
 ghost use Rattle.graph_search.specs.Kinds.{kind_of};
 ghost use Rattle.graph_search.specs.Searched.{IsTold};
 
+use crate::chains::closed_by_chains;
 use crate::raising::Raising;
 use branch::{Search, Solved, SplitKind};
 use dual_ascent::{Candidate, Chooser, Rule};
@@ -88,5 +89,7 @@ fn searched_by<F: Rule, G: Rule, A: Raising>(
         kind,
     )?;
     raising.raise(alloc, &mut search, openings)?;
-    search.solve(openings)
+    let first = search.tree().packing(0).copy()?;
+    let solved = search.solve(openings)?;
+    closed_by_chains(alloc, g, solved, first, kind, openings)
 }

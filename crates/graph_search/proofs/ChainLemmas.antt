@@ -1,0 +1,131 @@
+-- Searches by chains.
+use Rattle.std.proofs.Common.{ℕ, zero, suc, ◌≡◌, ◌+◌, ◌≤◌, Bool, List, true, false, refl, sym, ap, ◌∙◌, subst, arith}
+use Rattle.net_graph.specs.Graph.{Graph}
+use Rattle.net_graph.specs.Network.{length_of}
+use Rattle.cert_tree.specs.Preorder.{split_count}
+use Rattle.cert_tree.specs.declared.split.SplitOn.{SplitOn}
+use Rattle.cert_tree.specs.Tree.{Tree}
+use Rattle.branch.specs.declared.solved.Solved.{Solved}
+use Rattle.branch.specs.declared.split_kind.SplitKind.{SplitKind}
+use Rattle.branch.specs.declared.split_kind.SplitKind.TheVariants as kind
+use Rattle.branch.specs.declared.step.Step.{Step}
+use Rattle.branch.specs.declared.step.Step.TheVariants as step
+use Rattle.branch.specs.KindLaws.{leaf_splits_vertices}
+use Rattle.branch.specs.PlainOpenings.{LeadsInOpenings, LeadsByOpenings}
+use Rattle.branch.specs.RunLaws.{EndsRunOfOpenings-longer}
+use Rattle.branch.specs.Runs.{EndsRunOfOpenings}
+use Rattle.branch.specs.Searching.{SearchState, TakesStep, OpensTo}
+use Rattle.branch.specs.Solving.{IsSolved}
+use Rattle.graph_search.specs.Chains.{IsAhead, IsFoundByChains}
+use Rattle.graph_search.specs.Searched.{EndsByKind, IsTold}
+use Rattle.graph_search.proofs.SearchedLaws.{told}
+
+-- openings and then others are openings
+leads_on : (asked : SplitKind) (g : Graph) (network : List Bool) (tree : Tree SplitOn) (n : ℕ) (middle : List Bool)
+    (middle_tree : Tree SplitOn) (m : ℕ) (later : List Bool) (later_tree : Tree SplitOn) →
+    LeadsInOpenings asked g network tree n middle middle_tree →
+    LeadsInOpenings asked g middle middle_tree m later later_tree → LeadsByOpenings asked g network tree later later_tree
+leads_on asked g network tree n middle middle_tree zero later later_tree first (same, same_tree) = (
+  n,
+  subst (λ (t : Tree SplitOn). LeadsInOpenings asked g network tree n later t) (sym same_tree)
+      (subst (λ (set : List Bool). LeadsInOpenings asked g network tree n set middle_tree) (sym same) first),
+)
+leads_on asked g network tree n middle middle_tree (suc m) later later_tree first (before, before_tree, rest, plain) =
+    let (count, leads) = leads_on asked g network tree n middle middle_tree m before before_tree first rest in
+    (suc count, (before, before_tree, leads, plain))
+
+pub ahead_refl : (s : SearchState) → IsAhead s s
+ahead_refl s = record {
+  graph = refl;
+  kind = refl;
+  first_length = refl;
+  leads = (0, (refl, refl));
+}
+
+pub ahead_trans : (first middle last : SearchState) → IsAhead first middle → IsAhead middle last → IsAhead first last
+ahead_trans first middle last one other =
+    let rest : LeadsByOpenings first.kind first.graph middle.network middle.tree last.network last.tree =
+    subst (λ (g : Graph). LeadsByOpenings first.kind g middle.network middle.tree last.network last.tree) one.graph
+    (subst (λ (k : SplitKind). LeadsByOpenings k middle.graph middle.network middle.tree last.network last.tree)
+    one.kind other.leads) in record {
+      graph = other.graph ∙ one.graph;
+      kind = other.kind ∙ one.kind;
+      first_length = other.first_length ∙ one.first_length;
+      leads = leads_on first.kind first.graph first.network first.tree one.leads.0 middle.network middle.tree rest.0
+          last.network last.tree one.leads.1 rest.1;
+    }
+
+-- a step of a search leads on
+pub step_ahead : (old new : SearchState) (taken : Step) → TakesStep old new taken → IsAhead old new
+step_ahead old new step.Settled (settled, same) = subst (IsAhead old) (sym same) (ahead_refl old)
+step_ahead old new step.Split opens = record {
+  graph = opens.graph;
+  kind = opens.kind;
+  first_length = opens.first_length;
+  leads = (1, (old.network, old.tree, (refl, refl), opens.opening));
+}
+
+-- and makes at most one split
+pub step_few : (old new : SearchState) (taken : Step) → TakesStep old new taken →
+    split_count new.tree ≤ split_count old.tree + 1
+step_few old new step.Settled (settled, same) =
+    let count : split_count new.tree ≡ split_count old.tree = ap (λ (s : SearchState). split_count s.tree) same in
+    omega arith
+step_few old new step.Split opens = let count = opens.splits in omega (arith, count)
+
+module _ (g : Graph) (first later : ℕ) (longer : first ≤ later) where
+  solved_longer : (s : Solved) → IsSolved g first s → IsSolved g later s
+  solved_longer s holds = record holds {
+    no_longer = let short = holds.no_longer in omega (arith, short, longer);
+    run = EndsRunOfOpenings-longer g first later s.network s.tree longer holds.run;
+  }
+
+  by_kind_longer : (asked : SplitKind) (network : List Bool) (tree : Tree SplitOn) →
+      EndsByKind g asked first network tree → EndsByKind g asked later network tree
+  by_kind_longer asked network tree ends = record ends {
+    run = EndsRunOfOpenings-longer g first later ends.before ends.before_tree longer ends.run;
+  }
+
+-- What closes by chains is told as it is, in place of what was stopped.
+pub chains_told : (g : Graph) (asked : SplitKind) (openings first_length : ℕ) (stopped found : Solved) →
+    asked ≡ kind.Edges → IsTold g asked openings first_length stopped →
+    IsFoundByChains g (length_of g stopped.network) openings found → found.optimal ≡ true →
+    IsTold g asked openings first_length found
+chains_told g asked openings first_length stopped found edges was is optimal =
+    let short : length_of g stopped.network ≤ first_length =
+    (let no_longer = was.no_longer in let same = was.length in omega (arith, no_longer, same)) in
+    let ends = by_kind_longer g (length_of g stopped.network) first_length short kind.Edges found.network found.tree is.by_kind in
+    told g asked openings first_length found
+    (solved_longer g (length_of g stopped.network) first_length short found is.solved) is.few
+    (λ no. let never : true ≡ false = sym optimal ∙ no in absurd never)
+    (subst (λ (k : SplitKind). EndsByKind g k first_length found.network found.tree) (sym edges) ends)
+
+-- What a search found that was ahead of a leaf.
+pub found_by_chains : (g : Graph) (first_length openings : ℕ) (leaf last : SearchState) (found : Solved) →
+    leaf.graph ≡ g → leaf.kind ≡ kind.Edges → leaf.first_length ≡ first_length → split_count leaf.tree ≡ 0 →
+    EndsRunOfOpenings leaf.graph leaf.first_length leaf.network leaf.tree → IsAhead leaf last →
+    split_count last.tree ≤ openings → found.network ≡ last.network → found.tree ≡ last.tree →
+    IsSolved last.graph last.first_length found → IsFoundByChains g first_length openings found
+found_by_chains g first_length openings leaf last found graph edges first none run ahead few network tree solved =
+    let run_in : EndsRunOfOpenings g first_length leaf.network leaf.tree =
+    subst (λ (h : Graph). EndsRunOfOpenings h first_length leaf.network leaf.tree) graph
+    (subst (λ (n : ℕ). EndsRunOfOpenings leaf.graph n leaf.network leaf.tree) first run) in
+    let solved_in : IsSolved g first_length found =
+    subst (λ (h : Graph). IsSolved h first_length found) (ahead.graph ∙ graph)
+    (subst (λ (n : ℕ). IsSolved last.graph n found) (ahead.first_length ∙ first) solved) in
+    let leads : LeadsByOpenings kind.Edges g leaf.network leaf.tree last.network last.tree =
+    subst (λ (h : Graph). LeadsByOpenings kind.Edges h leaf.network leaf.tree last.network last.tree) graph
+    (subst (λ (k : SplitKind). LeadsByOpenings k leaf.graph leaf.network leaf.tree last.network last.tree) edges ahead.leads) in
+    record {
+      solved = solved_in;
+      few = subst (λ (t : Tree SplitOn). split_count t ≤ openings) (sym tree) few;
+      by_kind = record {
+        before = leaf.network;
+        before_tree = leaf.tree;
+        run = run_in;
+        vertices = leaf_splits_vertices leaf.tree none;
+        plain =
+            subst (λ (t : Tree SplitOn). LeadsByOpenings kind.Edges g leaf.network leaf.tree found.network t) (sym tree)
+            (subst (λ (set : List Bool). LeadsByOpenings kind.Edges g leaf.network leaf.tree set last.tree) (sym network) leads);
+      };
+    }

@@ -1,0 +1,214 @@
+//! Searches that close one child of nearly each split, so that their splits are a chain, for graphs in which whole
+//! weights leave no packing to make anew.
+
+ghost use Rattle.std.specs.Prelude.{ℕ, ◌≡◌, ◌+◌, ◌<◌, ◌≤◌, length, IfOk};
+ghost use Rattle.net_graph.specs.Network.{length_of};
+ghost use Rattle.dual_ascent.specs.Choosing.{IsCallableOnSome, AnswersAPlace};
+ghost use Rattle.cert_tree.specs.Preorder.{split_count};
+ghost use Rattle.branch.specs.States.{IsNetworkOf};
+ghost use Rattle.graph_search.specs.Chains.{IsAhead, IsFoundByChains};
+ghost use Rattle.graph_search.specs.Searched.{IsTold};
+
+use branch::{Search, Solved, SplitKind, Step};
+use dual_ascent::{Candidate, Chooser, Rule};
+use net_graph::{Decision, EdgeSet, NetGraph, Packing, feasible, length};
+use std::alloc::{AllocError, Global};
+use std::cell::Cell;
+use strong_branching::{Draws, choose, drawn_again, drawn_place, is_of, place_of};
+
+// So many arcs are looked at, which takes some seconds.
+const MOST_ARCS: u64 = 4_000_000;
+
+const SEED: u64 = 20240610;
+
+// What the rules of a search by chains go by: the edge that is split on next, and the seed of the order in which the
+// ascents of both children take their candidates.
+#[derive(Drop)]
+struct Next {
+    edge: Cell<u32>,
+    seed: Cell<u64>,
+}
+
+/// What a search by chains finds that closes, where one does; else what is given, which is so as well where it is
+/// optimal, where splits are on vertices, or where its length is that of a packing that could be made anew. Each search
+/// begins with the network of what is given, and with a packing like the given one. An `Err` is want of memory.
+pub(crate) fn closed_by_chains(
+    alloc: Global,
+    graph: &NetGraph,
+    stopped: Solved,
+    first: Packing,
+    kind: SplitKind,
+    openings: u8,
+) -> Result<Solved, AllocError>
+    requires { IsNetworkOf graph.now stopped.network }
+    ensures { (first_length : ℕ) → IsTold graph.now kind openings first_length stopped
+        → IfOk result (IsTold graph.now kind openings first_length) }
+{
+    let is_light = stopped.length <= 2 * u64::from(graph.edge_count());
+    if stopped.optimal || kind == SplitKind::Vertices || !is_light {
+        return Ok(stopped);
+    }
+    let mut draws = Draws::new(SEED, MOST_ARCS);
+    let mut first = first;
+    for _ in 0..MOST_ARCS {
+        let network = stopped.network.copy()?;
+        let found = search(alloc, graph, network, first.copy()?, openings, &mut draws)?;
+        if found.optimal {
+            return Ok(found);
+        }
+        if draws.is_spent() {
+            break;
+        }
+        first = drawn_again(alloc, graph, first, &mut draws)?;
+    }
+    Ok(stopped)
+}
+
+// What a search by chains finds that begins with a network and a packing. An `Err` is want of memory.
+fn search(
+    alloc: Global,
+    graph: &NetGraph,
+    network: EdgeSet,
+    first: Packing,
+    openings: u8,
+    draws: &mut Draws,
+) -> Result<Solved, AllocError>
+    requires { IsNetworkOf graph.now network }
+    ensures { IfOk result (IsFoundByChains graph.now (length_of graph.now network) openings) }
+{
+    let next = Next {
+        edge: Cell::new(0),
+        seed: Cell::new(draws.seed()),
+    };
+    search_by(
+        alloc,
+        graph,
+        network,
+        first,
+        openings,
+        draws,
+        &next,
+        |list: &[Candidate]| -> usize
+            requires { 0 < length list.now }
+            ensures { result < length list.now }
+        { drawn_place(next.seed.get(), list) },
+        |list: &[Candidate]| -> usize
+            requires { 0 < length list.now }
+            ensures { result < length list.now }
+        { place_of(next.edge.get(), list) },
+    )
+}
+
+// The same by rules that go by what is next.
+fn search_by<F: Rule, G: Rule>(
+    alloc: Global,
+    graph: &NetGraph,
+    network: EdgeSet,
+    first: Packing,
+    openings: u8,
+    draws: &mut Draws,
+    next: &Next,
+    ascent: F,
+    split: G,
+) -> Result<Solved, AllocError>
+    requires network { IsNetworkOf graph.now network }
+    requires ascent_callable { IsCallableOnSome (F.may_choose ascent) }
+    requires ascent_place { AnswersAPlace (F.chooses ascent) }
+    requires split_callable { IsCallableOnSome (G.may_choose split) }
+    requires split_place { AnswersAPlace (G.chooses split) }
+    ensures { IfOk result (IsFoundByChains graph.now (length_of graph.now network) openings) }
+{
+    let mut search = Search::start(
+        alloc,
+        graph,
+        network,
+        Chooser::new(ascent),
+        Chooser::new(split),
+        SplitKind::Edges,
+    )?;
+    raise(alloc, graph, &mut search, first)?;
+    let _made = search.splits();
+    split_in_turn(alloc, graph, &mut search, openings, draws, next)?;
+    Ok(search.finish())
+}
+
+// Raises a search by a packing, where it is feasible and has few cuts. An `Err` is want of memory.
+fn raise<F: Rule, G: Rule>(
+    alloc: Global,
+    graph: &NetGraph,
+    search: &mut Search<'_, F, G>,
+    first: Packing,
+) -> Result<(), AllocError>
+    requires graph { graph.now ≡ search.old.graph }
+    requires leaf { split_count search.old.tree ≡ 0 }
+    ensures graph { search.new.graph ≡ search.old.graph }
+    ensures kind { search.new.kind ≡ search.old.kind }
+    ensures first { search.new.first_length ≡ search.old.first_length }
+    ensures leaf { split_count search.new.tree ≡ 0 }
+{
+    let none = Decision::none(alloc, graph)?;
+    if first.len() <= 2 * graph.edge_count() as usize
+        && is_of(graph, &first)
+        && feasible(graph, &none, &first)
+    {
+        search.raise(first)?;
+    }
+    Ok(())
+}
+
+// Makes splits as strong branching chooses, at most so many. An `Err` is want of memory.
+fn split_in_turn<F: Rule, G: Rule>(
+    alloc: Global,
+    graph: &NetGraph,
+    search: &mut Search<'_, F, G>,
+    openings: u8,
+    draws: &mut Draws,
+    next: &Next,
+) -> Result<(), AllocError>
+    requires graph { graph.now ≡ search.old.graph }
+    requires leaf { split_count search.old.tree ≡ 0 }
+    ensures ahead { IsAhead search.old search.new }
+    ensures few { split_count search.new.tree ≤ openings }
+{
+    for _made in 0..openings {
+        if draws.is_spent() || !split_next(alloc, graph, search, draws, next)? {
+            break;
+        }
+    }
+    Ok(())
+}
+
+// Splits the leaf that is open next as strong branching chooses; whether it was. An `Err` is want of memory.
+fn split_next<F: Rule, G: Rule>(
+    alloc: Global,
+    graph: &NetGraph,
+    search: &mut Search<'_, F, G>,
+    draws: &mut Draws,
+    next: &Next,
+) -> Result<bool, AllocError>
+    requires graph { graph.now ≡ search.old.graph }
+    requires few { split_count search.old.tree < 255 }
+    ensures ahead { IsAhead search.old search.new }
+    ensures few { split_count search.new.tree ≤ split_count search.old.tree + 1 }
+{
+    let Some(leaf) = search.next_open() else {
+        return Ok(false);
+    };
+    let network = search.network();
+    let chosen = choose(
+        alloc,
+        graph,
+        search.decision(leaf),
+        search.tree().packing(leaf),
+        network,
+        length(graph, network),
+        draws,
+    )?;
+    let Some(choice) = chosen else {
+        return Ok(false);
+    };
+    next.edge.set(choice.edge);
+    next.seed.set(choice.seed);
+    let step = search.split_one()?;
+    Ok(step == Step::Split)
+}

@@ -1,0 +1,138 @@
+//! What a leaf is split on where both children of each candidate are bounded first (strong branching, after Applegate,
+//! Bixby, Chvátal and Cook 1995).
+
+ghost use Rattle.std.specs.Prelude.{◌≡◌, length};
+ghost use Rattle.net_graph.specs.Decision.{IsDecisionFor, IsUndecided};
+ghost use Rattle.strong_branching.specs.Leaf.{IsLeafOf};
+
+use crate::draws::Draws;
+use crate::leaf::Leaf;
+use crate::relevant::relevant_arcs;
+use crate::sizes::is_of;
+use branch::saturated_network;
+use dual_ascent::{ReducedCosts, maximal};
+use net_graph::{Decision, EdgeSet, EdgeState, NetGraph, Packing, feasible};
+use std::alloc::{AllocError, Global};
+
+// So many orders are drawn for the ascents of each candidate's children.
+const ORDERS: u8 = 2;
+
+// Behind so many candidates a good one is enough.
+const ENOUGH: u32 = 16;
+
+/// What a leaf is split on, and the seed of the order of both children's ascents.
+#[derive(Clone, Copy, Debug)]
+pub struct Choice {
+    /// The edge, by its number.
+    pub edge: u32,
+    /// The seed.
+    pub seed: u64,
+}
+
+// The best choice so far.
+#[derive(Clone, Copy)]
+struct Best {
+    choice: Option<Choice>,
+    worth: i64,
+    is_good: bool,
+    candidates: u32,
+}
+
+/// The undecided edge of a leaf's own network, and the order of the ascents of both children, that leave least open:
+/// worth most is what closes one child and brings the other one closer to its end. Edges of the network that is known
+/// come first, and where one is good not all others are looked at. `None` where there is no such edge, or the leaf's
+/// packing isn't maximal. An `Err` is want of memory.
+pub fn choose(
+    alloc: Global,
+    graph: &NetGraph,
+    decision: &Decision,
+    packing: &Packing,
+    known: &EdgeSet,
+    aim: u64,
+    draws: &mut Draws,
+) -> Result<Option<Choice>, AllocError>
+    requires decision { IsDecisionFor graph.now decision.now }
+    requires known { length known.now ≡ length graph.now.edges }
+{
+    if !is_of(graph, packing)
+        || !feasible(graph, decision, packing)
+        || !maximal(alloc, graph, decision, packing)?
+    {
+        return Ok(None);
+    }
+    let costs = ReducedCosts::of(alloc, graph, decision, packing)?;
+    let own = saturated_network(alloc, graph, decision, packing)?;
+    let relevant = relevant_arcs(alloc, graph, decision, &costs)?;
+    let leaf = Leaf {
+        graph,
+        decision,
+        packing,
+        costs,
+        aim,
+        relevant,
+    };
+    let mut best = Best {
+        choice: None,
+        worth: 0,
+        is_good: false,
+        candidates: 0,
+    };
+    best.look_at(alloc, &leaf, &own, known, true, draws)?;
+    best.look_at(alloc, &leaf, &own, known, false, draws)?;
+    Ok(best.choice)
+}
+
+impl Best {
+    // Looks at the undecided edges of a leaf's own network that are in the known one, or at those that are not. An
+    // `Err` is want of memory.
+    fn look_at(
+        &mut self,
+        alloc: Global,
+        leaf: &Leaf<'_>,
+        own: &EdgeSet,
+        known: &EdgeSet,
+        is_known: bool,
+        draws: &mut Draws,
+    ) -> Result<(), AllocError>
+        requires leaf { IsLeafOf leaf.now }
+        requires own { length own.now ≡ length leaf.now.graph.now.edges }
+        requires known { length known.now ≡ length leaf.now.graph.now.edges }
+    {
+        let graph = leaf.graph;
+        for edge in 0..graph.edge_count() {
+            if self.is_good && self.candidates >= ENOUGH {
+                break;
+            }
+            let is_candidate = own.has(edge) && known.has(edge) == is_known;
+            if is_candidate && leaf.decision.state(graph, edge) == EdgeState::Undecided {
+                self.try_edge(alloc, leaf, edge, draws)?;
+            }
+        }
+        Ok(())
+    }
+
+    // Looks at an edge in some drawn orders. An `Err` is want of memory.
+    fn try_edge(
+        &mut self,
+        alloc: Global,
+        leaf: &Leaf<'_>,
+        edge: u32,
+        draws: &mut Draws,
+    ) -> Result<(), AllocError>
+        requires leaf { IsLeafOf leaf.now }
+        requires edge { IsUndecided leaf.now.graph.now leaf.now.decision.now edge }
+    {
+        self.candidates = self.candidates.wrapping_add(1);
+        for _ in 0..ORDERS {
+            let seed = draws.seed();
+            let (worth, is_good) = leaf.worth(alloc, edge, seed)?;
+            draws.spend(leaf.graph.edge_count());
+            if self.choice.is_none() || worth > self.worth {
+                self.choice = Some(Choice { edge, seed });
+                self.worth = worth;
+            }
+            self.is_good = self.is_good || is_good;
+        }
+        Ok(())
+    }
+}

@@ -1,0 +1,17 @@
+//! Splits on edges chosen by strong branching, for leaves whose whole weights leave no packing to make anew. What is
+//! chosen is proposed; nothing rests on it.
+#![tactic(auto)]
+
+mod choice;
+mod drawn_order;
+mod draws;
+mod first_packing;
+mod leaf;
+mod relevant;
+mod sizes;
+
+pub use choice::{Choice, choose};
+pub use drawn_order::{drawn_place, place_of};
+pub use draws::Draws;
+pub use first_packing::drawn_again;
+pub use sizes::is_of;
