@@ -75,15 +75,27 @@ step_few old new step.Split opens = let count = opens.splits in omega (arith, co
 
 module _ (g : Graph) (first later : ℕ) (longer : first ≤ later) where
   solved_longer : (s : Solved) → IsSolved g first s → IsSolved g later s
-  solved_longer s holds = record holds {
+  solved_longer s holds = record {
+    network_of = holds.network_of;
+    length_is = holds.length_is;
     no_longer = let short = holds.no_longer in omega (arith, short, longer);
+    valid = holds.valid;
+    bound = holds.bound;
+    optimal = holds.optimal;
+    lower = holds.lower;
+    cuts = holds.cuts;
+    maximal = holds.maximal;
     run = EndsRunOfOpenings-longer g first later s.network s.tree longer holds.run;
   }
 
   by_kind_longer : (asked : SplitKind) (network : List Bool) (tree : Tree SplitOn) →
       EndsByKind g asked first network tree → EndsByKind g asked later network tree
-  by_kind_longer asked network tree ends = record ends {
+  by_kind_longer asked network tree ends = record {
+    before = ends.before;
+    before_tree = ends.before_tree;
     run = EndsRunOfOpenings-longer g first later ends.before ends.before_tree longer ends.run;
+    vertices = ends.vertices;
+    plain = ends.plain;
   }
 
 -- What closes by chains is told as it is, in place of what was stopped.
@@ -97,7 +109,7 @@ chains_told g asked openings first_length stopped found edges was is optimal =
     let ends = by_kind_longer g (length_of g stopped.network) first_length short kind.Edges found.network found.tree is.by_kind in
     told g asked openings first_length found
     (solved_longer g (length_of g stopped.network) first_length short found is.solved) is.few
-    (λ no. let never : true ≡ false = sym optimal ∙ no in absurd never)
+    (λ no. let never : true ≡ false = sym optimal ∙ no in absurd cc)
     (subst (λ (k : SplitKind). EndsByKind g k first_length found.network found.tree) (sym edges) ends)
 
 -- What a search found that was ahead of a leaf.

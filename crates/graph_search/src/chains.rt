@@ -1,7 +1,7 @@
 //! Searches that close one child of nearly each split, so that their splits are a chain, for graphs in which whole
 //! weights leave no packing to make anew.
 
-ghost use Rattle.std.specs.Prelude.{ℕ, ◌≡◌, ◌+◌, ◌<◌, ◌≤◌, length, IfOk};
+ghost use Rattle.std.specs.Prelude.{ℕ, ◌≡◌, ◌+◌, ◌<◌, ◌≤◌, true, length, IfOk, IfSome};
 ghost use Rattle.net_graph.specs.Network.{length_of};
 ghost use Rattle.dual_ascent.specs.Choosing.{IsCallableOnSome, AnswersAPlace};
 ghost use Rattle.cert_tree.specs.Preorder.{split_count};
@@ -19,6 +19,9 @@ use strong_branching::{Draws, choose, drawn_again, drawn_place, is_of, place_of}
 // So many arcs are looked at, which takes some seconds.
 const MOST_ARCS: u64 = 4_000_000;
 
+// So many searches are begun at most.
+const MOST_SEARCHES: u8 = 200;
+
 const SEED: u64 = 20240610;
 
 // What the rules of a search by chains go by: the edge that is split on next, and the seed of the order in which the
@@ -29,9 +32,9 @@ struct Next {
     seed: Cell<u64>,
 }
 
-/// What a search by chains finds that closes, where one does; else what is given, which is so as well where it is
-/// optimal, where splits are on vertices, or where its length is that of a packing that could be made anew. Each search
-/// begins with the network of what is given, and with a packing like the given one. An `Err` is want of memory.
+/// What a search by chains finds that closes, where one does; else what is given. So it is as well where splits are on
+/// vertices, where what is given is optimal, and where its length is one that packings have which can be made anew. An
+/// `Err` is want of memory.
 pub(crate) fn closed_by_chains(
     alloc: Global,
     graph: &NetGraph,
@@ -44,24 +47,61 @@ pub(crate) fn closed_by_chains(
     ensures { (first_length : ℕ) → IsTold graph.now kind openings first_length stopped
         → IfOk result (IsTold graph.now kind openings first_length) }
 {
+    match kind {
+        SplitKind::Edges => closed_on_edges(alloc, graph, stopped, first, openings),
+        SplitKind::Vertices => Ok(stopped),
+    }
+}
+
+// The same where splits are on edges.
+fn closed_on_edges(
+    alloc: Global,
+    graph: &NetGraph,
+    stopped: Solved,
+    first: Packing,
+    openings: u8,
+) -> Result<Solved, AllocError>
+    requires { IsNetworkOf graph.now stopped.network }
+    ensures { (first_length : ℕ) → IsTold graph.now SplitKind.Edges openings first_length stopped
+        → IfOk result (IsTold graph.now SplitKind.Edges openings first_length) }
+{
     let is_light = stopped.length <= 2 * u64::from(graph.edge_count());
-    if stopped.optimal || kind == SplitKind::Vertices || !is_light {
+    if stopped.optimal || !is_light {
         return Ok(stopped);
     }
+    match found_closed(alloc, graph, &stopped.network, first, openings)? {
+        Some(found) => Ok(found),
+        None => Ok(stopped),
+    }
+}
+
+// What the first search by chains finds that closes, of some that each begin with a network and a packing like the
+// given one; none where no one closes within the budget. An `Err` is want of memory.
+fn found_closed(
+    alloc: Global,
+    graph: &NetGraph,
+    network: &EdgeSet,
+    first: Packing,
+    openings: u8,
+) -> Result<Option<Solved>, AllocError>
+    requires { IsNetworkOf graph.now network.now }
+    ensures { IfOk result (λ found.
+        IfSome found (λ s. IsFoundByChains graph.now (length_of graph.now network.now) openings s × (s.optimal ≡ true))) }
+{
     let mut draws = Draws::new(SEED, MOST_ARCS);
     let mut first = first;
-    for _ in 0..MOST_ARCS {
-        let network = stopped.network.copy()?;
-        let found = search(alloc, graph, network, first.copy()?, openings, &mut draws)?;
+    for _ in 0..MOST_SEARCHES {
+        let begun = network.copy()?;
+        let found = search(alloc, graph, begun, first.copy()?, openings, &mut draws)?;
         if found.optimal {
-            return Ok(found);
+            return Ok(Some(found));
         }
         if draws.is_spent() {
-            break;
+            return Ok(None);
         }
         first = drawn_again(alloc, graph, first, &mut draws)?;
     }
-    Ok(stopped)
+    Ok(None)
 }
 
 // What a search by chains finds that begins with a network and a packing. An `Err` is want of memory.
@@ -157,6 +197,7 @@ fn raise<F: Rule, G: Rule>(
 }
 
 // Makes splits as strong branching chooses, at most so many. An `Err` is want of memory.
+#[tactic(auto, using(crate::proofs::ChainLemmas::ahead_refl))]
 fn split_in_turn<F: Rule, G: Rule>(
     alloc: Global,
     graph: &NetGraph,
@@ -171,14 +212,14 @@ fn split_in_turn<F: Rule, G: Rule>(
     ensures few { split_count search.new.tree ≤ openings }
 {
     for _made in 0..openings {
-        if draws.is_spent() || !split_next(alloc, graph, search, draws, next)? {
+        if !split_next(alloc, graph, search, draws, next)? {
             break;
         }
     }
     Ok(())
 }
 
-// Splits the leaf that is open next as strong branching chooses; whether it was. An `Err` is want of memory.
+// Splits the leaf that is open next as strong branching chooses, as long as there is budget; whether it was. An `Err` is want of memory.
 fn split_next<F: Rule, G: Rule>(
     alloc: Global,
     graph: &NetGraph,
@@ -191,6 +232,9 @@ fn split_next<F: Rule, G: Rule>(
     ensures ahead { IsAhead search.old search.new }
     ensures few { split_count search.new.tree ≤ split_count search.old.tree + 1 }
 {
+    if draws.is_spent() {
+        return Ok(false);
+    }
     let Some(leaf) = search.next_open() else {
         return Ok(false);
     };

@@ -1,6 +1,6 @@
 //! First packings for searches that begin again.
 
-ghost use Rattle.std.specs.Prelude.{◌*◌, ◌<◌, ◌≤◌, length};
+ghost use Rattle.std.specs.Prelude.{◌+◌, ◌*◌, ◌<◌, ◌≤◌, length, IfOk};
 ghost use Rattle.net_graph.specs.Decision.{IsDecisionFor};
 ghost use Rattle.net_graph.specs.Packing.{IsFeasible};
 ghost use Rattle.dual_ascent.specs.Choosing.{IsCallableOnSome, AnswersAPlace};
@@ -55,6 +55,8 @@ pub fn drawn_again(
                 ensures { result < length list.now }
             { drawn_place(seed, list) },
         )?;
+        let edges = graph.edge_count();
+        prove!(edges <= 4900);
         let worth = value(graph, &none, &ascent.packing);
         if !ascent.closed && worth >= most {
             most = worth;
@@ -77,6 +79,7 @@ fn ascent_from<F: Rule>(
     requires few { length start ≤ 2 * length graph.now.edges }
     requires callable { IsCallableOnSome (F.may_choose rule) }
     requires place { AnswersAPlace (F.chooses rule) }
+    ensures { IfOk result (λ a. length a.packing ≤ 4 * length graph.now.edges + 1) }
 {
     ascend(alloc, graph, decision, start, &Chooser::new(rule))
 }

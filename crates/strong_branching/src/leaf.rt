@@ -84,6 +84,8 @@ impl Leaf<'_> {
         let dropped = self.packing.len().saturating_sub(start.len());
         let dropped = u32::try_from(dropped).unwrap_or(u32::MAX);
         let ascent = ascend_with(alloc, graph, now, start, costs, &Chooser::new(rule))?;
+        let edges = graph.edge_count();
+        prove!(edges <= 4900);
         let worth = value(graph, now, &ascent.packing);
         if ascent.closed || worth >= u128::from(self.aim) {
             return Ok(Child {

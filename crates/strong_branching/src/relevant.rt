@@ -1,10 +1,10 @@
 //! Relevant arcs: the saturated ones on saturated ways from the root to required vertices.
 
-ghost use Rattle.std.specs.Prelude.{◌≡◌, ◌<◌, [], ◌∷◌, ◌++◌, length, All, IfOk, OnOk};
+ghost use Rattle.std.specs.Prelude.{◌≡◌, length, IfOk};
 ghost use Rattle.net_graph.specs.Decision.{IsDecisionFor};
 
 use dual_ascent::ReducedCosts;
-use net_graph::{Decision, Edge, EdgeState, NetGraph, Passage, VertexSet, partner, reached_from};
+use net_graph::{Decision, EdgeState, NetGraph, Passage, VertexSet, partner, reached_from};
 use std::alloc::{AllocError, Global};
 
 /// How many arcs are relevant, by what a packing leaves of the rooms. An `Err` is want of memory.
@@ -44,33 +44,50 @@ fn leading(
     requires costs { length costs.now ≡ length graph.now.edges }
     ensures { IfOk result (λ found. length found ≡ graph.now.vertices) }
 {
-    let mut list = required_ends(alloc, graph, decision)?;
     let mut found = VertexSet::empty(alloc, graph.vertex_count())?;
-    for vertex in &list {
-        found.add(*vertex);
+    let mut list = Vec::new(alloc);
+    for vertex in &required_ends(alloc, graph, decision)? {
+        take_in(true, *vertex, &mut found, &mut list)?;
     }
     for place in 0..usize::MAX {
         let Some(vertex) = list.get(place) else {
             break;
         };
-        for arc in graph.arcs_from(*vertex) {
-            if costs.is_open(partner(arc.number)) && !found.has(arc.to) {
-                found.add(arc.to);
-                list.push(arc.to)?;
-            }
+        let vertex = *vertex;
+        if vertex >= graph.vertex_count() {
+            break;
+        }
+        for arc in graph.arcs_from(vertex) {
+            let leads = costs.is_open(partner(arc.number));
+            take_in(leads, arc.to, &mut found, &mut list)?;
         }
     }
     Ok(found)
 }
 
-// The terminals and the ends of inside edges.
+// Takes a vertex into a set and a list where it leads and isn't in the set. An `Err` is want of memory.
+fn take_in(
+    leads: bool,
+    vertex: u32,
+    found: &mut VertexSet,
+    list: &mut Vec<u32>,
+) -> Result<(), AllocError>
+    ensures { length found.new ≡ length found.old }
+{
+    if leads && vertex < found.len() && !found.has(vertex) {
+        found.add(vertex);
+        list.push(vertex)?;
+    }
+    Ok(())
+}
+
+// The terminals and the ends of inside edges. An `Err` is want of memory.
 fn required_ends(
     alloc: Global,
     graph: &NetGraph,
     decision: &Decision,
 ) -> Result<Vec<u32>, AllocError>
     requires { IsDecisionFor graph.now decision.now }
-    ensures { IfOk result (λ list. All (λ v. v < graph.now.vertices) list.items) }
 {
     let mut list = Vec::new(alloc);
     for terminal in graph.terminals() {
@@ -78,17 +95,10 @@ fn required_ends(
     }
     for number in 0..graph.edge_count() {
         if decision.state(graph, number) == EdgeState::Inside {
-            push_ends(&mut list, graph.edge(number))?;
+            let edge = graph.edge(number);
+            list.push(edge.a)?;
+            list.push(edge.b)?;
         }
     }
     Ok(list)
-}
-
-// Appends both ends of an edge. An `Err` is want of memory.
-fn push_ends(list: &mut Vec<u32>, edge: Edge) -> Result<(), AllocError>
-    ensures { OnOk result (list.new.items ≡ list.old.items ++ (edge.a ∷ edge.b ∷ [])) }
-{
-    list.push(edge.a)?;
-    list.push(edge.b)?;
-    Ok(())
 }

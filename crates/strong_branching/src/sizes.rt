@@ -8,10 +8,8 @@ use net_graph::{NetGraph, Packing};
 pub fn is_of(graph: &NetGraph, packing: &Packing) -> bool
     ensures { IsTrue result → All (λ c. length c.members ≡ graph.now.vertices) packing.now }
 {
-    for cut in packing.cuts() {
-        if cut.members.len() != graph.vertex_count() {
-            return false;
-        }
-    }
-    true
+    packing
+        .cuts()
+        .iter()
+        .all(|cut| cut.members.len() == graph.vertex_count())
 }

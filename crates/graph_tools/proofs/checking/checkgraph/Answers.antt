@@ -12,8 +12,10 @@ pub returns : goal.returns
 returns g c =
     let input = g.I.Source.state c.args.input.now in
     let input' = g.I.Source.state c.verdict_on-found.new.input in
-    let (out, err) = (g.O.Sink.state c.args.out.now, g.R.Sink.state c.args.err.now) in
-    let (out', err') = (g.O.Sink.state c.conclude.new.out, g.R.Sink.state c.conclude.new.err) in
+    let out = g.O.Sink.state c.args.out.now in
+    let err = g.R.Sink.state c.args.err.now in
+    let out' = g.O.Sink.state c.conclude.new.out in
+    let err' = g.R.Sink.state c.conclude.new.err in
     record {
       ends = ends_with line_text line_status checkgraph_fault_status checkgraph_fault_text (codes "checkgraph")
           (ChecksGraph c.args.graph_name.now) LeavesFiles
