@@ -17,7 +17,7 @@ use std::cell::Cell;
 use strong_branching::{Draws, choose, drawn_again, drawn_place, is_of, place_of};
 
 // So many arcs are looked at, which takes some seconds.
-const MOST_ARCS: u64 = 4_000_000;
+const MOST_ARCS: u64 = 1_500_000;
 
 // So many searches are begun at most.
 const MOST_SEARCHES: u8 = 200;
