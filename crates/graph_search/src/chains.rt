@@ -7,11 +7,13 @@ ghost use Rattle.dual_ascent.specs.Choosing.{IsCallableOnSome, AnswersAPlace};
 ghost use Rattle.cert_tree.specs.Preorder.{split_count};
 ghost use Rattle.branch.specs.States.{IsNetworkOf};
 ghost use Rattle.graph_search.specs.Chains.{IsAhead, IsFoundByChains};
+ghost use Rattle.graph_search.specs.Kinds.{kind_of};
 ghost use Rattle.graph_search.specs.Searched.{IsTold};
 
 use branch::{Search, Solved, SplitKind, Step};
 use dual_ascent::{Candidate, Chooser, Rule};
 use net_graph::{Decision, EdgeSet, NetGraph, Packing, feasible, length};
+use search_rules::SplitRule;
 use std::alloc::{AllocError, Global};
 use std::cell::Cell;
 use strong_branching::{Draws, choose, drawn_again, drawn_place, is_of, place_of};
@@ -32,24 +34,24 @@ struct Next {
     seed: Cell<u64>,
 }
 
-/// What a search by chains finds that closes, where one does; else what is given. So it is as well where splits are on
-/// vertices, where what is given is optimal, and where its length is one that packings have which can be made anew. An
-/// `Err` is want of memory.
+/// What a search by chains finds that closes, where one does; else what is given. So it is as well where another rule of
+/// splits than the usual one is asked for, where what is given is optimal, and where its length is one that packings have
+/// which can be made anew. An `Err` is want of memory.
 pub(crate) fn closed_by_chains(
     alloc: Global,
     graph: &NetGraph,
     stopped: Solved,
     first: Packing,
-    kind: SplitKind,
+    rule: SplitRule,
     openings: u8,
 ) -> Result<Solved, AllocError>
     requires { IsNetworkOf graph.now stopped.network }
-    ensures { (first_length : ℕ) → IsTold graph.now kind openings first_length stopped
-        → IfOk result (IsTold graph.now kind openings first_length) }
+    ensures { (first_length : ℕ) → IsTold graph.now (kind_of rule) openings first_length stopped
+        → IfOk result (IsTold graph.now (kind_of rule) openings first_length) }
 {
-    match kind {
-        SplitKind::Edges => closed_on_edges(alloc, graph, stopped, first, openings),
-        SplitKind::Vertices => Ok(stopped),
+    match rule {
+        SplitRule::Longest => closed_on_edges(alloc, graph, stopped, first, openings),
+        SplitRule::First | SplitRule::Vertex => Ok(stopped),
     }
 }
 

@@ -46,7 +46,7 @@ pub fn searched<A: Raising>(
             requires { 0 < length list.now }
             ensures { result < length list.now }
         { split_place(split, list) },
-        kind_of(split),
+        split,
         raising,
     )
 }
@@ -61,7 +61,7 @@ fn kind_of(rule: SplitRule) -> SplitKind
     }
 }
 
-// The same by any rules, with leaves split on what the kind says.
+// The same by any rules of places, with leaves split on what the rule of splits asks for.
 fn searched_by<F: Rule, G: Rule, A: Raising>(
     alloc: Global,
     g: &NetGraph,
@@ -69,7 +69,7 @@ fn searched_by<F: Rule, G: Rule, A: Raising>(
     openings: u8,
     ascent: F,
     split: G,
-    kind: SplitKind,
+    rule: SplitRule,
     raising: &A,
 ) -> Result<Solved, AllocError>
     requires network { IsNetworkOf g.now first }
@@ -78,7 +78,7 @@ fn searched_by<F: Rule, G: Rule, A: Raising>(
     requires ascent_place { AnswersAPlace (F.chooses ascent) }
     requires split_callable { IsCallableOnSome (G.may_choose split) }
     requires split_place { AnswersAPlace (G.chooses split) }
-    ensures { IfOk result (IsTold g.now kind openings (length_of g.now first)) }
+    ensures { IfOk result (IsTold g.now (kind_of rule) openings (length_of g.now first)) }
 {
     let mut search = Search::start(
         alloc,
@@ -86,10 +86,10 @@ fn searched_by<F: Rule, G: Rule, A: Raising>(
         first,
         Chooser::new(ascent),
         Chooser::new(split),
-        kind,
+        kind_of(rule),
     )?;
     raising.raise(alloc, &mut search, openings)?;
     let first = search.tree().packing(0).copy()?;
     let solved = search.solve(openings)?;
-    closed_by_chains(alloc, g, solved, first, kind, openings)
+    closed_by_chains(alloc, g, solved, first, rule, openings)
 }
