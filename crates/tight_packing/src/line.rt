@@ -2,7 +2,6 @@
 
 use crate::loads::Loads;
 use crate::marks::Marks;
-use crate::pool::Pool;
 use std::alloc::{AllocError, Global};
 
 // Steps of the secant search: the amount need not be the best to the last part.
@@ -11,6 +10,8 @@ const STEPS: u8 = 6;
 /// A move of weight from a cut to another of its group, by the arcs that enter just one of them.
 #[derive(Drop)]
 pub struct Line {
+    // The arcs that enter the cut that gains, as far as they count, with marks on those whose loads rise.
+    gaining: Vec<u32>,
     marks: Marks,
     // The overloads of the arcs whose loads fall.
     falling: Vec<i64>,
@@ -36,33 +37,59 @@ impl Line {
     /// No move. An `Err` is want of memory.
     pub fn new(alloc: Global, arcs: u32) -> Result<Line, AllocError> {
         Ok(Line {
+            gaining: Vec::new(alloc),
             marks: Marks::none(alloc, arcs)?,
             falling: Vec::new(alloc),
             rising: Vec::new(alloc),
         })
     }
 
-    /// Takes the arcs of a move. An `Err` is want of memory.
+    /// Takes the arcs of a move of at most some weight, given by those that enter the cut that loses it and those that
+    /// enter the other one. Arcs that stay below their thresholds count for nothing. An `Err` is want of memory.
     pub fn draw(
         &mut self,
-        pool: &Pool,
         loads: &Loads,
-        from: u32,
-        to: u32,
+        from: &[u32],
+        to: &[u32],
+        weight: i64,
     ) -> Result<(), AllocError> {
-        self.falling.clear();
+        self.gain(loads, to, weight)?;
+        self.lose(loads, from, weight)?;
         self.rising.clear();
-        self.marks.mark(pool.entered(to));
-        for arc in pool.entered(from) {
-            let over = loads.over(*arc);
-            if over > 0 && !self.marks.has(*arc) {
-                self.falling.push(over)?;
+        for arc in &self.gaining {
+            if self.marks.has(*arc) {
+                self.rising.push(loads.excess(*arc))?;
             }
         }
-        self.marks.mark(pool.entered(from));
-        for arc in pool.entered(to) {
-            if !self.marks.has(*arc) {
-                self.rising.push(loads.excess(*arc))?;
+        Ok(())
+    }
+
+    // Marks the arcs that enter the cut that gains a weight, as far as they could come above their thresholds. An `Err`
+    // is want of memory.
+    fn gain(&mut self, loads: &Loads, to: &[u32], weight: i64) -> Result<(), AllocError> {
+        self.gaining.clear();
+        self.marks.clear();
+        for arc in to {
+            if loads.excess(*arc).wrapping_add(weight) > 0 {
+                self.marks.put(*arc);
+                self.gaining.push(*arc)?;
+            }
+        }
+        Ok(())
+    }
+
+    // Takes the arcs that enter the cut that loses a weight, and takes the marks off those that enter both. An `Err` is
+    // want of memory.
+    fn lose(&mut self, loads: &Loads, from: &[u32], weight: i64) -> Result<(), AllocError> {
+        self.falling.clear();
+        for arc in from {
+            let excess = loads.excess(*arc);
+            if excess.wrapping_add(weight) > 0 {
+                if self.marks.has(*arc) {
+                    self.marks.take(*arc);
+                } else if excess > 0 {
+                    self.falling.push(excess)?;
+                }
             }
         }
         Ok(())
@@ -73,19 +100,26 @@ impl Line {
     pub fn best(&self, weight: i64, grain: i64) -> i64 {
         let most = weight.checked_div(grain).unwrap_or(0);
         let half = grain / 2;
-        if most < 1 || self.slope(half).height >= 0 {
+        if most < 1 {
             return 0;
         }
-        let amount = self.lowest(most.wrapping_mul(grain)).wrapping_add(half);
+        let slope = self.slope(half);
+        if slope.height >= 0 {
+            return 0;
+        }
+        let first = if half == 0 { slope } else { self.slope(0) };
+        let lowest = self.lowest(most.wrapping_mul(grain), first);
+        let amount = lowest.wrapping_add(half);
         let grains = amount.checked_div(grain).unwrap_or(0);
         grains.max(1).min(most).wrapping_mul(grain)
     }
 
-    // The amount, of at most so much, at which the slope is 0, or nearly so: secant steps within a bracket.
-    fn lowest(&self, most: i64) -> i64 {
+    // The amount, of at most so much, at which the slope is 0, or nearly so, where that at 0 is given: secant steps
+    // within a bracket.
+    fn lowest(&self, most: i64, first: Slope) -> i64 {
         let mut bracket = Bracket { low: 0, high: most };
         let mut amount = 0i64;
-        let mut slope = self.slope(0);
+        let mut slope = first;
         for _ in 0..STEPS {
             let next = bracket.next(amount, slope);
             if next == amount {

@@ -26,8 +26,10 @@ pub struct Limit {
 #[derive(Drop)]
 pub struct Loads {
     limits: Vec<Limit>,
-    // Of each arc its load less its threshold.
+    // Of each arc its load less its threshold, and what of that is above 0, or the most that 32 bits hold: costs are
+    // summed from the latter, without a test, as no sum of so many can wrap.
     excess: Vec<i64>,
+    overs: Vec<u32>,
     // Of each arc what it costs beside its overload: `BLOCKED` on the tree.
     charges: Vec<i64>,
     prices: Vec<i64>,
@@ -57,6 +59,7 @@ impl Loads {
         let mut loads = Loads {
             limits: Vec::new(alloc),
             excess: Vec::new(alloc),
+            overs: Vec::new(alloc),
             charges: Vec::new(alloc),
             prices: Vec::new(alloc),
             lowest: 0,
@@ -95,6 +98,7 @@ impl Loads {
             marked: false,
         })?;
         self.excess.push(threshold.wrapping_neg())?;
+        self.overs.push(0)?;
         self.charges.push(1)?;
         self.prices.push(1)?;
         Ok(())
@@ -126,10 +130,16 @@ impl Loads {
         at(&self.excess, arc, 0).wrapping_add(self.limit(arc).threshold)
     }
 
-    /// By how much an arc is above its threshold.
+    /// By how much an arc is above its threshold, or the most that 32 bits hold.
     #[inline]
     pub fn over(&self, arc: u32) -> i64 {
-        at(&self.excess, arc, 0).max(0)
+        i64::from(at(&self.overs, arc, 0))
+    }
+
+    /// The overloads of all arcs.
+    #[inline]
+    pub fn overs(&self) -> &[u32] {
+        self.overs.as_slice()
     }
 
     /// Whether an arc is on the tree.
@@ -143,24 +153,27 @@ impl Loads {
         self.prices.as_slice()
     }
 
-    /// Adds to the load of an arc.
+    /// Adds to the load of an arc. The price of one that is below its threshold before and after stays.
     #[inline]
     pub fn add(&mut self, arc: u32, amount: i64) {
-        if let Some(excess) = self.excess.get_mut(arc as usize) {
-            *excess = excess.wrapping_add(amount);
+        let before = self.excess(arc);
+        let after = before.wrapping_add(amount);
+        set(&mut self.excess, arc, after);
+        if before.max(after) > 0 {
+            self.price_anew(arc, after);
         }
-        self.price_anew(arc);
     }
 
-    // Sets the price of an arc.
+    // Sets the overload and the price of an arc whose load less its threshold is so much.
     #[inline]
-    fn price_anew(&mut self, arc: u32) {
-        let over = self.over(arc).wrapping_mul(OVER_FACTOR);
+    fn price_anew(&mut self, arc: u32, excess: i64) {
+        let over = u32::try_from(excess.max(0)).unwrap_or(u32::MAX);
+        set(&mut self.overs, arc, over);
         let charge = at(&self.charges, arc, BLOCKED);
         let price = if over == 0 && charge < BLOCKED && !self.settings.charges_all {
             0
         } else {
-            charge.wrapping_add(over)
+            charge.wrapping_add(i64::from(over).wrapping_mul(OVER_FACTOR))
         };
         set(&mut self.prices, arc, price.min(BLOCKED));
     }
@@ -169,23 +182,23 @@ impl Loads {
     pub fn charge(&mut self, arc: u32, charge: i64) {
         if !self.is_blocked(arc) {
             set(&mut self.charges, arc, charge);
-            self.price_anew(arc);
+            self.price_anew(arc, self.excess(arc));
         }
     }
 
     /// Gives an arc a threshold, and marks it.
     pub fn set_threshold(&mut self, arc: u32, threshold: i64) {
-        let load = self.load(arc);
         let threshold = threshold.max(self.lowest);
+        let excess = self.load(arc).wrapping_sub(threshold);
         let capacity = self.limit(arc).capacity;
-        set(&mut self.excess, arc, load.wrapping_sub(threshold));
+        set(&mut self.excess, arc, excess);
         let limit = Limit {
             capacity,
             threshold,
             marked: true,
         };
         set(&mut self.limits, arc, limit);
-        self.price_anew(arc);
+        self.price_anew(arc, excess);
     }
 
     /// What the loads are above the capacities, in all.

@@ -20,13 +20,31 @@ impl Marks {
         })
     }
 
+    /// Empties it.
+    #[inline]
+    pub fn clear(&mut self) {
+        self.number = self.number.wrapping_add(1);
+    }
+
     /// Makes it the set of some arcs.
     #[inline]
     pub fn mark(&mut self, arcs: &[u32]) {
-        self.number = self.number.wrapping_add(1);
+        self.clear();
         for arc in arcs {
-            set(&mut self.put, *arc, self.number);
+            self.put(*arc);
         }
+    }
+
+    /// Puts an arc in.
+    #[inline]
+    pub fn put(&mut self, arc: u32) {
+        set(&mut self.put, arc, self.number);
+    }
+
+    /// Takes an arc out.
+    #[inline]
+    pub fn take(&mut self, arc: u32) {
+        set(&mut self.put, arc, 0);
     }
 
     /// Whether an arc is in the set.

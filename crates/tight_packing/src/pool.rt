@@ -126,14 +126,19 @@ impl Pool {
         }
     }
 
-    /// What a cut costs: the overloads of the arcs off the tree that enter it.
+    /// What a cut costs: the overloads of the arcs off the tree that enter it; or, where that is no less than a limit,
+    /// some number that isn't less either.
     #[inline]
-    pub fn cost(&self, cut: &Cut, loads: &Loads) -> i64 {
+    pub fn cost_below(&self, cut: &Cut, loads: &Loads, limit: i64) -> i64 {
+        let (eights, rest) = self.entered_by(cut).as_chunks::<8>();
         let mut sum = 0i64;
-        for arc in self.entered_by(cut) {
-            sum = sum.saturating_add(loads.over(*arc));
+        for eight in eights {
+            if sum >= limit {
+                return sum;
+            }
+            sum = sum.wrapping_add(sum_of(loads.overs(), eight));
         }
-        sum
+        sum.wrapping_add(sum_of(loads.overs(), rest))
     }
 
     /// The least cost of a group's cuts; `None` where it has none.
@@ -144,8 +149,8 @@ impl Pool {
             let Some(cut) = self.cuts.get(number as usize) else {
                 break;
             };
-            let cost = self.cost(cut, loads);
-            least = Some(least.map_or(cost, |before: i64| before.min(cost)));
+            let before = least.unwrap_or(i64::MAX);
+            least = Some(before.min(self.cost_below(cut, loads, before)));
             number = cut.next;
         }
         least
@@ -237,6 +242,16 @@ impl Pool {
         cut.age = cut.age.wrapping_add(1);
         self.append(cut, other.entered(number))
     }
+}
+
+// The sum of what some arcs have in a row.
+#[inline]
+fn sum_of(row: &[u32], arcs: &[u32]) -> i64 {
+    let mut sum = 0i64;
+    for arc in arcs {
+        sum = sum.wrapping_add(i64::from(at(row, *arc, 0)));
+    }
+    sum
 }
 
 // A number made of some arcs in any order: the sum of a mixed number of each.

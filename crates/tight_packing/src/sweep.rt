@@ -55,11 +55,11 @@ impl State {
             return Ok(false);
         }
         self.pool.refresh(extremes.cheap);
-        self.line
-            .draw(&self.pool, &self.loads, extremes.dear, extremes.cheap)?;
-        let grain = at(&self.grains, group, 1);
         let weight = self.pool.cut(extremes.dear).weight;
-        let amount = self.line.best(weight, grain);
+        let from = self.pool.entered(extremes.dear);
+        let to = self.pool.entered(extremes.cheap);
+        self.line.draw(&self.loads, from, to, weight)?;
+        let amount = self.line.best(weight, at(&self.grains, group, 1));
         if amount == 0 {
             return Ok(false);
         }
@@ -83,7 +83,8 @@ impl State {
             let Some(cut) = self.pool.get(number) else {
                 break;
             };
-            let cost = self.pool.cost(cut, &self.loads);
+            let limit = extremes.limit(cut.weight > 0);
+            let cost = self.pool.cost_below(cut, &self.loads, limit);
             extremes.compare(number, cost, cut.weight > 0);
             number = cut.next;
         }
@@ -92,6 +93,16 @@ impl State {
 }
 
 impl Extremes {
+    // From which cost on it is all the same how much a further cut costs: without weight it is no dear one.
+    #[inline]
+    fn limit(&self, has_weight: bool) -> i64 {
+        if has_weight || self.cheap == NONE {
+            i64::MAX
+        } else {
+            self.least
+        }
+    }
+
     // Takes a further cut into account.
     #[inline]
     fn compare(&mut self, cut: u32, cost: i64, has_weight: bool) {
