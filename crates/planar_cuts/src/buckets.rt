@@ -40,7 +40,7 @@ const NO_WAY: Way = Way {
 
 impl Buckets {
     /// The empty queue. An `Err` is want of memory.
-    pub fn empty(alloc: Global) -> Result<Buckets, AllocError> {
+    pub fn new(alloc: Global) -> Result<Buckets, AllocError> {
         Ok(Buckets {
             ways: Vec::new(alloc),
             lasts: vec![in alloc; NONE; BUCKETS as usize]?,
@@ -52,14 +52,24 @@ impl Buckets {
 
     /// Empties the queue, for prices below a limit.
     pub fn clear(&mut self, limit: i64) {
-        for way in &self.ways {
-            let bucket = bucket_of(way.price, self.shift);
-            set(&mut self.lasts, bucket, NONE);
-            set(&mut self.filled, bucket / 64, 0);
+        for word in self.word..WORDS {
+            self.empty(word);
         }
         self.ways.clear();
         self.word = 0;
         self.shift = 52u32.saturating_sub(limit.max(1).leading_zeros());
+    }
+
+    // Empties the buckets that share a word: those that went empty before have no last way.
+    #[inline]
+    fn empty(&mut self, word: u32) {
+        let mut bits = at(&self.filled, word, 0);
+        for _ in 0..bits.count_ones() {
+            let bucket = word.wrapping_mul(64).wrapping_add(bits.trailing_zeros());
+            set(&mut self.lasts, bucket, NONE);
+            bits &= bits.wrapping_sub(1);
+        }
+        set(&mut self.filled, word, 0);
     }
 
     /// Takes in a way; its price is at least 0 and below the limit. An `Err` is want of memory.

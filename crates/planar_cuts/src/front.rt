@@ -60,7 +60,7 @@ impl Front {
         Ok(Front {
             steps,
             labels: vec![in alloc; NO_LABEL; faces]?,
-            waiting: Buckets::empty(alloc)?,
+            waiting: Buckets::new(alloc)?,
             work: 0,
         })
     }
