@@ -4,7 +4,7 @@ ghost use Rattle.std.specs.Prelude.{◌≡◌, length, All, IfOk, IfSome, OnOk};
 
 use crate::region::Region;
 use crate::waiting::Waiting;
-use cut_groups::{Random, Tree, at, set};
+use cut_groups::{Random, Tree, at, ends_of, set};
 use net_graph::{Cut, NetGraph, Packing};
 use std::alloc::{AllocError, Global};
 
@@ -24,6 +24,43 @@ pub fn ascend_along(
 ) -> Result<Option<Packing>, AllocError>
     ensures { IfOk result (λ found. IfSome found (All (λ c. length c.members ≡ graph.now.vertices))) }
 {
+    let Ascended { packing, is_whole } = ascend(alloc, graph, tree, seed)?;
+    Ok(if is_whole { Some(packing) } else { None })
+}
+
+/// Packs cuts as `ascend_along` does, as far as it comes: also where there is no such set left though saturated arcs
+/// don't lead to all terminals. Equal arguments give equal results. An `Err` is want of memory.
+pub fn pack_along(
+    alloc: Global,
+    graph: &NetGraph,
+    tree: &Tree,
+    seed: Option<u64>,
+) -> Result<Packing, AllocError>
+    ensures { IfOk result (All (λ c. length c.members ≡ graph.now.vertices)) }
+{
+    let Ascended {
+        packing,
+        is_whole: _,
+    } = ascend(alloc, graph, tree, seed)?;
+    Ok(packing)
+}
+
+// What an ascent comes to: its cuts, and whether saturated arcs then lead to all terminals.
+#[derive(Drop)]
+struct Ascended {
+    packing: Packing,
+    is_whole: bool,
+}
+
+// Packs cuts until none is left. An `Err` is want of memory.
+fn ascend(
+    alloc: Global,
+    graph: &NetGraph,
+    tree: &Tree,
+    seed: Option<u64>,
+) -> Result<Ascended, AllocError>
+    ensures { IfOk result (λ ascended. All (λ c. length c.members ≡ graph.now.vertices) ascended.packing) }
+{
     let mut ascent = Ascent::of(alloc, graph, seed)?;
     let mut packing = Packing::empty(alloc);
     for _step in 0..graph.edge_count().saturating_mul(STEPS_AN_EDGE) {
@@ -32,11 +69,10 @@ pub fn ascend_along(
         };
         ascent.step(alloc, graph, tree, place, &mut packing)?;
     }
-    if ascent.waiting.is_empty() {
-        Ok(Some(packing))
-    } else {
-        Ok(None)
-    }
+    Ok(Ascended {
+        packing,
+        is_whole: ascent.waiting.is_empty(),
+    })
 }
 
 // What an ascent keeps from step to step.
@@ -44,6 +80,8 @@ pub fn ascend_along(
 struct Ascent {
     // What is left of the room of each arc.
     left: Vec<u64>,
+    // The heads of the arcs that were saturated last.
+    saturated: Vec<u32>,
     waiting: Waiting,
     region: Region,
     random: Option<Random>,
@@ -59,6 +97,7 @@ impl Ascent {
         }
         Ok(Ascent {
             left,
+            saturated: Vec::new(alloc),
             waiting: Waiting::of(alloc, graph)?,
             region: Region::empty(alloc, graph)?,
             random: seed.map(Random::new),
@@ -87,15 +126,16 @@ impl Ascent {
         }
         let border = self.region.border(graph, tree, &self.left)?;
         if border.of_tree != 1 {
-            self.waiting.put_aside(place);
+            let set = self.region.members(alloc, graph)?;
+            self.waiting.put_aside(place, set);
             return Ok(());
         }
         let score = self.score(border.arcs);
         if !self.waiting.comes_first(place, score) {
             return Ok(());
         }
-        self.waiting.take_back();
-        self.lower(border.least);
+        self.lower(graph, border.least)?;
+        self.waiting.take_back(&self.saturated);
         packing.push(Cut {
             weight: border.least,
             members: self.region.members(alloc, graph)?,
@@ -111,11 +151,16 @@ impl Ascent {
         }
     }
 
-    // Takes a weight from what is left of the arcs that enter the set.
-    fn lower(&mut self, weight: u64) {
+    // Takes a weight from what is left of the arcs that enter the set. An `Err` is want of memory.
+    fn lower(&mut self, graph: &NetGraph, weight: u64) -> Result<(), AllocError> {
+        self.saturated.clear();
         for arc in self.region.entering() {
-            let left = at(&self.left, *arc, 0);
-            set(&mut self.left, *arc, left.saturating_sub(weight));
+            let left = at(&self.left, *arc, 0).saturating_sub(weight);
+            set(&mut self.left, *arc, left);
+            if left == 0 {
+                self.saturated.push(ends_of(graph, *arc).head)?;
+            }
         }
+        Ok(())
     }
 }

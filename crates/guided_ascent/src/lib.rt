@@ -7,4 +7,4 @@ mod ascent;
 mod region;
 mod waiting;
 
-pub use ascent::ascend_along;
+pub use ascent::{ascend_along, pack_along};

@@ -1,17 +1,17 @@
 //! The terminals to which saturated arcs don't lead from the root, as far as is known.
 
 use cut_groups::NONE;
-use net_graph::NetGraph;
+use net_graph::{NetGraph, VertexSet};
 use std::alloc::{AllocError, Global};
 
 // A terminal that waits for its cut.
-#[derive(Clone, Copy)]
+#[derive(Drop)]
 struct Place {
     terminal: u32,
     // By what its set was compared last. The set has grown since then, or is the same.
     score: u32,
-    // Whether it is put aside until a cut is packed.
-    is_aside: bool,
+    // Its set, where it is put aside until this grows.
+    aside: Option<VertexSet>,
 }
 
 /// The terminals that wait.
@@ -29,7 +29,7 @@ impl Waiting {
                 places.push(Place {
                     terminal: *terminal,
                     score: 0,
-                    is_aside: false,
+                    aside: None,
                 })?;
             }
         }
@@ -46,7 +46,7 @@ impl Waiting {
         let mut next = None;
         let mut least = u32::MAX;
         for (place, waits) in self.places.iter().enumerate() {
-            if !waits.is_aside && (waits.score < least || next.is_none()) {
+            if waits.aside.is_none() && (waits.score < least || next.is_none()) {
                 least = waits.score;
                 next = Some(place);
             }
@@ -69,17 +69,19 @@ impl Waiting {
         }
     }
 
-    /// Puts the terminal at a place aside.
-    pub fn put_aside(&mut self, place: usize) {
+    /// Puts the terminal at a place, which has a set, aside.
+    pub fn put_aside(&mut self, place: usize, set: VertexSet) {
         if let Some(waits) = self.places.get_mut(place) {
-            waits.is_aside = true;
+            waits.aside = Some(set);
         }
     }
 
-    /// Takes back those that are put aside.
-    pub fn take_back(&mut self) {
+    /// Takes back those that are put aside whose sets grow, as arcs to these vertices are saturated.
+    pub fn take_back(&mut self, heads: &[u32]) {
         for waits in self.places.iter_mut() {
-            waits.is_aside = false;
+            if waits.may_grow(heads) {
+                waits.aside = None;
+            }
         }
     }
 
@@ -95,10 +97,25 @@ impl Waiting {
             return true;
         }
         for other in &self.places {
-            if !other.is_aside && other.score < score {
+            if other.aside.is_none() && other.score < score {
                 return false;
             }
         }
         true
+    }
+}
+
+impl Place {
+    // Whether it is put aside and has one of some vertices in its set.
+    fn may_grow(&self, heads: &[u32]) -> bool {
+        let Some(set) = &self.aside else {
+            return false;
+        };
+        for head in heads {
+            if set.holds(*head) {
+                return true;
+            }
+        }
+        false
     }
 }
