@@ -10,10 +10,14 @@ use crate::outcome::{Goal, Outcome};
 use cut_groups::Tree;
 use flow_cuts::FlowCuts;
 use graph_lift::Smaller;
+use guided_ascent::pack_along;
 use net_graph::{EdgeSet, NetGraph, Packing};
 use planar_cuts::{Faces, PlanarCuts};
 use std::alloc::{AllocError, Global};
 use tight_packing::{Aims, Budget, Guesses, Proposal, Settings, propose};
+
+// An ascent comes before an exchange in graphs of at most so many edges: each of its cuts is compared with all of them.
+const MOST_EDGES: u32 = 10_000;
 
 /// What comes of an exchange.
 #[derive(Debug, Drop)]
@@ -131,6 +135,11 @@ fn proposed_in(
         Some(faces) => {
             let mut finder = PlanarCuts::new(alloc, graph, &tree, faces)?;
             let settings = Settings::GRIDS;
+            let start = first_cuts(alloc, graph, &tree, aims.start)?;
+            let aims = Aims {
+                start: &start,
+                ..aims
+            };
             propose(alloc, graph, tree, aims, &mut finder, settings, budget)?
         }
         None => {
@@ -140,6 +149,22 @@ fn proposed_in(
         }
     };
     Ok(Some(proposal))
+}
+
+// The cuts that an exchange in the plane begins with: the given ones, or, where there are none and the graph isn't too
+// large, those of an ascent along the tree, which packs most of its length in less time than the exchange takes to find
+// first cuts for it. An `Err` is want of memory.
+fn first_cuts(
+    alloc: Global,
+    graph: &NetGraph,
+    tree: &Tree,
+    given: &Packing,
+) -> Result<Packing, AllocError> {
+    if given.cuts().is_empty() && graph.edge_count() <= MOST_EDGES {
+        pack_along(alloc, graph, tree, None)
+    } else {
+        given.copy()
+    }
 }
 
 // What was proposed in a smaller graph, brought back to the given one. An `Err` is want of memory.
