@@ -7,7 +7,7 @@ pub struct Budget {
     pub rounds: u32,
     /// Searches for a new cut.
     pub searches: u32,
-    /// Arcs that the finder of cuts looks at, where it counts them.
+    /// Arcs that the finder of cuts looks at.
     pub looks: u64,
     /// Moves of weight from one cut to another.
     pub moves: u32,
