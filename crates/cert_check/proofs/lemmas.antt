@@ -12,7 +12,6 @@ pub mod Sound
 pub mod BoundLemmas
 pub mod SameLines
 pub mod OneVerdict
-pub mod GridRows
 pub mod Complete
 pub mod Upgrading
 pub mod Bytes

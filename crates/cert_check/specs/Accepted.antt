@@ -52,9 +52,6 @@ Accepts ps = AcceptsIn (on_grid ps)
 abbrev pub IsAccepted : List Point → List ℕ → Type 0
 IsAccepted ps = IsAcceptedIn (on_grid ps)
 
-abbrev pub AcceptsAs : List Point → List ℕ → List Bool → ℕ → ℕ → Bool → Type 0
-AcceptsAs ps = AcceptsAsIn (on_grid ps)
-
 -- the verdict accepts
 abbrev pub IsAccepting : Verdict → Type 0
 IsAccepting (Accepted length bound optimal) = Unit {0}

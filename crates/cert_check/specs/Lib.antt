@@ -12,5 +12,4 @@ pub mod Checking
 pub mod Accepted
 pub mod AcceptedLaws
 pub mod VerdictLaw
-pub mod RowLaw
 pub mod UpgradeLaw

@@ -5,7 +5,8 @@ use Rattle.cut_cert.specs.declared.form.Form.{Form}
 use Rattle.cut_cert.specs.declared.reader.EventReader.{EventReader}
 use Rattle.cut_cert.specs.Reader.{Reads, bytes_fed}
 use Rattle.tree_judge.specs.declared.cause.Cause.{Cause}
-use Rattle.cert_check.specs.Named.{Named}
+use Rattle.cert_check.specs.Named.{Named, named_of}
+use Rattle.cert_check.specs.declared.subject.Subject.{Subject}
 use Rattle.cert_check.specs.declared.verdict.Verdict.TheVariants.{Refused}
 use Rattle.tree_judge.specs.declared.judge.Judge.{Judge}
 use Rattle.tree_judge.specs.Judged.{SoFar, nothing_told}
@@ -17,13 +18,13 @@ use Rattle.tree_judge.specs.Standing.{IsJudgeOn, StandsFor, network_of}
 abbrev pub IsReading : Form → EventReader → Type 0
 IsReading F reader = ∥ ((bytes : List ℕ) × (events : List AnswerEvent) × Reads F bytes events reader) ∥₁
 
--- the judge was made for the graph; no more bytes were read than were fed; and as long as no line was wrong
+-- the judge was made for the subject's graph; no more bytes were read than were fed; and as long as no line was wrong
 -- the reader stands for some bytes
-pub record IsUnderway (N : Named) (reader : EventReader) (judge : Judge) (fault : Option Cause) (count : ℕ)
+pub record IsUnderway (subject : Subject) (reader : EventReader) (judge : Judge) (fault : Option Cause) (count : ℕ)
     : Type 0 where
-  pub sizes : IsJudgeOn N.graph judge
+  pub sizes : IsJudgeOn (named_of subject).graph judge
   pub few : bytes_fed reader ≤ count
-  pub reads : IfNone fault (IsReading N.form reader)
+  pub reads : IfNone fault (IsReading (named_of subject).form reader)
 
 -- each of these lines passes, one after another, and this is told behind the last of them
 abbrev pub PassAll : Named → SoFar → List AnswerEvent → SoFar → Type 0

@@ -4,7 +4,7 @@ ghost use Rattle.std.specs.Prelude.{ℕ, ◌≡◌, ◌+◌, ◌-◌, ◌^◌, �
 ghost use Rattle.std.specs.Prelude.{◌++◌, length, replicate, take, IsSome, None};
 ghost use Rattle.net_graph.specs.Network.{IsLowerBound};
 ghost use Rattle.hanan_grid.specs.Grid.{hanan_grid_of};
-ghost use Rattle.tree_judge.specs.Room.{row_length};
+ghost use Rattle.tree_judge.specs.Room.{nothing_kept};
 ghost use Rattle.cert_check.specs.declared.verdict.Finished.{Finished};
 ghost use Rattle.cert_check.specs.Named.{Named, named_of};
 ghost use Rattle.cert_check.specs.Accepted.{AcceptsAsIn, IsAcceptedIn, IsAccepting};
@@ -18,10 +18,10 @@ use crate::subject::Subject;
 use crate::verdict::{Finished, Verdict};
 use crate::workroom::Workroom;
 use cert_tree::tree_bounds_every_network;
-use cut_cert::{EventReader, Row, one_reading};
+use cut_cert::{EventReader, one_reading};
 use hanan_grid::Grid;
 use net_graph::{EdgeSet, VertexSet};
-use tree_judge::{Cause, Judge};
+use tree_judge::{Cause, Judge, Room};
 
 /// An answer has no more bytes than this.
 const BYTE_LIMIT: u64 = 4_294_967_295;
@@ -37,21 +37,19 @@ pub struct Checker<'a> {
     fault: Option<Cause>,
     /// How many bytes were fed, or 2^64-1 where it is more.
     fed: u64,
-    ghost underway: { IsUnderway (named_of subject) reader judge fault fed } by { IsUnderway-prop (named_of subject) reader judge fault fed },
+    ghost underway: { IsUnderway subject reader judge fault fed } by { IsUnderway-prop subject reader judge fault fed },
 }
 
 impl<'a> Checker<'a> {
     ghost use Rattle.cert_check.specs.Checking.{StandsForBytes, StandsForBytesIn};
 
     /// A checker of an answer for the points of a grid that was fed no byte. The room that it is handed: an empty set
-    /// of the grid's E edges for the network, an empty set of its V vertices for the cut that is read, and a row of
-    /// 3 E + max(E, 2 V) + V + 512 numbers, which on a grid are 3 E + 3 V + 512, whatever they are. A `Workroom` has
-    /// these.
-    pub fn begin(grid: &'a Grid, network: EdgeSet, members: VertexSet, work: Row) -> Checker<'a>
+    /// of the grid's edges for the network, an empty set of its vertices for the cut that is read, and the room of a
+    /// judge in which nothing was judged. A `Workroom` has these.
+    pub fn begin(grid: &'a Grid, network: EdgeSet, members: VertexSet, work: Room) -> Checker<'a>
         requires network { network ≡ replicate (length (hanan_grid_of grid.now).edges) false }
         requires members { members ≡ replicate (hanan_grid_of grid.now).vertices false }
-        requires work { length work ≡ row_length (length (hanan_grid_of grid.now).edges)
-            (hanan_grid_of grid.now).vertices }
+        requires work { work ≡ nothing_kept (length (hanan_grid_of grid.now).edges) (hanan_grid_of grid.now).vertices }
         ensures { StandsForBytes grid.now [] result }
     {
         let terminals = grid.points().len();
@@ -70,7 +68,7 @@ impl<'a> Checker<'a> {
         requires terminals { length (named_of subject).graph.terminals ≤ 255 }
         requires network { room.network ≡ replicate (length (named_of subject).graph.edges) false }
         requires members { room.members ≡ replicate (named_of subject).graph.vertices false }
-        requires work { length room.work ≡ row_length (length (named_of subject).graph.edges)
+        requires work { room.work ≡ nothing_kept (length (named_of subject).graph.edges)
             (named_of subject).graph.vertices }
         ensures { StandsForBytesIn (named_of subject.entry) [] result }
     {

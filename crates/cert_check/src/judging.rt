@@ -5,7 +5,7 @@ ghost use Rattle.tree_judge.specs.declared.claim.Claim.{Claim};
 ghost use Rattle.tree_judge.specs.Ends as judged;
 ghost use Rattle.tree_judge.specs.Judged.{SoFar, nothing_told};
 ghost use Rattle.tree_judge.specs.Judged as steps;
-ghost use Rattle.tree_judge.specs.Room.{row_length};
+ghost use Rattle.tree_judge.specs.Room.{nothing_kept};
 ghost use Rattle.tree_judge.specs.Standing.{IsJudgeOn, StandsFor, network_of};
 ghost use Rattle.tree_judge.specs.Steps.{IsStepIn};
 ghost use Rattle.cert_check.specs.Named.{Named, named_of};
@@ -17,15 +17,15 @@ use crate::border::layout_of;
 use crate::step::step_told;
 use crate::subject::Subject;
 use crate::verdict::{Finished, Verdict};
-use cut_cert::{Event, Row};
+use cut_cert::Event;
 use net_graph::{EdgeSet, VertexSet};
-use tree_judge::{AnyBorder, Cause, Claim, Judge, Step};
+use tree_judge::{AnyBorder, Cause, Claim, Judge, Room, Step};
 
 /// A judge before the first line.
-pub(crate) fn judge_on(subject: Subject, network: EdgeSet, work: Row) -> Judge
+pub(crate) fn judge_on(subject: Subject, network: EdgeSet, work: Room) -> Judge
     requires network { network ≡ replicate (length (named_of subject).graph.edges) false }
     requires terminals { length (named_of subject).graph.terminals ≤ 255 }
-    requires work { length work ≡ row_length (length (named_of subject).graph.edges) (named_of subject).graph.vertices }
+    requires work { work ≡ nothing_kept (length (named_of subject).graph.edges) (named_of subject).graph.vertices }
     ensures sizes { IsJudgeOn (named_of subject.entry).graph result }
     ensures nothing { StandsFor (named_of subject.entry).graph (nothing_told (named_of subject.entry).graph) result }
 {

@@ -2,7 +2,6 @@
 
 ghost use Rattle.cert_check.specs.Accepted.{AcceptedBoundHolds};
 ghost use Rattle.cert_check.specs.UpgradeLaw.{UpgradingKeepsVerdict};
-ghost use Rattle.cert_check.specs.RowLaw.{GridRowLength};
 ghost use Rattle.cert_check.specs.VerdictLaw.{OneVerdict, OneVerdictInGraphs, OneVerdictOnGrids};
 
 use cert_tree::tree_bounds_every_network;
@@ -35,10 +34,3 @@ pub fn upgrading_keeps_verdict()
     one_reading();
     upgraded_alike();
 }
-
-/// On the grid of terminals, with E edges and V vertices, the row of numbers in which a checker works is of length
-/// 3 E + 3 V + 512, since a grid has at most two edges for each vertex. A law: the call does nothing, and its caller
-/// knows the fact from there on.
-pub fn grid_row_length()
-    ensures { GridRowLength }
-{}

@@ -12,7 +12,7 @@ mod verdict;
 mod workroom;
 
 pub use checker::Checker;
-pub use law::{accepted_bound_holds, grid_row_length, one_verdict, upgrading_keeps_verdict};
+pub use law::{accepted_bound_holds, one_verdict, upgrading_keeps_verdict};
 pub use subject::Subject;
 pub use tree_judge::Cause;
 pub use verdict::{Finished, Ruling, Verdict};

@@ -1,7 +1,4 @@
-pub mod Tables
-pub mod Rooms
-pub mod Pigeons
-pub mod Listed
+pub mod ArcLoads
 pub mod Turns
 pub mod Marks
 pub mod Loading

@@ -5,7 +5,7 @@ pub mod Networks
 pub mod Splits
 pub mod Cuts
 pub mod Path
-pub mod Listed
+pub mod ArcLoads
 pub mod Room
 pub mod Loads
 pub mod Borders

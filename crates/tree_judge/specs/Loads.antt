@@ -5,11 +5,11 @@ use Rattle.net_graph.specs.declared.edge.Edge.{Edge}
 use Rattle.net_graph.specs.declared.state.EdgeState.{EdgeState}
 use Rattle.net_graph.specs.declared.packing.Cut.{Cut}
 use Rattle.net_graph.specs.Graph.{Graph}
-use Rattle.net_graph.specs.Decision.{states_of}
+use Rattle.net_graph.specs.Decision.{Decided, states_of}
 use Rattle.net_graph.specs.Packing.{load, room_of}
 use Rattle.tree_judge.specs.declared.leaf.Excess.{Excess}
 use Rattle.tree_judge.specs.Cuts.{IsEntered}
-use Rattle.tree_judge.specs.Room.{Kept}
+use Rattle.tree_judge.specs.ArcLoads.{ArcLoads}
 
 -- an arc's load is kept where the arc has a room, and is within it
 abbrev pub IsLoadKept : EdgeState → Edge → ℕ → ℕ → Type 0
@@ -21,43 +21,35 @@ pub record KeepsLoads (state : EdgeState) (e : Edge) (cuts : List Cut) (there ba
   pub backward : IsLoadKept state e (load cuts e.b e.a) back
 
 -- the loads of the arcs of the edge of this number are kept, by its state under what is decided
-abbrev pub KeepsEdge : Graph → List Cut → Kept → ℕ → Type 0
-KeepsEdge g cuts kept n = (e : Edge) (state : EdgeState) → slice_get g.edges n ≡ Some e →
-    slice_get (states_of g kept.decided) n ≡ Some state →
-    KeepsLoads state e cuts (slice_index kept.there n) (slice_index kept.back n)
+abbrev pub KeepsEdge : Graph → List Cut → Decided → ArcLoads → ℕ → Type 0
+KeepsEdge g cuts d loads n = (e : Edge) (state : EdgeState) → slice_get g.edges n ≡ Some e →
+    slice_get (states_of g d) n ≡ Some state →
+    KeepsLoads state e cuts (slice_index loads.there n) (slice_index loads.back n)
 
 -- these cuts were read, which load no arc above its room
-abbrev pub IsLeafOf : Graph → List Cut → Kept → Type 0
-IsLeafOf g cuts kept = (n : ℕ) → KeepsEdge g cuts kept n
+abbrev pub IsLeafOf : Graph → List Cut → Decided → ArcLoads → Type 0
+IsLeafOf g cuts d loads = (n : ℕ) → KeepsEdge g cuts d loads n
 
 -- the first edges are loaded with one more cut, and the others are not yet
-pub record LoadsBelow (g : Graph) (cuts : List Cut) (c : Cut) (n : ℕ) (kept : Kept) : Type 0 where
-  pub passed : (k : ℕ) → k < n → KeepsEdge g (cuts ++ c ∷ []) kept k
-  pub ahead : (k : ℕ) → n ≤ k → KeepsEdge g cuts kept k
+pub record LoadsBelow (g : Graph) (cuts : List Cut) (c : Cut) (n : ℕ) (d : Decided) (loads : ArcLoads) : Type 0 where
+  pub passed : (k : ℕ) → k < n → KeepsEdge g (cuts ++ c ∷ []) d loads k
+  pub ahead : (k : ℕ) → n ≤ k → KeepsEdge g cuts d loads k
 
 -- the sum of the weights, or 2^64-1 where it is more
 abbrev pub weight_kept : List Cut → ℕ
 weight_kept cuts = min (sum_by (λ c. c.weight) cuts) (2 ^ 64 - 1)
 
--- there is a load of each arc and a state of each edge and each vertex of the graph
-pub record HasRows (g : Graph) (kept : Kept) : Type 0 where
-  pub there : length kept.there ≡ length g.edges
-  pub back : length kept.back ≡ length g.edges
-  pub edges : length kept.decided.edges ≡ length g.edges
-  pub vertices : length kept.decided.vertices ≡ g.vertices
+-- there is a load of each arc of the graph
+pub record HasLoads (g : Graph) (loads : ArcLoads) : Type 0 where
+  pub there : length loads.there ≡ length g.edges
+  pub back : length loads.back ≡ length g.edges
 
--- what is decided and the way stay
-pub record SameWay (old new : Kept) : Type 0 where
-  pub decided : new.decided ≡ old.decided
-  pub path : new.path ≡ old.path
-
--- what is decided and the way stay, and so do all loads but those of the edge n
-pub record LoadsOnly (n : ℕ) (old new : Kept) : Type 0 where
+-- all loads stay but those of the edge n
+pub record LoadsOnly (n : ℕ) (old new : ArcLoads) : Type 0 where
   pub there_size : length new.there ≡ length old.there
   pub back_size : length new.back ≡ length old.back
   pub there : (k : ℕ) → k ≢ n → slice_index new.there k ≡ slice_index old.there k
   pub back : (k : ℕ) → k ≢ n → slice_index new.back k ≡ slice_index old.back k
-  pub way : SameWay old new
 
 -- an arc of the edge enters the set, and is loaded above its room by so much
 pub record IsOverload (state : EdgeState) (e : Edge) (packing : List Cut) (members : List Bool) (over : Excess)

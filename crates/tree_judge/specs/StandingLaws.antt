@@ -10,9 +10,10 @@ use Rattle.cert_tree.specs.declared.way.Turn.{Turn}
 use Rattle.cert_tree.specs.Decisions.{IsUndecidedSplit}
 use Rattle.tree_judge.specs.declared.judge.Judge.{Judge}
 use Rattle.tree_judge.specs.Path.{IsWay, decision_along}
-use Rattle.tree_judge.specs.Room.{Kept}
-use Rattle.tree_judge.specs.Loads.{HasRows}
-use Rattle.tree_judge.specs.Ways.{StandsOnWay}
+use Rattle.tree_judge.specs.ArcLoads.{ArcLoads}
+use Rattle.tree_judge.specs.declared.way.Way.{Way}
+use Rattle.tree_judge.specs.Loads.{HasLoads}
+use Rattle.tree_judge.specs.Ways.{HasStates, StandsOnWay}
 use Rattle.tree_judge.specs.Standing.{IsJudgeOn}
 
 IsVertexUndecided-prop : (g : Graph) (d : Decided) (v : ℕ) → IsProp (IsVertexUndecided g d v)
@@ -28,11 +29,14 @@ IsWay-prop g top [] = Unit-prop
 IsWay-prop g top (t ∷ above) =
     ×_prop (IsUndecidedSplit-prop g (decision_along top above) t.on) (IsWay-prop g top above)
 
-HasRows-prop : (g : Graph) (kept : Kept) → IsProp (HasRows g kept)
-HasRows-prop g kept = hlevel (codes, Coded-set)
+HasLoads-prop : (g : Graph) (loads : ArcLoads) → IsProp (HasLoads g loads)
+HasLoads-prop g loads = hlevel (codes, Coded-set)
 
-StandsOnWay-prop : (g : Graph) (kept : Kept) → IsProp (StandsOnWay g kept)
-StandsOnWay-prop g kept = hlevel (codes, Coded-set, HasRows-prop, IsWay-prop)
+HasStates-prop : (g : Graph) (d : Decided) → IsProp (HasStates g d)
+HasStates-prop g d = hlevel (codes, Coded-set)
+
+StandsOnWay-prop : (g : Graph) (way : Way) → IsProp (StandsOnWay g way)
+StandsOnWay-prop g way = hlevel (codes, Coded-set, HasStates-prop, IsWay-prop)
 
 pub IsJudgeOn-prop : (g : Graph) (judge : Judge) → IsProp (IsJudgeOn g judge)
-IsJudgeOn-prop g judge = hlevel (codes, Coded-set, le_prop, StandsOnWay-prop)
+IsJudgeOn-prop g judge = hlevel (codes, Coded-set, le_prop, HasLoads-prop, StandsOnWay-prop)

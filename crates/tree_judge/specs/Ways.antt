@@ -1,4 +1,4 @@
--- How a room stands on the way to a node.
+-- How a judge stands on the way to a node.
 use Rattle.std.specs.Prelude.{ℕ, ◌≡◌, ◌<◌, length, slice_get, Some, ◌⊎◌}
 use Rattle.net_graph.specs.declared.edge.Edge.{Edge}
 use Rattle.net_graph.specs.declared.state.EdgeState.TheVariants.{Undecided, Inside}
@@ -8,23 +8,22 @@ use Rattle.net_graph.specs.Decision.{Decided, IsMet, nothing_decided, with_edge,
 use Rattle.cert_tree.specs.declared.split.SplitOn.{SplitOn}
 use Rattle.cert_tree.specs.declared.split.SplitOn.TheVariants as split
 use Rattle.tree_judge.specs.Path.{IsWay, decision_along}
-use Rattle.tree_judge.specs.Room.{Kept}
-use Rattle.tree_judge.specs.Loads.{HasRows}
+use Rattle.tree_judge.specs.declared.way.Way.{Way}
 
--- the decision of the node that a room stands at
-abbrev pub decision_at : Graph → Kept → Decided
-decision_at g kept = decision_along (nothing_decided g) kept.path
+-- there is a state of each edge and each vertex of the graph
+pub record HasStates (g : Graph) (d : Decided) : Type 0 where
+  pub edges : length d.edges ≡ length g.edges
+  pub vertices : length d.vertices ≡ g.vertices
 
--- what each split of the way is on was undecided, and what is decided in the room is the decision of the node
-pub record StandsOnWay (g : Graph) (kept : Kept) : Type 0 where
-  pub rows : HasRows g kept
-  pub way : IsWay g (nothing_decided g) kept.path
-  pub decided : kept.decided ≡ decision_at g kept
+-- the decision of the node that a way leads to
+abbrev pub decision_at : Graph → Way → Decided
+decision_at g way = decision_along (nothing_decided g) way.path
 
--- the loads stay
-pub record SameLoads (old new : Kept) : Type 0 where
-  pub there : new.there ≡ old.there
-  pub back : new.back ≡ old.back
+-- what each split of the way is on was undecided, and what is decided is the decision of the node
+pub record StandsOnWay (g : Graph) (way : Way) : Type 0 where
+  pub states : HasStates g way.decided
+  pub splits : IsWay g (nothing_decided g) way.path
+  pub decided : way.decided ≡ decision_at g way
 
 -- there is a state of what a split is on
 abbrev pub HasState : Decided → SplitOn → Type 0

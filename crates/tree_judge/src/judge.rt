@@ -7,7 +7,7 @@ ghost use Rattle.cert_tree.specs.Decisions.{IsUndecidedSplit};
 ghost use Rattle.tree_judge.specs.Ends.{EndsWith};
 ghost use Rattle.tree_judge.specs.Judged.{SoFar, Passes, Fails, IsNetworkRight, IsNetworkWrong};
 ghost use Rattle.tree_judge.specs.Judged.{bound_found, decision_due, nothing_told, with_cuts_due, with_split};
-ghost use Rattle.tree_judge.specs.Room.{row_length};
+ghost use Rattle.tree_judge.specs.Room.{nothing_kept};
 ghost use Rattle.tree_judge.specs.Splits.{MaySplitOn, SplitOnFault};
 ghost use Rattle.tree_judge.specs.Standing.{IsJudgeOn, StandsFor, network_of};
 ghost use Rattle.tree_judge.specs.Steps.{IsSplitIn, IsStepIn};
@@ -20,15 +20,12 @@ use crate::edges::EdgesRead;
 use crate::end::judged_end;
 use crate::leaf::read_cut;
 use crate::network::network_fault;
+use crate::path::MOST_SPLITS;
 use crate::room::Room;
 use crate::step::Step;
 use crate::way::{go_on, go_outside, length_inside};
 use cert_tree::SplitOn;
 use net_graph::{EdgeSet, NetGraph, VertexSet};
-use number_row::Row;
-
-/// An answer has at most so many splits.
-const MOST_SPLITS: u32 = 255;
 
 /// A judge of an answer on a graph, which is told the answer's steps one after another. It takes no memory: it works in
 /// the room that it is handed. It keeps what stands for the steps so far.
@@ -52,13 +49,12 @@ pub struct Judge {
 }
 
 impl Judge {
-    /// A judge before the first step. The room that it is handed: an empty set of the graph's E edges for the network,
-    /// and a row of 3 E + max(E, 2 V) + V + 512 numbers for its V vertices, whatever they are. The graph has at most
-    /// 255 terminals.
-    pub fn begin(g: &NetGraph, network: EdgeSet, work: Row) -> Judge
+    /// A judge before the first step. It is handed an empty set of the graph's edges for the network, and a room for
+    /// the graph in which nothing was judged. The graph has at most 255 terminals.
+    pub fn begin(g: &NetGraph, network: EdgeSet, room: Room) -> Judge
         requires network { network ≡ replicate (length g.now.edges) false }
         requires terminals { length g.now.terminals ≤ 255 }
-        requires work { length work ≡ row_length (length g.now.edges) g.now.vertices }
+        requires room { room ≡ nothing_kept (length g.now.edges) g.now.vertices }
         ensures sizes { IsJudgeOn g.now result }
         ensures nothing { StandsFor g.now (nothing_told g.now) result }
     {
@@ -72,7 +68,7 @@ impl Judge {
             edges: EdgesRead::begin(network),
             splits: 0,
             cuts_due: 0,
-            room: Room::begin(work, g.edge_count(), g.vertex_count()),
+            room,
             weight: 0,
             least: u64::MAX,
         }
@@ -145,7 +141,12 @@ impl Judge {
         if self.edges_due > 0 {
             return None;
         }
-        network_fault(&mut self.room, g, self.claim.length, self.edges.network())
+        network_fault(
+            &mut self.room.search,
+            g,
+            self.claim.length,
+            self.edges.network(),
+        )
     }
 
     // Judges a split.
@@ -159,13 +160,13 @@ impl Judge {
             → SplitOnFault g.now (decision_due g.now s) s.splits on line cause) }
         ensures edges { self.new.edges ≡ self.old.edges }
     {
-        if !is_split_undecided(&self.room, g, on) {
+        if !is_split_undecided(&self.room.way.decided, g, on) {
             return Some(decided_cause(line, on));
         }
         if self.splits >= MOST_SPLITS {
             return Some(Cause::TooDeep(line));
         }
-        go_outside(&mut self.room, g, on);
+        go_outside(&mut self.room.way, g, on);
         self.splits += 1;
         None
     }
@@ -188,7 +189,15 @@ impl Judge {
         ensures fault { IfSome result (λ cause. (s : SoFar) → StandsFor g.now s self.old
             → Fails g.now s line (Step.Cut weight) (Some members.now) cause self.new.edges) }
     {
-        if let Some(cause) = read_cut(&mut self.room, g, border, line, weight, members) {
+        if let Some(cause) = read_cut(
+            &mut self.room.loads,
+            &self.room.way,
+            g,
+            border,
+            line,
+            weight,
+            members,
+        ) {
             return Some(cause);
         }
         self.weight = self.weight.saturating_add(weight);
@@ -208,11 +217,13 @@ impl Judge {
         if due > 0 {
             return;
         }
-        let value = self.weight.saturating_add(length_inside(&self.room, g));
+        let value = self
+            .weight
+            .saturating_add(length_inside(&self.room.way.decided, g));
         self.least = self.least.min(value);
         self.weight = 0;
-        self.room.clear_loads();
-        go_on(&mut self.room, g);
+        self.room.loads.clear();
+        go_on(&mut self.room.way, g);
     }
 
     /// The claim of the answer where it is right, behind the last step. An `Err` is why it is not.

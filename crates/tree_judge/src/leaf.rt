@@ -8,13 +8,15 @@ ghost use Rattle.net_graph.specs.Graph.{HasEndsBelow};
 ghost use Rattle.net_graph.specs.Decision.{EndsInside, IsMet, IsRequired};
 ghost use Rattle.net_graph.specs.Packing.{IsCut, room_of};
 ghost use Rattle.tree_judge.specs.Cuts.{PacksCut, CutFault, cut_of};
-ghost use Rattle.tree_judge.specs.Loads.{HasRows, IsLeafOf, IsOverload, KeepsLoads, LoadsBelow, LoadsOnly, SameWay};
-ghost use Rattle.tree_judge.specs.Ways.{HasState, RequiresOn, StandsOnWay};
+ghost use Rattle.tree_judge.specs.Loads.{HasLoads, IsLeafOf, IsOverload, KeepsLoads, LoadsBelow, LoadsOnly};
+ghost use Rattle.tree_judge.specs.Ways.{HasState, HasStates, RequiresOn, StandsOnWay};
 
 use crate::border::Border;
 use crate::cause::Cause;
 use crate::decided::state_at;
-use crate::room::Room;
+use crate::loads::Loads;
+use crate::states::States;
+use crate::way::Way;
 use cert_tree::SplitOn;
 use net_graph::{Edge, EdgeState, NetGraph, VertexSet, enters, holds_terminal};
 
@@ -28,53 +30,55 @@ pub(crate) struct Excess {
 /// Reads one more cut of a leaf, which stands in a line. Gives why the line is wrong, if it is; the loads are then
 /// those of no packing.
 pub(crate) fn read_cut<B: Border>(
-    room: &mut Room,
+    loads: &mut Loads,
+    way: &Way,
     g: &NetGraph,
     border: &B,
     line: u64,
     weight: u64,
     members: &VertexSet,
 ) -> Option<Cause>
-    requires on_way { StandsOnWay g.now room.old }
+    requires loads { HasLoads g.now loads.old }
+    requires on_way { StandsOnWay g.now way.now }
     requires size { length members.now ≡ g.now.vertices }
     requires border { B.is_of g.now border.now }
-    ensures rows { HasRows g.now room.new }
-    ensures way { SameWay room.old room.new }
-    ensures passes { IfNone result ((cuts : List Cut) → IsLeafOf g.now cuts room.old
-        → PacksCut g.now room.old.decided cuts (cut_of weight members.now)
-        × IsLeafOf g.now (cuts ++ cut_of weight members.now ∷ []) room.new) }
-    ensures fault { IfSome result (λ cause. (cuts : List Cut) → IsLeafOf g.now cuts room.old
-        → CutFault g.now room.old.decided cuts (cut_of weight members.now) line cause) }
+    ensures loads { HasLoads g.now loads.new }
+    ensures passes { IfNone result ((cuts : List Cut) → IsLeafOf g.now cuts way.now.decided loads.old
+        → PacksCut g.now way.now.decided cuts (cut_of weight members.now)
+        × IsLeafOf g.now (cuts ++ cut_of weight members.now ∷ []) way.now.decided loads.new) }
+    ensures fault { IfSome result (λ cause. (cuts : List Cut) → IsLeafOf g.now cuts way.now.decided loads.old
+        → CutFault g.now way.now.decided cuts (cut_of weight members.now) line cause) }
 {
-    if let Some(cause) = set_fault(room, g, line, members) {
+    if let Some(cause) = set_fault(way, g, line, members) {
         return Some(cause);
     }
-    load_arcs(room, g, border, line, weight, members)
+    load_arcs(loads, &way.decided, g, border, line, weight, members)
 }
 
 // Loads the arcs that enter a cut, edge by edge, up to the first edge of which one is then loaded above its room. Only
 // the edges at the cut's border are looked at.
 fn load_arcs<B: Border>(
-    room: &mut Room,
+    loads: &mut Loads,
+    decided: &States,
     g: &NetGraph,
     border: &B,
     line: u64,
     weight: u64,
     members: &VertexSet,
 ) -> Option<Cause>
-    requires rows { HasRows g.now room.old }
+    requires loads { HasLoads g.now loads.old }
+    requires states { HasStates g.now decided.now }
     requires size { length members.now ≡ g.now.vertices }
     requires border { B.is_of g.now border.now }
-    ensures rows { HasRows g.now room.new }
-    ensures way { SameWay room.old room.new }
-    ensures leaf { IfNone result ((cuts : List Cut) → IsLeafOf g.now cuts room.old
-        → IsLeafOf g.now (cuts ++ cut_of weight members.now ∷ []) room.new) }
-    ensures fault { IfSome result (λ cause. (cuts : List Cut) → IsCut g.now room.old.decided members.now
-        → IsLeafOf g.now cuts room.old
-        → CutFault g.now room.old.decided cuts (cut_of weight members.now) line cause) }
+    ensures size { HasLoads g.now loads.new }
+    ensures leaf { IfNone result ((cuts : List Cut) → IsLeafOf g.now cuts decided.now loads.old
+        → IsLeafOf g.now (cuts ++ cut_of weight members.now ∷ []) decided.now loads.new) }
+    ensures fault { IfSome result (λ cause. (cuts : List Cut) → IsCut g.now decided.now members.now
+        → IsLeafOf g.now cuts decided.now loads.old
+        → CutFault g.now decided.now cuts (cut_of weight members.now) line cause) }
 {
     for place in 0..border.runs(g) {
-        if let Some(cause) = load_run(room, g, border, place, line, weight, members) {
+        if let Some(cause) = load_run(loads, decided, g, border, place, line, weight, members) {
             return Some(cause);
         }
     }
@@ -83,7 +87,8 @@ fn load_arcs<B: Border>(
 
 // The same of the edges of a run, where those of lower numbers are loaded.
 fn load_run<B: Border>(
-    room: &mut Room,
+    loads: &mut Loads,
+    decided: &States,
     g: &NetGraph,
     border: &B,
     place: u32,
@@ -91,18 +96,19 @@ fn load_run<B: Border>(
     weight: u64,
     members: &VertexSet,
 ) -> Option<Cause>
-    requires rows { HasRows g.now room.old }
+    requires loads { HasLoads g.now loads.old }
+    requires states { HasStates g.now decided.now }
     requires size { length members.now ≡ g.now.vertices }
     requires border { B.is_of g.now border.now }
     requires place { place < B.count g.now border.now }
-    ensures rows { HasRows g.now room.new }
-    ensures way { SameWay room.old room.new }
+    ensures size { HasLoads g.now loads.new }
     ensures loads { IfNone result ((cuts : List Cut)
-        → LoadsBelow g.now cuts (cut_of weight members.now) (B.before g.now border.now place) room.old
-        → LoadsBelow g.now cuts (cut_of weight members.now) (B.before g.now border.now (place + 1)) room.new) }
-    ensures fault { IfSome result (λ cause. (cuts : List Cut) → IsCut g.now room.old.decided members.now
-        → LoadsBelow g.now cuts (cut_of weight members.now) (B.before g.now border.now place) room.old
-        → CutFault g.now room.old.decided cuts (cut_of weight members.now) line cause) }
+        → LoadsBelow g.now cuts (cut_of weight members.now) (B.before g.now border.now place) decided.now loads.old
+        → LoadsBelow g.now cuts (cut_of weight members.now) (B.before g.now border.now (place + 1)) decided.now
+        loads.new) }
+    ensures fault { IfSome result (λ cause. (cuts : List Cut) → IsCut g.now decided.now members.now
+        → LoadsBelow g.now cuts (cut_of weight members.now) (B.before g.now border.now place) decided.now loads.old
+        → CutFault g.now decided.now cuts (cut_of weight members.now) line cause) }
 {
     // Few edges, so their numbers are within 32 bits.
     prove!(g.edge_count() <= 4900);
@@ -113,8 +119,8 @@ fn load_run<B: Border>(
     while marks != 0 {
         let gap = marks.trailing_zeros();
         n += gap;
-        let state = state_at(room, g, n);
-        if let Err(over) = load_edge(room, n, g.edge(n), state, weight, members) {
+        let state = state_at(decided, g, n);
+        if let Err(over) = load_edge(loads, n, g.edge(n), state, weight, members) {
             return Some(Cause::Overload {
                 line,
                 edge: n,
@@ -131,35 +137,35 @@ fn load_run<B: Border>(
 // Loads that arc of an edge in this state which enters the set, if it has a room. An `Err` is its load where that is
 // above its room.
 fn load_edge(
-    room: &mut Room,
+    loads: &mut Loads,
     n: u32,
     e: Edge,
     state: EdgeState,
     weight: u64,
     members: &VertexSet,
 ) -> Result<(), Excess>
-    requires there { n < length room.old.there }
-    requires back { n < length room.old.back }
+    requires there { n < length loads.old.there }
+    requires back { n < length loads.old.back }
     requires ends { HasEndsBelow (length members.now) e }
-    ensures only { LoadsOnly n room.old room.new }
+    ensures only { LoadsOnly n loads.old loads.new }
     ensures passes { IfOk result (λ _. (cuts : List Cut)
-        → KeepsLoads state e cuts (slice_index room.old.there n) (slice_index room.old.back n)
+        → KeepsLoads state e cuts (slice_index loads.old.there n) (slice_index loads.old.back n)
         → KeepsLoads state e (cuts ++ cut_of weight members.now ∷ [])
-        (slice_index room.new.there n) (slice_index room.new.back n)) }
+        (slice_index loads.new.there n) (slice_index loads.new.back n)) }
     ensures over { IfErr result (λ over. (cuts : List Cut)
-        → KeepsLoads state e cuts (slice_index room.old.there n) (slice_index room.old.back n)
+        → KeepsLoads state e cuts (slice_index loads.old.there n) (slice_index loads.old.back n)
         → IsOverload state e (cuts ++ cut_of weight members.now ∷ []) members.now over) }
 {
     let Some(limit) = arc_room(state, &e) else {
         return Ok(());
     };
     if enters(members, e.a, e.b) {
-        let load = with_weight(room.there(n), weight, limit)?;
-        room.set_there(n, load);
+        let load = with_weight(loads.there(n), weight, limit)?;
+        loads.set_there(n, load);
         Ok(())
     } else if enters(members, e.b, e.a) {
-        let load = with_weight(room.back(n), weight, limit)?;
-        room.set_back(n, load);
+        let load = with_weight(loads.back(n), weight, limit)?;
+        loads.set_back(n, load);
         Ok(())
     } else {
         Ok(())
@@ -193,41 +199,41 @@ fn with_weight(load: u64, weight: u64, room: u64) -> Result<u64, Excess>
 }
 
 // Why the set is no cut, if it is none.
-fn set_fault(room: &Room, g: &NetGraph, line: u64, members: &VertexSet) -> Option<Cause>
-    requires on_way { StandsOnWay g.now room.now }
+fn set_fault(way: &Way, g: &NetGraph, line: u64, members: &VertexSet) -> Option<Cause>
+    requires on_way { StandsOnWay g.now way.now }
     requires size { length members.now ≡ g.now.vertices }
-    ensures passes { IfNone result (IsCut g.now room.now.decided members.now) }
+    ensures passes { IfNone result (IsCut g.now way.now.decided members.now) }
     ensures fault { IfSome result (λ cause. (cuts : List Cut) (weight : ℕ)
-        → CutFault g.now room.now.decided cuts (cut_of weight members.now) line cause) }
+        → CutFault g.now way.now.decided cuts (cut_of weight members.now) line cause) }
 {
     if members.has(g.root()) {
         return Some(Cause::RootInCut(line));
     }
-    if !holds_required(room, g, members) {
+    if !holds_required(way, g, members) {
         return Some(Cause::IdleCut(line));
     }
     None
 }
 
 // Whether the set holds a required vertex.
-fn holds_required(room: &Room, g: &NetGraph, members: &VertexSet) -> bool
-    requires on_way { StandsOnWay g.now room.now }
+fn holds_required(way: &Way, g: &NetGraph, members: &VertexSet) -> bool
+    requires on_way { StandsOnWay g.now way.now }
     requires size { length members.now ≡ g.now.vertices }
-    ensures { IsTrue result ↔ ((v : ℕ) × IsRequired g.now room.now.decided v × (has members.now v ≡ true)) }
+    ensures { IsTrue result ↔ ((v : ℕ) × IsRequired g.now way.now.decided v × (has members.now v ≡ true)) }
 {
-    holds_terminal(g, members) || holds_decided(room, g, members)
+    holds_terminal(g, members) || holds_decided(way, g, members)
 }
 
 // Whether the set holds an end of an inside edge or a met vertex. Each of these edges and vertices has its split on the
 // way.
-fn holds_decided(room: &Room, g: &NetGraph, members: &VertexSet) -> bool
-    requires on_way { StandsOnWay g.now room.now }
+fn holds_decided(way: &Way, g: &NetGraph, members: &VertexSet) -> bool
+    requires on_way { StandsOnWay g.now way.now }
     requires size { length members.now ≡ g.now.vertices }
-    ensures { IsTrue result ↔ ((v : ℕ) × (EndsInside g.now room.now.decided v ⊎ IsMet room.now.decided v)
+    ensures { IsTrue result ↔ ((v : ℕ) × (EndsInside g.now way.now.decided v ⊎ IsMet way.now.decided v)
         × (has members.now v ≡ true)) }
 {
-    for place in 0..room.depth() {
-        if holds_by(room, g, members, room.turn(place).on) {
+    for place in 0..way.path.depth() {
+        if holds_by(&way.decided, g, members, way.path.turn(place).on) {
             return true;
         }
     }
@@ -235,15 +241,15 @@ fn holds_decided(room: &Room, g: &NetGraph, members: &VertexSet) -> bool
 }
 
 // Whether the set holds a vertex that is required by what a split is on.
-fn holds_by(room: &Room, g: &NetGraph, members: &VertexSet, on: SplitOn) -> bool
-    requires rows { HasRows g.now room.now }
+fn holds_by(decided: &States, g: &NetGraph, members: &VertexSet, on: SplitOn) -> bool
+    requires states { HasStates g.now decided.now }
     requires size { length members.now ≡ g.now.vertices }
-    requires state { HasState room.now.decided on }
-    ensures { IsTrue result ↔ ((v : ℕ) × RequiresOn g.now room.now.decided on v × (has members.now v ≡ true)) }
+    requires state { HasState decided.now on }
+    ensures { IsTrue result ↔ ((v : ℕ) × RequiresOn g.now decided.now on v × (has members.now v ≡ true)) }
 {
     match on {
-        SplitOn::Edge(n) => room.is_inside(n) && holds_end(members, g.edge(n)),
-        SplitOn::Vertex(v) => room.is_met(v) && members.has(v),
+        SplitOn::Edge(n) => decided.is_inside(n) && holds_end(members, g.edge(n)),
+        SplitOn::Vertex(v) => decided.is_met(v) && members.has(v),
     }
 }
 

@@ -1,10 +1,10 @@
 -- What a judge stands for behind one more line.
-use Rattle.std.proofs.Common.{ℕ, ◌≡◌, ◌-◌, ◌+◌, ◌^◌, ◌<◌, min, Bool, true, false, List, [], ◌∷◌, ◌++◌, drop, get_or, slice_get, Some, refl, sym, ap, ◌∙◌, subst, inl, inr, arith}
+use Rattle.std.proofs.Common.{ℕ, ◌≡◌, ◌-◌, ◌+◌, ◌^◌, ◌<◌, min, Bool, true, false, List, [], ◌∷◌, ◌++◌, drop, get_or, Some, refl, sym, ap, ◌∙◌, subst, inl, inr, arith}
 use Rattle.std.specs.Prelude.{Option, None, IfSome, IfNone, slice_set}
 use Rattle.net_graph.specs.declared.packing.Cut.{Cut}
 use Rattle.net_graph.specs.declared.state.EdgeState.TheVariants.{Outside}
 use Rattle.net_graph.specs.Graph.{Graph}
-use Rattle.net_graph.specs.Decision.{nothing_decided, states_of}
+use Rattle.net_graph.specs.Decision.{Decided, nothing_decided}
 use Rattle.cert_tree.specs.declared.split.SplitOn.{SplitOn}
 use Rattle.cert_tree.specs.declared.split.SplitOn.TheVariants as split
 use Rattle.cert_tree.specs.Decisions.{IsUndecidedSplit, outside_of, inside_of}
@@ -16,9 +16,11 @@ use Rattle.tree_judge.specs.declared.step.Step.TheVariants as step
 use Rattle.tree_judge.specs.Splits.{MaySplitOn}
 use Rattle.tree_judge.specs.Steps.{IsSplitIn}
 use Rattle.tree_judge.specs.Path.{decisions_behind}
-use Rattle.tree_judge.specs.Room.{Kept}
-use Rattle.tree_judge.specs.Loads.{HasRows, IsLeafOf, KeepsLoads, SameWay, weight_kept}
-use Rattle.tree_judge.specs.Ways.{HasState, StandsOnWay, SameLoads, decision_at}
+use Rattle.tree_judge.specs.declared.room.Room.{Room}
+use Rattle.tree_judge.specs.ArcLoads.{ArcLoads}
+use Rattle.tree_judge.specs.declared.way.Way.{Way}
+use Rattle.tree_judge.specs.Loads.{IsLeafOf, KeepsLoads, weight_kept}
+use Rattle.tree_judge.specs.Ways.{HasState, HasStates, StandsOnWay, decision_at}
 use Rattle.tree_judge.specs.Judged.{SoFar, Passes, Fails, IsNetworkRight, IsNetworkWrong, decision_due, least_with, with_cut, with_cuts_due, with_edge, with_split}
 use Rattle.tree_judge.specs.Standing.{StandsFor}
 use Rattle.tree_judge.proofs.lemmas.Loading.{passes_free}
@@ -53,11 +55,12 @@ stands_edges g old new s s' same head due network decisions splits cuts_due cuts
       claim = head;
       edges_due = due;
       network = network;
-      decision = ap (λ ds. get_or ds 0 top) decisions ∙ stands.decision ∙ sym (ap (λ (k : Kept). k.decided) same.room);
-      behind = ap (λ ds. drop 1 ds) decisions ∙ stands.behind ∙ sym (ap (λ (k : Kept). decisions_behind top k.path) same.room);
+      decision = ap (λ ds. get_or ds 0 top) decisions ∙ stands.decision ∙ sym (ap (λ (k : Room). k.way.decided) same.room);
+      behind = ap (λ ds. drop 1 ds) decisions ∙ stands.behind ∙ sym (ap (λ (k : Room). decisions_behind top k.way.path) same.room);
       splits = same.splits ∙ stands.splits ∙ sym splits;
       cuts_due = same.cuts_due ∙ stands.cuts_due ∙ sym cuts_due;
-      leaf = subst (λ xs. IsLeafOf g xs new.room) (sym cuts) (subst (IsLeafOf g s.cuts) (sym same.room) stands.leaf);
+      leaf = subst (λ xs. IsLeafOf g xs new.room.way.decided new.room.loads) (sym cuts)
+          (subst (λ (k : Room). IsLeafOf g s.cuts k.way.decided k.loads) (sym same.room) stands.leaf);
       weight = same.weight ∙ stands.weight ∙ sym (ap weight_kept cuts);
       least = same.least ∙ stands.least ∙ sym (ap (λ vs. least_with (2 ^ 64 - 1) vs) values);
     }
@@ -132,29 +135,25 @@ count_fails g count line old mid new cause behind same wrong members s stands =
 
 -- what may be said under what is decided in the room may be said under the decision that is due
 pub split_due : (g : Graph) (s : SoFar) (judge : Judge) (on : SplitOn) → StandsFor g s judge →
-    IsUndecidedSplit g judge.room.decided on → IsUndecidedSplit g (decision_due g s) on
+    IsUndecidedSplit g judge.room.way.decided on → IsUndecidedSplit g (decision_due g s) on
 split_due g s judge on stands undecided =
     subst (λ d. IsUndecidedSplit g d on) (sym stands.decision) undecided
 
 pub split_decided : (g : Graph) (s : SoFar) (judge : Judge) (on : SplitOn) → StandsFor g s judge →
-    (IsUndecidedSplit g judge.room.decided on → ⊥) →
+    (IsUndecidedSplit g judge.room.way.decided on → ⊥) →
     IsUndecidedSplit g (decision_due g s) on → ⊥
 split_decided g s judge on stands decided undecided =
     decided (subst (λ d. IsUndecidedSplit g d on) stands.decision undecided)
 
 -- the loads of a leaf are kept in the outside part of a split
-leaf_outside : (g : Graph) (cuts : List Cut) (on : SplitOn) (old new : Kept) → SameLoads old new →
-    new.decided ≡ outside_of old.decided on → IsUndecidedSplit g old.decided on → IsLeafOf g cuts old → IsLeafOf g cuts new
-leaf_outside g cuts on old new same decided undecided leaf n e state at state_at =
-    let now : slice_get (states_of g (outside_of old.decided on)) n ≡ Some state =
-    sym (ap (λ d. slice_get (states_of g d) n) decided) ∙ state_at in
-    elim (state_outside g old.decided on n state undecided now) [
+leaf_outside : (g : Graph) (cuts : List Cut) (on : SplitOn) (d : Decided) (loads : ArcLoads) → IsUndecidedSplit g d on →
+    IsLeafOf g cuts d loads → IsLeafOf g cuts (outside_of d on) loads
+leaf_outside g cuts on d loads undecided leaf n e state at state_at =
+    elim (state_outside g d on n state undecided state_at) [
       | inl free ↦
-          subst (λ x. KeepsLoads x e cuts (get_or new.there n 0) (get_or new.back n 0)) (sym free)
-          (passes_free Outside e cuts (get_or new.there n 0) (get_or new.back n 0) refl)
-      | inr before ↦
-          subst (λ k. KeepsLoads state e cuts k (get_or new.back n 0)) (sym (ap (λ xs. get_or xs n 0) same.there))
-          (subst (λ k. KeepsLoads state e cuts (get_or old.there n 0) k) (sym (ap (λ xs. get_or xs n 0) same.back)) (leaf n e state at before))
+          subst (λ x. KeepsLoads x e cuts (get_or loads.there n 0) (get_or loads.back n 0)) (sym free)
+          (passes_free Outside e cuts (get_or loads.there n 0) (get_or loads.back n 0) refl)
+      | inr before ↦ leaf n e state at before
     ]
 
 -- the judge behind one more split
@@ -166,12 +165,12 @@ pub record IsBehindSplit (on : SplitOn) (old new : Judge) : Type 0 where
   pub cuts_due : new.cuts_due ≡ old.cuts_due
   pub weight : new.weight ≡ old.weight
   pub least : new.least ≡ old.least
-  pub path : new.room.path ≡ record { on = on; inside = false } ∷ old.room.path
-  pub loads : SameLoads old.room new.room
-  pub decided : new.room.decided ≡ outside_of old.room.decided on
+  pub path : new.room.way.path ≡ record { on = on; inside = false } ∷ old.room.way.path
+  pub loads : new.room.loads ≡ old.room.loads
+  pub decided : new.room.way.decided ≡ outside_of old.room.way.decided on
 
 pub split_passes : (g : Graph) (on : SplitOn) (old new : Judge) (s : SoFar) → IsBehindSplit on old new → StandsFor g s old →
-    StandsOnWay g old.room → IsUndecidedSplit g old.room.decided on → old.splits < 255 →
+    StandsOnWay g old.room.way → IsUndecidedSplit g old.room.way.decided on → old.splits < 255 →
     MaySplitOn g (decision_due g s) s.splits on × StandsFor g (with_split g s on) new
 split_passes g on old new s behind stands way undecided few =
     let top = nothing_decided g in (
@@ -182,19 +181,21 @@ split_passes g on old new s behind stands way undecided few =
         network = behind.edges ∙ stands.network;
         decision = ap (λ d. outside_of d on) stands.decision ∙ sym behind.decided;
         behind = ap (λ d. inside_of d on ∷ drop 1 s.decisions) (stands.decision ∙ way.decided)
-            ∙ ap (λ ds. inside_of (decision_at g old.room) on ∷ ds) stands.behind
+            ∙ ap (λ ds. inside_of (decision_at g old.room.way) on ∷ ds) stands.behind
             ∙ sym (ap (decisions_behind top) behind.path);
         splits = behind.splits ∙ ap (λ n. n + 1) stands.splits;
         cuts_due = behind.cuts_due ∙ stands.cuts_due;
-        leaf = leaf_outside g s.cuts on old.room new.room behind.loads behind.decided undecided stands.leaf;
+        leaf = subst (λ d. IsLeafOf g s.cuts d new.room.loads) (sym behind.decided)
+            (subst (λ loads. IsLeafOf g s.cuts (outside_of old.room.way.decided on) loads) (sym behind.loads)
+            (leaf_outside g s.cuts on old.room.way.decided old.room.loads undecided stands.leaf));
         weight = behind.weight ∙ stands.weight;
         least = behind.least ∙ stands.least;
       },
     )
 
-pub has_state : (g : Graph) (kept : Kept) (on : SplitOn) → HasRows g kept → IsSplitIn g on → HasState kept.decided on
-has_state g kept (split.Edge n) rows on = omega (arith, on, rows.edges)
-has_state g kept (split.Vertex v) rows on = omega (arith, on, rows.vertices)
+pub has_state : (g : Graph) (d : Decided) (on : SplitOn) → HasStates g d → IsSplitIn g on → HasState d on
+has_state g d (split.Edge n) states on = omega (arith, on, states.edges)
+has_state g d (split.Vertex v) states on = omega (arith, on, states.vertices)
 
 -- ---- cuts
 
@@ -207,38 +208,40 @@ pub record IsBehindCut (weight : ℕ) (old new : Judge) : Type 0 where
   pub cuts_due : new.cuts_due ≡ old.cuts_due
   pub weight_kept : new.weight ≡ min (old.weight + weight) (2 ^ 64 - 1)
   pub least : new.least ≡ old.least
-  pub way : SameWay old.room new.room
+  pub way : new.room.way ≡ old.room.way
 
 -- it stands for one cut more
 pub stands_behind_cut : (g : Graph) (weight : ℕ) (set : List Bool) (old new : Judge) (s : SoFar) → IsBehindCut weight old new → StandsFor g s old →
-    IsLeafOf g (s.cuts ++ cut_of weight set ∷ []) new.room → StandsFor g (record s { cuts = s.cuts ++ cut_of weight set ∷ [] }) new
+    IsLeafOf g (s.cuts ++ cut_of weight set ∷ []) old.room.way.decided new.room.loads → StandsFor g (record s { cuts = s.cuts ++ cut_of weight set ∷ [] }) new
 stands_behind_cut g weight set old new s behind stands leaf =
     let top = nothing_decided g in
     record {
       claim = behind.claim ∙ stands.claim;
       edges_due = behind.edges_due ∙ stands.edges_due;
       network = behind.edges ∙ stands.network;
-      decision = stands.decision ∙ sym behind.way.decided;
-      behind = stands.behind ∙ sym (ap (decisions_behind top) behind.way.path);
+      decision = stands.decision ∙ sym (ap (λ (way : Way). way.decided) behind.way);
+      behind = stands.behind ∙ sym (ap (λ (way : Way). decisions_behind top way.path) behind.way);
       splits = behind.splits ∙ stands.splits;
       cuts_due = behind.cuts_due ∙ stands.cuts_due;
-      leaf = leaf;
+      leaf = subst (λ (way : Way). IsLeafOf g (s.cuts ++ cut_of weight set ∷ []) way.decided new.room.loads)
+          (sym behind.way) leaf;
       weight = behind.weight_kept ∙ weight_kept-more s.cuts (cut_of weight set) old.weight stands.weight;
       least = behind.least ∙ stands.least;
     }
 
 -- what may be said of a cut under the decision of the way may be said under the one that is due
-pub PacksCut-due : (g : Graph) (s : SoFar) (judge : Judge) (c : Cut) → StandsFor g s judge → PacksCut g judge.room.decided s.cuts c →
+pub PacksCut-due : (g : Graph) (s : SoFar) (judge : Judge) (c : Cut) → StandsFor g s judge → PacksCut g judge.room.way.decided s.cuts c →
     PacksCut g (decision_due g s) s.cuts c
 PacksCut-due g s judge c stands packs = subst (λ d. PacksCut g d s.cuts c) (sym stands.decision) packs
 
 pub CutFault-due : (g : Graph) (s : SoFar) (judge : Judge) (c : Cut) (line : ℕ) (cause : Cause) → StandsFor g s judge →
-    CutFault g judge.room.decided s.cuts c line cause → CutFault g (decision_due g s) s.cuts c line cause
+    CutFault g judge.room.way.decided s.cuts c line cause → CutFault g (decision_due g s) s.cuts c line cause
 CutFault-due g s judge c line cause stands fault = subst (λ d. CutFault g d s.cuts c line cause) (sym stands.decision) fault
 
 -- the line passes
 pub cut_passes : (g : Graph) (weight due : ℕ) (set : List Bool) (old mid new : Judge) (s : SoFar) → IsBehindCut weight old mid → StandsFor g s old → due ≡ old.cuts_due - 1 →
-    PacksCut g old.room.decided s.cuts (cut_of weight set) → IsLeafOf g (s.cuts ++ cut_of weight set ∷ []) mid.room →
+    PacksCut g old.room.way.decided s.cuts (cut_of weight set) →
+    IsLeafOf g (s.cuts ++ cut_of weight set ∷ []) old.room.way.decided mid.room.loads →
     ((s : SoFar) → StandsFor g s mid → StandsFor g (with_cuts_due g s due) new) →
     (s' : SoFar) × Passes g s (step.Cut weight) (Some set) s' × StandsFor g s' new
 cut_passes g weight due set old mid new s behind stands less packs leaf then =

@@ -14,14 +14,9 @@ use Rattle.cert_tree.specs.declared.split.SplitOn.TheVariants as split
 use Rattle.cert_tree.specs.Decisions.{IsUndecidedSplit, outside_of, inside_of}
 use Rattle.cert_tree.specs.declared.way.Turn.{Turn}
 use Rattle.tree_judge.specs.Path.{IsWay, decision_along}
-use Rattle.tree_judge.specs.Room.{Kept}
+use Rattle.tree_judge.specs.declared.way.Way.{Way}
 use Rattle.tree_judge.specs.Ways.{HasState, RequiresOn, StandsOnWay}
 use Rattle.tree_judge.proofs.lemmas.WaySteps.{undecided_has_state}
-
--- the first entry of a list
-pub first_entry : {A : Type 0} (xs : List A) (x : A) → slice_get xs 0 ≡ Some x → (rest : List A) × (xs ≡ x ∷ rest)
-first_entry [] x at = cc
-first_entry (y ∷ xs) x at = (xs, ap (λ z. z ∷ xs) (same_Some y x at))
 
 -- ---- what splits are on
 
@@ -34,11 +29,11 @@ turn_along g top (u ∷ above) zero t way at =
 turn_along g top (u ∷ above) (suc k) t way at = turn_along g top above k t way.1 at
 
 -- so it has a state
-pub turn_has_state : (g : Graph) (kept : Kept) (k : ℕ) (t : Turn) → StandsOnWay g kept → slice_get kept.path k ≡ Some t →
-    HasState kept.decided t.on
-turn_has_state g kept k t stands at =
-    let (d, undecided) = turn_along g (nothing_decided g) kept.path k t stands.way at in
-    undecided_has_state g d kept t.on stands.rows undecided
+pub turn_has_state : (g : Graph) (way : Way) (k : ℕ) (t : Turn) → StandsOnWay g way → slice_get way.path k ≡ Some t →
+    HasState way.decided t.on
+turn_has_state g way k t stands at =
+    let (d, undecided) = turn_along g (nothing_decided g) way.path k t stands.splits at in
+    undecided_has_state g d way.decided t.on stands.states undecided
 
 -- ---- inside edges and met vertices
 
@@ -92,15 +87,15 @@ met_along g (t ∷ above) v is = elim (vertex_by (decision_along (nothing_decide
 ]
 
 -- so a vertex that is required by what is decided is required by what a split of the way is on
-pub required_turned : (g : Graph) (kept : Kept) (v : ℕ) → StandsOnWay g kept →
-    EndsInside g kept.decided v ⊎ IsMet kept.decided v →
-    (k : ℕ) × (t : Turn) × (slice_get kept.path k ≡ Some t) × RequiresOn g kept.decided t.on v
-required_turned g kept v stands (inl (n, e, is, at, ends)) =
-    let (k, t, turned, same) = inside_along g kept.path n (sym (ap (λ (d : Decided). slice_get d.edges n) stands.decided) ∙ is) in
-    (k, t, turned, subst (λ on. RequiresOn g kept.decided on v) (sym same) (e, is, at, ends))
-required_turned g kept v stands (inr met) =
-    let (k, t, turned, same) = met_along g kept.path v (sym (ap (λ (d : Decided). slice_get d.vertices v) stands.decided) ∙ met) in
-    (k, t, turned, subst (λ on. RequiresOn g kept.decided on v) (sym same) (refl, met))
+pub required_turned : (g : Graph) (way : Way) (v : ℕ) → StandsOnWay g way →
+    EndsInside g way.decided v ⊎ IsMet way.decided v →
+    (k : ℕ) × (t : Turn) × (slice_get way.path k ≡ Some t) × RequiresOn g way.decided t.on v
+required_turned g way v stands (inl (n, e, is, at, ends)) =
+    let (k, t, turned, same) = inside_along g way.path n (sym (ap (λ (d : Decided). slice_get d.edges n) stands.decided) ∙ is) in
+    (k, t, turned, subst (λ on. RequiresOn g way.decided on v) (sym same) (e, is, at, ends))
+required_turned g way v stands (inr met) =
+    let (k, t, turned, same) = met_along g way.path v (sym (ap (λ (d : Decided). slice_get d.vertices v) stands.decided) ∙ met) in
+    (k, t, turned, subst (λ on. RequiresOn g way.decided on v) (sym same) (refl, met))
 
 -- and the other way round
 pub required_by : (g : Graph) (d : Decided) (on : SplitOn) (v : ℕ) → RequiresOn g d on v →

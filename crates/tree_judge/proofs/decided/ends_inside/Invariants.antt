@@ -6,5 +6,5 @@ use Rattle.tree_judge.proofs.decided.ends_inside.Given as goal
 
 -- no inside edge so far has this end
 abbrev pub invariant-loop-n : goal.invariant-loop-n
-invariant-loop-n l = (k : ℕ) (e : Edge) → k < l.n → slice_get l.room.decided.edges k ≡ Some Inside →
+invariant-loop-n l = (k : ℕ) (e : Edge) → k < l.n → slice_get l.decided.edges k ≡ Some Inside →
     slice_get l.g.edges k ≡ Some e → (e.a ≡ l.v) ⊎ (e.b ≡ l.v) → ⊥

@@ -6,5 +6,5 @@ use Rattle.tree_judge.proofs.leaf.holds_decided.Given as goal
 
 -- the set holds no vertex that is required by what a split so far is on
 abbrev pub invariant-loop-place : goal.invariant-loop-place
-invariant-loop-place l = (k : ℕ) (t : Turn) (v : ℕ) → k < l.place → slice_get l.room.path k ≡ Some t →
-    RequiresOn l.g l.room.decided t.on v → has l.members v ≡ true → ⊥
+invariant-loop-place l = (k : ℕ) (t : Turn) (v : ℕ) → k < l.place → slice_get l.way.path k ≡ Some t →
+    RequiresOn l.g l.way.decided t.on v → has l.members v ≡ true → ⊥

@@ -19,8 +19,8 @@ pub returns-clause-passes : goal.returns-clause-passes
 returns-clause-passes g c =
     IfNone-then c.load_arcs.result c.load_arcs.ensures.leaf
     (λ more cuts leaf. (
-      PacksCut-kept c.args.g.now cuts (cut_of c.args.weight c.args.members.now) c.args.room.now c.load_arcs.new.room
-          c.load_arcs.ensures.way c.in_default.ensures.passes (more cuts leaf),
+      PacksCut-kept c.args.g.now cuts (cut_of c.args.weight c.args.members.now) c.args.way.now.decided
+          c.load_arcs.new.loads c.in_default.ensures.passes (more cuts leaf),
       more cuts leaf,
     ))
 

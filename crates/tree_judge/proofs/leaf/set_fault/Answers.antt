@@ -7,7 +7,7 @@ returns-then-not-holds_required-clause-fault c cuts weight = (
   refl,
   record {
     rootless = search rules;
-    idle = idle_without c.args.g.now c.args.room.now.decided c.args.members.now
+    idle = idle_without c.args.g.now c.args.way.now.decided c.args.members.now
         (λ some. let holds = c.holds_required.ensures.1 some in let none = c.if-not-holds_required.true in cc);
   },
 )

@@ -10,9 +10,9 @@ use Rattle.tree_judge.proofs.way.length_inside.Goals.{then-is_inside, else-is_in
 pub overflow_add-sum : goal.overflow_add-sum
 overflow_add-sum c =
     let e = c.edge-sum.result in
-    let inside : slice_get c.args.room.now.decided.edges c.loop-n.n ≡ Some Inside = c.is_inside.ensures.0 c.if-is_inside.true in
+    let inside : slice_get c.args.decided.now.edges c.loop-n.n ≡ Some Inside = c.is_inside.ensures.0 c.if-is_inside.true in
     let same = ap (λ (x : Edge). x.length) (get_or_from_slice_get c.args.g.now.edges c.loop-n.n e e c.edge-sum.ensures.edge) in
-    omega (arith, same, inside_length_yes-le-sum c.args.g.now.edges c.args.room.now.decided.edges c.loop-n.n e (omega arith) inside, c.edge_count-n-end.ensures.graph.total)
+    omega (arith, same, inside_length_yes-le-sum c.args.g.now.edges c.args.decided.now.edges c.loop-n.n e (omega arith) inside, c.edge_count-n-end.ensures.graph.total)
 
 pub loop-n-preserved : goal.loop-n-preserved
 loop-n-preserved c =
@@ -21,7 +21,7 @@ loop-n-preserved c =
       | then-is_inside w ↦
           let e = w.edge-sum.result in
           let same = ap (λ (x : Edge). x.length) (get_or_from_slice_get c.args.g.now.edges c.loop-n.n e e w.edge-sum.ensures.edge) in
-          omega (arith, same, inside_length_yes c.args.g.now.edges c.args.room.now.decided.edges c.loop-n.n e below (c.is_inside.ensures.0 w.if-is_inside.true))
+          omega (arith, same, inside_length_yes c.args.g.now.edges c.args.decided.now.edges c.loop-n.n e below (c.is_inside.ensures.0 w.if-is_inside.true))
       | else-is_inside w ↦
-          omega (arith, inside_length_no c.args.g.now.edges c.args.room.now.decided.edges c.loop-n.n (iff_false c.is_inside.ensures w.if-is_inside.false))
+          omega (arith, inside_length_no c.args.g.now.edges c.args.decided.now.edges c.loop-n.n (iff_false c.is_inside.ensures w.if-is_inside.false))
     ]

@@ -23,6 +23,6 @@ returns-clause-passes g c s stands =
       cuts_due = refl;
       weight_kept = c.saturating_add-self.ensures;
       least = refl;
-      way = c.read_cut.ensures.way;
+      way = refl;
     })
     stands c.saturating_sub.ensures packs leaf c.set_cuts_due.ensures.stands

@@ -6,7 +6,7 @@ use Rattle.tree_judge.proofs.judge.Judge.judge_split.Goals as goal
 
 pub is_split_undecided-requires-clause-on : goal.is_split_undecided-requires-clause-on
 is_split_undecided-requires-clause-on c =
-    has_state c.args.g.now c.args.self.now.room c.args.on c.requires.sizes.way.rows c.requires.on
+    has_state c.args.g.now c.args.self.now.room.way.decided c.args.on c.requires.sizes.way.states c.requires.on
 
 pub returns-then-not-is_split_undecided-clause-fault : goal.returns-then-not-is_split_undecided-clause-fault
 returns-then-not-is_split_undecided-clause-fault c s stands =
@@ -39,7 +39,7 @@ returns-clause-passes c s stands =
       weight = refl;
       least = refl;
       path = c.go_outside.ensures.path;
-      loads = c.go_outside.ensures.loads;
+      loads = refl;
       decided = c.go_outside.ensures.decided;
     })
     stands c.requires.sizes.way undecided few
