@@ -1,7 +1,7 @@
 //! Rows of numbers.
 
 use crate::described::narrow;
-use cut_cert::Row;
+use number_row::Row;
 use row_tables::{Call, Fault};
 use std::alloc::Global;
 

@@ -24,7 +24,6 @@ pub use form::Form;
 pub use head::{AnswerHead, ConcatNote};
 pub use label::{EdgeLabel, VertexLabel};
 pub use length::{answer_len, graph_answer_len};
-pub use number_row::Row;
 pub use reader::{EventReader, Spelling};
 pub use reading::{lines_fit, one_reading, reads_beginnings, upgraded_alike};
 pub use split::SplitName;
