@@ -1,6 +1,6 @@
 -- What an ascent keeps from step to step, and what it ends with.
-use Rattle.std.proofs.Common.{ℕ, ◌≡◌, ◌+◌, ◌-◌, ◌*◌, ◌≤◌, ◌<◌, Bool, true, eqb, eqb-true, List, [], ◌∷◌, ◌++◌, map, length, slice_get, All, Contains, Some, None, ◌⊎◌, inl, inr, ⊎_elim, refl, ◌↔◌, IsTrue, get_or, sym, ap, subst, ◌∙◌, arith, length-append, append_assoc, append-nil}
-use Rattle.std.proofs.lemmas.Bool.{cond_both, eqb-false}
+use Rattle.std.proofs.Common.{ℕ, ◌≡◌, ◌+◌, ◌-◌, ◌*◌, ◌≤◌, ◌<◌, Bool, true, false, eqb, eqb-true, List, [], ◌∷◌, ◌++◌, map, length, slice_get, All, Contains, Some, None, ◌⊎◌, inl, inr, ⊎_elim, refl, ◌↔◌, IsTrue, get_or, sym, ap, subst, ◌∙◌, arith, length-append, append_assoc, append-nil}
+use Rattle.std.proofs.lemmas.Bool.{cases_Bool, cond_both, eqb-false}
 use Rattle.std.proofs.lemmas.List.Elements.{All-contains}
 use Rattle.std.proofs.lemmas.List.Sums.{sum_by_push}
 use Rattle.std.proofs.lemmas.Option.{get_or_from_slice_get, slice_get-get_or, slice_get_within}
@@ -143,6 +143,16 @@ IsClosingCut-from_parts g decision packing vertices members size are feasible pa
   cut = IsCut-from_parts g decision vertices members are parts;
   free = λ n e at enter. free_where_closed g decision packing members n e size feasible none at enter;
 }
+
+-- cuts that stand before stay there
+pub closed_with-behind : (g : Graph) (members : List Bool) (first packing : List Cut) →
+    first ++ closed_with g members packing ≡ closed_with g members (first ++ packing)
+closed_with-behind g members first packing =
+    let cut : Cut = record { weight = total_of g; members = members } in
+    ⊎_elim
+    (λ (none : eqb (total_of g) 0 ≡ true). rw none refl)
+    (λ (some : eqb (total_of g) 0 ≡ false). rw some (sym (append_assoc first packing (cut ∷ []))))
+    (cases_Bool (eqb (total_of g) 0))
 
 -- a set that only arcs of outside edges enter closes an ascent
 pub IsClosed-from_under_way : (g : Graph) (decision : Decided) (start packing : List Cut) (costs : List EdgeCosts) (vertices : List ℕ) (members : List Bool) → IsDecisionFor g decision → AreRequired g decision vertices →

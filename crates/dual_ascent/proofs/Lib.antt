@@ -11,3 +11,4 @@ pub mod ActiveLemmas
 pub mod AscentLemmas
 pub mod CarriedLemmas
 pub mod CarriedCostLemmas
+pub mod CarriedRoomLemmas

@@ -3,7 +3,7 @@ use Rattle.std.proofs.Common.{ℕ, ◌≡◌, ◌+◌, ◌<◌, ◌≤◌, List,
 use Rattle.std.specs.List.Sorted.{IsStrictlyIncreasing}
 use Rattle.std.proofs.lemmas.Bool.{cases_lt}
 use Rattle.std.proofs.lemmas.List.{get_or_append_left, get_or_push}
-use Rattle.std.proofs.lemmas.List.Elements.{All-nil, All-push, All-weaker, All-contains, Contains-append_left, Contains-push}
+use Rattle.std.proofs.lemmas.List.Elements.{All-push, All-weaker, All-contains, Contains-append_left, Contains-push}
 use Rattle.std.proofs.lemmas.Option.{slice_get_within, get_or_from_slice_get}
 use Rattle.net_graph.specs.declared.state.VertexState.TheVariants.{Met}
 use Rattle.net_graph.specs.Graph.{Graph, IsGraph, HasEndsBelow}
@@ -56,7 +56,7 @@ EndsInside-below g decision v graph (n, e, inside, at, ends) =
     ⊎_elim (λ a. subst (λ w. w < g.vertices) a low.a) (λ b. subst (λ w. w < g.vertices) b low.b) ends
 
 -- a required vertex is a vertex
-IsRequired-below : (g : Graph) (decision : Decided) (v : ℕ) → IsGraph g → IsDecisionFor g decision → IsRequired g decision v → v < g.vertices
+pub IsRequired-below : (g : Graph) (decision : Decided) (v : ℕ) → IsGraph g → IsDecisionFor g decision → IsRequired g decision v → v < g.vertices
 IsRequired-below g decision v graph decided required =
     ⊎_elim
     (λ terminal. All-contains (λ w. w < g.vertices) g.terminals v graph.terminals terminal)

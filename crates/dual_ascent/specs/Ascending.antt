@@ -8,6 +8,7 @@ use Rattle.net_graph.specs.Decision.{Decided, IsFree, IsLowerBoundUnder, states_
 use Rattle.net_graph.specs.Packing.{IsCut, IsFeasible, enters, packing_value}
 use Rattle.net_graph.specs.Saturation.{IsMaximal}
 use Rattle.dual_ascent.specs.declared.ascent.Ascent.{Ascent}
+use Rattle.dual_ascent.specs.declared.costs.EdgeCosts.{EdgeCosts}
 use Rattle.dual_ascent.specs.Costs.{costs_of}
 
 -- the packing begins with the cuts of another one
@@ -24,6 +25,16 @@ pub record IsClosingCut (g : Graph) (d : Decided) (members : List Bool) : Type 0
   pub cut : IsCut g d members
   pub free : (n : ℕ) (e : Edge) → slice_get g.edges n ≡ Some e →
       (enters members e.a e.b ≡ true) ⊎ (enters members e.b e.a ≡ true) → IsFree g d n
+
+-- the packing is feasible and has at most two cuts for each edge, and this is what it leaves of the rooms
+pub record AreLeftBehind (g : Graph) (d : Decided) (packing : List Cut) (costs : List EdgeCosts) : Type 0 where
+  pub feasible : IsFeasible g d packing
+  pub few : length packing ≤ 2 * length g.edges
+  pub left : costs ≡ costs_of g.edges (states_of g d) packing
+
+-- the ascent whose packing has these cuts first
+abbrev pub behind : List Cut → Ascent → Ascent
+behind first a = record a { packing = first ++ a.packing }
 
 -- What an ascent comes to that begins with these cuts. No network that agrees with the decision is shorter than the
 -- packing's value.

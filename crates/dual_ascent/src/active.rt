@@ -10,7 +10,7 @@ ghost use Rattle.dual_ascent.specs.Growing.{MayGrow, AreGrown, LeavesOut};
 
 use crate::candidate::Candidate;
 use crate::costs::ReducedCosts;
-use net_graph::{Arc, Found, NetGraph, found_leading_to, grow_leading_to};
+use net_graph::{Arc, Found, NetGraph, found_leading_to, grow_leading_to, reached_from};
 use std::alloc::{AllocError, Global};
 
 /// A required vertex that saturated arcs don't lead to from the root, with the vertices that saturated arcs lead to it
@@ -34,10 +34,11 @@ pub(crate) fn active_vertices(
     ensures { IfOk result (λ list. AreActive g.now vertices.now costs.now list.items) }
 {
     let mut active = Vec::new(alloc);
-    let root = g.root();
+    // One search from the root spares one to each vertex that it leads to.
+    let reached = reached_from(alloc, g, g.root(), costs)?;
     for v in vertices {
-        let leading = found_leading_to(alloc, g, *v, costs)?;
-        if !leading.has(root) {
+        if !reached.has(*v) {
+            let leading = found_leading_to(alloc, g, *v, costs)?;
             active.push(ActiveVertex {
                 vertex: *v,
                 leading,

@@ -1,12 +1,15 @@
 //! Dual ascent, which packs cuts until saturated arcs lead to every required vertex.
 
-ghost use Rattle.std.specs.Prelude.{◌≡◌, ◌+◌, ◌*◌, ◌≤◌, Bool, true, false, List, length, IfOk};
+ghost use Rattle.std.specs.Prelude.{◌≡◌, ◌+◌, ◌*◌, ◌<◌, ◌≤◌, ◌++◌, Bool, true, false, List, length, All, IfOk};
+ghost use Rattle.std.specs.List.Sorted.{IsStrictlyIncreasing};
+ghost use Rattle.net_graph.specs.declared.packing.Cut.{Cut};
 ghost use Rattle.net_graph.specs.Graph.{total_of};
 ghost use Rattle.net_graph.specs.Decision.{IsDecisionFor, IsLowerBoundUnder, states_of};
 ghost use Rattle.net_graph.specs.Packing.{IsFeasible, packing_value};
 ghost use Rattle.net_graph.specs.Saturation.{IsMaximal};
-ghost use Rattle.dual_ascent.specs.Ascending.{BeginsWith, IsAscent, IsClosingCut, closed_with};
-ghost use Rattle.dual_ascent.specs.Costs.{costs_of};
+ghost use Rattle.dual_ascent.specs.Ascending.{AreLeftBehind, BeginsWith, IsAscent, IsClosingCut, behind, closed_with};
+ghost use Rattle.dual_ascent.specs.Costs.{costs_of, edges_of};
+ghost use Rattle.dual_ascent.specs.Steps.{AreRequired};
 
 use crate::chooser::{Chooser, Rule};
 use crate::costs::ReducedCosts;
@@ -78,10 +81,34 @@ pub fn ascend_with<F: Rule>(
     requires costs { costs ≡ costs_of g.now.edges (states_of g.now d.now) start }
     ensures { IfOk result (IsAscent g.now d.now start) }
 {
-    weak_duality();
     let required = required_vertices(alloc, g, d)?;
-    let mut state = AscentState::of(alloc, g, &required, costs)?;
-    let mut packing = start;
+    ascend_on(alloc, g, d, &required, start, costs, chooser)
+}
+
+/// The ascent that [`ascend`] makes behind a packing of which only the last cuts are given, beside what it leaves of the
+/// rooms: its packing lacks the others. The required vertices are listed. An `Err` is want of memory.
+pub fn ascend_on<F: Rule>(
+    alloc: Global,
+    g: &NetGraph,
+    d: &Decision,
+    required: &[u32],
+    last: Packing,
+    costs: ReducedCosts,
+    chooser: &Chooser<F>,
+) -> Result<Ascent, AllocError>
+    requires decision { IsDecisionFor g.now d.now }
+    requires required { AreRequired g.now d.now required.now }
+    requires below { All (λ v. v < g.now.vertices) required.now }
+    requires ascending { IsStrictlyIncreasing required.now }
+    requires edges { edges_of costs ≡ g.now.edges }
+    // Whatever cuts the packing began with.
+    ensures { IfOk result (λ a. (first : List Cut) → AreLeftBehind g.now d.now (first ++ last) costs
+        → IsAscent g.now d.now (first ++ last) (behind first a)) }
+{
+    let _ = d;
+    weak_duality();
+    let mut state = AscentState::of(alloc, g, required, costs)?;
+    let mut packing = last;
     loop {
         match state.next_step(g, chooser)? {
             Step::Done => return Ok(Ascent {

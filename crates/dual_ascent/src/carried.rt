@@ -1,9 +1,10 @@
 //! Packings that are carried from one decision to the next.
 
-ghost use Rattle.std.specs.Prelude.{◌≡◌, ◌||◌, IfOk};
+ghost use Rattle.std.specs.Prelude.{◌≡◌, ◌*◌, ◌≤◌, ◌||◌, length, sum_by, IfOk};
 ghost use Rattle.std.specs.List.{list_any};
 ghost use Rattle.net_graph.specs.Decision.{IsDecisionFor, states_of};
 ghost use Rattle.net_graph.specs.Packing.{IsFeasible};
+ghost use Rattle.dual_ascent.specs.Ascending.{AreLeftBehind};
 ghost use Rattle.dual_ascent.specs.Costs.{costs_of};
 ghost use Rattle.dual_ascent.specs.Carried.{DecidesOneMore, carried, inside_edges, is_entered_along, unentered};
 
@@ -63,11 +64,48 @@ pub fn carry_costs(
     }
     let inside = list_inside(alloc, g, now)?;
     let left = without_entered(alloc, g, before, costs, parent.cuts(), &inside)?;
-    left.under(alloc, g, now)
+    left.costs.under(alloc, g, now)
 }
 
-// What is left of the rooms once the cuts that an arc of one of these edges enters are taken back. An `Err` is want of
-// memory.
+/// What is told of a carried packing without its cuts.
+#[derive(Debug, Drop)]
+pub struct CarriedRooms {
+    /// What it leaves of the rooms.
+    pub costs: ReducedCosts,
+    /// The sum of its weights.
+    pub weight: u128,
+}
+
+/// What the packing that [`carry`] gives leaves of the rooms under the further decision, and its weight. No cut is
+/// copied. An `Err` is want of memory.
+pub fn carry_rooms(
+    alloc: Global,
+    g: &NetGraph,
+    before: &Decision,
+    now: &Decision,
+    parent: &Packing,
+    costs: &ReducedCosts,
+) -> Result<CarriedRooms, AllocError>
+    requires decided { IsDecisionFor g.now before.now }
+    requires decision { IsDecisionFor g.now now.now }
+    requires one_more { DecidesOneMore g.now before.now now.now }
+    requires feasible { IsFeasible g.now before.now parent.now }
+    requires few { length parent.now ≤ 2 * length g.now.edges }
+    requires costs { costs.now ≡ costs_of g.now.edges (states_of g.now before.now) parent.now }
+    ensures left { IfOk result (λ r. AreLeftBehind g.now now.now (carried g.now now.now parent.now) r.costs) }
+    ensures weight { IfOk result (λ r. r.weight ≡ sum_by (λ c. c.weight) (carried g.now now.now parent.now)) }
+{
+    let inside = list_inside(alloc, g, now)?;
+    let left = without_entered(alloc, g, before, costs, parent.cuts(), &inside)?;
+    let costs = left.costs.under(alloc, g, now)?;
+    Ok(CarriedRooms {
+        costs,
+        weight: left.weight,
+    })
+}
+
+// What is left of the rooms once the cuts that an arc of one of these edges enters are taken back, and the weight of the
+// others. An `Err` is want of memory.
 fn without_entered(
     alloc: Global,
     g: &NetGraph,
@@ -75,24 +113,32 @@ fn without_entered(
     costs: &ReducedCosts,
     cuts: &[Cut],
     edges: &[Edge],
-) -> Result<ReducedCosts, AllocError>
+) -> Result<CarriedRooms, AllocError>
     requires decided { IsDecisionFor g.now before.now }
     requires feasible { IsFeasible g.now before.now cuts.now }
     requires costs { costs.now ≡ costs_of g.now.edges (states_of g.now before.now) cuts.now }
-    ensures { IfOk result (λ c. c ≡ costs_of g.now.edges (states_of g.now before.now) (unentered edges.now cuts.now)) }
+    ensures costs { IfOk result
+        (λ r. r.costs ≡ costs_of g.now.edges (states_of g.now before.now) (unentered edges.now cuts.now)) }
+    ensures weight { IfOk result (λ r. r.weight ≡ sum_by (λ c. c.weight) (unentered edges.now cuts.now)) }
 {
     let _ = before;
     // The lengths of all edges sum to less than 2^63, so that no sum wraps.
     let _ = g.edge_count();
     let mut left = costs.copy()?;
+    let mut weight = 0;
     let mut entering = Vec::new(alloc);
     for cut in cuts {
         if is_entered(&cut.members, edges) {
             list_entering(g, &left, &cut.members, &mut entering)?;
             left.raise(cut, &entering);
+        } else {
+            weight += u128::from(cut.weight);
         }
     }
-    Ok(left)
+    Ok(CarriedRooms {
+        costs: left,
+        weight,
+    })
 }
 
 // The inside edges. An `Err` is want of memory.

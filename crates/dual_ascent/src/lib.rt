@@ -13,9 +13,10 @@ mod required;
 mod state;
 mod step;
 
-pub use ascent::{Ascent, ascend, ascend_with};
+pub use ascent::{Ascent, ascend, ascend_on, ascend_with};
 pub use candidate::Candidate;
-pub use carried::{carry, carry_costs};
+pub use carried::{CarriedRooms, carry, carry_costs, carry_rooms};
 pub use chooser::{Chooser, Rule};
 pub use costs::ReducedCosts;
 pub use maximality::maximal;
+pub use required::{required_in, required_set};

@@ -58,7 +58,7 @@ IsUndecided-nothing g e within = IsUndecided-from g (nothing_decided g) e (IsDec
         let same : vertex.Undecided ≡ Missed = slice_get-replicate g.vertices v vertex.Undecided Missed missed in cc
 
 -- the state of an edge where one is taken in: it is that edge, or undecided
-state_taken_in : (g : Graph) (e n : ℕ) (state : EdgeState) → e < length g.edges →
+pub state_taken_in : (g : Graph) (e n : ℕ) (state : EdgeState) → e < length g.edges →
     slice_get (edge_taken_in g e).edges n ≡ Some state → ((n ≡ e) × (state ≡ Inside)) ⊎ (state ≡ Undecided)
 state_taken_in g e n state within is = elim (cases_eq n e) [
   | inl here ↦
@@ -72,7 +72,7 @@ state_taken_in g e n state within is = elim (cases_eq n e) [
 ]
 
 -- no vertex is met or missed
-vertex_taken_in : (g : Graph) (e v : ℕ) (state : VertexState) → slice_get (edge_taken_in g e).vertices v ≡ Some state →
+pub vertex_taken_in : (g : Graph) (e v : ℕ) (state : VertexState) → slice_get (edge_taken_in g e).vertices v ≡ Some state →
     state ≡ vertex.Undecided
 vertex_taken_in g e v state is = sym (slice_get-replicate g.vertices v vertex.Undecided state is)
 

@@ -1,2 +1,3 @@
 pub mod EdgeBoundLemmas
 pub mod BeginningLemmas
+pub mod RequiredLemmas

@@ -1,5 +1,5 @@
 -- The bounds of a grid's edges, one more at a time.
-use Rattle.std.proofs.Common.{ℕ, ◌≡◌, ◌+◌, ◌<◌, ◌≤◌, List, [], ◌∷◌, ◌++◌, length, length-append, get_or, inl, inr, sym, ap, subst, ◌∙◌, arith}
+use Rattle.std.proofs.Common.{ℕ, ◌≡◌, ◌+◌, ◌<◌, ◌≤◌, List, [], ◌∷◌, ◌++◌, Result, Ok, Err, IfOk, length, length-append, get_or, inl, inr, sym, ap, subst, ◌∙◌, arith}
 use Rattle.std.proofs.lemmas.Bool.{cases_lt}
 use Rattle.std.proofs.lemmas.List.{get_or_append_left, get_or_push}
 use Rattle.net_graph.specs.declared.packing.Cut.{Cut}
@@ -18,6 +18,14 @@ BoundsEdge-packing g grid e value packing of is bound least within =
     let all : BoundsEdge g e (packing_value g (edge_taken_in g e) packing) =
     record { value = bound; least = least; within = within } in
     subst (λ x. BoundsEdge x e value) of (subst (BoundsEdge g e) (sym is) all)
+
+-- what is known of a bound that may have been found
+pub BoundsEdge-found : {E : Type 0} (g grid : Graph) (e : ℕ) (found : Result ℕ E) → g ≡ grid →
+    IfOk found (IsEdgeBound g e) → IfOk found (IsLowerBoundWith g e) → IfOk found (λ v. v ≤ total_of g) →
+    IfOk found (BoundsEdge grid e)
+BoundsEdge-found g grid e (Ok v) of bound least within =
+    subst (λ x. BoundsEdge x e v) of (record { value = bound; least = least; within = within })
+BoundsEdge-found g grid e (Err memory) of bound least within = tt
 
 -- one bound more
 pub bounds_more : (g : Graph) (before after : List ℕ) (n bound : ℕ) → after ≡ before ++ bound ∷ [] → length before ≡ n →

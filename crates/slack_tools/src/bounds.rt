@@ -122,9 +122,7 @@ fn carried_bound<F: Rule>(
     requires start { IsBeginning (hanan_grid_of grid.now) start.now }
     ensures { IfOk result (BoundsEdge (hanan_grid_of grid.now) edge) }
 {
-    let graph = grid.graph();
-    let packing = carried_edge_bound(alloc, graph, edge, start, chooser)?;
-    value_of(alloc, graph, edge, &packing)
+    carried_edge_bound(alloc, grid.graph(), edge, start, chooser)
 }
 
 // The value of a packing where the edge is taken in and nothing else decided. An `Err` is want of memory.

@@ -1,5 +1,8 @@
-use Rattle.std.proofs.Common.{◌≡◌, ◌∙◌, ◌+◌, Bool, true, false, not, List, ◌∷◌, ◌++◌, filter, map, take, drop, get_or, ap, sym, subst, arith}
+use Rattle.std.proofs.Common.{◌≡◌, ◌∙◌, ◌+◌, Bool, true, false, not, cond, List, [], ◌∷◌, ◌++◌, filter, map, sum_by, take, drop, get_or, refl, ap, sym, subst, arith, rules, append-nil}
 use Rattle.std.specs.List.{list_any}
+use Rattle.std.proofs.lemmas.List.{take_all}
+use Rattle.std.proofs.lemmas.List.Elements.{filter_more}
+use Rattle.std.proofs.lemmas.List.Sums.{sum_by_push}
 use Rattle.net_graph.specs.declared.packing.Cut.{Cut}
 use Rattle.net_graph.specs.declared.state.EdgeState.{EdgeState}
 use Rattle.net_graph.specs.Decision.{states_of}
@@ -13,12 +16,12 @@ use Rattle.dual_ascent.proofs.carried.without_entered.Goals as goal
 use Rattle.dual_ascent.proofs.carried.without_entered.Goals.{then-is_entered+in_ok-list_entering, else-is_entered}
 
 pub loop-cut-init : goal.loop-cut-init
-loop-cut-init c = c.in_ok-left.ensures ∙ c.requires.costs
+loop-cut-init c = (c.in_ok-left.ensures ∙ c.requires.costs, (refl, omega arith))
 
 pub list_entering-requires : goal.list_entering-requires
 list_entering-requires c =
     let test : Cut → Bool = λ x. not (list_any (is_entered_along x.members) c.args.edges.now) in
-    ap edges_of c.loop-cut.invariant
+    ap edges_of c.loop-cut.invariant.0
     ∙ edges-costs_of c.args.g.now.edges (states_of c.args.g.now c.args.before.now) (those_left test c.args.cuts.now c.loop-cut.cut-index)
     (length-states_of c.args.g.now c.args.before.now c.requires.decided.edges)
 
@@ -38,7 +41,7 @@ raise-requires-clause-fits c k d lt =
     let are : AreEntering c.loop-cut.left cut.members c.deref.result.now =
     subst (AreEntering c.loop-cut.left cut.members) (sym c.deref.ensures.value) c.in_ok-list_entering.ensures in
     let left : c.loop-cut.left ≡ costs_of c.args.g.now.edges states (front ++ cut ∷ rest) =
-    c.loop-cut.invariant ∙ ap (costs_of c.args.g.now.edges states) (those_left-at test cuts i cut c.loop-cut-test.true (sym c.cut-item.is)) in
+    c.loop-cut.invariant.0 ∙ ap (costs_of c.args.g.now.edges states) (those_left-at test cuts i cut c.loop-cut-test.true (sym c.cut-item.is)) in
     raise_fits c.args.g.now states front cut rest (get_or c.deref.result.now k d) c.edge_count.ensures.graph
     (length-states_of c.args.g.now c.args.before.now c.requires.decided.edges)
     (subst (λ cs. EntersLeft cs cut.members (get_or c.deref.result.now k d)) left (are.each k d lt))
@@ -53,24 +56,44 @@ loop-cut-preserved c =
     let test : Cut → Bool = λ x. not (list_any (is_entered_along x.members) c.args.edges.now) in
     let front : List Cut = filter test (take i cuts) in
     let rest : List Cut = drop (i + 1) cuts in
+    let tail : Cut → List Cut = λ x. cond (test x) (x ∷ []) [] in
+    let more : filter test (take (i + 1) cuts) ≡ front ++ tail cut =
+    filter_more test cuts i cut c.loop-cut-test.true ∙ ap (λ x. front ++ tail x) (sym c.cut-item.is) in
     elim c.if-is_entered.branch [
       | then-is_entered+in_ok-list_entering w ↦
           let fails : test cut ≡ false = ap not (sym c.is_entered.ensures ∙ w.if-is_entered.true) in
           let at = those_left-at test cuts i cut c.loop-cut-test.true (sym c.cut-item.is) in
           let within : AreWithinRooms edges states (front ++ cut ∷ rest) =
           subst (AreWithinRooms edges states) at (those_left_within edges states test cuts i c.requires.feasible.room) in
-          w.left-is ∙ w.raise.ensures
-          ∙ ap (map (raised_by cut)) (c.loop-cut.invariant ∙ ap (costs_of edges states) at)
-          ∙ map-raised_by edges states front cut rest within
-          ∙ ap (costs_of edges states) (sym (those_left-taken test cuts i cut c.loop-cut-test.true (sym c.cut-item.is) fails))
+          let last : tail cut ≡ [] = rw fails refl in (
+            w.left-is ∙ w.raise.ensures
+                ∙ ap (map (raised_by cut)) (c.loop-cut.invariant.0 ∙ ap (costs_of edges states) at)
+                ∙ map-raised_by edges states front cut rest within
+                ∙ ap (costs_of edges states) (sym (those_left-taken test cuts i cut c.loop-cut-test.true (sym c.cut-item.is) fails)),
+            (
+              w.weight-is ∙ c.loop-cut.invariant.1.0 ∙ ap (sum_by (λ (x : Cut). x.weight))
+                  (sym (append-nil front) ∙ ap (λ xs. front ++ xs) (sym last) ∙ sym more),
+              omega (arith, w.weight-is, c.loop-cut.invariant.1.1),
+            ),
+          )
       | else-is_entered w ↦
           let passes : test cut ≡ true = ap not (sym c.is_entered.ensures ∙ w.if-is_entered.false) in
-          w.left-is ∙ c.loop-cut.invariant
-          ∙ ap (costs_of edges states) (sym (those_left-kept test cuts i cut c.loop-cut-test.true (sym c.cut-item.is) passes))
+          let last : tail cut ≡ cut ∷ [] = rw passes refl in
+          let all : filter test (take (i + 1) cuts) ≡ front ++ cut ∷ [] = more ∙ ap (λ xs. front ++ xs) last in
+          let sum : sum_by (λ (x : Cut). x.weight) (filter test (take (i + 1) cuts)) ≡ sum_by (λ (x : Cut). x.weight) front + cut.weight =
+          ap (sum_by (λ (x : Cut). x.weight)) all ∙ sum_by_push (λ (x : Cut). x.weight) front cut in (
+            w.left-is ∙ c.loop-cut.invariant.0
+                ∙ ap (costs_of edges states) (sym (those_left-kept test cuts i cut c.loop-cut-test.true (sym c.cut-item.is) passes)),
+            (omega (arith, w.weight-is, c.loop-cut.invariant.1.0, sum), search rules),
+          )
     ]
 
 pub returns : goal.returns
 returns c =
     let test : Cut → Bool = λ x. not (list_any (is_entered_along x.members) c.args.edges.now) in
-    c.loop-cut.invariant
-    ∙ ap (costs_of c.args.g.now.edges (states_of c.args.g.now c.args.before.now)) (those_left-all test c.args.cuts.now c.loop-cut.cut-index (omega arith))
+    record {
+      costs = c.loop-cut.invariant.0
+          ∙ ap (costs_of c.args.g.now.edges (states_of c.args.g.now c.args.before.now)) (those_left-all test c.args.cuts.now c.loop-cut.cut-index (omega arith));
+      weight = c.loop-cut.invariant.1.0
+          ∙ ap (λ cs. sum_by (λ (x : Cut). x.weight) (filter test cs)) (take_all c.loop-cut.cut-index c.args.cuts.now (omega arith));
+    }

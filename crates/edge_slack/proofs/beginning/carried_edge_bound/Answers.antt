@@ -1,49 +1,126 @@
-use Rattle.std.proofs.Common.{refl, subst}
-use Rattle.net_graph.specs.Decision.{IsLowerBoundUnder}
-use Rattle.net_graph.specs.Packing.{IsFeasible, packing_value}
-use Rattle.edge_slack.specs.EdgeBound.{edge_taken_in}
-use Rattle.edge_slack.proofs.BeginningLemmas.{DecidesOneMore-taken_in, carried-few, within-from_use}
-use Rattle.edge_slack.proofs.EdgeBoundLemmas.{IsLowerBoundWith-under, IsMaximal-not_closed, bound-le-total}
+use Rattle.std.proofs.Common.{◌≡◌, ◌∙◌, List, ◌++◌, append-nil, ap, sym, subst, sum_by, ◌+◌, arith}
+use Rattle.net_graph.specs.declared.packing.Cut.{Cut}
+use Rattle.net_graph.specs.Decision.{states_of}
+use Rattle.net_graph.specs.DecisionLaws.{length-states_of}
+use Rattle.dual_ascent.specs.Ascending.{AreLeftBehind}
+use Rattle.dual_ascent.specs.Carried.{carried}
+use Rattle.dual_ascent.specs.Costs.{edges_of}
+use Rattle.edge_slack.specs.EdgeBound.{IsEdgeBound, IsLowerBoundWith}
+use Rattle.edge_slack.proofs.BeginningLemmas.{Bounds, Bounds-behind, DecidesOneMore-taken_in, edges-costs, within-from_use}
 use Rattle.edge_slack.proofs.beginning.carried_edge_bound.Goals as goal
 
 pub taking_in-requires : goal.taking_in-requires
 taking_in-requires g c = within-from_use c.args.g.now c.args.e c.requires.some
 
-pub carry-requires-clause-one_more : goal.carry-requires-clause-one_more
-carry-requires-clause-one_more g c =
+pub carry_rooms-requires-clause-one_more : goal.carry_rooms-requires-clause-one_more
+carry_rooms-requires-clause-one_more g c =
     DecidesOneMore-taken_in c.args.g.now c.args.start.now.decision c.in_ok-now.now c.args.e c.requires.some c.requires.start.nothing c.in_ok-now.ensures.value
 
-pub carry_costs-requires-clause-one_more : goal.carry_costs-requires-clause-one_more
-carry_costs-requires-clause-one_more g c =
-    DecidesOneMore-taken_in c.args.g.now c.args.start.now.decision c.in_ok-now.now c.args.e c.requires.some c.requires.start.nothing c.in_ok-now.ensures.value
+pub required_with-requires-clause-edge : goal.required_with-requires-clause-edge
+required_with-requires-clause-edge g c = within-from_use c.args.g.now c.args.e c.requires.some
 
-pub ascend_with-requires-clause-few : goal.ascend_with-requires-clause-few
-ascend_with-requires-clause-few g c =
-    carried-few c.args.g.now c.in_ok-now.now c.args.start.now.packing c.in_ok-kept.kept c.in_ok-kept.ensures.carried
+pub ascend_on-requires-clause-edges : goal.ascend_on-requires-clause-edges
+ascend_on-requires-clause-edges g c =
+    let gr = c.args.g.now in
+    let now = c.in_ok-now.now in
+    ap edges_of c.in_ok-carried.ensures.left.left
+    ∙ edges-costs gr.edges (states_of gr now) (carried gr now c.args.start.now.packing) (length-states_of gr now c.in_ok-now.ensures.decision.edges)
 
-pub returns-clause-maximal : goal.returns-clause-maximal
-returns-clause-maximal g c =
-    let a = c.in_ok-ascent.ensures in
-    IsMaximal-not_closed c.args.g.now c.args.e c.in_ok-now.now c.in_ok-ascent.ascent.closed c.in_ok-ascent.ascent.packing c.requires.some c.in_ok-now.ensures.value a.maximal a.closing
+pub edge-requires : goal.edge-requires
+edge-requires g c = within-from_use c.args.g.now c.args.e c.requires.some
+
+pub overflow_add-weight : goal.overflow_add-weight
+overflow_add-weight g c =
+    let gr = c.args.g.now in
+    let now = c.in_ok-now.now in
+    let first : List Cut = carried gr now c.args.start.now.packing in
+    let a = c.in_ok-ascent.ascent in
+    let more : first ++ c.empty-more.result ≡ first = ap (λ cuts. first ++ cuts) c.empty-more.ensures ∙ append-nil first in
+    let left : AreLeftBehind gr now (first ++ c.empty-more.result) c.in_ok-carried.carried.costs =
+    subst (λ cuts. AreLeftBehind gr now cuts c.in_ok-carried.carried.costs) (sym more) c.in_ok-carried.ensures.left in
+    let bounds : Bounds gr c.args.e (c.in_ok-carried.carried.weight + c.total_weight.result + c.edge.result.length) =
+    Bounds-behind gr c.args.e c.edge.result now (first ++ c.empty-more.result) first a c.in_ok-carried.carried.weight c.total_weight.result
+    c.requires.some c.edge.ensures.edge c.in_ok-now.ensures.value c.in_ok-carried.ensures.weight
+    (c.total_weight.ensures.sum ∙ ap (λ cuts. sum_by (λ (x : Cut). x.weight) cuts) c.cuts.ensures)
+    (c.in_ok-ascent.ensures first left) in
+    omega (arith, bounds.within, c.from-length.ensures, c.edge_count.ensures.graph.total)
+
+pub overflow_add-result : goal.overflow_add-result
+overflow_add-result g c =
+    let gr = c.args.g.now in
+    let now = c.in_ok-now.now in
+    let first : List Cut = carried gr now c.args.start.now.packing in
+    let a = c.in_ok-ascent.ascent in
+    let more : first ++ c.empty-more.result ≡ first = ap (λ cuts. first ++ cuts) c.empty-more.ensures ∙ append-nil first in
+    let left : AreLeftBehind gr now (first ++ c.empty-more.result) c.in_ok-carried.carried.costs =
+    subst (λ cuts. AreLeftBehind gr now cuts c.in_ok-carried.carried.costs) (sym more) c.in_ok-carried.ensures.left in
+    let bounds : Bounds gr c.args.e (c.in_ok-carried.carried.weight + c.total_weight.result + c.edge.result.length) =
+    Bounds-behind gr c.args.e c.edge.result now (first ++ c.empty-more.result) first a c.in_ok-carried.carried.weight c.total_weight.result
+    c.requires.some c.edge.ensures.edge c.in_ok-now.ensures.value c.in_ok-carried.ensures.weight
+    (c.total_weight.ensures.sum ∙ ap (λ cuts. sum_by (λ (x : Cut). x.weight) cuts) c.cuts.ensures)
+    (c.in_ok-ascent.ensures first left) in
+    omega (arith, bounds.within, c.from-length.ensures, c.edge_count.ensures.graph.total)
+
+pub overflow_cast-result : goal.overflow_cast-result
+overflow_cast-result g c =
+    let gr = c.args.g.now in
+    let now = c.in_ok-now.now in
+    let first : List Cut = carried gr now c.args.start.now.packing in
+    let a = c.in_ok-ascent.ascent in
+    let more : first ++ c.empty-more.result ≡ first = ap (λ cuts. first ++ cuts) c.empty-more.ensures ∙ append-nil first in
+    let left : AreLeftBehind gr now (first ++ c.empty-more.result) c.in_ok-carried.carried.costs =
+    subst (λ cuts. AreLeftBehind gr now cuts c.in_ok-carried.carried.costs) (sym more) c.in_ok-carried.ensures.left in
+    let bounds : Bounds gr c.args.e (c.in_ok-carried.carried.weight + c.total_weight.result + c.edge.result.length) =
+    Bounds-behind gr c.args.e c.edge.result now (first ++ c.empty-more.result) first a c.in_ok-carried.carried.weight c.total_weight.result
+    c.requires.some c.edge.ensures.edge c.in_ok-now.ensures.value c.in_ok-carried.ensures.weight
+    (c.total_weight.ensures.sum ∙ ap (λ cuts. sum_by (λ (x : Cut). x.weight) cuts) c.cuts.ensures)
+    (c.in_ok-ascent.ensures first left) in
+    omega (arith, bounds.within, c.from-length.ensures, c.edge_count.ensures.graph.total)
 
 pub returns-clause-value : goal.returns-clause-value
 returns-clause-value g c =
-    let a = c.in_ok-ascent.ensures in
-    let packing = c.in_ok-ascent.ascent.packing in (
-      packing,
-      subst (λ d. IsFeasible c.args.g.now d packing) c.in_ok-now.ensures.value a.feasible,
-      IsMaximal-not_closed c.args.g.now c.args.e c.in_ok-now.now c.in_ok-ascent.ascent.closed packing c.requires.some c.in_ok-now.ensures.value a.maximal a.closing,
-      refl,
-    )
+    let gr = c.args.g.now in
+    let now = c.in_ok-now.now in
+    let first : List Cut = carried gr now c.args.start.now.packing in
+    let a = c.in_ok-ascent.ascent in
+    let more : first ++ c.empty-more.result ≡ first = ap (λ cuts. first ++ cuts) c.empty-more.ensures ∙ append-nil first in
+    let left : AreLeftBehind gr now (first ++ c.empty-more.result) c.in_ok-carried.carried.costs =
+    subst (λ cuts. AreLeftBehind gr now cuts c.in_ok-carried.carried.costs) (sym more) c.in_ok-carried.ensures.left in
+    let bounds : Bounds gr c.args.e (c.in_ok-carried.carried.weight + c.total_weight.result + c.edge.result.length) =
+    Bounds-behind gr c.args.e c.edge.result now (first ++ c.empty-more.result) first a c.in_ok-carried.carried.weight c.total_weight.result
+    c.requires.some c.edge.ensures.edge c.in_ok-now.ensures.value c.in_ok-carried.ensures.weight
+    (c.total_weight.ensures.sum ∙ ap (λ cuts. sum_by (λ (x : Cut). x.weight) cuts) c.cuts.ensures)
+    (c.in_ok-ascent.ensures first left) in
+    subst (λ m. IsEdgeBound gr c.args.e (c.in_ok-carried.carried.weight + c.total_weight.result + m)) (sym c.from-length.ensures) bounds.value
 
 pub returns-clause-bound : goal.returns-clause-bound
 returns-clause-bound g c =
-    let packing = c.in_ok-ascent.ascent.packing in
-    IsLowerBoundWith-under c.args.g.now c.args.e (packing_value c.args.g.now (edge_taken_in c.args.g.now c.args.e) packing)
-    (subst (λ d. IsLowerBoundUnder c.args.g.now d (packing_value c.args.g.now d packing)) c.in_ok-now.ensures.value c.in_ok-ascent.ensures.bound)
+    let gr = c.args.g.now in
+    let now = c.in_ok-now.now in
+    let first : List Cut = carried gr now c.args.start.now.packing in
+    let a = c.in_ok-ascent.ascent in
+    let more : first ++ c.empty-more.result ≡ first = ap (λ cuts. first ++ cuts) c.empty-more.ensures ∙ append-nil first in
+    let left : AreLeftBehind gr now (first ++ c.empty-more.result) c.in_ok-carried.carried.costs =
+    subst (λ cuts. AreLeftBehind gr now cuts c.in_ok-carried.carried.costs) (sym more) c.in_ok-carried.ensures.left in
+    let bounds : Bounds gr c.args.e (c.in_ok-carried.carried.weight + c.total_weight.result + c.edge.result.length) =
+    Bounds-behind gr c.args.e c.edge.result now (first ++ c.empty-more.result) first a c.in_ok-carried.carried.weight c.total_weight.result
+    c.requires.some c.edge.ensures.edge c.in_ok-now.ensures.value c.in_ok-carried.ensures.weight
+    (c.total_weight.ensures.sum ∙ ap (λ cuts. sum_by (λ (x : Cut). x.weight) cuts) c.cuts.ensures)
+    (c.in_ok-ascent.ensures first left) in
+    subst (λ m. IsLowerBoundWith gr c.args.e (c.in_ok-carried.carried.weight + c.total_weight.result + m)) (sym c.from-length.ensures) bounds.least
 
 pub returns-clause-total : goal.returns-clause-total
 returns-clause-total g c =
-    let packing = c.in_ok-ascent.ascent.packing in
-    bound-le-total c.args.g.now c.args.e (packing_value c.args.g.now (edge_taken_in c.args.g.now c.args.e) packing) c.requires.some
-    (subst (λ d. IsLowerBoundUnder c.args.g.now d (packing_value c.args.g.now d packing)) c.in_ok-now.ensures.value c.in_ok-ascent.ensures.bound)
+    let gr = c.args.g.now in
+    let now = c.in_ok-now.now in
+    let first : List Cut = carried gr now c.args.start.now.packing in
+    let a = c.in_ok-ascent.ascent in
+    let more : first ++ c.empty-more.result ≡ first = ap (λ cuts. first ++ cuts) c.empty-more.ensures ∙ append-nil first in
+    let left : AreLeftBehind gr now (first ++ c.empty-more.result) c.in_ok-carried.carried.costs =
+    subst (λ cuts. AreLeftBehind gr now cuts c.in_ok-carried.carried.costs) (sym more) c.in_ok-carried.ensures.left in
+    let bounds : Bounds gr c.args.e (c.in_ok-carried.carried.weight + c.total_weight.result + c.edge.result.length) =
+    Bounds-behind gr c.args.e c.edge.result now (first ++ c.empty-more.result) first a c.in_ok-carried.carried.weight c.total_weight.result
+    c.requires.some c.edge.ensures.edge c.in_ok-now.ensures.value c.in_ok-carried.ensures.weight
+    (c.total_weight.ensures.sum ∙ ap (λ cuts. sum_by (λ (x : Cut). x.weight) cuts) c.cuts.ensures)
+    (c.in_ok-ascent.ensures first left) in
+    omega (arith, bounds.within, c.from-length.ensures)
