@@ -11,7 +11,7 @@ use Rattle.full_tree.specs.declared.code.TreeCode.{TreeCode}
 use Rattle.full_tree.specs.declared.code.TreeCode.TheVariants.{Long, Cross}
 use Rattle.full_tree.specs.Form.{IsInForm}
 use Rattle.fst_file.specs.Words.{way_word, side_word, code_words, FitsCode}
-use Rattle.fst_file.specs.Left.{StandsFor, StandsForSide, StandForDrops, StandsForCode}
+use Rattle.fst_file.specs.Kept.{StandsFor, StandsForSide, StandForDrops, StandsForCode}
 
 -- the two kinds have different words
 kinds_differ : codes "long" ≡ codes "cross" → ⊥

@@ -4,7 +4,7 @@ use Rattle.std.specs.Fmt.{decimal}
 use Rattle.std.specs.List.{AllByRecursion}
 use Rattle.std.proofs.Common.{arith, refl, sym, ap, ◌∙◌, inl, inr}
 use Rattle.std.proofs.lemmas.List.{length_push, append_assoc, map-append}
-use Rattle.fst_file.specs.Left.{StandsFor, StandForDrops}
+use Rattle.fst_file.specs.Kept.{StandsFor, StandForDrops}
 
 -- a fact of all of them and one more
 pub all_push : (P : ℕ → Type 0) (xs : List ℕ) (x : ℕ) → AllByRecursion P xs → P x → AllByRecursion P (xs ++ x ∷ [])

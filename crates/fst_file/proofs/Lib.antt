@@ -1,11 +1,8 @@
-pub mod Steps
 pub mod Drops
 pub mod Codes
 pub mod Written
 pub mod TreeSteps
 pub mod Unique
-pub mod Outcome
-pub mod Sound
-pub mod Complete
 pub mod LineWords
-pub mod Whole
+pub mod Lawful
+pub mod Sections

@@ -17,7 +17,7 @@ use Rattle.full_tree.specs.OrderLaws.{tree_cmp_total}
 use Rattle.fst_file.specs.declared.fault.FstFault.{FstFault}
 use Rattle.fst_file.specs.Value.{IsTreeOf}
 use Rattle.fst_file.specs.Faults.{IsTreeFault, Follows}
-use Rattle.fst_file.specs.Left.{StandsForCode}
+use Rattle.fst_file.specs.Kept.{StandsForCode}
 
 -- a tree that is kept as it is
 pub same_tree : (kept t : Tree) → kept.length ≡ t.length → kept.code ≡ t.code → kept ≡ t

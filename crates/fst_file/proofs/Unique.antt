@@ -1,46 +1,18 @@
 -- What a line tells is determined by its words.
 use Rattle.std.specs.Prelude.{ℕ, ◌≡◌, ◌≢◌, ◌<◌, ◌^◌, List, [], ◌∷◌, map, codes, Option, None, Some, IfSome}
-use Rattle.std.specs.Fmt.{decimal, signed_decimal}
+use Rattle.std.specs.Fmt.{decimal}
 use Rattle.std.specs.List.{AllByRecursion}
-use Rattle.std.proofs.Common.{arith, refl, sym, ap, ◌∙◌, get_or}
+use Rattle.std.proofs.Common.{arith, refl, sym, ap, get_or}
 use Rattle.std.proofs.lemmas.Fmt.{decimal_injective}
 use Rattle.std.proofs.lemmas.List.Elements.{All-head}
-use Rattle.spelled.specs.Numbers.{decimal-lacks, signed_decimal_one}
-use Rattle.points_in.specs.declared.point.Point.{Point}
-use Rattle.points_in.specs.PointLaws.{same_coordinates}
+use Rattle.spelled.specs.Numbers.{decimal-lacks}
 use Rattle.full_tree.specs.declared.way.Way.{Way}
 use Rattle.full_tree.specs.declared.way.Way.TheVariants.{East, North, West, South}
 use Rattle.full_tree.specs.declared.code.Tree.{Tree}
 use Rattle.full_tree.specs.declared.code.TreeCode.{TreeCode}
 use Rattle.full_tree.specs.declared.code.TreeCode.TheVariants.{Long, Cross}
-use Rattle.fst_file.specs.Words.{points_words, trees_words, point_words, way_word, side_word, code_words, tree_words, FitsCode}
-use Rattle.fst_file.specs.Faults.{SpellsPoint, SpellsTree, SpellsCount}
+use Rattle.fst_file.specs.Words.{way_word, side_word, code_words, tree_words, FitsCode, IsSpelled}
 use Rattle.fst_file.proofs.TreeSteps.{same_tree}
-
--- a point
-pub point_one : (words : List (List ℕ)) (p q : Point) → SpellsPoint words p → SpellsPoint words q → p ≡ q
-point_one words p q sp sq =
-    let same : point_words p ≡ point_words q = sym sp.words_are ∙ sq.words_are in
-    let x : signed_decimal p.x ≡ signed_decimal q.x = cc in
-    let y : signed_decimal p.y ≡ signed_decimal q.y = cc in
-    same_coordinates p q (signed_decimal_one p.x q.x sp.fits.x sq.fits.x x) (signed_decimal_one p.y q.y sp.fits.y sq.fits.y y)
-
--- a count
-pub points_one : (words : List (List ℕ)) (m n : ℕ) → SpellsCount points_words words m → SpellsCount points_words words n → m ≡ n
-points_one words m n sm sn =
-    let same : points_words m ≡ points_words n = sym sm.words_are ∙ sn.words_are in
-    let spelled : decimal m ≡ decimal n = cc in
-    let p = sm.fits in
-    let q = sn.fits in
-    decimal_injective m n (omega arith) (omega arith) spelled
-
-pub trees_one : (words : List (List ℕ)) (m n : ℕ) → SpellsCount trees_words words m → SpellsCount trees_words words n → m ≡ n
-trees_one words m n sm sn =
-    let same : trees_words m ≡ trees_words n = sym sm.words_are ∙ sn.words_are in
-    let spelled : decimal m ≡ decimal n = cc in
-    let p = sm.fits in
-    let q = sn.fits in
-    decimal_injective m n (omega arith) (omega arith) spelled
 
 -- a place
 place_one : (m n : ℕ) → m < 2 ^ 32 → n < 2 ^ 32 → decimal m ≡ decimal n → m ≡ n
@@ -116,10 +88,9 @@ code_one (Cross a b c d) (Cross a' b' c' d') fa fb e =
     cc (place_one a a' fa.0 fb.0 wests, place_one b b' fa.1 fb.1 souths, place_one c c' fa.2 fb.2 easts, place_one d d' fa.3 fb.3 norths)
 
 -- a tree
-pub tree_one : (words : List (List ℕ)) (s t : Tree) → SpellsTree words s → SpellsTree words t → s ≡ t
-tree_one words s t ss st =
-    let same : tree_words s ≡ tree_words t = sym ss.words_are ∙ st.words_are in
+pub tree_one : (s t : Tree) → IsSpelled s → IsSpelled t → tree_words s ≡ tree_words t → s ≡ t
+tree_one s t fs ft same =
     let lengths : decimal s.length ≡ decimal t.length = cc in
     let codes : code_words s.code ≡ code_words t.code = cc in
-    same_tree s t (decimal_injective s.length t.length ss.fits.length_fits st.fits.length_fits lengths)
-    (code_one s.code t.code ss.fits.places_fit st.fits.places_fit codes)
+    same_tree s t (decimal_injective s.length t.length fs.length_fits ft.length_fits lengths)
+    (code_one s.code t.code fs.places_fit ft.places_fit codes)

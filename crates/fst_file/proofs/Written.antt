@@ -11,7 +11,8 @@ use Rattle.full_tree.specs.declared.code.TreeCode.{TreeCode}
 use Rattle.full_tree.specs.declared.code.TreeCode.TheVariants.{Long, Cross}
 use Rattle.text_lines.specs.Lines.{line_text, text_of}
 use Rattle.fst_file.specs.Value.{FstValue}
-use Rattle.fst_file.specs.Words.{title_words, end_words, points_words, trees_words, point_words, tree_words, side_word, code_words}
+use Rattle.section_text.specs.Words.{end_words, points_words, point_words}
+use Rattle.fst_file.specs.Words.{title_words, trees_words, tree_words, side_word, code_words}
 use Rattle.fst_file.specs.Text.{fst_text}
 use Rattle.fst_file.specs.Pieces.{places_line, code_line, tree_line}
 

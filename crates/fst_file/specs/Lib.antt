@@ -1,8 +1,9 @@
 pub mod Value
 pub mod Words
-pub mod Text
-pub mod Faults
-pub mod Judged
-pub mod Left
-pub mod Pieces
 pub mod Said
+pub mod Faults
+pub mod Format
+pub mod Text
+pub mod Judged
+pub mod Kept
+pub mod Pieces

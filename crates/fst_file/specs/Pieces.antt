@@ -6,7 +6,8 @@ use Rattle.full_tree.specs.declared.code.Tree.{Tree}
 use Rattle.full_tree.specs.declared.code.TreeCode.{TreeCode}
 use Rattle.full_tree.specs.declared.code.TreeCode.TheVariants.{Long, Cross}
 use Rattle.text_lines.specs.Lines.{line_text}
-use Rattle.fst_file.specs.Words.{title_words, points_words, trees_words, point_words, way_word, side_word}
+use Rattle.section_text.specs.Words.{points_words, point_words}
+use Rattle.fst_file.specs.Words.{title_words, trees_words, way_word, side_word}
 
 -- places, each behind a blank
 abbrev pub places_line : List ℕ → List ℕ

@@ -1,15 +1,14 @@
 -- The text of a file between the phases. It is this project's own.
-use Rattle.std.specs.Prelude.{ℕ, ◌≡◌, List, [], ◌∷◌, ◌++◌, length, map}
+use Rattle.std.specs.Prelude.{ℕ, ◌≡◌, List}
 use Rattle.text_lines.specs.Lines.{text_of}
 use Rattle.fst_file.specs.Value.{FstValue, IsFstValue}
-use Rattle.fst_file.specs.Words.{title_words, end_words, points_words, trees_words, point_words, tree_words}
+use Rattle.section_text.specs.Text.{section_lines}
+use Rattle.fst_file.specs.Format.{fst_format}
 
 -- The lines: the title, how many points there are, the points, how many trees there are, the trees, and the
 -- end.
 abbrev pub fst_lines : FstValue → List (List (List ℕ))
-fst_lines v =
-    title_words ∷ points_words (length v.points) ∷ map point_words v.points
-    ++ (trees_words (length v.trees) ∷ map tree_words v.trees ++ end_words ∷ [])
+fst_lines v = section_lines fst_format v.points v.trees
 
 -- the spelling of a value
 abbrev pub fst_text : FstValue → List ℕ

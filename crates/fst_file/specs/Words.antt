@@ -1,31 +1,21 @@
--- The lines of a file between the phases, each as its words.
+-- The lines that a file between the phases has of its own, each as its words.
 use Rattle.std.specs.Prelude.{ℕ, ◌<◌, ◌^◌, List, [], ◌∷◌, map, codes, Option, None, Some, IfSome}
-use Rattle.std.specs.Fmt.{decimal, signed_decimal}
+use Rattle.std.specs.Fmt.{decimal}
 use Rattle.std.specs.List.{AllByRecursion}
-use Rattle.points_in.specs.declared.point.Point.{Point}
+use Rattle.section_text.specs.Words.{count_words}
 use Rattle.full_tree.specs.declared.way.Way.{Way}
 use Rattle.full_tree.specs.declared.way.Way.TheVariants.{East, North, West, South}
 use Rattle.full_tree.specs.declared.code.Tree.{Tree}
 use Rattle.full_tree.specs.declared.code.TreeCode.{TreeCode}
 use Rattle.full_tree.specs.declared.code.TreeCode.TheVariants.{Long, Cross}
 
--- the first line and the last one
+-- the first line
 abbrev pub title_words : List (List ℕ)
 title_words = codes "rst" ∷ codes "fst" ∷ codes "1" ∷ []
 
-abbrev pub end_words : List (List ℕ)
-end_words = codes "end" ∷ []
-
--- the line that counts the points, and that which counts the trees
-abbrev pub points_words : ℕ → List (List ℕ)
-points_words count = codes "points" ∷ decimal count ∷ []
-
+-- the line that counts the trees
 abbrev pub trees_words : ℕ → List (List ℕ)
-trees_words count = codes "trees" ∷ decimal count ∷ []
-
--- the line of a point: x and y
-abbrev pub point_words : Point → List (List ℕ)
-point_words p = signed_decimal p.x ∷ signed_decimal p.y ∷ []
+trees_words count = count_words (codes "trees") count
 
 -- a direction, by the first letter of its name
 abbrev pub way_word : Way → List ℕ

@@ -3,10 +3,8 @@
 
 mod fault;
 mod file;
-mod head;
+mod format;
 mod laws;
-mod line;
-mod points;
 mod read;
 mod tree_line;
 mod trees;
@@ -14,7 +12,7 @@ mod write;
 
 pub use fault::FstFault;
 pub use file::FstFile;
-pub use head::MAX_TREES;
+pub use format::MAX_TREES;
 pub use laws::{one_outcome, one_reading, values_are_spelled};
 pub use read::read_file;
 pub use write::write_file;

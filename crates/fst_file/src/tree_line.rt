@@ -1,14 +1,15 @@
 //! The line of a tree.
 
-ghost use Rattle.std.specs.Prelude.{◌≡◌, ◌<◌, ◌≤◌, ◌^◌, ℕ, List, [], ◌∷◌, map, codes, Option, Some, None, IfSome, IfNone, IfOk, IfErr};
+ghost use Rattle.std.specs.Prelude.{◌≡◌, ◌<◌, ◌^◌, ℕ, List, ◌∷◌, map, codes, Option, Some, None, IfSome, IfNone};
 ghost use Rattle.std.specs.List.{AllByRecursion};
 ghost use Rattle.std.specs.Fmt.{decimal};
 ghost use Rattle.full_tree.specs.declared.way.Way.{Way};
 ghost use Rattle.full_tree.specs.declared.code.TreeCode.{TreeCode};
 ghost use Rattle.full_tree.specs.declared.code.Tree.{Tree};
+ghost use Rattle.section_text.specs.Faults.{SpellsItem, SpellsNoItem};
 ghost use Rattle.fst_file.specs.Words.{way_word, side_word, code_words, FitsCode};
-ghost use Rattle.fst_file.specs.Faults.{SpellsTree, SpellsNoTree};
-ghost use Rattle.fst_file.specs.Left.{StandsFor, StandsForSide, StandForDrops, StandsForCode};
+ghost use Rattle.fst_file.specs.Format.{fst_format};
+ghost use Rattle.fst_file.specs.Kept.{StandsFor, StandsForSide, StandForDrops, StandsForCode};
 
 use full_tree::{Places, Tree, TreeCode, Way};
 use spelled::unsigned_spelled;
@@ -146,9 +147,9 @@ fn code_in(alloc: Global, words: &mut LineWords<'_>) -> Option<TreeCode>
 // The tree that the words spell. Where its code is in form, it is kept as it is; where it isn't, the kept
 // code isn't either.
 pub(crate) fn tree_in(alloc: Global, words: &mut LineWords<'_>) -> Option<Tree>
-    ensures found { IfSome result (λ kept. (t : Tree) × SpellsTree words.old t × (kept.length ≡ t.length)
+    ensures found { IfSome result (λ kept. (t : Tree) × SpellsItem fst_format words.old t × (kept.length ≡ t.length)
         × StandsForCode kept.code t.code) }
-    ensures none { IfNone result (SpellsNoTree words.old) }
+    ensures none { IfNone result (SpellsNoItem fst_format words.old) }
 {
     let length = words.next_unsigned()?;
     let code = code_in(alloc, words)?;

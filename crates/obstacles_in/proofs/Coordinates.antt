@@ -3,7 +3,8 @@ use Rattle.std.specs.Prelude.{ℕ, ◌≡◌, ℤ, FitsSigned, List, [], ◌∷�
 use Rattle.std.specs.Int.{w64}
 use Rattle.std.specs.Fmt.{signed_decimal}
 use Rattle.obstacles_in.specs.declared.rectangle.Rectangle.{Rectangle}
-use Rattle.obstacles_in.specs.Faults.{SpellsCoordinates}
+use Rattle.section_text.specs.Faults.{SpellsItem}
+use Rattle.obstacles_in.specs.Format.{obstacles_format}
 
 -- no number of 64 bits comes first
 abbrev pub HasNoNumber : List (List ℕ) → Type 0
@@ -11,7 +12,7 @@ HasNoNumber words = (z : ℤ) (rest : List (List ℕ)) → FitsSigned w64 z → 
 
 -- behind two words
 pub no_right : (words w1 w2 : List (List ℕ)) (a b : List ℕ) → words ≡ a ∷ w1 → w1 ≡ b ∷ w2 → HasNoNumber w2
-    → (r : Rectangle) → SpellsCoordinates words r → ⊥
+    → (r : Rectangle) → SpellsItem obstacles_format words r → ⊥
 no_right words w1 w2 a b e1 e2 none r spells =
     let here : w2 ≡ signed_decimal r.x2 ∷ signed_decimal r.y2 ∷ [] = cc (spells.words_are) in
     none r.x2 (signed_decimal r.y2 ∷ []) spells.fits.x2 here
@@ -19,7 +20,7 @@ no_right words w1 w2 a b e1 e2 none r spells =
 -- behind three words
 pub no_upper : (words w1 w2 w3 : List (List ℕ)) (a b d : List ℕ) → words ≡ a ∷ w1 → w1 ≡ b ∷ w2 → w2 ≡ d ∷ w3
     → HasNoNumber w3
-    → (r : Rectangle) → SpellsCoordinates words r → ⊥
+    → (r : Rectangle) → SpellsItem obstacles_format words r → ⊥
 no_upper words w1 w2 w3 a b d e1 e2 e3 none r spells =
     let here : w3 ≡ signed_decimal r.y2 ∷ [] = cc (spells.words_are) in
     none r.y2 [] spells.fits.y2 here

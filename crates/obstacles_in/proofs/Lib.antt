@@ -1,9 +1,6 @@
-pub mod Steps
-pub mod Unique
-pub mod Outcome
-pub mod Sound
-pub mod Complete
-pub mod LineWords
-pub mod Whole
 pub mod Coordinates
 pub mod Marks
+pub mod Unique
+pub mod LineWords
+pub mod Lawful
+pub mod Sections

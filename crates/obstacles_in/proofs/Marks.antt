@@ -7,7 +7,7 @@ use Rattle.points_in.specs.declared.point.Point.{Point}
 use Rattle.hanan_grid.specs.GridLaws.{length-xs_of-le, length-ys_of-le}
 use Rattle.obstacles_in.specs.declared.rectangle.Rectangle.{Rectangle}
 use Rattle.obstacles_in.specs.Obstacles.{corners_of, marks_of, columns_of, rows_of}
-use Rattle.obstacles_in.specs.Judged.{value_of}
+use Rattle.obstacles_in.specs.Faults.{value_of}
 
 -- each box has two corners
 length-corners : (bs : List Rectangle) → length (flat_map corners_of bs) ≡ length bs + length bs

@@ -1,7 +1,7 @@
 pub mod Obstacles
 pub mod Words
-pub mod Text
-pub mod Faults
-pub mod Judged
-pub mod Left
 pub mod Said
+pub mod Faults
+pub mod Format
+pub mod Text
+pub mod Judged

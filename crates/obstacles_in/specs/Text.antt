@@ -1,14 +1,13 @@
 -- The text of points and boxes. It is this project's own.
-use Rattle.std.specs.Prelude.{ℕ, ◌≡◌, List, [], ◌∷◌, ◌++◌, length, map}
+use Rattle.std.specs.Prelude.{ℕ, ◌≡◌, List}
 use Rattle.text_lines.specs.Lines.{text_of}
+use Rattle.section_text.specs.Text.{section_lines}
 use Rattle.obstacles_in.specs.Obstacles.{ObstaclesValue, AreObstacles}
-use Rattle.obstacles_in.specs.Words.{title_words, end_words, points_words, boxes_words, point_words, box_words}
+use Rattle.obstacles_in.specs.Format.{obstacles_format}
 
 -- The lines: the title, how many points there are, the points, how many boxes there are, the boxes, and the end.
 abbrev pub obstacles_lines : ObstaclesValue → List (List (List ℕ))
-obstacles_lines v =
-    title_words ∷ points_words (length v.points) ∷ map point_words v.points
-    ++ (boxes_words (length v.boxes) ∷ map box_words v.boxes ++ end_words ∷ [])
+obstacles_lines v = section_lines obstacles_format v.points v.boxes
 
 -- the spelling of a value
 abbrev pub obstacles_text : ObstaclesValue → List ℕ

@@ -3,11 +3,9 @@
 
 mod boxes;
 mod fault;
-mod head;
+mod format;
 mod laws;
-mod line;
 mod obstacles;
-mod points;
 mod read;
 mod rectangle;
 mod size;

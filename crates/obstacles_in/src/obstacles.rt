@@ -4,6 +4,7 @@ ghost use Rattle.std.specs.Prelude.{◌≡◌};
 ghost use Rattle.obstacles_in.specs.Obstacles.{AreObstacles};
 
 use crate::rectangle::Rectangle;
+use item_list::ItemList;
 use points_in::Points;
 use std::marker::Model;
 
@@ -14,7 +15,7 @@ use std::marker::Model;
 #[derive(Debug, Drop)]
 pub struct Obstacles {
     pub(crate) points: Points,
-    pub(crate) boxes: Vec<Rectangle>,
+    pub(crate) boxes: ItemList<Rectangle>,
 }
 
 impl Model for Obstacles {
@@ -22,9 +23,9 @@ impl Model for Obstacles {
 
     ghost Value = { ObstaclesValue };
 
-    ghost view = { λ o. record { points = o.points; boxes = o.boxes.items } };
+    ghost view = { λ o. record { points = o.points; boxes = o.boxes } };
 
-    ghost invariant = { λ o. AreObstacles (record { points = o.points; boxes = o.boxes.items }) };
+    ghost invariant = { λ o. AreObstacles (record { points = o.points; boxes = o.boxes }) };
 }
 
 impl Obstacles {

@@ -1,14 +1,15 @@
 //! How many vertices the grid of points and boxes has.
 
-ghost use Rattle.std.specs.Prelude.{◌≡◌, ◌≤◌, ◌++◌, length, IfOk, IfErr, OnOk, Ok};
+ghost use Rattle.std.specs.Prelude.{◌≡◌, ◌≤◌, ◌++◌, length, IfOk, IfErr, OnOk};
 ghost use Rattle.obstacles_in.specs.Obstacles.{corners_of, marks_of, crossing_count};
-ghost use Rattle.obstacles_in.specs.Judged.{value_of, JudgesSize};
-ghost use Rattle.obstacles_in.specs.Left.{IsSizeFault, AreBoxesAround};
+ghost use Rattle.obstacles_in.specs.Faults.{value_of, AreBoxesAround, IsTooLarge};
+ghost use Rattle.obstacles_in.specs.Said.{IsMemory};
 
 use crate::fault::ObstacleFault;
 use crate::obstacles::Obstacles;
 use crate::rectangle::Rectangle;
 use hanan_grid::{x_lines, y_lines};
+use item_list::ItemList;
 use points_in::{MAX_POINTS, Point, Points};
 use std::alloc::{AllocError, Global};
 
@@ -58,11 +59,13 @@ fn crossings(alloc: Global, points: &[Point], boxes: &[Rectangle]) -> Result<u32
 pub(crate) fn sized(
     alloc: Global,
     points: Points,
-    boxes: Vec<Rectangle>,
+    boxes: ItemList<Rectangle>,
 ) -> Result<Obstacles, ObstacleFault>
-    requires { AreBoxesAround points boxes.items }
-    ensures ok { IfOk result (λ obstacles. JudgesSize (value_of points boxes.items) (Ok obstacles)) }
-    ensures err { IfErr result (IsSizeFault (value_of points boxes.items)) }
+    requires few { length boxes ≤ 25 }
+    requires boxes { AreBoxesAround points boxes }
+    ensures value { IfOk result (λ obstacles. obstacles ≡ value_of points boxes) }
+    ensures small { OnOk result (crossing_count (value_of points boxes) ≤ 2500) }
+    ensures err { IfErr result (λ f. (IsMemory f → ⊥) → IsTooLarge points boxes f) }
 {
     let count = points.len();
     prove!(count <= MAX_POINTS);

@@ -1,7 +1,5 @@
-use Rattle.text_lines.specs.Lines.{lines_of}
-use Rattle.fst_file.specs.Faults.{nothing}
-use Rattle.fst_file.proofs.Outcome.{judges_one}
+use Rattle.fst_file.proofs.Lawful.{fst_lawful}
 use Rattle.fst_file.proofs.laws.one_outcome.Goals as goal
 
-pub returns : goal.returns
-returns c = λ bytes o o'. judges_one nothing 1 (lines_of bytes) o o'
+pub one_outcome-requires : goal.one_outcome-requires
+one_outcome-requires c = fst_lawful

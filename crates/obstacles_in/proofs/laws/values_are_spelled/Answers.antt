@@ -1,5 +1,11 @@
-use Rattle.obstacles_in.proofs.Whole.{spells, comes_to}
+use Rattle.obstacles_in.proofs.Lawful.{obstacles_lawful}
+use Rattle.obstacles_in.proofs.Sections.{spelled_obstacles, obstacles_spelled}
 use Rattle.obstacles_in.proofs.laws.values_are_spelled.Goals as goal
 
+pub values_are_spelled-requires : goal.values_are_spelled-requires
+values_are_spelled-requires c = obstacles_lawful
+
 pub returns : goal.returns
-returns c = λ bytes v. (spells bytes v, comes_to bytes v)
+returns c = λ bytes v.
+    let law = c.values_are_spelled.ensures bytes v in
+    (λ is. spelled_obstacles bytes v (law.0 is), λ is. law.1 (obstacles_spelled bytes v is))

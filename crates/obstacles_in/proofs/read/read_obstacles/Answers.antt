@@ -1,16 +1,19 @@
--- What the lines come to is what the bytes spell, or their first fault.
+-- Points and boxes are a text of sections.
 use Rattle.std.specs.Prelude.{Ok, Err}
-use Rattle.obstacles_in.proofs.Whole.{value_spelled, answers, comes_to}
+use Rattle.obstacles_in.proofs.Lawful.{obstacles_lawful}
+use Rattle.obstacles_in.proofs.Sections.{obstacles_spelled, read_spelled, read_fault, answers}
 use Rattle.obstacles_in.proofs.read.read_obstacles.Goals as goal
 
-pub returns-clause-spelled : goal.returns-clause-spelled
-returns-clause-spelled c = value_spelled c.args.bytes.now c.read_lines.result c.read_lines.ensures.ok
+pub read_sections-requires : goal.read_sections-requires
+read_sections-requires c = obstacles_lawful
 
-pub returns-clause-only : goal.returns-clause-only
-returns-clause-only c = λ v spelled.
-    answers c.args.bytes.now c.read_lines.result (Ok v) c.read_lines.ensures.ok c.read_lines.ensures.err
-    (comes_to c.args.bytes.now v spelled)
-
-pub returns-clause-only_fault : goal.returns-clause-only_fault
-returns-clause-only_fault c = λ f first.
-    answers c.args.bytes.now c.read_lines.result (Err f) c.read_lines.ensures.ok c.read_lines.ensures.err first
+pub returns : goal.returns
+returns c =
+    let bytes = c.args.bytes.now in
+    let r = c.read_sections.result in
+    record {
+      spelled = read_spelled bytes r c.read_sections.ensures.spelled;
+      fault = read_fault bytes r c.read_sections.ensures.fault;
+      only = λ v is. answers r (Ok v) (c.read_sections.ensures.only v (obstacles_spelled bytes v is));
+      only_fault = λ f is. answers r (Err f) (c.read_sections.ensures.only_fault f is);
+    }

@@ -1,0 +1,5 @@
+pub mod Steps
+pub mod Outcome
+pub mod Sound
+pub mod Complete
+pub mod Whole

@@ -1,0 +1,7 @@
+use Rattle.text_lines.specs.Lines.{lines_of}
+use Rattle.section_text.specs.Faults.{nothing}
+use Rattle.section_text.proofs.Outcome.{judges_one}
+use Rattle.section_text.proofs.laws.one_outcome.Goals as goal
+
+pub returns : goal.returns
+returns g c = λ bytes o o'. judges_one g.S.SectionFormat.format c.requires nothing 1 (lines_of bytes) o o'

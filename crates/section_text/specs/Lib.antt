@@ -1,0 +1,7 @@
+pub mod Words
+pub mod Format
+pub mod Text
+pub mod Faults
+pub mod Judged
+pub mod Left
+pub mod WordLaws
