@@ -1,5 +1,5 @@
 -- Searches by chains.
-use Rattle.std.proofs.Common.{ℕ, zero, suc, ◌≡◌, ◌+◌, ◌<◌, ◌≤◌, Bool, List, length, true, false, refl, sym, ap, ◌∙◌, subst, arith}
+use Rattle.std.proofs.Common.{ℕ, zero, suc, ◌≡◌, ◌+◌, ◌<◌, ◌≤◌, Bool, List, length, true, false, refl, sym, ◌∙◌, subst, arith}
 use Rattle.std.proofs.Common.{length-append}
 use Rattle.net_graph.specs.Graph.{Graph}
 use Rattle.net_graph.specs.Network.{length_of}
@@ -73,14 +73,6 @@ step_ahead old new step.Split opens = record {
   first_length = opens.first_length;
   leads = (1, (old.network, old.tree, (refl, refl), opens.opening));
 }
-
--- and makes at most one split
-pub step_few : (old new : SearchState) (taken : Step) → TakesStep old new taken →
-    split_count new.tree ≤ split_count old.tree + 1
-step_few old new step.Settled (settled, same) =
-    let count : split_count new.tree ≡ split_count old.tree = ap (λ (s : SearchState). split_count s.tree) same in
-    omega arith
-step_few old new step.Split opens = let count = opens.splits in omega (arith, count)
 
 module _ (g : Graph) (first later : ℕ) (longer : first ≤ later) where
   solved_longer : (s : Solved) → IsSolved g first s → IsSolved g later s

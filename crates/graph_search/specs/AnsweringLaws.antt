@@ -44,7 +44,8 @@ told_head g asked openings first_length note s is =
 
 -- A search from a first length is one from each greater length.
 pub searched_longer : (g : Graph) (asked : SplitKind) (openings first later : ℕ) (network : List Bool)
-    (tree : Tree SplitOn) → first ≤ later → IsSearched g asked openings first network tree → IsSearched g asked openings later network tree
+    (tree : Tree SplitOn) → first ≤ later → IsSearched g asked openings first network tree →
+    IsSearched g asked openings later network tree
 searched_longer g asked openings first later network tree longer searched = record {
   network_of = searched.network_of;
   valid = searched.valid;

@@ -34,9 +34,9 @@ struct Next {
     seed: Cell<u64>,
 }
 
-/// What a search by chains finds that closes, where one does; else what is given. So it is as well where another rule of
-/// splits than the usual one is asked for, where what is given is optimal, and where its length is one that packings have
-/// which can be made anew. An `Err` is want of memory.
+/// What a search by chains finds that closes, where one does; else what is given. So it is as well where another rule
+/// of splits than the usual one is asked for, where what is given is optimal, and where its length is one that packings
+/// have which can be made anew. An `Err` is want of memory.
 pub(crate) fn closed_by_chains(
     alloc: Global,
     graph: &NetGraph,
@@ -87,8 +87,8 @@ fn found_closed(
     openings: u8,
 ) -> Result<Option<Solved>, AllocError>
     requires { IsNetworkOf graph.now network.now }
-    ensures { IfOk result (λ found.
-        IfSome found (λ s. IsFoundByChains graph.now (length_of graph.now network.now) openings s × (s.optimal ≡ true))) }
+    ensures { IfOk result (λ found. IfSome found (λ s.
+        IsFoundByChains graph.now (length_of graph.now network.now) openings s × (s.optimal ≡ true))) }
 {
     let mut draws = Draws::new(SEED, MOST_ARCS);
     let mut first = first;
@@ -221,7 +221,8 @@ fn split_in_turn<F: Rule, G: Rule>(
     Ok(())
 }
 
-// Splits the leaf that is open next as strong branching chooses, as long as there is budget; whether it was. An `Err` is want of memory.
+// Splits the leaf that is open next as strong branching chooses, as long as there is budget; whether it was. An `Err`
+// is want of memory.
 fn split_next<F: Rule, G: Rule>(
     alloc: Global,
     graph: &NetGraph,

@@ -54,8 +54,8 @@ pub(crate) struct Child {
 
 impl Splitting {
     /// Splits the leaves of a search in a graph with this ground, of those that are open the one of the least value
-    /// first, on vertices that the last exchange for each leaf guesses, as long as there is such a guess, and makes no more than so many splits. An
-    /// `Err` is want of memory.
+    /// first, on vertices that the last exchange for each leaf guesses, as long as there is such a guess, and makes no
+    /// more than so many splits. An `Err` is want of memory.
     #[tactic(auto, using(branch::specs::KindLaws::leaf_splits_vertices))]
     pub(crate) fn split<F: Rule, G: Rule>(
         &self,

@@ -26,9 +26,10 @@ PrintsReductionTruly g before after status =
     × Appended before.written.out.taken (reduced_text r) after.written.out.taken
 
 -- `out` gained what is told of the lifted network of an answer that may be printed in the graph's reduction where no
--- word asks for anything else. The printed set is a network of the graph with the printed length, and no network of the graph is
--- shorter than the printed bound. It says optimal, and the status is 0, exactly where both agree, and then the network
--- is a shortest one. The status is 3 only where the answer's tree has 100 splits, each of them made by an opening.
+-- word asks for anything else. The printed set is a network of the graph with the printed length, and no network of the
+-- graph is shorter than the printed bound. It says optimal, and the status is 0, exactly where both agree, and then the
+-- network is a shortest one. The status is 3 only where the answer's tree has 100 splits, each of them made by an
+-- opening.
 pub record LiftsTruly (g : Graph) (before after : Outside) (status : ℕ) : Type 0 where
   pub reduction : Reduction
   pub network : List Bool

@@ -16,8 +16,8 @@ const DESCENTS: u32 = 20;
 // So many ascents are made along a network before cuts are exchanged along it.
 const MOST_ASCENTS: u8 = 3;
 
-// So many exchanges are made at most in a graph that can't be drawn in the plane: a network that is a little too long takes
-// some of them.
+// So many exchanges are made at most in a graph that can't be drawn in the plane: a network that is a little too long
+// takes some of them.
 const MOST_EXCHANGES: u8 = 6;
 
 // In so many draws networks are grown by the shares that an exchange guesses.
@@ -61,8 +61,8 @@ const SPLITTING: Splitting = Splitting {
     descents: DESCENTS,
 };
 
-// The looks of each exchange in a graph that can be drawn in the plane are so many divided by the square of the number of
-// edges.
+// The looks of each exchange in a graph that can be drawn in the plane are so many divided by the square of the number
+// of edges.
 const LOOKS_IN_PLANE: u64 = 800_000_000_000_000;
 
 // So many rounds are played there for each terminal at most, and so many in an exchange for a child of a split. Where
