@@ -85,8 +85,8 @@ pub fn ascend_with<F: Rule>(
     ascend_on(alloc, g, d, &required, start, costs, chooser)
 }
 
-/// The ascent that [`ascend`] makes behind a packing of which only the last cuts are given, beside what it leaves of the
-/// rooms: its packing lacks the others. The required vertices are listed. An `Err` is want of memory.
+/// The ascent that [`ascend`] makes behind a packing of which only the last cuts are given, beside what it leaves of
+/// the rooms: its packing lacks the others. The required vertices are listed. An `Err` is want of memory.
 pub fn ascend_on<F: Rule>(
     alloc: Global,
     g: &NetGraph,

@@ -104,8 +104,8 @@ pub fn carry_rooms(
     })
 }
 
-// What is left of the rooms once the cuts that an arc of one of these edges enters are taken back, and the weight of the
-// others. An `Err` is want of memory.
+// What is left of the rooms once the cuts that an arc of one of these edges enters are taken back, and the weight of
+// the others. An `Err` is want of memory.
 fn without_entered(
     alloc: Global,
     g: &NetGraph,

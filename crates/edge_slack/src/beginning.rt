@@ -13,8 +13,8 @@ use dual_ascent::{Chooser, ReducedCosts, Rule, ascend_on, carry_rooms, required_
 use net_graph::{Decision, NetGraph, Packing, VertexSet, total_weight};
 use std::alloc::{AllocError, Global};
 
-/// What the bounds of edges may begin with: the decision that decides nothing, a packing that is feasible under it, what
-/// this leaves of the rooms of all arcs, and the set of the vertices that are required.
+/// What the bounds of edges may begin with: the decision that decides nothing, a packing that is feasible under it,
+/// what this leaves of the rooms of all arcs, and the set of the vertices that are required.
 #[derive(Debug, Drop)]
 pub struct Beginning {
     pub decision: Decision,
@@ -56,8 +56,8 @@ fn at_most_twice(alloc: Global, g: &NetGraph, packing: Packing) -> Packing
     }
 }
 
-/// A bound of the networks that use the edge `e`: the value of a packing as [`edge_bound`] gives one, of the ascent that
-/// begins with the cuts which a packing of nothing decided carries to the decision that takes `e` in. So only what
+/// A bound of the networks that use the edge `e`: the value of a packing as [`edge_bound`] gives one, of the ascent
+/// that begins with the cuts which a packing of nothing decided carries to the decision that takes `e` in. So only what
 /// these lack is raised anew, and no cut is copied. An `Err` is want of memory.
 ///
 /// [`edge_bound`]: crate::edge_bound
