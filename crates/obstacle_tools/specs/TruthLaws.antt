@@ -58,7 +58,8 @@ answer_printed law read options before after status s is ends =
 
 -- a graph that was printed
 graph_printed : ObstaclesAreReadBack → (options : GraphOptions) (before after : Outside) (status : ℕ)
-    (s : AnswerStatus) → status ≡ answer_code s → EndsObstaclesStp before after status → ObstaclesTruly true options before after status
+    (s : AnswerStatus) → status ≡ answer_code s → EndsObstaclesStp before after status →
+    ObstaclesTruly true options before after status
 graph_printed read options before after status s is ends =
     let (print, (bytes, whole, (g, (o, task, same), of_graph)), printed) =
     printed_ends (text_fault_status around_fault_status) (text_fault_text around_fault_text) (codes "obstacles")
@@ -87,8 +88,8 @@ prints_with law read false options before after status s is ends =
 
 -- What `obstacles` printed is true.
 pub obstacles_truly : NoEdgeCrosses → ObstaclesAreReadBack → (stp : Bool) (options : GraphOptions)
-    (before after : Outside) (status : ℕ) → EndsObstacles stp options before after status → (status ≡ 0) ⊎ (status ≡ 3) →
-    ObstaclesTruly stp options before after status
+    (before after : Outside) (status : ℕ) → EndsObstacles stp options before after status →
+    (status ≡ 0) ⊎ (status ≡ 3) → ObstaclesTruly stp options before after status
 obstacles_truly law read stp options before after status ends (inl zero) =
     prints_with law read stp options before after status Done zero ends
 obstacles_truly law read stp options before after status ends (inr three) =
