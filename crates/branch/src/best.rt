@@ -54,8 +54,8 @@ impl Best {
         }
     }
 
-    /// The shortest one of this network and the own ones of a leaf's two children: this one on a tie, and else that of
-    /// the first child. An `Err` is want of memory.
+    /// The shortest one of this network and the own ones of a leaf's two children: this one on a tie, and either one
+    /// where two shorter ones tie. An `Err` is want of memory.
     pub fn with_children(
         &self,
         g: &NetGraph,
