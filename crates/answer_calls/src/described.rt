@@ -2,7 +2,7 @@
 
 ghost use Rattle.std.specs.Prelude.{◌≡◌, length, All, IfOk};
 ghost use Rattle.hanan_grid.specs.Grid.{hanan_grid_of};
-ghost use Rattle.cut_cert.specs.Answers.{IsCutOn};
+ghost use Rattle.answer_text.specs.Answers.{IsCutOn};
 
 use hanan_grid::Grid;
 use net_graph::{Cut, EdgeSet, Packing, VertexSet};

@@ -1,7 +1,7 @@
 //! Answers that are read.
 
 use crate::described::narrow;
-use cut_cert::{Event, EventReader};
+use answer_text::{Event, EventReader};
 use net_graph::VertexSet;
 use row_tables::{Call, Fault, number};
 use std::alloc::Global;

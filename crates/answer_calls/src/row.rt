@@ -1,7 +1,7 @@
 //! Rows of numbers.
 
 use crate::described::narrow;
-use number_row::Row;
+use lists::Row;
 use row_tables::{Call, Fault};
 use std::alloc::Global;
 

@@ -2,11 +2,11 @@
 
 ghost use Rattle.std.specs.Prelude.{IfOk};
 ghost use Rattle.hanan_grid.specs.Grid.{hanan_grid_of};
-ghost use Rattle.cut_cert.specs.Answers.{IsAnswerOn};
+ghost use Rattle.answer_text.specs.Answers.{IsAnswerOn};
 
 use crate::described::{cuts, edges, grid};
+use answer_text::{Answer, AnswerHead, ConcatNote, answer_len, write_answer};
 use cert_tree::CertTree;
-use cut_cert::{Answer, AnswerHead, ConcatNote, answer_len, write_answer};
 use hanan_grid::Grid;
 use row_tables::{Call, Fault};
 use rst_outside::MemSink;

@@ -6,18 +6,18 @@ use Rattle.std.specs.Fmt.{decimal, signed_decimal}
 use Rattle.std.proofs.lemmas.Fmt.{decimal_is_IsNumeral}
 use Rattle.std.proofs.lemmas.Str.Parse.{digit_at}
 use Rattle.std.proofs.lemmas.List.Elements.{All-from_get_or, All-head, All-tail, All-cons, All-nil, All-append}
-use Rattle.spelled.specs.Numbers.{signed_decimal_nonempty}
+use Rattle.text_in.specs.Numbers.{signed_decimal_nonempty}
 use Rattle.hanan_grid.specs.declared.name.EdgeName.{EdgeName}
-use Rattle.cut_cert.specs.declared.form.Form.TheVariants as form
-use Rattle.cut_cert.specs.declared.label.EdgeLabel.TheVariants as edge
-use Rattle.cut_cert.specs.declared.version.Version.{Version}
-use Rattle.cut_cert.specs.declared.version.Version.TheVariants as version
-use Rattle.cut_cert.specs.AnswerLine.{Line}
-use Rattle.cut_cert.specs.LineKinds as line
-use Rattle.cut_cert.specs.LineFits.{FitsLine}
-use Rattle.cut_cert.specs.Lines.{line_bytes}
-use Rattle.cut_cert.specs.Spelling.{FitsName}
-use Rattle.cut_cert.specs.Words.{name_words}
+use Rattle.answer_text.specs.declared.form.Form.TheVariants as form
+use Rattle.answer_text.specs.declared.label.EdgeLabel.TheVariants as edge
+use Rattle.answer_text.specs.declared.version.Version.{Version}
+use Rattle.answer_text.specs.declared.version.Version.TheVariants as version
+use Rattle.answer_text.specs.AnswerLine.{Line}
+use Rattle.answer_text.specs.LineKinds as line
+use Rattle.answer_text.specs.LineFits.{FitsLine}
+use Rattle.answer_text.specs.Lines.{line_bytes}
+use Rattle.answer_text.specs.Spelling.{FitsName}
+use Rattle.answer_text.specs.Words.{name_words}
 use Rattle.answer_upgrade.specs.declared.change.Change.TheVariants as change
 use Rattle.answer_upgrade.specs.Upgraded.{change_of, upgraded_line}
 

@@ -2,11 +2,11 @@
 use Rattle.std.proofs.Common.{ℕ, ◌≡◌, ◌-◌, ◌<◌, ◌≤◌, List, [], ◌∷◌, ◌++◌, length, take, drop, get_or, refl, sym, ap, subst, ◌∙◌, arith, append_assoc}
 use Rattle.std.proofs.Math.Seq.{drop-cons}
 use Rattle.std.proofs.lemmas.List.{append-nil, take_more, take-append-drop, take_rest}
-use Rattle.cut_cert.specs.declared.event.AnswerEvent.{AnswerEvent}
-use Rattle.cut_cert.specs.declared.form.Form.TheVariants as form
-use Rattle.cut_cert.specs.declared.reader.EventReader.{EventReader}
-use Rattle.cut_cert.specs.Reading.{StopsAt}
-use Rattle.cut_cert.specs.Reader.{Reads}
+use Rattle.answer_text.specs.declared.event.AnswerEvent.{AnswerEvent}
+use Rattle.answer_text.specs.declared.form.Form.TheVariants as form
+use Rattle.answer_text.specs.declared.reader.EventReader.{EventReader}
+use Rattle.answer_text.specs.Reading.{StopsAt}
+use Rattle.answer_text.specs.Reader.{Reads}
 use Rattle.answer_upgrade.specs.Spelling.{IsReading, Stops}
 
 pub stands_for : (V : ℕ) (xs ys : List ℕ) (events : List AnswerEvent) (reader : EventReader) → xs ≡ ys → Reads (form.OnGrid V) xs events reader → IsReading V ys reader

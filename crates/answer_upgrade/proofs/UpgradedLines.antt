@@ -2,25 +2,25 @@
 use Rattle.std.proofs.Common.{ℕ, ◌≡◌, List, [], ◌∷◌, ◌++◌, length, map, refl, sym, ap, ◌∙◌, arith, append_assoc, length-append}
 use Rattle.std.proofs.lemmas.List.{append-nil, map-append}
 use Rattle.std.proofs.lemmas.List.Concat.{flat_map-append}
-use Rattle.spelled.specs.Words.{Lacks}
-use Rattle.spelled.specs.Fronts.{front_unique, separator_missing}
+use Rattle.text_in.specs.Words.{Lacks}
+use Rattle.text_in.specs.Fronts.{front_unique, separator_missing}
 use Rattle.net_graph.specs.declared.packing.Cut.{Cut}
-use Rattle.cut_cert.specs.declared.form.Form.{Form}
-use Rattle.cut_cert.specs.declared.form.Form.TheVariants as form
-use Rattle.cut_cert.specs.declared.label.EdgeLabel.{EdgeLabel}
+use Rattle.answer_text.specs.declared.form.Form.{Form}
+use Rattle.answer_text.specs.declared.form.Form.TheVariants as form
+use Rattle.answer_text.specs.declared.label.EdgeLabel.{EdgeLabel}
 use Rattle.cert_tree.specs.Tree.{Tree}
 use Rattle.cert_tree.specs.Tree.Tree.{Leaf, Split}
-use Rattle.cut_cert.specs.declared.head.AnswerHead.{AnswerHead}
-use Rattle.cut_cert.specs.Forms.{IsVersionOf}
-use Rattle.cut_cert.specs.declared.split.SplitName.{SplitName}
-use Rattle.cut_cert.specs.declared.split.SplitName.TheVariants as name
-use Rattle.cut_cert.specs.declared.version.Version.{Version}
-use Rattle.cut_cert.specs.declared.version.Version.TheVariants as version
-use Rattle.cut_cert.specs.AnswerLine.{Line}
-use Rattle.cut_cert.specs.LineKinds as line
-use Rattle.cut_cert.specs.LineFits.{FitsLine, FitsLines, version_with}
-use Rattle.cut_cert.specs.Lines.{line_bytes, line_text, lines_text, split_line, tree_lines, proof_lines, network_lines, head_lines, body_lines, answer_lines}
-use Rattle.cut_cert.specs.Value.{WrittenAnswer, upgraded}
+use Rattle.answer_text.specs.declared.head.AnswerHead.{AnswerHead}
+use Rattle.answer_text.specs.Forms.{IsVersionOf}
+use Rattle.answer_text.specs.declared.split.SplitName.{SplitName}
+use Rattle.answer_text.specs.declared.split.SplitName.TheVariants as name
+use Rattle.answer_text.specs.declared.version.Version.{Version}
+use Rattle.answer_text.specs.declared.version.Version.TheVariants as version
+use Rattle.answer_text.specs.AnswerLine.{Line}
+use Rattle.answer_text.specs.LineKinds as line
+use Rattle.answer_text.specs.LineFits.{FitsLine, FitsLines, version_with}
+use Rattle.answer_text.specs.Lines.{line_bytes, line_text, lines_text, split_line, tree_lines, proof_lines, network_lines, head_lines, body_lines, answer_lines}
+use Rattle.answer_text.specs.Value.{WrittenAnswer, upgraded}
 use Rattle.answer_upgrade.specs.Upgraded.{upgraded_line}
 
 -- ---- the lines of an answer

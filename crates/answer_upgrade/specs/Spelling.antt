@@ -1,13 +1,13 @@
 -- What is told of bytes that may be the text of an answer on a grid.
 use Rattle.std.specs.Prelude.{ℕ, ◌≡◌, List}
-use Rattle.cut_cert.specs.declared.event.AnswerEvent.{AnswerEvent}
-use Rattle.cut_cert.specs.declared.form.Form.TheVariants as form
-use Rattle.cut_cert.specs.declared.reader.EventReader.{EventReader}
-use Rattle.cut_cert.specs.Reader.{Reads}
-use Rattle.cut_cert.specs.Reading.{StopsAt}
-use Rattle.cut_cert.specs.Spelling.{SpellsAnswer}
-use Rattle.cut_cert.specs.Value.{WrittenAnswer}
-use Rattle.cut_cert.specs.Words.{version_number}
+use Rattle.answer_text.specs.declared.event.AnswerEvent.{AnswerEvent}
+use Rattle.answer_text.specs.declared.form.Form.TheVariants as form
+use Rattle.answer_text.specs.declared.reader.EventReader.{EventReader}
+use Rattle.answer_text.specs.Reader.{Reads}
+use Rattle.answer_text.specs.Reading.{StopsAt}
+use Rattle.answer_text.specs.Spelling.{SpellsAnswer}
+use Rattle.answer_text.specs.Value.{WrittenAnswer}
+use Rattle.answer_text.specs.Words.{version_number}
 use Rattle.answer_upgrade.specs.declared.told.Spelled.{Spelled}
 use Rattle.answer_upgrade.specs.declared.told.Spelled.TheVariants as told
 

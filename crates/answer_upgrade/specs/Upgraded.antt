@@ -1,12 +1,12 @@
 -- What the lines of the text of an answer on a grid become in version 2.
 use Rattle.std.specs.Prelude.{ℕ, List}
-use Rattle.cut_cert.specs.declared.form.Form.TheVariants as form
-use Rattle.cut_cert.specs.declared.version.Version.TheVariants as version
-use Rattle.cut_cert.specs.AnswerLine.{Line}
-use Rattle.cut_cert.specs.LineKinds as line
-use Rattle.cut_cert.specs.Spelling.{SpellsAnswer}
-use Rattle.cut_cert.specs.Value.{WrittenAnswer}
-pub use Rattle.cut_cert.specs.Value.{upgraded}
+use Rattle.answer_text.specs.declared.form.Form.TheVariants as form
+use Rattle.answer_text.specs.declared.version.Version.TheVariants as version
+use Rattle.answer_text.specs.AnswerLine.{Line}
+use Rattle.answer_text.specs.LineKinds as line
+use Rattle.answer_text.specs.Spelling.{SpellsAnswer}
+use Rattle.answer_text.specs.Value.{WrittenAnswer}
+pub use Rattle.answer_text.specs.Value.{upgraded}
 use Rattle.answer_upgrade.specs.declared.change.Change.{Change}
 use Rattle.answer_upgrade.specs.declared.change.Change.TheVariants as change
 

@@ -1,11 +1,11 @@
 //! What becomes of a line of the text of an answer on a grid in version 2.
 
 ghost use Rattle.std.specs.Prelude.{◌≡◌, ◌<◌, ℕ, length};
-ghost use Rattle.cut_cert.specs.declared.form.Form.TheVariants as form_of;
-ghost use Rattle.cut_cert.specs.declared.version.Version.{Version};
-ghost use Rattle.cut_cert.specs.AnswerLine.{Line};
-ghost use Rattle.cut_cert.specs.Lines.{line_bytes};
-ghost use Rattle.cut_cert.specs.LineFits.{FitsLine};
+ghost use Rattle.answer_text.specs.declared.form.Form.TheVariants as form_of;
+ghost use Rattle.answer_text.specs.declared.version.Version.{Version};
+ghost use Rattle.answer_text.specs.AnswerLine.{Line};
+ghost use Rattle.answer_text.specs.Lines.{line_bytes};
+ghost use Rattle.answer_text.specs.LineFits.{FitsLine};
 ghost use Rattle.answer_upgrade.specs.declared.change.Change.TheVariants as change;
 ghost use Rattle.answer_upgrade.specs.Upgraded.{change_of};
 

@@ -1,11 +1,11 @@
 //! Whether bytes are an answer's text.
 
 ghost use Rattle.std.specs.Prelude.{ℕ, ◌≡◌, ◌+◌, ◌<◌, ◌≤◌, ◌^◌, List, ◌++◌, length, take, IfOk, IfErr};
-ghost use Rattle.cut_cert.specs.Reader.{bytes_fed};
+ghost use Rattle.answer_text.specs.Reader.{bytes_fed};
 ghost use Rattle.answer_upgrade.specs.Spelling.{IsReading, Stops, TellsSpelling};
 
 use crate::told::Spelled;
-use cut_cert::{EventReader, Spelling};
+use answer_text::{EventReader, Spelling};
 use net_graph::VertexSet;
 use std::alloc::{AllocError, Global};
 

@@ -3,20 +3,20 @@
 ghost use Rattle.std.specs.Prelude.{◌≡◌, ◌<◌, ℕ, List, ◌++◌, length, map, drop, codes};
 ghost use Rattle.rst_outside.specs.Sink.{Writes};
 ghost use Rattle.text_out.specs.Gathers.{Gathers};
-ghost use Rattle.cut_cert.specs.declared.form.Form.TheVariants as form_of;
-ghost use Rattle.cut_cert.specs.declared.version.Version.{Version};
-ghost use Rattle.cut_cert.specs.AnswerLine.{Line};
-ghost use Rattle.cut_cert.specs.LineFits.{FitsLine, FitsLines};
-ghost use Rattle.cut_cert.specs.Lines.{line_bytes, line_text, lines_text};
-ghost use Rattle.cut_cert.specs.Spelling.{SpellsAnswer};
-ghost use Rattle.cut_cert.specs.Text.{answer_text};
-ghost use Rattle.cut_cert.specs.Value.{WrittenAnswer, upgraded};
+ghost use Rattle.answer_text.specs.declared.form.Form.TheVariants as form_of;
+ghost use Rattle.answer_text.specs.declared.version.Version.{Version};
+ghost use Rattle.answer_text.specs.AnswerLine.{Line};
+ghost use Rattle.answer_text.specs.LineFits.{FitsLine, FitsLines};
+ghost use Rattle.answer_text.specs.Lines.{line_bytes, line_text, lines_text};
+ghost use Rattle.answer_text.specs.Spelling.{SpellsAnswer};
+ghost use Rattle.answer_text.specs.Text.{answer_text};
+ghost use Rattle.answer_text.specs.Value.{WrittenAnswer, upgraded};
 ghost use Rattle.answer_upgrade.specs.Upgraded.{IsSpelling, upgraded_line};
 
 use crate::change::{Change, change_of};
-use cut_cert::lines_fit;
+use answer_text::lines_fit;
 use rst_outside::{PutFault, Sink};
-use spelled::split_line;
+use text_in::split_line;
 use text_out::{Block, finish, literal};
 
 /// Writes the text of the same answer in version 2: line by line, each of which becomes one line. It takes no memory;

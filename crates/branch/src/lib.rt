@@ -3,6 +3,7 @@
 #![tactic(auto)]
 
 mod best;
+mod branch_and_bound;
 mod frontier;
 mod leaf;
 mod next_opening;
@@ -12,16 +13,15 @@ mod open;
 mod opening;
 mod saturated;
 mod saturation;
-mod search;
 mod solve;
 mod solved;
 mod split_choice;
 mod split_kind;
 mod step;
 
+pub use branch_and_bound::Search;
 pub use offered::Offered;
 pub use saturated::saturated_network;
-pub use search::Search;
 pub use solve::solve_graph;
 pub use solved::Solved;
 pub use split_kind::SplitKind;

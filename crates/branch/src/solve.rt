@@ -9,7 +9,7 @@ ghost use Rattle.branch.specs.States.{IsNetworkOf};
 ghost use Rattle.branch.specs.PlainOpenings.{EndsPlainOpenings};
 ghost use Rattle.branch.specs.Solving.{IsSolved, ways_of};
 
-use crate::search::Search;
+use crate::branch_and_bound::Search;
 use crate::solved::Solved;
 use crate::split_kind::SplitKind;
 use dual_ascent::{Chooser, Rule};

@@ -3,6 +3,7 @@
 #![tactic(auto)]
 
 mod session;
+mod tool_tables;
 
 use row_tables::run_tables;
 use session::CallRunner;

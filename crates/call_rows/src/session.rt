@@ -1,5 +1,6 @@
 //! The calls of tables, made one by one.
 
+use crate::tool_tables;
 use row_tables::{Asked, Call, CallReader, Fault, RowRunner, Section, first_difference};
 use std::alloc::Global;
 
@@ -54,7 +55,7 @@ fn is_answered(alloc: Global, asked: &Asked, report: &mut String) -> Result<bool
     Ok(is_ok)
 }
 
-/// Makes the call of a row by the crate that knows its subject: the word before the point names the crate.
+/// Makes the call of a row by what knows its subject: the word before the point names it.
 fn make(alloc: Global, call: &Call, answer: &mut String) -> Result<(), Fault> {
     match call.family() {
         "graph" => graph_calls::answer(alloc, call, answer),
@@ -64,6 +65,7 @@ fn make(alloc: Global, call: &Call, answer: &mut String) -> Result<(), Fault> {
         "text" => text_calls::answer(alloc, call, answer),
         "answer" => answer_calls::answer(alloc, call, answer),
         "task" => task_calls::answer(alloc, call, answer),
+        "table" => tool_tables::answer(alloc, call, answer),
         _ => Err(Fault::UnknownSubject),
     }
 }

@@ -9,9 +9,9 @@ use Rattle.cert_tree.specs.declared.split.SplitOn.{SplitOn}
 use Rattle.cert_tree.specs.Tree.{Tree}
 use Rattle.cert_tree.specs.Preorder.{nodes_of, split_count}
 use Rattle.cert_tree.specs.TreeValue.{IsValidTree, tree_value}
-use Rattle.cut_cert.specs.Value.{WrittenAnswer}
-use Rattle.cut_cert.specs.Spelling.{SpellsAnswer}
-use Rattle.cut_cert.specs.Answers.{IsNodeOn, edge_labels, labelled}
+use Rattle.answer_text.specs.Value.{WrittenAnswer}
+use Rattle.answer_text.specs.Spelling.{SpellsAnswer}
+use Rattle.answer_text.specs.Answers.{IsNodeOn, edge_labels, labelled}
 use Rattle.cert_check.specs.Named.{Named, on_grid}
 use Rattle.cert_check.specs.declared.verdict.Verdict.{Verdict}
 use Rattle.cert_check.specs.declared.verdict.Verdict.TheVariants.{Accepted, Refused, TooLong}

@@ -1,7 +1,7 @@
 -- The verdict on an answer, line by line: when the next line is right, and why it is wrong.
 use Rattle.std.specs.Prelude.{ℕ, ◌≡◌, Bool, List, [], ◌∷◌, Option, ◌⊎◌}
-use Rattle.cut_cert.specs.declared.event.Event.{Event}
-use Rattle.cut_cert.specs.declared.event.AnswerEvent.{AnswerEvent}
+use Rattle.answer_text.specs.declared.event.Event.{Event}
+use Rattle.answer_text.specs.declared.event.AnswerEvent.{AnswerEvent}
 use Rattle.tree_judge.specs.declared.cause.Cause.{Cause}
 use Rattle.tree_judge.specs.declared.cause.Cause.TheVariants.{NotAnswer}
 use Rattle.tree_judge.specs.Judged.{SoFar, bound_found}

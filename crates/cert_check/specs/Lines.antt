@@ -1,9 +1,9 @@
 -- The lines that bytes tell of an answer, and how the bytes go on behind them.
 use Rattle.std.specs.Prelude.{ℕ, ◌≡◌, List, ◌++◌}
-use Rattle.cut_cert.specs.declared.event.AnswerEvent.{AnswerEvent}
-use Rattle.cut_cert.specs.declared.form.Form.{Form}
-use Rattle.cut_cert.specs.Reading.{IsReadWhole, StopsAt}
-use Rattle.cut_cert.specs.Reader.{BeginsWith}
+use Rattle.answer_text.specs.declared.event.AnswerEvent.{AnswerEvent}
+use Rattle.answer_text.specs.declared.form.Form.{Form}
+use Rattle.answer_text.specs.Reading.{IsReadWhole, StopsAt}
+use Rattle.answer_text.specs.Reader.{BeginsWith}
 
 -- behind some lines a text ends, or ceases to begin an answer in the line of this number, or goes on in some way
 pub data Behind : Type 0 where

@@ -1,14 +1,14 @@
 -- What the lines of an answer's text tell a judge, whose labels are those of the graph's edges and vertices.
 use Rattle.std.specs.Prelude.{ℕ, ◌≡◌, ◌≢◌, ◌<◌, length}
 use Rattle.cert_tree.specs.declared.split.SplitOn.{SplitOn}
-use Rattle.cut_cert.specs.declared.head.AnswerHead.{AnswerHead}
-use Rattle.cut_cert.specs.declared.label.EdgeLabel.{EdgeLabel}
-use Rattle.cut_cert.specs.declared.label.VertexLabel.{VertexLabel}
-use Rattle.cut_cert.specs.declared.split.SplitName.{SplitName}
-use Rattle.cut_cert.specs.declared.split.SplitName.TheVariants as name
-use Rattle.cut_cert.specs.declared.event.Event.{Event}
-use Rattle.cut_cert.specs.declared.event.Event.TheVariants as event
-use Rattle.cut_cert.specs.Answers.{IsSplitOn, split_label}
+use Rattle.answer_text.specs.declared.head.AnswerHead.{AnswerHead}
+use Rattle.answer_text.specs.declared.label.EdgeLabel.{EdgeLabel}
+use Rattle.answer_text.specs.declared.label.VertexLabel.{VertexLabel}
+use Rattle.answer_text.specs.declared.split.SplitName.{SplitName}
+use Rattle.answer_text.specs.declared.split.SplitName.TheVariants as name
+use Rattle.answer_text.specs.declared.event.Event.{Event}
+use Rattle.answer_text.specs.declared.event.Event.TheVariants as event
+use Rattle.answer_text.specs.Answers.{IsSplitOn, split_label}
 use Rattle.tree_judge.specs.declared.claim.Claim.{Claim}
 use Rattle.tree_judge.specs.declared.step.Step.{Step}
 use Rattle.tree_judge.specs.declared.step.Step.TheVariants as step

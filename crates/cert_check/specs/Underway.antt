@@ -1,9 +1,9 @@
 -- A judge and a reader that work on one answer, byte by byte.
 use Rattle.std.specs.Prelude.{ℕ, ◌≡◌, ◌≤◌, List, [], ◌∷◌, ◌++◌, Option, Some, None, IfNone}
-use Rattle.cut_cert.specs.declared.event.AnswerEvent.{AnswerEvent}
-use Rattle.cut_cert.specs.declared.form.Form.{Form}
-use Rattle.cut_cert.specs.declared.reader.EventReader.{EventReader}
-use Rattle.cut_cert.specs.Reader.{Reads, bytes_fed}
+use Rattle.answer_text.specs.declared.event.AnswerEvent.{AnswerEvent}
+use Rattle.answer_text.specs.declared.form.Form.{Form}
+use Rattle.answer_text.specs.declared.reader.EventReader.{EventReader}
+use Rattle.answer_text.specs.Reader.{Reads, bytes_fed}
 use Rattle.tree_judge.specs.declared.cause.Cause.{Cause}
 use Rattle.cert_check.specs.Named.{Named, named_of}
 use Rattle.cert_check.specs.declared.subject.Subject.{Subject}

@@ -2,7 +2,7 @@
 use Rattle.std.specs.Prelude.{ℕ, Option, Some, None, IfNone}
 use Rattle.std.specs.Coded.{le_prop, Unit-prop}
 use Rattle.std.proofs.Math.Logic.{∥∥₁_prop}
-use Rattle.cut_cert.specs.declared.reader.EventReader.{EventReader}
+use Rattle.answer_text.specs.declared.reader.EventReader.{EventReader}
 use Rattle.tree_judge.specs.declared.cause.Cause.{Cause}
 use Rattle.tree_judge.specs.declared.judge.Judge.{Judge}
 use Rattle.tree_judge.specs.StandingLaws.{IsJudgeOn-prop}

@@ -2,10 +2,10 @@
 use Rattle.std.specs.Prelude.{ℕ, ◌^◌, ◌≤◌, ◌↔◌, List, length}
 use Rattle.points_in.specs.declared.point.Point.{Point}
 use Rattle.hanan_grid.specs.Grid.{hanan_grid_of}
-use Rattle.cut_cert.specs.declared.form.Form.TheVariants as form
-use Rattle.cut_cert.specs.Value.{WrittenAnswer, upgraded}
-use Rattle.cut_cert.specs.Text.{answer_text}
-use Rattle.cut_cert.specs.Spelling.{SpellsAnswer}
+use Rattle.answer_text.specs.declared.form.Form.TheVariants as form
+use Rattle.answer_text.specs.Value.{WrittenAnswer, upgraded}
+use Rattle.answer_text.specs.Text.{answer_text}
+use Rattle.answer_text.specs.Spelling.{SpellsAnswer}
 use Rattle.cert_check.specs.declared.verdict.Finished.{Finished}
 use Rattle.cert_check.specs.Verdicts.{IsVerdict}
 

@@ -1,7 +1,7 @@
 -- The verdict on bytes as an answer.
 use Rattle.std.specs.Prelude.{ℕ, ◌≡◌, ◌-◌, ◌^◌, ◌<◌, ◌≤◌, List, length, take, ◌⊎◌}
 use Rattle.points_in.specs.declared.point.Point.{Point}
-use Rattle.cut_cert.specs.declared.event.AnswerEvent.{AnswerEvent}
+use Rattle.answer_text.specs.declared.event.AnswerEvent.{AnswerEvent}
 use Rattle.cert_check.specs.Named.{Named, on_grid}
 use Rattle.cert_check.specs.declared.verdict.Verdict.TheVariants.{TooLong}
 use Rattle.cert_check.specs.declared.verdict.Finished.{Finished}

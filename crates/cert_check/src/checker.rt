@@ -12,13 +12,13 @@ ghost use Rattle.cert_check.specs.Verdicts.{IsJudged, IsVerdictIn, byte_limit};
 ghost use Rattle.cert_check.specs.Underway.{IsUnderway};
 ghost use Rattle.cert_check.specs.UnderwayLaws.{IsUnderway-prop};
 
-use crate::judging::{finished, judge_on, refused};
+use crate::answer_judge::{finished, judge_on, refused};
 use crate::read::read_byte;
 use crate::subject::Subject;
 use crate::verdict::{Finished, Verdict};
 use crate::workroom::Workroom;
+use answer_text::{EventReader, one_reading};
 use cert_tree::tree_bounds_every_network;
-use cut_cert::{EventReader, one_reading};
 use hanan_grid::Grid;
 use net_graph::{EdgeSet, VertexSet};
 use tree_judge::{Cause, Judge, Room};

@@ -4,8 +4,8 @@ ghost use Rattle.cert_check.specs.Accepted.{AcceptedBoundHolds};
 ghost use Rattle.cert_check.specs.UpgradeLaw.{UpgradingKeepsVerdict};
 ghost use Rattle.cert_check.specs.VerdictLaw.{OneVerdict, OneVerdictInGraphs, OneVerdictOnGrids};
 
+use answer_text::{one_reading, upgraded_alike};
 use cert_tree::tree_bounds_every_network;
-use cut_cert::{one_reading, upgraded_alike};
 
 /// No network of the terminals' grid is shorter than the bound of an accepted answer, and where it says optimal none
 /// is shorter than its length. A law: the call does nothing, and its caller knows the fact from there on.

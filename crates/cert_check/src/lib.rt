@@ -1,9 +1,9 @@
 //! The checker of answers: it judges bytes by points or a graph alone, and rests on nothing that proposes or bounds.
 #![tactic(auto)]
 
+mod answer_judge;
 mod border;
 mod checker;
-mod judging;
 mod law;
 mod read;
 mod step;

@@ -1,14 +1,14 @@
 //! Reads an answer byte by byte, and judges its lines as they end.
 
 ghost use Rattle.std.specs.Prelude.{◌≡◌, ◌+◌, ◌-◌, ◌^◌, ◌<◌, ℕ, List, [], ◌∷◌, ◌++◌, None, IfNone};
-ghost use Rattle.cut_cert.specs.Reader.{bytes_fed};
+ghost use Rattle.answer_text.specs.Reader.{bytes_fed};
 ghost use Rattle.tree_judge.specs.Standing.{IsJudgeOn};
 ghost use Rattle.cert_check.specs.Named.{named_of};
 ghost use Rattle.cert_check.specs.Underway.{Follows, IsReading};
 
-use crate::judging::judge_line;
+use crate::answer_judge::judge_line;
 use crate::subject::Subject;
-use cut_cert::{EventReader, reads_beginnings};
+use answer_text::{EventReader, reads_beginnings};
 use tree_judge::{Cause, Judge};
 
 /// Reads one more byte, and judges the line that it ends. Gives why the answer is refused, if it is from here on.

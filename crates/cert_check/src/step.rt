@@ -6,8 +6,8 @@ ghost use Rattle.cert_check.specs.Named.{named_of};
 ghost use Rattle.cert_check.specs.Resolved.{NameFault, ResolvesTo, claim_of};
 
 use crate::subject::Subject;
+use answer_text::{AnswerHead, EdgeLabel, Event, SplitName};
 use cert_tree::SplitOn;
-use cut_cert::{AnswerHead, EdgeLabel, Event, SplitName};
 use tree_judge::{Cause, Claim, Step};
 
 /// The step that a line tells. An `Err` is why the line is wrong where its label is that of nothing of the graph.

@@ -1,11 +1,11 @@
 //! What an answer's text is about, and what its labels name there.
 
 ghost use Rattle.std.specs.Prelude.{◌≡◌, ◌<◌, ◌+◌, ◌⊎◌, [], IfSome, IfNone, false, length, replicate};
-ghost use Rattle.cut_cert.specs.Reader.{Reads};
+ghost use Rattle.answer_text.specs.Reader.{Reads};
 ghost use Rattle.cert_check.specs.Named.{in_graph, named_of, on_grid};
 ghost use Rattle.cert_check.specs.Resolved.{IsLabelOfEdge, IsLabelOfVertex, LabelsNoEdge, LabelsNoVertex};
 
-use cut_cert::{EdgeLabel, EventReader, VertexLabel};
+use answer_text::{EdgeLabel, EventReader, VertexLabel};
 use hanan_grid::Grid;
 use net_graph::{NetGraph, VertexSet};
 

@@ -8,7 +8,7 @@ use Rattle.concatenation.specs.Choices.{taken_of, IsLeastUnder}
 use Rattle.concatenation.specs.Trails.{Trail, splits_of, no_choices, AllEnds, AllSplits, SomeEnd, IsOpenPlace, CanGoOn}
 use Rattle.concatenation.specs.Trails.{IsNoBetter}
 use Rattle.fst_concat.specs.declared.trail.Step.{Step}
-use Rattle.fst_concat.specs.declared.search.Way.{Way}
+use Rattle.fst_concat.specs.declared.trail_search.Way.{Way}
 use Rattle.fst_concat.specs.Steps.{unwind}
 
 -- An end that a search may leave: where the taken trees join all terminals, they have at least the best total, and no

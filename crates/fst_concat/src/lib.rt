@@ -13,10 +13,10 @@ mod level;
 mod listed;
 mod parts;
 mod proposal;
-mod search;
 mod start;
 mod touching;
 mod trail;
+mod trail_search;
 
 pub use choosing::concat;
 pub use chosen::{Chosen, ChosenKind};

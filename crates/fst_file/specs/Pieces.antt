@@ -5,7 +5,7 @@ use Rattle.points_in.specs.declared.point.Point.{Point}
 use Rattle.full_tree.specs.declared.code.Tree.{Tree}
 use Rattle.full_tree.specs.declared.code.TreeCode.{TreeCode}
 use Rattle.full_tree.specs.declared.code.TreeCode.TheVariants.{Long, Cross}
-use Rattle.text_lines.specs.Lines.{line_text}
+use Rattle.text_in.specs.Lines.{line_text}
 use Rattle.section_text.specs.Words.{points_words, point_words}
 use Rattle.fst_file.specs.Words.{title_words, trees_words, way_word, side_word}
 

@@ -1,6 +1,6 @@
 -- What is said of the faults of a file, and which of them pass a limit.
 use Rattle.std.specs.Prelude.{ℕ, Bool, true, false, List, ◌++◌, codes, decimal}
-use Rattle.format_fault.specs.Texts.{line_text, total_text}
+use Rattle.text_in.specs.Texts.{line_text, total_text}
 use Rattle.fst_file.specs.declared.fault.FstFault.{FstFault}
 use Rattle.fst_file.specs.declared.fault.FstFault.TheVariants.{BadLine, TooManyPoints, RepeatedPoint, TooLong, TooManyTrees, NotInForm, WrongLength, OutOfOrder, Memory}
 

@@ -1,6 +1,6 @@
 -- The text of a file between the phases. It is this project's own.
 use Rattle.std.specs.Prelude.{ℕ, ◌≡◌, List}
-use Rattle.text_lines.specs.Lines.{text_of}
+use Rattle.text_in.specs.Lines.{text_of}
 use Rattle.fst_file.specs.Value.{FstValue, IsFstValue}
 use Rattle.section_text.specs.Text.{section_lines}
 use Rattle.fst_file.specs.Format.{fst_format}

@@ -3,9 +3,9 @@
 ghost use Rattle.text_out.specs.Gathers.{Gathers};
 ghost use Rattle.fst_file.specs.Said.{fst_fault_text, fst_passes_limit, IsMemory, length_text};
 
-use format_fault::{FormatFault, write_line, write_total};
 use rst_outside::Sink;
 use std::alloc::AllocError;
+use text_in::{FormatFault, write_line, write_total};
 use text_out::{Block, literal, number};
 
 /// Why bytes are no file between the phases: the first fault of their lines, and of one line the first in

@@ -11,7 +11,7 @@ use hanan_grid::{Grid, GridFault};
 use points_in::Points;
 use section_text::{LineFault, SectionFormat};
 use std::alloc::{AllocError, Global};
-use text_lines::LineWords;
+use text_in::LineWords;
 
 /// How many trees a file holds at most.
 pub const MAX_TREES: u32 = 20_000;

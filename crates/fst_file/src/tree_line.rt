@@ -12,9 +12,8 @@ ghost use Rattle.fst_file.specs.Format.{fst_format};
 ghost use Rattle.fst_file.specs.Kept.{StandsFor, StandsForSide, StandForDrops, StandsForCode};
 
 use full_tree::{Places, Tree, TreeCode, Way};
-use spelled::unsigned_spelled;
 use std::alloc::Global;
-use text_lines::LineWords;
+use text_in::{LineWords, unsigned_spelled};
 
 // How many drops are kept. More than 6 drops are in no form, since a code has a root and a tip too.
 const KEPT_DROPS: usize = 8;

@@ -15,7 +15,7 @@ use hanan_grid::Grid;
 use points_in::MAX_POINTS;
 use std::alloc::Global;
 use std::cmp::Ordering;
-use text_lines::LineWords;
+use text_in::LineWords;
 
 // What is wrong with a tree in a line behind these trees.
 fn tree_fault(grid: &Grid, trees: &TreeList, line: u64, tree: &Tree) -> Option<FstFault>

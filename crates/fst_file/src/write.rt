@@ -4,7 +4,7 @@ ghost use Rattle.std.specs.Prelude.{◌≡◌, flat_map, ◌∷◌, ◌++◌};
 ghost use Rattle.std.specs.Fmt.{decimal};
 ghost use Rattle.text_out.specs.Gathers.{Gathers};
 ghost use Rattle.rst_outside.specs.Sink.{Writes};
-ghost use Rattle.text_lines.specs.Lines.{line_text};
+ghost use Rattle.text_in.specs.Lines.{line_text};
 ghost use Rattle.section_text.specs.Words.{point_words};
 ghost use Rattle.fst_file.specs.Words.{way_word, side_word};
 ghost use Rattle.fst_file.specs.Text.{fst_text};

@@ -2,7 +2,7 @@
 
 use crate::places::Places;
 use crate::way::Way;
-use item_list::ItemList;
+use lists::ItemList;
 
 /// A full Steiner tree, named by the places of its terminals in a list of points, counted from 0.
 #[derive(Debug, Drop)]

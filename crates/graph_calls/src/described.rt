@@ -4,7 +4,7 @@ ghost use Rattle.std.specs.Prelude.{◌≡◌, length, All, IfOk, IsTrue};
 ghost use Rattle.net_graph.specs.Decision.{IsDecisionFor, IsUndecided, IsVertexUndecided};
 ghost use Rattle.dual_ascent.specs.Carried.{DecidesOneMore};
 
-use item_list::ItemList;
+use lists::ItemList;
 use net_graph::{
     Cut, Decision, Edge, EdgeSet, EdgeState, GraphFault, NetGraph, Packing, VertexSet,
     vertex_undecided,

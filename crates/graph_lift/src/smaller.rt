@@ -7,7 +7,7 @@ use crate::parts::{Part, parts_of, whole_in};
 use crate::steps::Step;
 use crate::work::Work;
 use cut_groups::{NONE, at, count, set};
-use item_list::ItemList;
+use lists::ItemList;
 use net_graph::{Cut, Edge, EdgeSet, GraphFault, NetGraph, Packing, VertexSet};
 use std::alloc::{AllocError, Global};
 use std::marker::Model;

@@ -4,7 +4,7 @@ ghost use Rattle.std.specs.Prelude.{◌≡◌, ◌<◌, ◌≤◌, length, map, 
 ghost use Rattle.net_graph.specs.Members.{members_of};
 ghost use Rattle.graph_reduce.specs.Left.{places_left, edges_left, numbers_of, HaveEndsBelow};
 
-use item_list::ItemList;
+use lists::ItemList;
 use net_graph::{Edge, EdgeList, VertexList, VertexSet};
 use std::alloc::{AllocError, Global};
 

@@ -1,9 +1,9 @@
 -- What an answer says of what a search found.
 use Rattle.std.specs.Prelude.{ℕ, ◌==◌, min}
 use Rattle.branch.specs.declared.solved.Solved.{Solved}
-use Rattle.cut_cert.specs.declared.answer.Answer.{Answer}
-use Rattle.cut_cert.specs.declared.head.AnswerHead.{AnswerHead}
-use Rattle.cut_cert.specs.declared.head.ConcatNote.{ConcatNote}
+use Rattle.answer_text.specs.declared.answer.Answer.{Answer}
+use Rattle.answer_text.specs.declared.head.AnswerHead.{AnswerHead}
+use Rattle.answer_text.specs.declared.head.ConcatNote.{ConcatNote}
 
 -- what is told of a network of a length, of a tree of a value and of a concatenation, with so many openings allowed
 abbrev pub head_with : ℕ → ℕ → ℕ → ConcatNote → AnswerHead

@@ -8,9 +8,9 @@ use Rattle.cert_tree.specs.Tree.{Tree}
 use Rattle.branch.specs.declared.solved.Solved.{Solved}
 use Rattle.branch.specs.declared.split_kind.SplitKind.{SplitKind}
 use Rattle.branch.specs.RunLaws.{EndsRunOfOpenings-longer}
-use Rattle.cut_cert.specs.declared.head.AnswerHead.{AnswerHead}
-use Rattle.cut_cert.specs.declared.head.ConcatNote.{ConcatNote}
-use Rattle.cut_cert.specs.Answers.{IsAnswerOn}
+use Rattle.answer_text.specs.declared.head.AnswerHead.{AnswerHead}
+use Rattle.answer_text.specs.declared.head.ConcatNote.{ConcatNote}
+use Rattle.answer_text.specs.Answers.{IsAnswerOn}
 use Rattle.graph_search.specs.Searched.{IsSearched, IsTold, bound_of, value_on}
 use Rattle.graph_search.specs.Answering.{answer_with, head_with}
 use Rattle.graph_search.specs.TreeLaws.{nodes_on, packings_on}

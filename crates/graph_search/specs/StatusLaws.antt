@@ -4,7 +4,7 @@ use Rattle.std.proofs.Common.{inl, inr, ⊎_elim, ◌≤◌, arith}
 use Rattle.std.proofs.Math.Nat.{min-eq_right}
 use Rattle.std.proofs.lemmas.Bool.{cases_lt}
 use Rattle.std.proofs.lemmas.Bool.Decides.{eqb_tells}
-use Rattle.frame.specs.Statuses.{answer_code}
+use Rattle.tool_frame.specs.Statuses.{answer_code}
 use Rattle.graph_search.specs.Status.{status_of_bound}
 
 -- The status is 0 exactly where the bound is the length.

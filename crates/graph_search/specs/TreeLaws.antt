@@ -13,7 +13,7 @@ use Rattle.cert_tree.specs.Tree.Tree.{Leaf, Split}
 use Rattle.cert_tree.specs.Preorder.{nodes_of, packings_of}
 use Rattle.cert_tree.specs.Decisions.{outside_of, inside_of}
 use Rattle.cert_tree.specs.TreeValue.{IsValidTree}
-use Rattle.cut_cert.specs.Answers.{IsCutOn, IsNodeOn, IsPackingOn}
+use Rattle.answer_text.specs.Answers.{IsCutOn, IsNodeOn, IsPackingOn}
 
 -- the splits of a valid tree are on edges and vertices of the graph
 pub nodes_on : (g : Graph) (d : Decided) (tree : Tree SplitOn) → IsValidTree g d tree → All (IsNodeOn g) (nodes_of tree)

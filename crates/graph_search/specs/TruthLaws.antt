@@ -8,7 +8,7 @@ use Rattle.cert_tree.specs.Tree.{Tree}
 use Rattle.cert_tree.specs.Preorder.{split_count}
 use Rattle.branch.specs.declared.split_kind.SplitKind.{SplitKind}
 use Rattle.branch.specs.Runs.{EndsOpenings}
-use Rattle.frame.specs.Statuses.{answer_code}
+use Rattle.tool_frame.specs.Statuses.{answer_code}
 use Rattle.graph_search.specs.Searched.{IsSearched, bound_of, value_on}
 use Rattle.graph_search.specs.Status.{status_of_bound}
 use Rattle.graph_search.specs.StatusLaws.{zero_where_equal, value_below}

@@ -3,8 +3,8 @@
 ghost use Rattle.std.specs.Prelude.{◌≡◌};
 ghost use Rattle.graph_search.specs.Answering.{answer_with};
 
+use answer_text::{Answer, AnswerHead, ConcatNote};
 use branch::Solved;
-use cut_cert::{Answer, AnswerHead, ConcatNote};
 
 /// The answer that tells what a search found, with so many openings allowed, and a note on concatenations.
 pub fn answer_with(openings: u8, note: ConcatNote, solved: Solved) -> Answer

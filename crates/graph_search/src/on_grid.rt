@@ -8,7 +8,7 @@ ghost use Rattle.graph_search.specs.Kinds.{kind_of};
 ghost use Rattle.graph_search.specs.Searched.{IsTold};
 
 use crate::exchanging::Exchanges;
-use crate::search::searched;
+use crate::raised_search::searched;
 use branch::Solved;
 use hanan_grid::Grid;
 use net_graph::EdgeSet;

@@ -11,7 +11,7 @@ ghost use Rattle.graph_solve.specs.Fault.{IsFirstApartNode, IsFirstFault};
 ghost use Rattle.graph_solve.specs.declared.fault.TaskFault.{TaskFault};
 
 use crate::fault::TaskFault;
-use item_list::ItemList;
+use lists::ItemList;
 use net_graph::{
     Edge, EdgeList, EdgeSet, GraphFault, NetGraph, VertexList, VertexSet, first_apart,
 };

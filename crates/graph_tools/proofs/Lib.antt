@@ -1,3 +1,4 @@
+pub mod ReadingLaws
 pub mod SolveLaws
 pub mod ReduceLaws
 pub mod LiftLaws

@@ -8,8 +8,8 @@ use Rattle.net_graph.specs.Graph.{Graph, IsGraph, root_of}
 use Rattle.net_graph.specs.LengthLaws.{length_of-small}
 use Rattle.net_graph.specs.Network.{IsNetwork, Links, Reaches}
 use Rattle.net_graph.specs.SearchLaws.{Leads-weaker}
-use Rattle.cut_cert.specs.declared.answer.Answer.{Answer}
-use Rattle.cut_cert.specs.declared.head.AnswerHead.{AnswerHead}
+use Rattle.answer_text.specs.declared.answer.Answer.{Answer}
+use Rattle.answer_text.specs.declared.head.AnswerHead.{AnswerHead}
 use Rattle.graph_reduce.specs.Fitness.{IsFitFor}
 use Rattle.graph_reduce.specs.Lifting.{KeepsNetworks}
 use Rattle.graph_reduce.specs.Reduction.{Reduction}

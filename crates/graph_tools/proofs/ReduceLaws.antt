@@ -1,7 +1,7 @@
 -- What `reduce` prints of what it found.
 use Rattle.std.proofs.Common.{refl, ap}
 use Rattle.net_graph.specs.Graph.{Graph}
-use Rattle.frame.specs.Ends.{Print}
+use Rattle.tool_frame.specs.Ends.{Print}
 use Rattle.graph_tools.specs.declared.lifted.Lifted.{Lifted}
 use Rattle.graph_tools.specs.declared.reduction.GraphReduction.{GraphReduction}
 use Rattle.graph_tools.specs.Reduce.{IsReductionFor, PrintsReduction, reduction_print}

@@ -3,7 +3,7 @@ use Rattle.std.proofs.Common.{ℕ, List, Ok, subst, sym}
 use Rattle.net_graph.specs.Graph.{Graph}
 use Rattle.net_graph.specs.Network.{IsNetwork}
 use Rattle.graph_solve.specs.Task.{all_edges}
-use Rattle.graph_inputs.specs.Reading.{ReadsGraph}
+use Rattle.graph_tools.specs.Reading.{ReadsGraph}
 
 -- All edges of a graph that is read together join its terminals.
 pub reads_joined : (bytes : List ℕ) (g : Graph) → ReadsGraph bytes (Ok g) → IsNetwork g (all_edges g)

@@ -8,21 +8,21 @@ use Rattle.cert_check.specs.declared.verdict.Ruling.{Ruling}
 use Rattle.cert_check.specs.Named.{in_graph}
 use Rattle.cert_check.specs.Rulings.{verdict_of}
 use Rattle.graph_solve.specs.Task.{graph_of_stp}
-use Rattle.frame.specs.declared.status.FaultStatus.{FaultStatus}
-use Rattle.frame.specs.declared.status.TheConstants.{NO_MEMORY}
-use Rattle.frame.specs.declared.take.FileFault.{FileFault}
-use Rattle.frame.specs.declared.take.FileFault.TheVariants as file_fault
-use Rattle.frame.specs.declared.take.TheConstants.{TEXT_LIMIT}
-use Rattle.frame.specs.Outside.{Readable, Outside}
-use Rattle.frame.specs.Ends.{Print, Ends}
-use Rattle.frame.specs.Leaves.{LeavesFiles}
-use Rattle.frame.specs.FaultTexts.{file_fault_status, input_fault_text, input_fault_status, too_long_text}
-use Rattle.frame.specs.Taking.{IsFileFault, IsInputFault, IsWholeFile, IsWholeInput}
+use Rattle.tool_frame.specs.declared.status.FaultStatus.{FaultStatus}
+use Rattle.tool_frame.specs.declared.status.TheConstants.{NO_MEMORY}
+use Rattle.tool_frame.specs.declared.take.FileFault.{FileFault}
+use Rattle.tool_frame.specs.declared.take.FileFault.TheVariants as file_fault
+use Rattle.tool_frame.specs.declared.take.TheConstants.{TEXT_LIMIT}
+use Rattle.tool_frame.specs.Outside.{Readable, Outside}
+use Rattle.tool_frame.specs.Ends.{Print, Ends}
+use Rattle.tool_frame.specs.Leaves.{LeavesFiles}
+use Rattle.tool_frame.specs.FaultTexts.{file_fault_status, input_fault_text, input_fault_status, too_long_text}
+use Rattle.tool_frame.specs.Taking.{IsFileFault, IsInputFault, IsWholeFile, IsWholeInput}
 use Rattle.verdict_line.specs.declared.counting.Counting.TheVariants.{FromOne}
 use Rattle.verdict_line.specs.Judging.{JudgesBytes}
 use Rattle.verdict_line.specs.Verdicts.{line_print}
-use Rattle.graph_inputs.specs.declared.text_fault.GraphTextFault.{GraphTextFault}
-use Rattle.graph_inputs.specs.Reading.{IsTaskText, ReadsGraph, graph_fault_text, graph_fault_status}
+use Rattle.graph_tools.specs.declared.text_fault.GraphTextFault.{GraphTextFault}
+use Rattle.graph_tools.specs.Reading.{IsTaskText, ReadsGraph, graph_fault_text, graph_fault_status}
 use Rattle.graph_tools.specs.declared.checking.CheckgraphFault.{CheckgraphFault}
 use Rattle.graph_tools.specs.declared.checking.CheckgraphFault.TheVariants.{File, Graph as OfGraph, Input}
 use Rattle.graph_tools.specs.declared.checking.TheConstants.{GRAPH_ANSWER_LIMIT}

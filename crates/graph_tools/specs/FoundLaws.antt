@@ -4,15 +4,15 @@ use Rattle.std.proofs.Common.{ℕ, List, Result, Ok, Err, None, IfOk, subst}
 use Rattle.rst_outside.specs.Shelf.{ShelfState}
 use Rattle.rst_outside.specs.Source.{SourceState}
 use Rattle.net_graph.specs.Graph.{Graph}
-use Rattle.frame.specs.declared.status.AnswerStatus.{AnswerStatus}
-use Rattle.frame.specs.declared.take.TheConstants.{TEXT_LIMIT}
-use Rattle.frame.specs.declared.text_fault.TextFault.{TextFault}
-use Rattle.frame.specs.declared.text_fault.TextFault.TheVariants.{Input, Text}
-use Rattle.frame.specs.Outside.{Readable, readable}
-use Rattle.frame.specs.Ends.{Print, print_of}
-use Rattle.frame.specs.FromText.{FromText}
-use Rattle.frame.specs.Complete.{HasInput}
-use Rattle.frame.specs.TakingLaws.{input_is_taken, whole_input_is}
+use Rattle.tool_frame.specs.declared.status.AnswerStatus.{AnswerStatus}
+use Rattle.tool_frame.specs.declared.take.TheConstants.{TEXT_LIMIT}
+use Rattle.tool_frame.specs.declared.text_fault.TextFault.{TextFault}
+use Rattle.tool_frame.specs.declared.text_fault.TextFault.TheVariants.{Input, Text}
+use Rattle.tool_frame.specs.Outside.{Readable, readable}
+use Rattle.tool_frame.specs.Ends.{Print, print_of}
+use Rattle.tool_frame.specs.FromText.{FromText}
+use Rattle.tool_frame.specs.Complete.{HasInput}
+use Rattle.tool_frame.specs.TakingLaws.{input_is_taken, whole_input_is}
 use Rattle.graph_tools.specs.Found.{FindsIn}
 
 module _ {F : Type 0} (Reads : List ℕ → Result Graph F → Type 0) where

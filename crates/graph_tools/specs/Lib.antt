@@ -1,3 +1,4 @@
+pub mod Reading
 pub mod Found
 pub mod FoundLaws
 pub mod Solution

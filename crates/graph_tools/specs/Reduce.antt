@@ -6,15 +6,15 @@ use Rattle.graph_reduce.specs.Lifting.{KeepsNetworks}
 use Rattle.graph_reduce.specs.OneReduction.{IsOnlyReductionOf}
 use Rattle.graph_reduce.specs.Reduction.{Reduction, IsReductionOf}
 use Rattle.graph_reduce.specs.Text.{reduced_text}
-use Rattle.frame.specs.declared.status.AnswerStatus.TheVariants.{Done}
-use Rattle.frame.specs.declared.take.TheConstants.{TEXT_LIMIT}
-use Rattle.frame.specs.Outside.{Outside}
-use Rattle.frame.specs.Ends.{Print, Ends}
-use Rattle.frame.specs.FaultTexts.{text_fault_text, text_fault_status}
-use Rattle.frame.specs.FromText.{FromText}
-use Rattle.frame.specs.Leaves.{LeavesShelf}
-use Rattle.graph_inputs.specs.declared.text_fault.GraphTextFault.{GraphTextFault}
-use Rattle.graph_inputs.specs.Reading.{ReadsGraph, graph_fault_text, graph_fault_status}
+use Rattle.tool_frame.specs.declared.status.AnswerStatus.TheVariants.{Done}
+use Rattle.tool_frame.specs.declared.take.TheConstants.{TEXT_LIMIT}
+use Rattle.tool_frame.specs.Outside.{Outside}
+use Rattle.tool_frame.specs.Ends.{Print, Ends}
+use Rattle.tool_frame.specs.FaultTexts.{text_fault_text, text_fault_status}
+use Rattle.tool_frame.specs.FromText.{FromText}
+use Rattle.tool_frame.specs.Leaves.{LeavesShelf}
+use Rattle.graph_tools.specs.declared.text_fault.GraphTextFault.{GraphTextFault}
+use Rattle.graph_tools.specs.Reading.{ReadsGraph, graph_fault_text, graph_fault_status}
 use Rattle.graph_tools.specs.declared.reduction.GraphReduction.{GraphReduction}
 use Rattle.graph_tools.specs.Found.{FindsIn}
 

@@ -12,8 +12,8 @@ use Rattle.branch.specs.Runs.{EndsOpenings}
 use Rattle.graph_reduce.specs.Reduction.{Reduction}
 use Rattle.graph_reduce.specs.Text.{reduced_text}
 use Rattle.graph_solve.specs.Task.{graph_of_stp}
-use Rattle.frame.specs.Outside.{Outside}
-use Rattle.graph_inputs.specs.Reading.{IsTaskText}
+use Rattle.tool_frame.specs.Outside.{Outside}
+use Rattle.graph_tools.specs.Reading.{IsTaskText}
 use Rattle.search_rules.specs.Options.{usual_in_graph}
 use Rattle.graph_tools.specs.Reduce.{IsReduced}
 use Rattle.graph_tools.specs.Lifted.{lifted_by, lifted_text}

@@ -9,20 +9,20 @@ use Rattle.net_graph.specs.Network.{length_of}
 use Rattle.cert_tree.specs.declared.split.SplitOn.{SplitOn}
 use Rattle.cert_tree.specs.Tree.{Tree}
 use Rattle.graph_reduce.specs.Reduction.{Reduction}
-use Rattle.frame.specs.declared.status.AnswerStatus.{AnswerStatus}
-use Rattle.frame.specs.declared.status.AnswerStatus.TheVariants.{Done, Stopped}
-use Rattle.frame.specs.declared.take.TheConstants.{TEXT_LIMIT}
-use Rattle.frame.specs.Statuses.{answer_code}
-use Rattle.frame.specs.Outside.{Outside}
-use Rattle.frame.specs.Ends.{Print}
-use Rattle.frame.specs.EndLaws.{printed_ends}
-use Rattle.frame.specs.FaultTexts.{text_fault_text, text_fault_status}
-use Rattle.frame.specs.FromText.{FromText}
-use Rattle.frame.specs.Leaves.{LeavesShelf}
+use Rattle.tool_frame.specs.declared.status.AnswerStatus.{AnswerStatus}
+use Rattle.tool_frame.specs.declared.status.AnswerStatus.TheVariants.{Done, Stopped}
+use Rattle.tool_frame.specs.declared.take.TheConstants.{TEXT_LIMIT}
+use Rattle.tool_frame.specs.Statuses.{answer_code}
+use Rattle.tool_frame.specs.Outside.{Outside}
+use Rattle.tool_frame.specs.Ends.{Print}
+use Rattle.tool_frame.specs.EndLaws.{printed_ends}
+use Rattle.tool_frame.specs.FaultTexts.{text_fault_text, text_fault_status}
+use Rattle.tool_frame.specs.FromText.{FromText}
+use Rattle.tool_frame.specs.Leaves.{LeavesShelf}
 use Rattle.graph_search.specs.Kinds.{kind_of}
 use Rattle.graph_search.specs.Searched.{bound_of}
 use Rattle.graph_search.specs.TruthLaws.{ends_truly}
-use Rattle.graph_inputs.specs.Reading.{graph_fault_text, graph_fault_status}
+use Rattle.graph_tools.specs.Reading.{graph_fault_text, graph_fault_status}
 use Rattle.search_rules.specs.Options.{usual_in_graph}
 use Rattle.graph_tools.specs.Reduce.{IsReduced, EndsReduce, ReducesGraph}
 use Rattle.graph_tools.specs.Lifted.{EndsReduceAs, EndsReduceSolve, LiftsGraph, lifted_by, lifted_status, lifted_text}

@@ -5,17 +5,17 @@ use Rattle.net_graph.specs.Members.{members_of}
 use Rattle.net_graph.specs.Network.{length_of}
 use Rattle.cert_tree.specs.declared.split.SplitOn.{SplitOn}
 use Rattle.cert_tree.specs.Tree.{Tree}
-use Rattle.cut_cert.specs.declared.form.Form.TheVariants as form
-use Rattle.cut_cert.specs.declared.version.Version.TheVariants as version
-use Rattle.cut_cert.specs.declared.answer.Answer.{Answer}
-use Rattle.cut_cert.specs.Notes.{no_note}
-use Rattle.cut_cert.specs.Text.{answer_text}
-use Rattle.cut_cert.specs.Spelling.{SpellsAnswer}
-use Rattle.cut_cert.specs.Value.{WrittenAnswer}
-use Rattle.cut_cert.specs.Answers.{IsAnswerOn, edge_labels, graph_value_of, labelled, number_labels}
-use Rattle.frame.specs.declared.status.AnswerStatus.{AnswerStatus}
-use Rattle.frame.specs.declared.status.AnswerStatus.TheVariants.{Done, Stopped}
-use Rattle.frame.specs.Ends.{Print}
+use Rattle.answer_text.specs.declared.form.Form.TheVariants as form
+use Rattle.answer_text.specs.declared.version.Version.TheVariants as version
+use Rattle.answer_text.specs.declared.answer.Answer.{Answer}
+use Rattle.answer_text.specs.Notes.{no_note}
+use Rattle.answer_text.specs.Text.{answer_text}
+use Rattle.answer_text.specs.Spelling.{SpellsAnswer}
+use Rattle.answer_text.specs.Value.{WrittenAnswer}
+use Rattle.answer_text.specs.Answers.{IsAnswerOn, edge_labels, graph_value_of, labelled, number_labels}
+use Rattle.tool_frame.specs.declared.status.AnswerStatus.{AnswerStatus}
+use Rattle.tool_frame.specs.declared.status.AnswerStatus.TheVariants.{Done, Stopped}
+use Rattle.tool_frame.specs.Ends.{Print}
 use Rattle.graph_search.specs.Kinds.{kind_of}
 use Rattle.graph_search.specs.Searched.{IsSearched, bound_of, value_on}
 use Rattle.graph_search.specs.Answering.{head_with}

@@ -8,7 +8,7 @@ use Rattle.cert_tree.specs.declared.split.SplitOn.{SplitOn}
 use Rattle.cert_tree.specs.Tree.{Tree}
 use Rattle.cert_check.specs.Named.{in_graph}
 use Rattle.graph_solve.specs.Task.{graph_of_stp}
-use Rattle.frame.specs.Outside.{Outside}
+use Rattle.tool_frame.specs.Outside.{Outside}
 use Rattle.verdict_line.specs.Truth.{JudgesTruly}
 use Rattle.graph_search.specs.Truth.{EndsTruly}
 use Rattle.search_rules.specs.declared.options.GraphOptions.{GraphOptions}

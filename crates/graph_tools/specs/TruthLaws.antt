@@ -11,8 +11,8 @@ use Rattle.cert_check.specs.declared.verdict.Ruling.{Ruling}
 use Rattle.cert_check.specs.Named.{in_graph}
 use Rattle.cert_check.specs.Rulings.{verdict_of}
 use Rattle.graph_solve.specs.Task.{graph_of_stp}
-use Rattle.frame.specs.Statuses.{answer_code}
-use Rattle.frame.specs.Outside.{Outside}
+use Rattle.tool_frame.specs.Statuses.{answer_code}
+use Rattle.tool_frame.specs.Outside.{Outside}
 use Rattle.verdict_line.specs.declared.counting.Counting.TheVariants.{FromOne}
 use Rattle.verdict_line.specs.TruthLaws.{judges_truly}
 use Rattle.verdict_line.specs.Verdicts.{line_text_by, ruling_status}

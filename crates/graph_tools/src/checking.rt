@@ -2,22 +2,23 @@
 
 ghost use Rattle.std.specs.Prelude.{◌≡◌, IfOk, OnErr};
 ghost use Rattle.text_out.specs.Gathers.{Gathers};
-ghost use Rattle.frame.specs.Outside.{readable, outside};
-ghost use Rattle.frame.specs.Ends.{print_of};
-ghost use Rattle.frame.specs.Leaves.{LeavesFiles};
-ghost use Rattle.frame.specs.Taking.{KeepsFiles};
+ghost use Rattle.tool_frame.specs.Outside.{readable, outside};
+ghost use Rattle.tool_frame.specs.Ends.{print_of};
+ghost use Rattle.tool_frame.specs.Leaves.{LeavesFiles};
+ghost use Rattle.tool_frame.specs.Taking.{KeepsFiles};
 ghost use Rattle.verdict_line.specs.Verdicts.{line_text, line_status};
 ghost use Rattle.graph_tools.specs.Check.{ChecksGraph, EndsCheckgraph, ReadsGraphFile};
 ghost use Rattle.graph_tools.specs.Check.{checkgraph_fault_text, checkgraph_fault_status, graph_file_text};
 
+use crate::reading::graph_in;
+use crate::text_fault::GraphTextFault;
 use cert_check::Subject;
-use frame::{Fault, FaultStatus, FileFault, InputFault, TEXT_LIMIT, conclude, take_file};
-use graph_inputs::{GraphTextFault, graph_in};
 use net_graph::NetGraph;
 use rst_outside::{Shelf, Sink, Source};
 use std::alloc::{AllocError, Global};
 use std::marker::Brand;
 use text_out::{Block, literal};
+use tool_frame::{Fault, FaultStatus, FileFault, InputFault, TEXT_LIMIT, conclude, take_file};
 use verdict_line::{Counting, VerdictLine, judge_input};
 
 /// The greatest number of bytes of an answer in a graph that is judged.

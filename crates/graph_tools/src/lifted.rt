@@ -3,12 +3,12 @@
 ghost use Rattle.text_out.specs.Gathers.{Gathers};
 ghost use Rattle.graph_tools.specs.Lifted.{edges_text, head_text, lifted_status, lifted_text};
 
-use cut_cert::status_word;
-use frame::{Answer, AnswerStatus};
+use answer_text::status_word;
 use graph_reduce::{write_count, write_set};
 use net_graph::EdgeSet;
 use rst_outside::{PutFault, Sink};
 use text_out::{Block, finish, literal};
+use tool_frame::{Answer, AnswerStatus};
 
 /// A network of a graph, lifted from its reduction: its edges and its length, a bound below which no network of the
 /// graph falls, and whether the search in the reduced graph proved its network a shortest one.

@@ -9,7 +9,7 @@ ghost use Rattle.graph_tools.specs.Solution.{IsAnswerFor};
 
 use crate::lifted::Lifted;
 use crate::solution::answer_in;
-use cut_cert::{Answer as CutAnswer, write_graph_answer};
+use answer_text::{Answer as CutAnswer, write_graph_answer};
 use graph_reduce::{Reduced, reduce};
 use net_graph::NetGraph;
 use rst_outside::SureSink;

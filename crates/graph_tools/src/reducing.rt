@@ -3,19 +3,20 @@
 
 ghost use Rattle.std.specs.Prelude.{IfOk};
 ghost use Rattle.rst_outside.specs.Shelf.{ShelfState};
-ghost use Rattle.frame.specs.Outside.{outside, readable};
-ghost use Rattle.frame.specs.Taking.{TakesSome};
-ghost use Rattle.frame.specs.FromText.{FromText};
+ghost use Rattle.tool_frame.specs.Outside.{outside, readable};
+ghost use Rattle.tool_frame.specs.Taking.{TakesSome};
+ghost use Rattle.tool_frame.specs.FromText.{FromText};
 ghost use Rattle.graph_tools.specs.Reduce.{EndsReduce, FindsReduction};
 ghost use Rattle.graph_tools.specs.Lifted.{EndsReduceAs, EndsReduceSolve, FindsLifted};
 
 use crate::lifted::Lifted;
 use crate::lifting::lifted_in;
 use crate::reduction::{GraphReduction, reduction_in};
-use frame::{TEXT_LIMIT, TextFault, conclude};
-use graph_inputs::{GraphTextFault, take_graph};
+use crate::taking::take_graph;
+use crate::text_fault::GraphTextFault;
 use rst_outside::{Sink, Source};
 use std::alloc::{AllocError, Global};
+use tool_frame::{TEXT_LIMIT, TextFault, conclude};
 
 /// Runs `reduce`: reads an STP file from the input and prints the reduction of its graph; where it is to be solved, the
 /// network of an answer in the reduced graph, lifted. Gives the status that the program ends with.

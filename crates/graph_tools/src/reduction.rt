@@ -1,14 +1,14 @@
 //! The reduction of a graph, as the tool prints it.
 
 ghost use Rattle.std.specs.Prelude.{IfOk};
-ghost use Rattle.frame.specs.declared.status.AnswerStatus.TheVariants as status_of;
+ghost use Rattle.tool_frame.specs.declared.status.AnswerStatus.TheVariants as status_of;
 ghost use Rattle.graph_tools.specs.Reduce.{IsReduced, reduction_text};
 
-use frame::{Answer, AnswerStatus};
 use graph_reduce::{Reduced, reduce, write_reduced};
 use net_graph::NetGraph;
 use rst_outside::{PutFault, Sink};
 use std::alloc::{AllocError, Global};
+use tool_frame::{Answer, AnswerStatus};
 
 /// The reduction of a graph.
 #[derive(Debug, Drop)]

@@ -6,14 +6,14 @@ ghost use Rattle.graph_solve.specs.Task.{all_edges};
 ghost use Rattle.graph_tools.specs.Solution.{IsAnswerFor, IsFor, IsPrintable, IsSpelled, solution_status, solution_text};
 
 use crate::ladder::Ladder;
-use cut_cert::{Answer as CutAnswer, ConcatNote, graph_answer_len, write_graph_answer};
-use frame::{Answer, AnswerStatus};
+use answer_text::{Answer as CutAnswer, ConcatNote, graph_answer_len, write_graph_answer};
 use graph_search::{answer_with, searched};
 use graph_solve::first_network;
 use net_graph::NetGraph;
 use rst_outside::{PutFault, Sink};
 use search_rules::GraphOptions;
 use std::alloc::{AllocError, Global};
+use tool_frame::{Answer, AnswerStatus};
 
 // Nothing is told of a concatenation.
 const NO_NOTE: ConcatNote = ConcatNote {

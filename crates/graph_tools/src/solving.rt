@@ -2,17 +2,18 @@
 
 ghost use Rattle.std.specs.Prelude.{IfOk};
 ghost use Rattle.rst_outside.specs.Shelf.{ShelfState};
-ghost use Rattle.frame.specs.Outside.{outside, readable};
-ghost use Rattle.frame.specs.Taking.{TakesSome};
-ghost use Rattle.frame.specs.FromText.{FromText};
+ghost use Rattle.tool_frame.specs.Outside.{outside, readable};
+ghost use Rattle.tool_frame.specs.Taking.{TakesSome};
+ghost use Rattle.tool_frame.specs.FromText.{FromText};
 ghost use Rattle.graph_tools.specs.Solve.{EndsGraph, FindsAnswer};
 
 use crate::solution::{GraphSolution, solution_in};
-use frame::{TEXT_LIMIT, TextFault, conclude};
-use graph_inputs::{GraphTextFault, take_graph};
+use crate::taking::take_graph;
+use crate::text_fault::GraphTextFault;
 use rst_outside::{Sink, Source};
 use search_rules::GraphOptions;
 use std::alloc::{AllocError, Global};
+use tool_frame::{TEXT_LIMIT, TextFault, conclude};
 
 /// Runs `graph`: reads an STP file from the input and prints the answer of a network of its graph, with edges and
 /// vertices by their numbers in the file. Gives the status that the program ends with.

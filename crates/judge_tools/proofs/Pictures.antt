@@ -2,8 +2,8 @@
 use Rattle.std.proofs.Common.{ℕ, ◌≡◌, Bool, List, Ok, subst, ap}
 use Rattle.points_in.specs.Terminals.{terminals_of}
 use Rattle.net_graph.specs.Network.{IsLowerBound}
-use Rattle.frame.specs.Outside.{Readable}
-use Rattle.frame.specs.Points.{grid_of_points}
+use Rattle.tool_frame.specs.Outside.{Readable}
+use Rattle.tool_frame.specs.Points.{grid_of_points}
 use Rattle.judge_tools.specs.declared.judge.Judgement.{Judgement}
 use Rattle.cert_check.specs.Named.{on_grid}
 use Rattle.cert_check.specs.AcceptedLaws.{shortest_where_optimal}

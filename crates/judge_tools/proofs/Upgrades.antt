@@ -3,20 +3,20 @@ use Rattle.std.proofs.Common.{ℕ, ◌≡◌, ◌≤◌, ◌^◌, List, length, 
 use Rattle.points_in.specs.declared.point.Point.{Point}
 use Rattle.points_in.specs.Terminals.{terminals_of}
 use Rattle.hanan_grid.specs.Grid.{hanan_grid_of}
-use Rattle.cut_cert.specs.Value.{WrittenAnswer}
-use Rattle.cut_cert.specs.declared.form.Form.TheVariants as form
-use Rattle.cut_cert.specs.Spelling.{SpellsAnswer}
+use Rattle.answer_text.specs.Value.{WrittenAnswer}
+use Rattle.answer_text.specs.declared.form.Form.TheVariants as form
+use Rattle.answer_text.specs.Spelling.{SpellsAnswer}
 use Rattle.answer_upgrade.specs.declared.told.Spelled.TheVariants.{Fault}
 use Rattle.answer_upgrade.specs.Spelling.{TellsSpelling}
 use Rattle.cert_check.specs.UpgradeLaw.{UpgradingKeepsVerdict}
-use Rattle.frame.specs.declared.status.TheConstants.{NO_MEMORY}
-use Rattle.frame.specs.declared.take.TheConstants.{TEXT_LIMIT}
-use Rattle.frame.specs.Statuses.{fault_code}
-use Rattle.frame.specs.Outside.{Outside, Readable}
-use Rattle.frame.specs.Ends.{PrintsOrNot, Refuses, fault_line, no_memory_line}
-use Rattle.frame.specs.Leaves.{LeavesFiles}
-use Rattle.frame.specs.Points.{ReadsPointsFile}
-use Rattle.frame.specs.Taking.{IsWholeInput}
+use Rattle.tool_frame.specs.declared.status.TheConstants.{NO_MEMORY}
+use Rattle.tool_frame.specs.declared.take.TheConstants.{TEXT_LIMIT}
+use Rattle.tool_frame.specs.Statuses.{fault_code}
+use Rattle.tool_frame.specs.Outside.{Outside, Readable}
+use Rattle.tool_frame.specs.Ends.{PrintsOrNot, Refuses, fault_line, no_memory_line}
+use Rattle.tool_frame.specs.Leaves.{LeavesFiles}
+use Rattle.tool_frame.specs.Points.{ReadsPointsFile}
+use Rattle.tool_frame.specs.Taking.{IsWholeInput}
 use Rattle.judge_tools.specs.declared.upgrading.TheConstants.{UPGRADE_LIMIT}
 use Rattle.judge_tools.specs.declared.upgrading.TakenAnswer.{TakenAnswer}
 use Rattle.judge_tools.specs.declared.upgrading.UpgradeFault.{UpgradeFault}

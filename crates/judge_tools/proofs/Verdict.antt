@@ -2,12 +2,12 @@
 use Rattle.std.proofs.Common.{ℕ, List, Ok, subst}
 use Rattle.points_in.specs.declared.point.Point.{Point}
 use Rattle.cert_check.specs.Named.{on_grid}
-use Rattle.frame.specs.declared.take.InputFault.{InputFault}
-use Rattle.frame.specs.declared.take.TheConstants.{TEXT_LIMIT}
-use Rattle.frame.specs.Outside.{Readable}
-use Rattle.frame.specs.Points.{ReadsPointsFile}
-use Rattle.frame.specs.Taking.{IsInputFault}
-use Rattle.verdict_line.specs.declared.judging.Judged.{Judged}
+use Rattle.tool_frame.specs.declared.take.InputFault.{InputFault}
+use Rattle.tool_frame.specs.declared.take.TheConstants.{TEXT_LIMIT}
+use Rattle.tool_frame.specs.Outside.{Readable}
+use Rattle.tool_frame.specs.Points.{ReadsPointsFile}
+use Rattle.tool_frame.specs.Taking.{IsInputFault}
+use Rattle.verdict_line.specs.declared.judged_input.Judged.{Judged}
 use Rattle.verdict_line.specs.Judging.{JudgesInput}
 use Rattle.judge_tools.specs.declared.judge.TheConstants.{ANSWER_LIMIT}
 use Rattle.judge_tools.specs.declared.judge.CheckFault.TheVariants.{Input}

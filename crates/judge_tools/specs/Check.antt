@@ -4,12 +4,12 @@ use Rattle.points_in.specs.declared.point.Point.{Point}
 use Rattle.cert_check.specs.declared.verdict.Finished.{Finished}
 use Rattle.cert_check.specs.declared.verdict.Ruling.{Ruling}
 use Rattle.cert_check.specs.Rulings.{verdict_of}
-use Rattle.frame.specs.declared.status.FaultStatus.{FaultStatus}
-use Rattle.frame.specs.declared.status.TheConstants.{NO_MEMORY}
-use Rattle.frame.specs.Outside.{Readable, Outside}
-use Rattle.frame.specs.Ends.{Print, Ends}
-use Rattle.frame.specs.Leaves.{LeavesFiles}
-use Rattle.frame.specs.FaultTexts.{input_fault_text, input_fault_status, points_fault_text, points_fault_status}
+use Rattle.tool_frame.specs.declared.status.FaultStatus.{FaultStatus}
+use Rattle.tool_frame.specs.declared.status.TheConstants.{NO_MEMORY}
+use Rattle.tool_frame.specs.Outside.{Readable, Outside}
+use Rattle.tool_frame.specs.Ends.{Print, Ends}
+use Rattle.tool_frame.specs.Leaves.{LeavesFiles}
+use Rattle.tool_frame.specs.FaultTexts.{input_fault_text, input_fault_status, points_fault_text, points_fault_status}
 use Rattle.judge_tools.specs.declared.judge.CheckFault.{CheckFault}
 use Rattle.judge_tools.specs.declared.judge.CheckFault.TheVariants.{Points, Input}
 use Rattle.verdict_line.specs.declared.counting.Counting.TheVariants.{FromZero}

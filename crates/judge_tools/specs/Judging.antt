@@ -4,10 +4,10 @@ use Rattle.points_in.specs.declared.point.Point.{Point}
 use Rattle.points_in.specs.Terminals.{terminals_of}
 use Rattle.cert_check.specs.declared.verdict.Finished.{Finished}
 use Rattle.cert_check.specs.Named.{on_grid}
-use Rattle.frame.specs.declared.take.TheConstants.{TEXT_LIMIT}
-use Rattle.frame.specs.Outside.{Readable}
-use Rattle.frame.specs.Taking.{IsWholeInput, IsInputFault}
-use Rattle.frame.specs.Points.{FileLists, IsPointsFault}
+use Rattle.tool_frame.specs.declared.take.TheConstants.{TEXT_LIMIT}
+use Rattle.tool_frame.specs.Outside.{Readable}
+use Rattle.tool_frame.specs.Taking.{IsWholeInput, IsInputFault}
+use Rattle.tool_frame.specs.Points.{FileLists, IsPointsFault}
 use Rattle.verdict_line.specs.Judging.{JudgesBytes, finished_of}
 use Rattle.judge_tools.specs.declared.judge.TheConstants.{ANSWER_LIMIT}
 use Rattle.judge_tools.specs.declared.judge.CheckFault.{CheckFault}

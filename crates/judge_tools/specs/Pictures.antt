@@ -1,9 +1,9 @@
 -- A plot of a network, as an answer of a tool.
 use Rattle.std.specs.Prelude.{ℕ, ◌≡◌, List, length}
 use Rattle.hanan_grid.specs.Grid.{hanan_grid_of}
-use Rattle.dump_plot.specs.Plot.{plot_text}
-use Rattle.frame.specs.declared.status.AnswerStatus.{AnswerStatus}
-use Rattle.frame.specs.declared.status.AnswerStatus.TheVariants.{Done}
+use Rattle.printed_texts.specs.Plot.{plot_text}
+use Rattle.tool_frame.specs.declared.status.AnswerStatus.{AnswerStatus}
+use Rattle.tool_frame.specs.declared.status.AnswerStatus.TheVariants.{Done}
 use Rattle.judge_tools.specs.declared.picture.Picture.{Picture}
 
 abbrev pub picture_text : Picture → List ℕ

@@ -5,22 +5,22 @@ use Rattle.points_in.specs.Terminals.{terminals_of}
 use Rattle.net_graph.specs.Network.{IsLowerBound, IsShortest}
 use Rattle.cert_tree.specs.declared.split.SplitOn.{SplitOn}
 use Rattle.cert_tree.specs.Tree.{Tree}
-use Rattle.cut_cert.specs.Value.{WrittenAnswer}
+use Rattle.answer_text.specs.Value.{WrittenAnswer}
 use Rattle.tree_judge.specs.declared.cause.Cause.{Cause}
 use Rattle.cert_check.specs.declared.verdict.Finished.{Finished}
 use Rattle.cert_check.specs.declared.verdict.Verdict.TheVariants as verdict
 use Rattle.cert_check.specs.Accepted.{Accepts}
-use Rattle.dump_plot.specs.Plot.{plot_text}
-use Rattle.frame.specs.declared.status.AnswerStatus.TheVariants.{Done}
-use Rattle.frame.specs.declared.status.FaultStatus.{FaultStatus}
-use Rattle.frame.specs.declared.status.FaultStatus.TheVariants.{Malformed}
-use Rattle.frame.specs.declared.status.TheConstants.{NO_MEMORY}
-use Rattle.frame.specs.declared.take.TheConstants.{TEXT_LIMIT}
-use Rattle.frame.specs.Outside.{Readable, Outside}
-use Rattle.frame.specs.Ends.{Print, Ends}
-use Rattle.frame.specs.Leaves.{LeavesFiles}
-use Rattle.frame.specs.Taking.{IsWholeInput}
-use Rattle.frame.specs.Points.{FileLists, grid_of_points}
+use Rattle.printed_texts.specs.Plot.{plot_text}
+use Rattle.tool_frame.specs.declared.status.AnswerStatus.TheVariants.{Done}
+use Rattle.tool_frame.specs.declared.status.FaultStatus.{FaultStatus}
+use Rattle.tool_frame.specs.declared.status.FaultStatus.TheVariants.{Malformed}
+use Rattle.tool_frame.specs.declared.status.TheConstants.{NO_MEMORY}
+use Rattle.tool_frame.specs.declared.take.TheConstants.{TEXT_LIMIT}
+use Rattle.tool_frame.specs.Outside.{Readable, Outside}
+use Rattle.tool_frame.specs.Ends.{Print, Ends}
+use Rattle.tool_frame.specs.Leaves.{LeavesFiles}
+use Rattle.tool_frame.specs.Taking.{IsWholeInput}
+use Rattle.tool_frame.specs.Points.{FileLists, grid_of_points}
 use Rattle.judge_tools.specs.declared.judge.TheConstants.{ANSWER_LIMIT}
 use Rattle.judge_tools.specs.declared.plotting.PlotFault.{PlotFault}
 use Rattle.judge_tools.specs.declared.plotting.PlotFault.TheVariants.{Unjudged, Refused}

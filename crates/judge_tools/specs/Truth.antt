@@ -4,9 +4,9 @@ use Rattle.rst_outside.specs.Source.{CameToTheEnd}
 use Rattle.points_in.specs.declared.point.Point.{Point}
 use Rattle.points_in.specs.Terminals.{terminals_of}
 use Rattle.cert_check.specs.Named.{on_grid}
-use Rattle.frame.specs.declared.take.TheConstants.{TEXT_LIMIT}
-use Rattle.frame.specs.Outside.{Outside}
-use Rattle.frame.specs.Points.{FileLists}
+use Rattle.tool_frame.specs.declared.take.TheConstants.{TEXT_LIMIT}
+use Rattle.tool_frame.specs.Outside.{Outside}
+use Rattle.tool_frame.specs.Points.{FileLists}
 use Rattle.verdict_line.specs.Truth.{JudgesTruly}
 
 -- The file lists points and the input was read to its end; the status is 0 exactly where its bytes are accepted as an

@@ -2,23 +2,23 @@
 use Rattle.std.specs.Prelude.{ℕ, ◌≡◌, ◌↔◌, List, codes, Result, Ok, Err}
 use Rattle.points_in.specs.declared.point.Point.{Point}
 use Rattle.points_in.specs.Terminals.{terminals_of}
-use Rattle.cut_cert.specs.Value.{WrittenAnswer}
-use Rattle.cut_cert.specs.Text.{answer_text}
-use Rattle.cut_cert.specs.declared.form.Form.TheVariants as form
-use Rattle.cut_cert.specs.Spelling.{SpellsAnswer}
+use Rattle.answer_text.specs.Value.{WrittenAnswer}
+use Rattle.answer_text.specs.Text.{answer_text}
+use Rattle.answer_text.specs.declared.form.Form.TheVariants as form
+use Rattle.answer_text.specs.Spelling.{SpellsAnswer}
 use Rattle.answer_upgrade.specs.declared.told.Spelled.TheVariants.{Fault}
 use Rattle.answer_upgrade.specs.Spelling.{TellsSpelling}
 use Rattle.answer_upgrade.specs.Upgraded.{IsSpelling, upgraded}
-use Rattle.frame.specs.declared.status.AnswerStatus.TheVariants.{Done}
-use Rattle.frame.specs.declared.status.FaultStatus.{FaultStatus}
-use Rattle.frame.specs.declared.status.FaultStatus.TheVariants.{Malformed}
-use Rattle.frame.specs.declared.take.TheConstants.{TEXT_LIMIT}
-use Rattle.frame.specs.Outside.{Readable, Outside}
-use Rattle.frame.specs.Ends.{Print, Ends}
-use Rattle.frame.specs.Leaves.{LeavesFiles}
-use Rattle.frame.specs.FaultTexts.{input_fault_text, input_fault_status, points_fault_text, points_fault_status}
-use Rattle.frame.specs.Taking.{IsWholeInput, IsInputFault}
-use Rattle.frame.specs.Points.{FileLists, IsPointsFault, grid_of_points}
+use Rattle.tool_frame.specs.declared.status.AnswerStatus.TheVariants.{Done}
+use Rattle.tool_frame.specs.declared.status.FaultStatus.{FaultStatus}
+use Rattle.tool_frame.specs.declared.status.FaultStatus.TheVariants.{Malformed}
+use Rattle.tool_frame.specs.declared.take.TheConstants.{TEXT_LIMIT}
+use Rattle.tool_frame.specs.Outside.{Readable, Outside}
+use Rattle.tool_frame.specs.Ends.{Print, Ends}
+use Rattle.tool_frame.specs.Leaves.{LeavesFiles}
+use Rattle.tool_frame.specs.FaultTexts.{input_fault_text, input_fault_status, points_fault_text, points_fault_status}
+use Rattle.tool_frame.specs.Taking.{IsWholeInput, IsInputFault}
+use Rattle.tool_frame.specs.Points.{FileLists, IsPointsFault, grid_of_points}
 use Rattle.tree_judge.specs.declared.cause.Cause.TheVariants.{NotAnswer}
 use Rattle.cert_check.specs.declared.verdict.Finished.{Finished}
 use Rattle.cert_check.specs.Verdicts.{IsVerdict}

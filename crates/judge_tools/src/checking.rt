@@ -1,16 +1,16 @@
 //! The tool `check`: the points of a file and an answer come in, the verdict on the answer goes out.
 
 ghost use Rattle.std.specs.Prelude.{◌≡◌, IfOk, OnErr};
-ghost use Rattle.frame.specs.Outside.{readable, outside};
-ghost use Rattle.frame.specs.Ends.{print_of};
-ghost use Rattle.frame.specs.Leaves.{LeavesFiles};
+ghost use Rattle.tool_frame.specs.Outside.{readable, outside};
+ghost use Rattle.tool_frame.specs.Ends.{print_of};
+ghost use Rattle.tool_frame.specs.Leaves.{LeavesFiles};
 ghost use Rattle.verdict_line.specs.Verdicts.{line_text, line_status};
 ghost use Rattle.judge_tools.specs.Check.{Checks, EndsCheck};
 
 use crate::judge::{CheckFault, judge};
-use frame::conclude;
 use rst_outside::{Shelf, Sink, Source};
 use std::alloc::{AllocError, Global};
+use tool_frame::conclude;
 use verdict_line::{Counting, VerdictLine};
 
 /// Runs `check`: reads the points of a file, then judges an answer as it comes from the input, and prints the line of

@@ -1,18 +1,18 @@
 //! The judge of the tools: the points of a file and an answer come in, what is found of the answer goes on to a tool.
 
 ghost use Rattle.std.specs.Prelude.{◌≡◌, IfOk, OnErr};
-ghost use Rattle.frame.specs.Outside.{readable};
-ghost use Rattle.frame.specs.Leaves.{LeavesFiles};
+ghost use Rattle.tool_frame.specs.Outside.{readable};
+ghost use Rattle.tool_frame.specs.Leaves.{LeavesFiles};
 ghost use Rattle.judge_tools.specs.Judging.{FindsJudgement};
 ghost use Rattle.judge_tools.specs.Check.{check_fault_text, check_fault_status};
 
 use cert_check::Subject;
-use frame::{Fault, FaultStatus, InputFault, PointsFault, TEXT_LIMIT, read_points_file};
 use hanan_grid::Grid;
 use rst_outside::{Shelf, Sink, Source};
 use std::alloc::{AllocError, Global};
 use std::marker::Brand;
 use text_out::Block;
+use tool_frame::{Fault, FaultStatus, InputFault, PointsFault, TEXT_LIMIT, read_points_file};
 use verdict_line::{Judged, judge_input};
 
 /// The greatest number of bytes of an answer that is judged.

@@ -2,11 +2,11 @@
 
 ghost use Rattle.judge_tools.specs.Pictures.{HasEdges, picture_text, picture_status};
 
-use dump_plot::plot;
-use frame::{Answer, AnswerStatus};
 use hanan_grid::Grid;
 use net_graph::EdgeSet;
+use printed_texts::plot;
 use rst_outside::{PutFault, Sink};
+use tool_frame::{Answer, AnswerStatus};
 
 /// A network on the grid of points, of which a tool prints a plot.
 #[derive(Debug, Drop)]

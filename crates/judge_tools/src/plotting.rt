@@ -3,19 +3,19 @@
 
 ghost use Rattle.std.specs.Prelude.{◌≡◌, IfOk, OnErr};
 ghost use Rattle.std.specs.Result.{ForOk};
-ghost use Rattle.frame.specs.Outside.{readable, outside};
-ghost use Rattle.frame.specs.Ends.{print_of};
-ghost use Rattle.frame.specs.Leaves.{LeavesFiles};
+ghost use Rattle.tool_frame.specs.Outside.{readable, outside};
+ghost use Rattle.tool_frame.specs.Ends.{print_of};
+ghost use Rattle.tool_frame.specs.Leaves.{LeavesFiles};
 ghost use Rattle.judge_tools.specs.Pictures.{HasEdges, picture_text, picture_status};
 ghost use Rattle.judge_tools.specs.Plot.{Plots, EndsPlot, plot_fault_text, plot_fault_status};
 
 use crate::judge::{CheckFault, judge};
 use crate::picture::Picture;
 use cert_check::{Cause, Ruling};
-use frame::{Fault, FaultStatus, conclude};
 use rst_outside::{Shelf, Sink, Source};
 use std::alloc::{AllocError, Global};
 use text_out::Block;
+use tool_frame::{Fault, FaultStatus, conclude};
 use verdict_line::write_refusal;
 
 /// Why `plot` refuses.

@@ -1,19 +1,19 @@
 //! The tool `upgrade`: the points of a file and an answer come in, the same answer goes out in version 2.
 
 ghost use Rattle.std.specs.Prelude.{◌≡◌, IfOk};
-ghost use Rattle.frame.specs.Outside.{readable, outside};
-ghost use Rattle.frame.specs.Leaves.{LeavesFiles};
+ghost use Rattle.tool_frame.specs.Outside.{readable, outside};
+ghost use Rattle.tool_frame.specs.Leaves.{LeavesFiles};
 ghost use Rattle.judge_tools.specs.Upgrade.{EndsUpgrade, TakesAnswer, upgrade_fault_text, upgrade_fault_status};
 
 use answer_upgrade::{Spelled, spelled, write_upgraded};
 use cert_check::{Cause, upgrading_keeps_verdict};
-use frame::{
-    AnswerStatus, Fault, FaultStatus, InputFault, PointsFault, TEXT_LIMIT, end_refused,
-    end_starved, end_written, read_points_file, take_input,
-};
 use rst_outside::{Shelf, Sink, Source};
 use std::alloc::{AllocError, Global};
 use text_out::Block;
+use tool_frame::{
+    AnswerStatus, Fault, FaultStatus, InputFault, PointsFault, TEXT_LIMIT, end_refused,
+    end_starved, end_written, read_points_file, take_input,
+};
 use verdict_line::write_refusal;
 
 /// The greatest number of bytes of an answer that is upgraded.

@@ -1,6 +1,6 @@
 //! Edges, and lists of edges and of vertices.
 
-use item_list::ItemList;
+use lists::ItemList;
 
 /// An edge between two vertices, which are given by their numbers, with its length.
 #[derive(Clone, Copy, Debug, PartialEq, Eq)]

@@ -7,7 +7,7 @@ ghost use Rattle.net_graph.specs.Search.{OpenStep, Leads, Extends};
 use crate::arcs::Arc;
 use crate::found::Found;
 use crate::graph::NetGraph;
-use crate::search::{Backward, Passage, found_from, search_on};
+use crate::reaching::{Backward, Passage, found_from, search_on};
 use std::alloc::{AllocError, Global};
 
 /// What a search against the direction of open arcs finds from `end`: the vertices that walks over open arcs lead to

@@ -6,7 +6,7 @@ ghost use Rattle.net_graph.specs.Found.{flags_of_marks, AreFoundInRoom};
 ghost use Rattle.net_graph.specs.Search.{OpenStep, Leads, Extends};
 
 use crate::graph::NetGraph;
-use crate::search::Passage;
+use crate::reaching::Passage;
 
 // Searches over open arcs from `start`. In the end the marks are 1 at the vertices that walks over open arcs lead to,
 // and at no others. The queue is room for the search. What stood in both doesn't matter.

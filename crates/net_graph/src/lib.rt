@@ -13,8 +13,8 @@ mod lengths;
 mod lent_room;
 mod network;
 mod packing;
+mod reaching;
 mod rooted;
-mod search;
 mod sets;
 mod state;
 
@@ -28,7 +28,7 @@ pub use growth::{found_leading_to, grow_leading_to};
 pub use lengths::length;
 pub use network::{first_apart, first_apart_within, has_all, joins, reached};
 pub use packing::{Cut, Packing, total_weight, value};
+pub use reaching::{Passage, reached_from};
 pub use rooted::root_part;
-pub use search::{Passage, reached_from};
 pub use sets::{EdgeSet, VertexSet};
 pub use state::{EdgeState, VertexState};

@@ -7,7 +7,7 @@ ghost use Rattle.net_graph.specs.Joins.{opens_edges};
 
 use crate::graph::NetGraph;
 use crate::lent_room::mark_reached;
-use crate::search::{Passage, reached_from};
+use crate::reaching::{Passage, reached_from};
 use crate::sets::{EdgeSet, VertexSet};
 use std::alloc::{AllocError, Global};
 

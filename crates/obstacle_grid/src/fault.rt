@@ -3,9 +3,9 @@
 ghost use Rattle.text_out.specs.Gathers.{Gathers};
 ghost use Rattle.obstacle_grid.specs.Said.{total_text, apart_text, task_fault_text, task_passes_limit, IsMemory};
 
-use format_fault::FormatFault;
 use rst_outside::Sink;
 use std::alloc::AllocError;
+use text_in::FormatFault;
 use text_out::{Block, literal, number};
 
 /// Why points and boxes are no Steiner problem of the suite: the first of their faults in this order; or want of

@@ -4,8 +4,8 @@ use Rattle.net_graph.specs.Graph.{Graph}
 use Rattle.net_graph.specs.Network.{IsNetwork}
 use Rattle.graph_solve.specs.Task.{all_edges}
 use Rattle.obstacle_grid.specs.Text.{graph_stp_text}
-use Rattle.frame.specs.declared.status.AnswerStatus.TheVariants.{Done}
-use Rattle.frame.specs.Ends.{Print}
+use Rattle.tool_frame.specs.declared.status.AnswerStatus.TheVariants.{Done}
+use Rattle.tool_frame.specs.Ends.{Print}
 use Rattle.obstacle_tools.specs.declared.graph_file.GraphFile.{GraphFile}
 use Rattle.obstacle_tools.specs.Around.{IsFileOf, PrintsFile, graph_file_text}
 use Rattle.obstacle_tools.specs.Reading.{ReadsAround}

@@ -10,8 +10,8 @@ use Rattle.obstacle_grid.specs.declared.fault.ObstacleTaskFault.{ObstacleTaskFau
 use Rattle.obstacle_grid.specs.Grid.{obstacle_graph_of}
 use Rattle.obstacle_grid.specs.Fault.{IsTask, IsFirstFault}
 use Rattle.obstacle_grid.specs.Said.{task_fault_text, task_passes_limit, IsMemory as IsMemoryOfTask}
-use Rattle.frame.specs.declared.status.FaultStatus.{FaultStatus}
-use Rattle.frame.specs.FaultTexts.{format_fault_status}
+use Rattle.tool_frame.specs.declared.status.FaultStatus.{FaultStatus}
+use Rattle.tool_frame.specs.FaultTexts.{format_fault_status}
 use Rattle.obstacle_tools.specs.declared.text_fault.ObstacleTextFault.{ObstacleTextFault}
 use Rattle.obstacle_tools.specs.declared.text_fault.ObstacleTextFault.TheVariants.{InText, InGraph}
 

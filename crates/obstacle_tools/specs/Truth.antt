@@ -9,7 +9,7 @@ use Rattle.obstacle_grid.specs.Crossing.{CrossesNone}
 use Rattle.obstacle_grid.specs.Grid.{obstacle_graph_of}
 use Rattle.obstacle_grid.specs.ReadBack.{IsProblemOf}
 use Rattle.obstacle_grid.specs.Text.{graph_stp_text}
-use Rattle.frame.specs.Outside.{Outside}
+use Rattle.tool_frame.specs.Outside.{Outside}
 use Rattle.search_rules.specs.declared.options.GraphOptions.{GraphOptions}
 use Rattle.graph_tools.specs.Truth.{SolvesTruly}
 use Rattle.obstacle_tools.specs.Reading.{IsTaskText}

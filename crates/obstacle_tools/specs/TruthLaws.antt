@@ -8,16 +8,16 @@ use Rattle.obstacle_grid.specs.Crossing.{CrossesNone, NoEdgeCrosses}
 use Rattle.obstacle_grid.specs.Grid.{obstacle_graph_of}
 use Rattle.obstacle_grid.specs.ReadBack.{ObstaclesAreReadBack}
 use Rattle.obstacle_grid.specs.Text.{graph_stp_text}
-use Rattle.frame.specs.declared.status.AnswerStatus.{AnswerStatus}
-use Rattle.frame.specs.declared.status.AnswerStatus.TheVariants.{Done, Stopped}
-use Rattle.frame.specs.declared.take.TheConstants.{TEXT_LIMIT}
-use Rattle.frame.specs.Statuses.{answer_code}
-use Rattle.frame.specs.Outside.{Outside}
-use Rattle.frame.specs.Ends.{Print}
-use Rattle.frame.specs.EndLaws.{printed_ends}
-use Rattle.frame.specs.FaultTexts.{text_fault_text, text_fault_status}
-use Rattle.frame.specs.FromText.{FromText}
-use Rattle.frame.specs.Leaves.{LeavesShelf}
+use Rattle.tool_frame.specs.declared.status.AnswerStatus.{AnswerStatus}
+use Rattle.tool_frame.specs.declared.status.AnswerStatus.TheVariants.{Done, Stopped}
+use Rattle.tool_frame.specs.declared.take.TheConstants.{TEXT_LIMIT}
+use Rattle.tool_frame.specs.Statuses.{answer_code}
+use Rattle.tool_frame.specs.Outside.{Outside}
+use Rattle.tool_frame.specs.Ends.{Print}
+use Rattle.tool_frame.specs.EndLaws.{printed_ends}
+use Rattle.tool_frame.specs.FaultTexts.{text_fault_text, text_fault_status}
+use Rattle.tool_frame.specs.FromText.{FromText}
+use Rattle.tool_frame.specs.Leaves.{LeavesShelf}
 use Rattle.search_rules.specs.declared.options.GraphOptions.{GraphOptions}
 use Rattle.graph_tools.specs.Truth.{SolvesTruly}
 use Rattle.graph_tools.specs.TruthLaws.{solves_truly}

@@ -2,19 +2,19 @@
 
 ghost use Rattle.std.specs.Prelude.{IfOk};
 ghost use Rattle.rst_outside.specs.Shelf.{ShelfState};
-ghost use Rattle.frame.specs.Outside.{outside, readable};
-ghost use Rattle.frame.specs.Taking.{TakesSome};
-ghost use Rattle.frame.specs.FromText.{FromText};
+ghost use Rattle.tool_frame.specs.Outside.{outside, readable};
+ghost use Rattle.tool_frame.specs.Taking.{TakesSome};
+ghost use Rattle.tool_frame.specs.FromText.{FromText};
 ghost use Rattle.obstacle_tools.specs.Around.{EndsObstacles, EndsObstaclesSolve, EndsObstaclesStp, FindsAround, FindsFile};
 
 use crate::graph_file::GraphFile;
 use crate::taking::take_around;
 use crate::text_fault::ObstacleTextFault;
-use frame::{TEXT_LIMIT, TextFault, conclude};
 use graph_tools::{GraphSolution, solution_in};
 use rst_outside::{Sink, Source};
 use search_rules::GraphOptions;
 use std::alloc::{AllocError, Global};
+use tool_frame::{TEXT_LIMIT, TextFault, conclude};
 
 /// Runs `obstacles`: reads points and boxes from the input and prints the answer of a network of their graph, with
 /// edges and vertices by their numbers in it; or that graph as an STP file, where it is asked for. Gives the status

@@ -1,12 +1,12 @@
 //! A graph, as the tool prints it.
 
-ghost use Rattle.frame.specs.declared.status.AnswerStatus.TheVariants as status_of;
+ghost use Rattle.tool_frame.specs.declared.status.AnswerStatus.TheVariants as status_of;
 ghost use Rattle.obstacle_tools.specs.Around.{graph_file_text};
 
-use frame::{Answer, AnswerStatus};
 use net_graph::NetGraph;
 use obstacle_grid::write_graph_stp;
 use rst_outside::{PutFault, Sink};
+use tool_frame::{Answer, AnswerStatus};
 
 /// A graph that is printed as an STP file.
 #[derive(Debug, Drop)]

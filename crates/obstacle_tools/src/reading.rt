@@ -4,13 +4,13 @@ ghost use Rattle.std.specs.Prelude.{◌≡◌, IfOk, IfErr};
 ghost use Rattle.obstacle_tools.specs.Reading.{ReadsText, ReadsAround, TakesTask, AroundHasNoFault};
 
 use crate::text_fault::ObstacleTextFault;
-use frame::apart;
 use net_graph::NetGraph;
 use obstacle_grid::{ObstacleTaskFault, obstacle_graph};
 use obstacles_in::{
     ObstacleFault, Obstacles, one_outcome, one_reading, read_obstacles, values_are_spelled,
 };
 use std::alloc::{AllocError, Global};
+use tool_frame::apart;
 
 /// The graph of the points and boxes that a text spells; or why it gives none. An `Err` is want of memory.
 pub(crate) fn graph_around(

@@ -2,17 +2,17 @@
 
 ghost use Rattle.std.specs.Prelude.{IfOk};
 ghost use Rattle.rst_outside.specs.Shelf.{ShelfState};
-ghost use Rattle.frame.specs.Outside.{readable};
-ghost use Rattle.frame.specs.Taking.{TakesSome};
-ghost use Rattle.frame.specs.FromText.{FromText};
+ghost use Rattle.tool_frame.specs.Outside.{readable};
+ghost use Rattle.tool_frame.specs.Taking.{TakesSome};
+ghost use Rattle.tool_frame.specs.FromText.{FromText};
 ghost use Rattle.obstacle_tools.specs.Reading.{ReadsAround};
 
 use crate::reading::graph_around;
 use crate::text_fault::ObstacleTextFault;
-use frame::{TEXT_LIMIT, TextFault, take_input};
 use net_graph::NetGraph;
 use rst_outside::Source;
 use std::alloc::{AllocError, Global};
+use tool_frame::{TEXT_LIMIT, TextFault, take_input};
 
 /// The graph of the points and boxes that the input is; or why there is none. An `Err` is want of memory.
 pub(crate) fn take_around<I: Source>(

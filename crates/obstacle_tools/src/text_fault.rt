@@ -2,11 +2,11 @@
 
 ghost use Rattle.obstacle_tools.specs.Reading.{around_fault_text, around_fault_status};
 
-use frame::{Fault, FaultStatus};
 use obstacle_grid::ObstacleTaskFault;
 use obstacles_in::ObstacleFault;
 use rst_outside::Sink;
 use text_out::Block;
+use tool_frame::{Fault, FaultStatus};
 
 /// Why a text gives no Steiner problem around boxes.
 #[derive(Clone, Copy, Debug, PartialEq, Eq)]

@@ -1,6 +1,6 @@
 -- What is said of the faults of a text of points and boxes, and which of them pass a limit.
 use Rattle.std.specs.Prelude.{ℕ, Bool, true, false, List, codes}
-use Rattle.format_fault.specs.Texts.{line_text}
+use Rattle.text_in.specs.Texts.{line_text}
 use Rattle.obstacles_in.specs.declared.fault.ObstacleFault.{ObstacleFault}
 use Rattle.obstacles_in.specs.declared.fault.ObstacleFault.TheVariants.{BadLine, TooManyPoints, RepeatedPoint}
 use Rattle.obstacles_in.specs.declared.fault.ObstacleFault.TheVariants.{TooManyBoxes, BadBox, PointInBox, TooLarge}

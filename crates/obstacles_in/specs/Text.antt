@@ -1,6 +1,6 @@
 -- The text of points and boxes. It is this project's own.
 use Rattle.std.specs.Prelude.{ℕ, ◌≡◌, List}
-use Rattle.text_lines.specs.Lines.{text_of}
+use Rattle.text_in.specs.Lines.{text_of}
 use Rattle.section_text.specs.Text.{section_lines}
 use Rattle.obstacles_in.specs.Obstacles.{ObstaclesValue, AreObstacles}
 use Rattle.obstacles_in.specs.Format.{obstacles_format}

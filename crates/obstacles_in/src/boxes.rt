@@ -10,7 +10,7 @@ ghost use Rattle.obstacles_in.specs.Format.{obstacles_format};
 use crate::fault::ObstacleFault;
 use crate::rectangle::Rectangle;
 use points_in::{Point, Points};
-use text_lines::LineWords;
+use text_in::LineWords;
 
 // The coordinates that the words spell, in whatever order they stand.
 pub(crate) fn coordinates_in(words: &mut LineWords<'_>) -> Option<Rectangle>

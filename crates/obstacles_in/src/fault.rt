@@ -2,9 +2,9 @@
 
 ghost use Rattle.obstacles_in.specs.Said.{obstacle_fault_text, obstacle_passes_limit, IsMemory};
 
-use format_fault::{FormatFault, write_line};
 use rst_outside::Sink;
 use std::alloc::AllocError;
+use text_in::{FormatFault, write_line};
 use text_out::{Block, literal};
 
 /// Why bytes are no points and boxes: the first fault of their lines, and of one line the first in this order; or,

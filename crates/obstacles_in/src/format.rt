@@ -8,11 +8,11 @@ use crate::fault::ObstacleFault;
 use crate::obstacles::Obstacles;
 use crate::rectangle::Rectangle;
 use crate::size::sized;
-use item_list::ItemList;
+use lists::ItemList;
 use points_in::Points;
 use section_text::{LineFault, SectionFormat};
 use std::alloc::{AllocError, Global};
-use text_lines::LineWords;
+use text_in::LineWords;
 
 // How many boxes a text lists at most.
 const MAX_BOXES: u32 = 25;

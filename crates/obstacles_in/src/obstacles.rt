@@ -4,7 +4,7 @@ ghost use Rattle.std.specs.Prelude.{◌≡◌};
 ghost use Rattle.obstacles_in.specs.Obstacles.{AreObstacles};
 
 use crate::rectangle::Rectangle;
-use item_list::ItemList;
+use lists::ItemList;
 use points_in::Points;
 use std::marker::Model;
 

@@ -9,7 +9,7 @@ use crate::fault::ObstacleFault;
 use crate::obstacles::Obstacles;
 use crate::rectangle::Rectangle;
 use hanan_grid::{x_lines, y_lines};
-use item_list::ItemList;
+use lists::ItemList;
 use points_in::{MAX_POINTS, Point, Points};
 use std::alloc::{AllocError, Global};
 

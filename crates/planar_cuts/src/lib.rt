@@ -4,15 +4,15 @@
 
 mod buckets;
 mod conflicts;
+mod cut_by_curve;
 mod descent;
 mod faces;
 mod front;
 mod leaving;
 mod nesting;
 mod rotation;
-mod search;
 mod steps;
 mod tour;
 
+pub use cut_by_curve::PlanarCuts;
 pub use faces::Faces;
-pub use search::PlanarCuts;

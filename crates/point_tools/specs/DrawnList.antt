@@ -1,8 +1,8 @@
 -- Drawn points, as an answer of a tool.
 use Rattle.std.specs.Prelude.{ℕ, List}
 use Rattle.points_in.specs.Text.{points_text}
-use Rattle.frame.specs.declared.status.AnswerStatus.{AnswerStatus}
-use Rattle.frame.specs.declared.status.AnswerStatus.TheVariants.{Done}
+use Rattle.tool_frame.specs.declared.status.AnswerStatus.{AnswerStatus}
+use Rattle.tool_frame.specs.declared.status.AnswerStatus.TheVariants.{Done}
 use Rattle.point_tools.specs.declared.drawn_list.DrawnList.{DrawnList}
 
 abbrev pub drawn_text : DrawnList → List ℕ

@@ -3,12 +3,12 @@ use Rattle.std.specs.Prelude.{ℕ, ◌≡◌, List, codes, Result, Ok, Err}
 use Rattle.points_in.specs.declared.point.Point.{Point}
 use Rattle.points_in.specs.Text.{points_text}
 use Rattle.drawn_points.specs.Drawing.{drawn_points}
-use Rattle.frame.specs.declared.status.AnswerStatus.TheVariants.{Done}
-use Rattle.frame.specs.declared.take.InputFault.{InputFault}
-use Rattle.frame.specs.Outside.{Outside}
-use Rattle.frame.specs.Ends.{Print, Ends}
-use Rattle.frame.specs.FaultTexts.{input_fault_text, input_fault_status}
-use Rattle.frame.specs.Leaves.{LeavesAll}
+use Rattle.tool_frame.specs.declared.status.AnswerStatus.TheVariants.{Done}
+use Rattle.tool_frame.specs.declared.take.InputFault.{InputFault}
+use Rattle.tool_frame.specs.Outside.{Outside}
+use Rattle.tool_frame.specs.Ends.{Print, Ends}
+use Rattle.tool_frame.specs.FaultTexts.{input_fault_text, input_fault_status}
+use Rattle.tool_frame.specs.Leaves.{LeavesAll}
 
 -- what is printed of points: one line each, in their order
 abbrev pub points_print : List Point → Print

@@ -6,13 +6,13 @@ use Rattle.stp_format.specs.Sections.{◌>>=◌}
 use Rattle.stp_format.specs.Reading.{stp_of}
 use Rattle.stp_format.specs.Located.{terminal_points}
 use Rattle.stp_format.specs.Said.{stp_fault_text, stp_passes_limit, IsMemory}
-use Rattle.frame.specs.declared.take.TheConstants.{TEXT_LIMIT}
-use Rattle.frame.specs.declared.status.FaultStatus.{FaultStatus}
-use Rattle.frame.specs.Outside.{Outside}
-use Rattle.frame.specs.Ends.{Print, Ends}
-use Rattle.frame.specs.FaultTexts.{text_fault_text, text_fault_status, format_fault_status}
-use Rattle.frame.specs.FromText.{FromText}
-use Rattle.frame.specs.Leaves.{LeavesShelf}
+use Rattle.tool_frame.specs.declared.take.TheConstants.{TEXT_LIMIT}
+use Rattle.tool_frame.specs.declared.status.FaultStatus.{FaultStatus}
+use Rattle.tool_frame.specs.Outside.{Outside}
+use Rattle.tool_frame.specs.Ends.{Print, Ends}
+use Rattle.tool_frame.specs.FaultTexts.{text_fault_text, text_fault_status, format_fault_status}
+use Rattle.tool_frame.specs.FromText.{FromText}
+use Rattle.tool_frame.specs.Leaves.{LeavesShelf}
 use Rattle.point_tools.specs.Points.{points_print}
 
 -- The distinct points of the terminals of the STP file that the bytes are, in their order; or the first fault of

@@ -2,10 +2,10 @@
 
 ghost use Rattle.point_tools.specs.DistinctList.{distinct_text, distinct_status, IsWritable};
 
-use dump_plot::dump_distinct;
-use frame::{Answer, AnswerStatus};
 use points_in::Points;
+use printed_texts::dump_distinct;
 use rst_outside::{PutFault, Sink};
+use tool_frame::{Answer, AnswerStatus};
 
 /// Distinct points that a tool prints.
 #[derive(Debug, Drop)]

@@ -3,16 +3,16 @@
 ghost use Rattle.std.specs.Prelude.{◌<◌, ◌≤◌, IfOk};
 ghost use Rattle.rst_outside.specs.Source.{SourceState};
 ghost use Rattle.rst_outside.specs.Shelf.{ShelfState};
-ghost use Rattle.frame.specs.Outside.{outside};
-ghost use Rattle.frame.specs.Ends.{print_of};
+ghost use Rattle.tool_frame.specs.Outside.{outside};
+ghost use Rattle.tool_frame.specs.Ends.{print_of};
 ghost use Rattle.point_tools.specs.DrawnList.{drawn_text, drawn_status};
 ghost use Rattle.point_tools.specs.Points.{PrintsDrawn, EndsPoints};
 
 use crate::drawn_list::DrawnList;
 use drawn_points::draw_points;
-use frame::{InputFault, conclude};
 use rst_outside::Sink;
 use std::alloc::{AllocError, Global};
+use tool_frame::{InputFault, conclude};
 
 /// Runs `points`: prints the `n` points, 1 to 50, that are drawn from a seed, one a line and repeats among them.
 /// Gives the status that the program ends with.

@@ -3,9 +3,9 @@
 ghost use Rattle.point_tools.specs.DrawnList.{drawn_text, drawn_status, IsAnything};
 
 use drawn_points::Drawn;
-use dump_plot::dump_points;
-use frame::{Answer, AnswerStatus};
+use printed_texts::dump_points;
 use rst_outside::{PutFault, Sink};
+use tool_frame::{Answer, AnswerStatus};
 
 /// Drawn points that a tool prints.
 #[derive(Debug, Drop)]

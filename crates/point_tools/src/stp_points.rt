@@ -3,19 +3,19 @@
 ghost use Rattle.std.specs.Prelude.{IfOk};
 ghost use Rattle.rst_outside.specs.Shelf.{ShelfState};
 ghost use Rattle.stp_format.specs.Reading.{Gives, IsFaultOf};
-ghost use Rattle.frame.specs.Outside.{outside, readable};
-ghost use Rattle.frame.specs.Taking.{TakesSome};
-ghost use Rattle.frame.specs.FromText.{FromText};
-ghost use Rattle.frame.specs.Ends.{print_of};
+ghost use Rattle.tool_frame.specs.Outside.{outside, readable};
+ghost use Rattle.tool_frame.specs.Taking.{TakesSome};
+ghost use Rattle.tool_frame.specs.FromText.{FromText};
+ghost use Rattle.tool_frame.specs.Ends.{print_of};
 ghost use Rattle.point_tools.specs.DistinctList.{distinct_text, distinct_status};
 ghost use Rattle.point_tools.specs.StpPoints.{stp_points_of, LocatesPoints, PrintsLocated, LocatedHasNoFault, EndsStp2points};
 
 use crate::distinct_list::DistinctList;
-use frame::{TEXT_LIMIT, TextFault, apart, conclude, take_input};
 use points_in::Points;
 use rst_outside::{Sink, Source};
 use std::alloc::{AllocError, Global};
 use stp_format::{StpFault, points_of, read_stp};
+use tool_frame::{TEXT_LIMIT, TextFault, apart, conclude, take_input};
 
 /// Runs `stp2points`: reads an STP file from the input and prints the distinct points of its terminals, one a line, in
 /// the order of the terminals. Gives the status that the program ends with.

@@ -1,3 +1,4 @@
+pub mod AnswerLaws
 pub mod SearchedLaws
 pub mod SearchLaws
 pub mod JoinLaws

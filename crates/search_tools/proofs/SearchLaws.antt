@@ -7,12 +7,12 @@ use Rattle.points_in.specs.Terminals.{terminals_of}
 use Rattle.fst_file.specs.Value.{FstValue}
 use Rattle.fst_gen.specs.Joins.{JoinsAll}
 use Rattle.fst_gen.specs.Trees.{AreTreesOf}
-use Rattle.frame.specs.declared.take.TheConstants.{TEXT_LIMIT}
-use Rattle.frame.specs.declared.text_fault.TextFault.{TextFault}
-use Rattle.frame.specs.declared.text_fault.TextFault.TheVariants.{Input, Text}
-use Rattle.frame.specs.Outside.{Readable, readable}
-use Rattle.frame.specs.Ends.{print_of}
-use Rattle.frame.specs.FromText.{FromText}
+use Rattle.tool_frame.specs.declared.take.TheConstants.{TEXT_LIMIT}
+use Rattle.tool_frame.specs.declared.text_fault.TextFault.{TextFault}
+use Rattle.tool_frame.specs.declared.text_fault.TextFault.TheVariants.{Input, Text}
+use Rattle.tool_frame.specs.Outside.{Readable, readable}
+use Rattle.tool_frame.specs.Ends.{print_of}
+use Rattle.tool_frame.specs.FromText.{FromText}
 use Rattle.tree_inputs.specs.declared.generation_fault.GenerationFault.{GenerationFault}
 use Rattle.fst_file.specs.declared.fault.FstFault.{FstFault}
 use Rattle.tree_inputs.specs.Files.{ReadsFst}

@@ -5,8 +5,8 @@ use Rattle.net_graph.specs.Network.{length_of}
 use Rattle.hanan_grid.specs.Grid.{hanan_grid_of}
 use Rattle.full_tree.specs.declared.code.Tree.{Tree as FullTree}
 use Rattle.branch.specs.declared.solved.Solved.{Solved}
-use Rattle.cut_cert.specs.Text.{answer_text}
-use Rattle.cut_cert.specs.Answers.{value_of}
+use Rattle.answer_text.specs.Text.{answer_text}
+use Rattle.answer_text.specs.Answers.{value_of}
 use Rattle.net_graph.specs.Graph.{Graph}
 use Rattle.search_rules.specs.declared.options.SearchOptions.{SearchOptions}
 use Rattle.search_rules.specs.declared.options.GraphOptions.{GraphOptions}

@@ -4,17 +4,17 @@ use Rattle.fst_file.specs.Value.{FstValue}
 use Rattle.fst_file.specs.Text.{SpellsFstFile}
 use Rattle.concatenation.specs.Concatenation.{all_of}
 use Rattle.fst_concat.specs.Chosen.{IsFirstApart}
-use Rattle.cut_cert.specs.declared.head.ConcatNote.{ConcatNote}
+use Rattle.answer_text.specs.declared.head.ConcatNote.{ConcatNote}
 use Rattle.cert_tree.specs.declared.split.SplitOn.{SplitOn}
 use Rattle.cert_tree.specs.Tree.{Tree}
-use Rattle.frame.specs.declared.status.FaultStatus.{FaultStatus}
-use Rattle.frame.specs.declared.status.FaultStatus.TheVariants.{Malformed}
-use Rattle.frame.specs.declared.take.TheConstants.{TEXT_LIMIT}
-use Rattle.frame.specs.Outside.{Outside}
-use Rattle.frame.specs.Ends.{Print, Ends}
-use Rattle.frame.specs.FaultTexts.{text_fault_text, text_fault_status}
-use Rattle.frame.specs.FromText.{FromText}
-use Rattle.frame.specs.Leaves.{LeavesShelf}
+use Rattle.tool_frame.specs.declared.status.FaultStatus.{FaultStatus}
+use Rattle.tool_frame.specs.declared.status.FaultStatus.TheVariants.{Malformed}
+use Rattle.tool_frame.specs.declared.take.TheConstants.{TEXT_LIMIT}
+use Rattle.tool_frame.specs.Outside.{Outside}
+use Rattle.tool_frame.specs.Ends.{Print, Ends}
+use Rattle.tool_frame.specs.FaultTexts.{text_fault_text, text_fault_status}
+use Rattle.tool_frame.specs.FromText.{FromText}
+use Rattle.tool_frame.specs.Leaves.{LeavesShelf}
 use Rattle.fst_file.specs.Said.{fst_fault_text}
 use Rattle.tree_inputs.specs.Files.{ReadsFst, fst_fault_status}
 use Rattle.search_rules.specs.declared.options.SearchOptions.{SearchOptions}

@@ -1,3 +1,8 @@
+pub mod TrialLine
+pub mod Trial
+pub mod TrialSteps
+pub mod TrialTruth
+pub mod TrialTruthLaws
 pub mod Solution
 pub mod Permitted
 pub mod Solve

@@ -7,12 +7,12 @@ use Rattle.full_tree.specs.declared.code.Tree.{Tree as FullTree}
 use Rattle.concatenation.specs.Concatenation.{IsConcatenation, IsLeastTotal, total_of}
 use Rattle.concatenation.specs.Trails.{Trail, IsSpentTrail, splits_of}
 use Rattle.fst_concat.specs.Chosen.{IsUpToPairs}
-use Rattle.cut_cert.specs.declared.head.ConcatNote.{ConcatNote}
-use Rattle.cut_cert.specs.Text.{answer_text}
+use Rattle.answer_text.specs.declared.head.ConcatNote.{ConcatNote}
+use Rattle.answer_text.specs.Text.{answer_text}
 use Rattle.cert_tree.specs.declared.split.SplitOn.{SplitOn}
 use Rattle.cert_tree.specs.Tree.{Tree}
 use Rattle.cert_check.specs.Accepted.{IsAccepted}
-use Rattle.frame.specs.Ends.{Print}
+use Rattle.tool_frame.specs.Ends.{Print}
 use Rattle.search_rules.specs.declared.options.SearchOptions.{SearchOptions}
 use Rattle.graph_search.specs.Kinds.{kind_of}
 use Rattle.graph_search.specs.Searched.{IsSearched, bound_of}

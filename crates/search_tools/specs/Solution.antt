@@ -5,10 +5,10 @@ use Rattle.points_in.specs.declared.point.Point.{Point}
 use Rattle.net_graph.specs.Network.{length_of}
 use Rattle.net_graph.specs.Members.{members_of}
 use Rattle.hanan_grid.specs.Grid.{hanan_grid_of}
-use Rattle.cut_cert.specs.declared.head.ConcatNote.{ConcatNote}
-use Rattle.cut_cert.specs.declared.version.Version.TheVariants as version
-use Rattle.cut_cert.specs.Value.{WrittenAnswer}
-use Rattle.cut_cert.specs.Answers.{named, names_of}
+use Rattle.answer_text.specs.declared.head.ConcatNote.{ConcatNote}
+use Rattle.answer_text.specs.declared.version.Version.TheVariants as version
+use Rattle.answer_text.specs.Value.{WrittenAnswer}
+use Rattle.answer_text.specs.Answers.{named, names_of}
 use Rattle.cert_tree.specs.declared.split.SplitOn.{SplitOn}
 use Rattle.cert_tree.specs.Tree.{Tree}
 use Rattle.graph_search.specs.Searched.{value_on}

@@ -5,16 +5,16 @@ use Rattle.points_in.specs.Terminals.{terminals_of}
 use Rattle.full_tree.specs.declared.code.Tree.{Tree as FullTree}
 use Rattle.fst_gen.specs.Trees.{AreTreesOf}
 use Rattle.fst_prune.specs.Kept.{AreKeptTrees}
-use Rattle.cut_cert.specs.declared.head.ConcatNote.{ConcatNote}
+use Rattle.answer_text.specs.declared.head.ConcatNote.{ConcatNote}
 use Rattle.cert_tree.specs.declared.split.SplitOn.{SplitOn}
 use Rattle.cert_tree.specs.Tree.{Tree}
-use Rattle.frame.specs.declared.take.TheConstants.{TEXT_LIMIT}
-use Rattle.frame.specs.Outside.{Outside}
-use Rattle.frame.specs.Ends.{Print, Ends}
-use Rattle.frame.specs.FaultTexts.{text_fault_text, text_fault_status}
-use Rattle.frame.specs.FromText.{FromText}
-use Rattle.frame.specs.Leaves.{LeavesShelf}
-use Rattle.frame.specs.Points.{ListsPoints}
+use Rattle.tool_frame.specs.declared.take.TheConstants.{TEXT_LIMIT}
+use Rattle.tool_frame.specs.Outside.{Outside}
+use Rattle.tool_frame.specs.Ends.{Print, Ends}
+use Rattle.tool_frame.specs.FaultTexts.{text_fault_text, text_fault_status}
+use Rattle.tool_frame.specs.FromText.{FromText}
+use Rattle.tool_frame.specs.Leaves.{LeavesShelf}
+use Rattle.tool_frame.specs.Points.{ListsPoints}
 use Rattle.tree_inputs.specs.declared.generation_fault.GenerationFault.{GenerationFault}
 use Rattle.tree_inputs.specs.GenerationFaults.{generation_fault_text, generation_fault_status}
 use Rattle.tree_inputs.specs.Generation.{GeneratesFst}

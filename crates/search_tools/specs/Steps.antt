@@ -14,16 +14,16 @@ use Rattle.fst_concat.specs.declared.chosen.ChosenKind.{ChosenKind}
 use Rattle.fst_concat.specs.declared.chosen.ChosenKind.TheVariants.{Least, Spent}
 use Rattle.fst_concat.specs.Chosen.{IsFirstApart}
 use Rattle.branch.specs.States.{IsNetworkOf}
-use Rattle.cut_cert.specs.declared.head.ConcatNote.{ConcatNote}
-use Rattle.cut_cert.specs.Text.{answer_text}
-use Rattle.cut_cert.specs.declared.form.Form.TheVariants as form
-use Rattle.cut_cert.specs.Spelling.{SpellsAnswer}
-use Rattle.cut_cert.specs.Answers.{IsAnswerOn, value_of}
-use Rattle.frame.specs.declared.status.AnswerStatus.{AnswerStatus}
-use Rattle.frame.specs.declared.status.AnswerStatus.TheVariants.{Done, Stopped}
-use Rattle.frame.specs.Points.{ListsPoints}
-use Rattle.frame.specs.declared.text_fault.TextFault.{TextFault}
-use Rattle.frame.specs.declared.text_fault.TextFault.TheVariants.{Input, Text}
+use Rattle.answer_text.specs.declared.head.ConcatNote.{ConcatNote}
+use Rattle.answer_text.specs.Text.{answer_text}
+use Rattle.answer_text.specs.declared.form.Form.TheVariants as form
+use Rattle.answer_text.specs.Spelling.{SpellsAnswer}
+use Rattle.answer_text.specs.Answers.{IsAnswerOn, value_of}
+use Rattle.tool_frame.specs.declared.status.AnswerStatus.{AnswerStatus}
+use Rattle.tool_frame.specs.declared.status.AnswerStatus.TheVariants.{Done, Stopped}
+use Rattle.tool_frame.specs.Points.{ListsPoints}
+use Rattle.tool_frame.specs.declared.text_fault.TextFault.{TextFault}
+use Rattle.tool_frame.specs.declared.text_fault.TextFault.TheVariants.{Input, Text}
 use Rattle.fst_file.specs.declared.fault.FstFault.{FstFault}
 use Rattle.tree_inputs.specs.declared.generation_fault.GenerationFault.{GenerationFault}
 use Rattle.tree_inputs.specs.Files.{ReadsFst}

@@ -4,10 +4,10 @@ use Rattle.rst_outside.specs.Sink.{Appended}
 use Rattle.points_in.specs.declared.point.Point.{Point}
 use Rattle.hanan_grid.specs.Grid.{hanan_grid_of}
 use Rattle.full_tree.specs.declared.code.Tree.{Tree as FullTree}
-use Rattle.cut_cert.specs.declared.head.ConcatNote.{ConcatNote}
+use Rattle.answer_text.specs.declared.head.ConcatNote.{ConcatNote}
 use Rattle.cert_tree.specs.declared.split.SplitOn.{SplitOn}
 use Rattle.cert_tree.specs.Tree.{Tree}
-use Rattle.frame.specs.Outside.{Outside}
+use Rattle.tool_frame.specs.Outside.{Outside}
 use Rattle.search_rules.specs.declared.options.SearchOptions.{SearchOptions}
 use Rattle.graph_search.specs.Truth.{EndsTruly}
 use Rattle.search_tools.specs.Permitted.{IsPermitted, search_text}

@@ -5,11 +5,11 @@ use Rattle.points_in.specs.declared.point.Point.{Point}
 use Rattle.net_graph.specs.Network.{length_of}
 use Rattle.hanan_grid.specs.Grid.{hanan_grid_of}
 use Rattle.full_tree.specs.declared.code.Tree.{Tree as FullTree}
-use Rattle.cut_cert.specs.declared.head.ConcatNote.{ConcatNote}
+use Rattle.answer_text.specs.declared.head.ConcatNote.{ConcatNote}
 use Rattle.cert_tree.specs.declared.split.SplitOn.{SplitOn}
 use Rattle.cert_tree.specs.Tree.{Tree}
-use Rattle.frame.specs.Statuses.{answer_code}
-use Rattle.frame.specs.Outside.{Outside}
+use Rattle.tool_frame.specs.Statuses.{answer_code}
+use Rattle.tool_frame.specs.Outside.{Outside}
 use Rattle.search_rules.specs.declared.options.SearchOptions.{SearchOptions}
 use Rattle.graph_search.specs.Kinds.{kind_of}
 use Rattle.graph_search.specs.Searched.{bound_of}

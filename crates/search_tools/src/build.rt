@@ -3,19 +3,19 @@
 
 ghost use Rattle.std.specs.Prelude.{◌≡◌, IfOk};
 ghost use Rattle.rst_outside.specs.Shelf.{ShelfState};
-ghost use Rattle.frame.specs.Outside.{outside, readable};
-ghost use Rattle.frame.specs.Taking.{TakesSome};
-ghost use Rattle.frame.specs.FromText.{FromText};
+ghost use Rattle.tool_frame.specs.Outside.{outside, readable};
+ghost use Rattle.tool_frame.specs.Taking.{TakesSome};
+ghost use Rattle.tool_frame.specs.FromText.{FromText};
 ghost use Rattle.search_tools.specs.Build.{EndsBb};
 ghost use Rattle.search_tools.specs.Steps.{FindsBuilt, fault_of_file};
 
 use crate::build_fault::BuildFault;
 use crate::solution::{Solution, solution_of};
-use frame::{TEXT_LIMIT, TextFault, conclude};
 use fst_file::FstFault;
 use rst_outside::{Sink, Source};
 use search_rules::SearchOptions;
 use std::alloc::{AllocError, Global};
+use tool_frame::{TEXT_LIMIT, TextFault, conclude};
 use tree_inputs::take_fst;
 
 /// Runs `bb`: reads a file of full trees from the input and prints the answer of a network that is no longer than a

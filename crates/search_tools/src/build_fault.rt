@@ -3,10 +3,10 @@
 ghost use Rattle.text_out.specs.Gathers.{Gathers};
 ghost use Rattle.search_tools.specs.Build.{build_fault_text, build_fault_status};
 
-use frame::{Fault, FaultStatus};
 use fst_file::FstFault;
 use rst_outside::Sink;
 use text_out::{Block, literal, number};
+use tool_frame::{Fault, FaultStatus};
 
 /// Why a text gives no network for the trees of a file.
 #[derive(Clone, Copy, Debug, PartialEq, Eq)]

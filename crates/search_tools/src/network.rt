@@ -4,7 +4,7 @@ ghost use Rattle.std.specs.Prelude.{◌≡◌, IfOk};
 ghost use Rattle.fst_file.specs.Value.{AreTreesOf};
 ghost use Rattle.search_tools.specs.Steps.{FindsNetwork, is_least};
 
-use cut_cert::ConcatNote;
+use answer_text::ConcatNote;
 use fst_concat::{ChosenKind, ConcatFault, concat, trees_in_form_have_members};
 use full_tree::TreeList;
 use hanan_grid::Grid;

@@ -4,14 +4,14 @@ ghost use Rattle.std.specs.Prelude.{IfOk};
 ghost use Rattle.search_tools.specs.Steps.{IsPrintable, IsSpelled, SolvesFile, solution_text, solution_status};
 
 use crate::network::{Found, network_on};
-use cut_cert::{Answer as CutAnswer, answer_len, write_answer};
-use frame::{Answer, AnswerStatus};
+use answer_text::{Answer as CutAnswer, answer_len, write_answer};
 use fst_file::FstFile;
 use graph_search::{answer_with, searched_on};
 use hanan_grid::Grid;
 use rst_outside::{PutFault, Sink};
 use search_rules::SearchOptions;
 use std::alloc::{AllocError, Global};
+use tool_frame::{Answer, AnswerStatus};
 
 /// An answer, and the grid that it is for.
 #[derive(Debug, Drop)]

@@ -2,20 +2,20 @@
 
 ghost use Rattle.std.specs.Prelude.{◌≤◌, length, IfOk};
 ghost use Rattle.rst_outside.specs.Shelf.{ShelfState};
-ghost use Rattle.frame.specs.Outside.{outside, readable};
-ghost use Rattle.frame.specs.Taking.{TakesSome};
-ghost use Rattle.frame.specs.FromText.{FromText};
+ghost use Rattle.tool_frame.specs.Outside.{outside, readable};
+ghost use Rattle.tool_frame.specs.Taking.{TakesSome};
+ghost use Rattle.tool_frame.specs.FromText.{FromText};
 ghost use Rattle.fst_gen.specs.Joins.{JoinsAll};
 ghost use Rattle.search_tools.specs.Solve.{EndsSolve};
 ghost use Rattle.search_tools.specs.Steps.{FindsSolution, SolvesPruned};
 
 use crate::solution::{Solution, solution_of};
 use concatenation::more_trees;
-use frame::{TEXT_LIMIT, TextFault, conclude};
 use fst_file::FstFile;
 use rst_outside::{Sink, Source};
 use search_rules::SearchOptions;
 use std::alloc::{AllocError, Global};
+use tool_frame::{TEXT_LIMIT, TextFault, conclude};
 use tree_inputs::{GenerationFault, pruned, take_generated};
 
 /// Runs `solve`: reads points from the input and prints the answer of a network of their grid, no longer than a

@@ -7,7 +7,7 @@ use Rattle.std.proofs.Math.Seq.{get_or-append_seam}
 use Rattle.points_in.specs.declared.point.Point.{Point}
 use Rattle.points_in.specs.Text.{IsPoint}
 use Rattle.points_in.specs.Terminals.{AreDistinct}
-use Rattle.text_lines.specs.Lines.{empty_line}
+use Rattle.text_in.specs.Lines.{empty_line}
 use Rattle.section_text.specs.declared.fault.LineFault.TheVariants.{BadLine}
 use Rattle.section_text.specs.Words.{end_words, points_words, count_words, point_words}
 use Rattle.section_text.specs.Format.{Format, IsLawful}

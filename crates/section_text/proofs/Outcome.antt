@@ -3,7 +3,7 @@ use Rattle.std.specs.Prelude.{ℕ, zero, suc, ◌≡◌, ◌+◌, List, [], ◌�
 use Rattle.std.specs.Fmt.{decimal, signed_decimal}
 use Rattle.std.proofs.Common.{arith, sym, ap, ◌∙◌, subst, inl, inr}
 use Rattle.std.proofs.lemmas.Fmt.{decimal_injective}
-use Rattle.spelled.specs.Numbers.{signed_decimal_one}
+use Rattle.text_in.specs.Numbers.{signed_decimal_one}
 use Rattle.points_in.specs.declared.point.Point.{Point}
 use Rattle.points_in.specs.PointLaws.{same_coordinates}
 use Rattle.section_text.specs.Words.{count_words, point_words}

@@ -2,7 +2,7 @@
 use Rattle.std.specs.Prelude.{ℕ, zero, suc, ◌≡◌, ◌+◌, ◌<◌, List, [], ◌∷◌, ◌++◌, length, Contains, Result, Err}
 use Rattle.std.proofs.Common.{arith, refl, sym, ap, subst, inl, inr}
 use Rattle.points_in.specs.declared.point.Point.{Point}
-use Rattle.text_lines.specs.Lines.{LinesLeft}
+use Rattle.text_in.specs.Lines.{LinesLeft}
 use Rattle.section_text.specs.declared.fault.LineFault.TheVariants.{BadLine}
 use Rattle.section_text.specs.Format.{Format}
 use Rattle.section_text.specs.Faults.{Told, nothing, title, points, items, ended, Passes, Fails, SpellsPoint}

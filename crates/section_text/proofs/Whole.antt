@@ -4,12 +4,12 @@ use Rattle.std.specs.List.{AllByRecursion}
 use Rattle.std.proofs.Common.{arith, refl, sym, ap, ◌∙◌, subst, inl, inr}
 use Rattle.std.proofs.lemmas.List.{append-nil, append_assoc}
 use Rattle.std.proofs.lemmas.List.Elements.{All-head, All-tail}
-use Rattle.spelled.specs.Words.{IsWord}
-use Rattle.spelled.specs.Numbers.{decimal_is_word, signed_decimal_is_word}
+use Rattle.text_in.specs.Words.{IsWord}
+use Rattle.text_in.specs.Numbers.{decimal_is_word, signed_decimal_is_word}
 use Rattle.points_in.specs.declared.point.Point.{Point}
 use Rattle.points_in.specs.Text.{IsPoint}
-use Rattle.text_lines.specs.Lines.{lines_of, text_of, empty_line, IsLineOfWords}
-use Rattle.text_lines.specs.LineLaws.{lines_of_one, lines_of-text_of, lines_some}
+use Rattle.text_in.specs.Lines.{lines_of, text_of, empty_line, IsLineOfWords}
+use Rattle.text_in.specs.LineLaws.{lines_of_one, lines_of-text_of, lines_some}
 use Rattle.section_text.specs.Words.{end_words, count_words, point_words}
 use Rattle.section_text.specs.WordLaws.{plain}
 use Rattle.section_text.specs.Format.{Format, IsLawful}

@@ -1,8 +1,8 @@
 -- What a format has of its own among the texts of sections.
 use Rattle.std.specs.Prelude.{ℕ, ◌≡◌, ◌≤◌, ◌<◌, ◌^◌, List, [], ◌∷◌, ◌++◌, length}
-use Rattle.spelled.specs.Words.{IsWord}
+use Rattle.text_in.specs.Words.{IsWord}
 use Rattle.points_in.specs.declared.point.Point.{Point}
-use Rattle.text_lines.specs.Lines.{IsLineOfWords}
+use Rattle.text_in.specs.Lines.{IsLineOfWords}
 use Rattle.section_text.specs.declared.fault.LineFault.{LineFault}
 
 -- X is an item, F a fault and V what is read.

@@ -1,7 +1,7 @@
 -- What a text comes to, line by line: a value, or its first fault.
 use Rattle.std.specs.Prelude.{ℕ, ◌≡◌, ◌≢◌, ◌+◌, ◌⊎◌, List, [], ◌∷◌, Result, Ok, Err}
 use Rattle.points_in.specs.declared.point.Point.{Point}
-use Rattle.text_lines.specs.Lines.{lines_of, empty_line}
+use Rattle.text_in.specs.Lines.{lines_of, empty_line}
 use Rattle.section_text.specs.declared.fault.LineFault.TheVariants.{BadLine}
 use Rattle.section_text.specs.Format.{Format}
 use Rattle.section_text.specs.Faults.{Told, nothing, ended, Passes, Fails}

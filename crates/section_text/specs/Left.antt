@@ -1,7 +1,7 @@
 -- What is left of a text, and what it comes to.
 use Rattle.std.specs.Prelude.{ℕ, zero, suc, ◌≡◌, ◌+◌, ◌<◌, ◌⊎◌, List, ◌∷◌, length, Result, Err}
 use Rattle.points_in.specs.declared.point.Point.{Point}
-use Rattle.text_lines.specs.Lines.{LinesLeft}
+use Rattle.text_in.specs.Lines.{LinesLeft}
 use Rattle.section_text.specs.Format.{Format}
 use Rattle.section_text.specs.Faults.{Told, points, ended}
 use Rattle.section_text.specs.Judged.{Judges}

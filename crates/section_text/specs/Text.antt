@@ -2,7 +2,7 @@
 use Rattle.std.specs.Prelude.{ℕ, ◌≡◌, ◌≤◌, List, [], ◌∷◌, ◌++◌, length, map}
 use Rattle.points_in.specs.declared.point.Point.{Point}
 use Rattle.points_in.specs.Points.{ArePoints}
-use Rattle.text_lines.specs.Lines.{text_of}
+use Rattle.text_in.specs.Lines.{text_of}
 use Rattle.section_text.specs.Format.{Format}
 use Rattle.section_text.specs.Words.{points_words, count_words, point_words, end_words}
 

@@ -3,7 +3,7 @@ use Rattle.std.specs.Prelude.{ℕ, ◌≢◌, ◌<◌, List, [], ◌∷◌, leng
 use Rattle.std.specs.List.{AllByRecursion}
 use Rattle.std.proofs.Common.{arith}
 use Rattle.std.proofs.lemmas.List.Elements.{All-nil, All-cons}
-use Rattle.spelled.specs.Words.{IsWord, Lacks}
+use Rattle.text_in.specs.Words.{IsWord, Lacks}
 
 -- bytes above the blank are a word
 lacks_low : (word : List ℕ) (low : ℕ) → low < 33 → AllByRecursion (λ b. 32 < b) word → Lacks word low

@@ -2,15 +2,15 @@
 
 ghost use Rattle.std.specs.Prelude.{◌≡◌, ◌≤◌, List, length, IfOk, IfErr, OnOk};
 ghost use Rattle.points_in.specs.declared.point.Point.{Point};
-ghost use Rattle.text_lines.specs.Lines.{words_of};
+ghost use Rattle.text_in.specs.Lines.{words_of};
 ghost use Rattle.section_text.specs.Format.{Format};
 ghost use Rattle.section_text.specs.Faults.{SpellsItem, FailsItem};
 
 use crate::fault::LineFault;
-use item_list::ItemList;
+use lists::ItemList;
 use points_in::Points;
 use std::alloc::{AllocError, Global};
-use text_lines::LineWords;
+use text_in::LineWords;
 
 /// A format of a text of two sections: a title, points, items that say something about the points, and an end.
 pub trait SectionFormat {

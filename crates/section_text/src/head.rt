@@ -10,7 +10,7 @@ use crate::fault::LineFault;
 use crate::format::SectionFormat;
 use crate::line::{count_behind, whole_line};
 use points_in::MAX_POINTS;
-use text_lines::TextLines;
+use text_in::TextLines;
 
 // Reads the title.
 pub(crate) fn read_title<S: SectionFormat>(text: &mut TextLines<'_>) -> Result<(), S::Fault>

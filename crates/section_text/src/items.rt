@@ -7,9 +7,9 @@ ghost use Rattle.section_text.specs.Left.{JudgesLeft, IsFaultLeft, LeadsTo};
 
 use crate::format::SectionFormat;
 use crate::line::whole_line;
-use item_list::ItemList;
+use lists::ItemList;
 use std::alloc::Global;
-use text_lines::TextLines;
+use text_in::TextLines;
 
 // Reads one more item.
 fn next_item<S: SectionFormat>(

@@ -7,7 +7,7 @@ ghost use Rattle.section_text.specs.Left.{TakesLine, IsOpen, JudgesLeft};
 
 use crate::fault::LineFault;
 use crate::format::SectionFormat;
-use text_lines::{LineWords, TextLines};
+use text_in::{LineWords, TextLines};
 
 // The words of the next line. An `Err` says that the text ends too soon.
 pub(crate) fn whole_line<'a, S: SectionFormat>(

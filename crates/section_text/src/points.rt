@@ -11,7 +11,7 @@ use crate::format::SectionFormat;
 use crate::line::whole_line;
 use points_in::{AddFault, Added, Point, Points};
 use std::alloc::Global;
-use text_lines::{LineWords, TextLines};
+use text_in::{LineWords, TextLines};
 
 // The point that the words spell.
 fn point_in(words: &mut LineWords<'_>) -> Option<Point>

@@ -10,7 +10,7 @@ use crate::head::{read_end, read_item_count, read_point_count, read_title};
 use crate::items::read_items;
 use crate::points::read_basis;
 use std::alloc::Global;
-use text_lines::TextLines;
+use text_in::TextLines;
 
 /// Reads a text of the format: its value, where the bytes spell one, or else its first fault. Want of memory may come
 /// anywhere.

@@ -2,15 +2,15 @@
 use Rattle.std.specs.Prelude.{ℕ, ◌≡◌, List, codes, Option, Result, Ok, Err}
 use Rattle.points_in.specs.declared.point.Point.{Point}
 use Rattle.points_in.specs.Terminals.{terminals_of}
-use Rattle.frame.specs.declared.status.AnswerStatus.TheVariants.{Done}
-use Rattle.frame.specs.declared.take.TheConstants.{TEXT_LIMIT}
-use Rattle.frame.specs.declared.points.ListFault.{ListFault}
-use Rattle.frame.specs.Outside.{Outside}
-use Rattle.frame.specs.Ends.{Print, Ends}
-use Rattle.frame.specs.FaultTexts.{list_fault_text, list_fault_status, text_fault_text, text_fault_status}
-use Rattle.frame.specs.FromText.{FromText}
-use Rattle.frame.specs.Leaves.{LeavesShelf}
-use Rattle.frame.specs.Points.{ListsPoints, IsListFault, grid_of_points}
+use Rattle.tool_frame.specs.declared.status.AnswerStatus.TheVariants.{Done}
+use Rattle.tool_frame.specs.declared.take.TheConstants.{TEXT_LIMIT}
+use Rattle.tool_frame.specs.declared.points.ListFault.{ListFault}
+use Rattle.tool_frame.specs.Outside.{Outside}
+use Rattle.tool_frame.specs.Ends.{Print, Ends}
+use Rattle.tool_frame.specs.FaultTexts.{list_fault_text, list_fault_status, text_fault_text, text_fault_status}
+use Rattle.tool_frame.specs.FromText.{FromText}
+use Rattle.tool_frame.specs.Leaves.{LeavesShelf}
+use Rattle.tool_frame.specs.Points.{ListsPoints, IsListFault, grid_of_points}
 use Rattle.slack_tools.specs.Bounds.{AreEdgeBounds}
 use Rattle.slack_tools.specs.Text.{slack_text}
 

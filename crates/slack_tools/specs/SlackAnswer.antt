@@ -3,10 +3,10 @@ use Rattle.std.specs.Prelude.{ℕ, ◌≡◌, List, length, Option, Result, Ok, 
 use Rattle.points_in.specs.declared.point.Point.{Point}
 use Rattle.points_in.specs.Terminals.{terminals_of}
 use Rattle.hanan_grid.specs.Grid.{hanan_grid_of}
-use Rattle.frame.specs.declared.status.AnswerStatus.{AnswerStatus}
-use Rattle.frame.specs.declared.status.AnswerStatus.TheVariants.{Done}
-use Rattle.frame.specs.declared.points.ListFault.{ListFault}
-use Rattle.frame.specs.Points.{ListsPoints, IsListFault}
+use Rattle.tool_frame.specs.declared.status.AnswerStatus.{AnswerStatus}
+use Rattle.tool_frame.specs.declared.status.AnswerStatus.TheVariants.{Done}
+use Rattle.tool_frame.specs.declared.points.ListFault.{ListFault}
+use Rattle.tool_frame.specs.Points.{ListsPoints, IsListFault}
 use Rattle.slack_tools.specs.declared.slack_answer.SlackAnswer.{SlackAnswer}
 use Rattle.slack_tools.specs.Bounds.{AreEdgeBounds}
 use Rattle.slack_tools.specs.Text.{slack_text}

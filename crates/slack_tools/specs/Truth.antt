@@ -8,8 +8,8 @@ use Rattle.points_in.specs.Text.{IsPointText}
 use Rattle.net_graph.specs.Network.{IsNetwork, length_of}
 use Rattle.net_graph.specs.Decision.{InRootPart}
 use Rattle.edge_slack.specs.EdgeBound.{IsEdgeBound}
-use Rattle.frame.specs.Outside.{Outside}
-use Rattle.frame.specs.Points.{grid_of_points}
+use Rattle.tool_frame.specs.Outside.{Outside}
+use Rattle.tool_frame.specs.Points.{grid_of_points}
 use Rattle.slack_tools.specs.Bounds.{AreEdgeBounds, BoundsEdge}
 use Rattle.slack_tools.specs.Text.{listed, slack_text}
 

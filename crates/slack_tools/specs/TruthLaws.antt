@@ -6,8 +6,8 @@ use Rattle.rst_outside.specs.Source.{CameToTheEnd}
 use Rattle.points_in.specs.declared.point.Point.{Point}
 use Rattle.points_in.specs.Terminals.{terminals_of}
 use Rattle.points_in.specs.Text.{IsPointText}
-use Rattle.frame.specs.Outside.{Outside}
-use Rattle.frame.specs.Points.{grid_of_points}
+use Rattle.tool_frame.specs.Outside.{Outside}
+use Rattle.tool_frame.specs.Points.{grid_of_points}
 use Rattle.slack_tools.specs.Bounds.{AreEdgeBounds, BoundsEdge}
 use Rattle.slack_tools.specs.ListedLaws.{listed-above, passing-from, unlisted-within}
 use Rattle.slack_tools.specs.Text.{is_above, listed, slack_text}

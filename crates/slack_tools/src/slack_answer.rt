@@ -3,9 +3,9 @@
 ghost use Rattle.slack_tools.specs.SlackAnswer.{answer_text, answer_status, HasEachBound};
 
 use crate::write::write_slack;
-use frame::{Answer, AnswerStatus};
 use hanan_grid::Grid;
 use rst_outside::{PutFault, Sink};
+use tool_frame::{Answer, AnswerStatus};
 
 /// A bound for each edge of a grid, of which those above a threshold are printed, or all where there is none.
 #[derive(Debug, Drop)]

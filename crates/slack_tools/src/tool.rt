@@ -2,18 +2,18 @@
 
 ghost use Rattle.std.specs.Prelude.{IfOk};
 ghost use Rattle.rst_outside.specs.Shelf.{ShelfState};
-ghost use Rattle.frame.specs.Outside.{outside, readable};
-ghost use Rattle.frame.specs.Taking.{TakesSome};
-ghost use Rattle.frame.specs.FromText.{FromText};
+ghost use Rattle.tool_frame.specs.Outside.{outside, readable};
+ghost use Rattle.tool_frame.specs.Taking.{TakesSome};
+ghost use Rattle.tool_frame.specs.FromText.{FromText};
 ghost use Rattle.slack_tools.specs.Slack.{EndsSlack};
 ghost use Rattle.slack_tools.specs.SlackAnswer.{FindsBounds, HasEachBound};
 
 use crate::bounds::edge_bounds;
 use crate::slack_answer::SlackAnswer;
-use frame::{ListFault, TEXT_LIMIT, TextFault, conclude, read_grid, take_input};
 use rst_outside::{Sink, Source};
 use search_rules::AscentRule;
 use std::alloc::{AllocError, Global};
+use tool_frame::{ListFault, TEXT_LIMIT, TextFault, conclude, read_grid, take_input};
 
 /// Runs `slack`: reads points from the input and prints for each edge of their grid a bound below which no network goes
 /// whose root part holds the edge; where `above` is a number, for exactly those edges whose bound is above it. The rule

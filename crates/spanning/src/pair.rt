@@ -1,6 +1,6 @@
 //! Pairs of numbers that may be joined, at a length.
 
-use item_list::ItemList;
+use lists::ItemList;
 
 /// A pair of numbers that a hop may lead between, either way, with its length.
 #[derive(Clone, Copy, Debug, PartialEq, Eq)]

@@ -1,6 +1,6 @@
 -- What is said of the faults of an STP file, and which of them pass a limit.
 use Rattle.std.specs.Prelude.{ℕ, Bool, true, false, List, ◌++◌, codes, decimal}
-use Rattle.format_fault.specs.Texts.{line_text}
+use Rattle.text_in.specs.Texts.{line_text}
 use Rattle.stp_format.specs.declared.fault.StpFault.{StpFault}
 use Rattle.stp_format.specs.declared.fault.StpFault.TheVariants.{NoMagic, BadLine, LeftOut, NodeOutOfRange, WrongCount, MissingSection, NoTerminals, NoCoordinates, TooManyPoints, Memory}
 use Rattle.stp_format.specs.declared.fault.StpSection.{StpSection}

@@ -4,9 +4,9 @@ ghost use Rattle.std.specs.Prelude.{◌≡◌};
 ghost use Rattle.text_out.specs.Gathers.{Gathers};
 ghost use Rattle.stp_format.specs.Said.{section_name, section_text, node_text, stp_fault_text, stp_passes_limit, IsMemory};
 
-use format_fault::{FormatFault, write_line};
 use rst_outside::Sink;
 use std::alloc::AllocError;
+use text_in::{FormatFault, write_line};
 use text_out::{Block, literal, number};
 
 /// A section of which a fault can speak.

@@ -7,7 +7,7 @@ ghost use Rattle.stp_format.specs.Value.{IsEdge, is_node, point_in, AreTerminals
 use crate::edge::StpEdge;
 use crate::graph::Graph;
 use crate::node_points::NodePoints;
-use item_list::ItemList;
+use lists::ItemList;
 use points_in::Point;
 use std::marker::Model;
 

@@ -16,7 +16,7 @@ use crate::line::{Line, told_line};
 use crate::lines::Lines;
 use crate::number::{count_in, weight_in};
 use crate::words::{is_keyword, no_word, three_words};
-use item_list::ItemList;
+use lists::ItemList;
 use std::alloc::Global;
 use std::marker::Model;
 

@@ -3,8 +3,8 @@
 ghost use Rattle.std.specs.Prelude.{◌≡◌, ◌+◌, ◌-◌, ◌==◌, ◌<◌, [], ◌∷◌, length, slice_index, IfSome, IfNone};
 ghost use Rattle.stp_format.specs.Lines.{lines_of, without_return};
 
-use spelled::split_line;
 use std::marker::Model;
+use text_in::split_line;
 
 /// The lines of a text that are left, and how many were taken.
 #[derive(Drop)]

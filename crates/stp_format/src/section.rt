@@ -14,7 +14,7 @@ use crate::lines::Lines;
 use crate::node_points::NodePoints;
 use crate::terminals::read_terminals;
 use crate::words::{is_keyword, no_word, one_word};
-use item_list::ItemList;
+use lists::ItemList;
 use std::alloc::Global;
 use std::marker::Model;
 

@@ -13,7 +13,7 @@ use crate::fault::{StpFault, StpSection};
 use crate::line::{Line, told_line};
 use crate::lines::Lines;
 use crate::words::{is_keyword, no_word};
-use item_list::ItemList;
+use lists::ItemList;
 use std::alloc::Global;
 
 // Whether a line of the section is left out by its keyword.

@@ -2,11 +2,11 @@
 use Rattle.std.specs.Prelude.{ℕ, ◌≡◌, Bool, true, false, not, List, length, Option, Some, None, Ok, ◌⊎◌}
 use Rattle.rst_outside.specs.Counts.{Rose}
 use Rattle.points_in.specs.declared.point.Point.{Point}
-use Rattle.frame.specs.declared.status.TheConstants.{MISUSED, NO_MEMORY}
-use Rattle.frame.specs.declared.take.TheConstants.{TEXT_LIMIT}
-use Rattle.frame.specs.Outside.{Outside}
-use Rattle.frame.specs.Complete.{HasInput, HasFile}
-use Rattle.frame.specs.Points.{ListsPoints, grid_of_points}
+use Rattle.tool_frame.specs.declared.status.TheConstants.{MISUSED, NO_MEMORY}
+use Rattle.tool_frame.specs.declared.take.TheConstants.{TEXT_LIMIT}
+use Rattle.tool_frame.specs.Outside.{Outside}
+use Rattle.tool_frame.specs.Complete.{HasInput, HasFile}
+use Rattle.tool_frame.specs.Points.{ListsPoints, grid_of_points}
 use Rattle.cert_check.specs.Accepted.{IsAccepted}
 use Rattle.judge_tools.specs.declared.judge.TheConstants.{ANSWER_LIMIT}
 use Rattle.judge_tools.specs.declared.upgrading.TheConstants.{UPGRADE_LIMIT}
@@ -16,13 +16,13 @@ use Rattle.concatenation.specs.Concatenation.{IsConcatenation, all_of}
 use Rattle.fst_gen.specs.Trees.{HasMoreSets}
 use Rattle.point_tools.specs.StpPoints.{LocatesPoints}
 use Rattle.tree_inputs.specs.Generation.{most_members}
-use Rattle.trial_tools.specs.Trial.{drawn_terminals}
+use Rattle.search_tools.specs.Trial.{drawn_terminals}
 use Rattle.fst_file.specs.Value.{FstValue}
 use Rattle.fst_file.specs.Text.{SpellsFstFile}
 use Rattle.requests.specs.Requests.{Request}
 use Rattle.stp_format.specs.Value.{StpValue}
 use Rattle.graph_tools.specs.declared.checking.TheConstants.{GRAPH_ANSWER_LIMIT}
-use Rattle.graph_inputs.specs.Reading.{IsTaskText}
+use Rattle.graph_tools.specs.Reading.{IsTaskText}
 use Rattle.obstacles_in.specs.Obstacles.{ObstaclesValue}
 use Rattle.obstacle_tools.specs.Reading.{IsTaskText as IsAroundText}
 use Rattle.requests.specs.Requests.Request.{Points, Stp2points, Rfst, Prunefst, Bb, Solve, Check, Dumpfst, Fst2graph, Plot}

@@ -9,15 +9,15 @@ use Rattle.fst_file.specs.Value.{FstValue}
 use Rattle.fst_file.specs.Text.{SpellsFstFile}
 use Rattle.fst_gen.specs.Trees.{AreTreesOf}
 use Rattle.fst_prune.specs.Kept.{AreKeptTrees}
-use Rattle.frame.specs.Outside.{Outside}
+use Rattle.tool_frame.specs.Outside.{Outside}
 use Rattle.search_tools.specs.Truth.{SearchesTruly}
 use Rattle.judge_tools.specs.Truth.{ChecksTruly}
 use Rattle.requests.specs.Requests.{Request}
-use Rattle.trial_tools.specs.Truth.{TriesTruly}
+use Rattle.search_tools.specs.TrialTruth.{TriesTruly}
 use Rattle.slack_tools.specs.Truth.{BoundsTruly}
 use Rattle.stp_format.specs.Value.{StpValue}
 use Rattle.graph_solve.specs.Task.{graph_of_stp}
-use Rattle.graph_inputs.specs.Reading.{IsTaskText}
+use Rattle.graph_tools.specs.Reading.{IsTaskText}
 use Rattle.graph_tools.specs.Truth.{ChecksGraphTruly, SolvesTruly}
 use Rattle.graph_tools.specs.ReduceTruth.{ReducesTruly}
 use Rattle.obstacle_tools.specs.Truth.{ObstaclesTruly}

@@ -1,8 +1,8 @@
 -- A run of the program.
 use Rattle.std.specs.Prelude.{ℕ, ◌≡◌, List, ◌++◌, codes, Option, Some, None, ◌⊎◌}
-use Rattle.frame.specs.declared.status.TheConstants.{MISUSED, NO_MEMORY}
-use Rattle.frame.specs.Outside.{Outside}
-use Rattle.frame.specs.Ends.{Reports, no_memory_line}
+use Rattle.tool_frame.specs.declared.status.TheConstants.{MISUSED, NO_MEMORY}
+use Rattle.tool_frame.specs.Outside.{Outside}
+use Rattle.tool_frame.specs.Ends.{Reports, no_memory_line}
 use Rattle.search_tools.specs.Build.{EndsBb}
 use Rattle.search_tools.specs.Solve.{EndsSolve}
 use Rattle.judge_tools.specs.Check.{EndsCheck}
@@ -14,7 +14,7 @@ use Rattle.tree_tools.specs.Dump.{EndsDumpfst}
 use Rattle.tree_tools.specs.Graph.{EndsFst2graph}
 use Rattle.tree_tools.specs.Generation.{EndsRfst}
 use Rattle.tree_tools.specs.Pruning.{EndsPrunefst}
-use Rattle.trial_tools.specs.Trial.{EndsTrial}
+use Rattle.search_tools.specs.Trial.{EndsTrial}
 use Rattle.slack_tools.specs.Slack.{EndsSlack}
 use Rattle.graph_tools.specs.Solve.{EndsGraph}
 use Rattle.graph_tools.specs.Check.{EndsCheckgraph}

@@ -1,28 +1,26 @@
 //! The top call.
 
 ghost use Rattle.std.specs.Prelude.{IfSome, map, option_map, string_bytes};
-ghost use Rattle.frame.specs.Outside.{outside};
+ghost use Rattle.tool_frame.specs.Outside.{outside};
 ghost use Rattle.requests.specs.Requests.{request_of, meaning, IsWithinLimits};
 ghost use Rattle.suite.specs.Run.{EndsAsAsked, IsRun};
 ghost use Rattle.suite.specs.Headlines.{TellsTruly};
 ghost use Rattle.suite.specs.Complete.{Completes};
 
 use crate::laws::trial_is_solve;
-use frame::{MISUSED, NO_MEMORY, report};
-use graph_inputs::task_has_no_fault;
-use graph_tools::{checkgraph, graph, reduce};
+use graph_tools::{checkgraph, graph, reduce, task_has_no_fault};
 use judge_tools::{check, plot, upgrade};
 use obstacle_grid::{graphs_are_read_back, no_edge_crosses};
 use obstacle_tools::{around_has_no_fault, obstacles};
 use point_tools::{located_has_no_fault, points, stp2points};
 use requests::{Request, request_in};
 use rst_outside::{Shelf, Sink, Source};
-use search_tools::{bb, solve};
+use search_tools::{bb, solve, trial};
 use slack_tools::slack;
 use std::alloc::{AllocError, Global};
+use tool_frame::{MISUSED, NO_MEMORY, report};
 use tree_inputs::spelled_has_no_fault;
 use tree_tools::{dumpfst, fst2graph, prunefst, rfst};
-use trial_tools::trial;
 
 /// What is said where the words ask for no tool.
 const USAGE_LINE: &[u8] =

@@ -4,7 +4,6 @@ ghost use Rattle.std.specs.Prelude.{◌≤◌, length};
 ghost use Rattle.net_graph.specs.Network.{IsNetwork};
 ghost use Rattle.graph_solve.specs.Task.{all_edges};
 
-use format_fault::FormatFault;
 use graph_calls::told::tell_edges;
 use graph_solve::{TaskFault, check_graph, first_network, graph_of};
 use net_graph::{NetGraph, length};
@@ -12,6 +11,7 @@ use row_tables::{Call, Fault};
 use std::alloc::Global;
 use stp_format::{StpFile, read_stp};
 use text_calls::given::said_of;
+use text_in::FormatFault;
 
 /// The fault of the STP file under `file` as a Steiner problem; or its graph, as rows describe graphs. The file may
 /// stand in several pieces, one behind the other.

@@ -2,11 +2,11 @@
 
 ghost use Rattle.std.specs.Prelude.{◌≤◌, IfOk};
 
-use format_fault::FormatFault;
 use row_tables::{Call, Fault, count};
 use rst_outside::{MemSink, MemSource};
 use std::alloc::Global;
 use std::str::from_utf8;
+use text_in::FormatFault;
 use text_out::{Block, finish};
 
 /// How many bytes a sink takes where the row doesn't say it.

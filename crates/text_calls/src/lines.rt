@@ -2,8 +2,7 @@
 
 use crate::given::shown;
 use row_tables::{Call, Fault};
-use spelled::{signed_spelled, unsigned_spelled};
-use text_lines::{LineWords, TextLines};
+use text_in::{LineWords, TextLines, signed_spelled, unsigned_spelled};
 
 /// The lines of the text under `bytes` by their numbers, the words of each with the numbers that they spell, and the
 /// number of the line where no whole one is left.

@@ -5,8 +5,8 @@ use Rattle.fst_file.specs.Value.{FstValue}
 use Rattle.fst_file.specs.Text.{SpellsFstFile}
 use Rattle.fst_file.specs.Judged.{IsFirstFault}
 use Rattle.fst_file.specs.Said.{fst_passes_limit, IsMemory}
-use Rattle.frame.specs.declared.status.FaultStatus.{FaultStatus}
-use Rattle.frame.specs.FaultTexts.{format_fault_status}
+use Rattle.tool_frame.specs.declared.status.FaultStatus.{FaultStatus}
+use Rattle.tool_frame.specs.FaultTexts.{format_fault_status}
 
 -- The file that the bytes spell; or their first fault, which is no want of memory.
 abbrev pub ReadsFst : List ℕ → Result FstValue FstFault → Type 0

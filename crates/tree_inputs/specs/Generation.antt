@@ -6,7 +6,7 @@ use Rattle.fst_file.specs.Value.{FstValue}
 use Rattle.full_tree.specs.declared.code.Tree.{Tree}
 use Rattle.fst_gen.specs.Trees.{AreTreesOf, HasMoreSets}
 use Rattle.fst_gen.specs.Joins.{JoinsAll}
-use Rattle.frame.specs.Points.{ListsPoints, IsListFault}
+use Rattle.tool_frame.specs.Points.{ListsPoints, IsListFault}
 use Rattle.tree_inputs.specs.declared.generation_fault.GenerationFault.{GenerationFault}
 use Rattle.tree_inputs.specs.declared.generation_fault.GenerationFault.TheVariants.{List as InList, TooManyTrees}
 

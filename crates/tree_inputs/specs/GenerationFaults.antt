@@ -1,8 +1,8 @@
 -- What is said where points give no file of trees, and the statuses that this ends with.
 use Rattle.std.specs.Prelude.{ℕ, List, codes}
-use Rattle.frame.specs.declared.status.FaultStatus.{FaultStatus}
-use Rattle.frame.specs.declared.status.FaultStatus.TheVariants.{TooLarge}
-use Rattle.frame.specs.FaultTexts.{list_fault_text, list_fault_status}
+use Rattle.tool_frame.specs.declared.status.FaultStatus.{FaultStatus}
+use Rattle.tool_frame.specs.declared.status.FaultStatus.TheVariants.{TooLarge}
+use Rattle.tool_frame.specs.FaultTexts.{list_fault_text, list_fault_status}
 use Rattle.tree_inputs.specs.declared.generation_fault.GenerationFault.{GenerationFault}
 use Rattle.tree_inputs.specs.declared.generation_fault.GenerationFault.TheVariants.{List as InList, TooManyTrees}
 

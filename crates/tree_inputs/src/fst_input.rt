@@ -2,15 +2,15 @@
 
 ghost use Rattle.std.specs.Prelude.{IfOk};
 ghost use Rattle.rst_outside.specs.Shelf.{ShelfState};
-ghost use Rattle.frame.specs.Outside.{readable};
-ghost use Rattle.frame.specs.Taking.{TakesSome};
-ghost use Rattle.frame.specs.FromText.{FromText};
+ghost use Rattle.tool_frame.specs.Outside.{readable};
+ghost use Rattle.tool_frame.specs.Taking.{TakesSome};
+ghost use Rattle.tool_frame.specs.FromText.{FromText};
 ghost use Rattle.tree_inputs.specs.Files.{ReadsFst};
 
-use frame::{TEXT_LIMIT, TextFault, apart, take_input};
 use fst_file::{FstFault, FstFile, read_file};
 use rst_outside::Source;
 use std::alloc::{AllocError, Global};
+use tool_frame::{TEXT_LIMIT, TextFault, apart, take_input};
 
 /// The file of full trees that the input spells; or why it spells none. An `Err` is want of memory.
 pub fn take_fst<I: Source>(

@@ -2,19 +2,19 @@
 
 ghost use Rattle.std.specs.Prelude.{◌≤◌, IfOk};
 ghost use Rattle.rst_outside.specs.Shelf.{ShelfState};
-ghost use Rattle.frame.specs.Outside.{readable};
-ghost use Rattle.frame.specs.Taking.{TakesSome};
-ghost use Rattle.frame.specs.FromText.{FromText};
+ghost use Rattle.tool_frame.specs.Outside.{readable};
+ghost use Rattle.tool_frame.specs.Taking.{TakesSome};
+ghost use Rattle.tool_frame.specs.FromText.{FromText};
 ghost use Rattle.tree_inputs.specs.Generation.{GeneratesFst, GeneratesTrees};
 
 use crate::generation_fault::GenerationFault;
-use frame::{TEXT_LIMIT, TextFault, read_grid, take_input};
 use fst_file::FstFile;
 use fst_gen::{GenFault, generate};
 use full_tree::lengths_are_within_the_grid;
 use hanan_grid::Grid;
 use rst_outside::Source;
 use std::alloc::{AllocError, Global};
+use tool_frame::{TEXT_LIMIT, TextFault, read_grid, take_input};
 
 /// How many members a generated tree has at most, where no word asks for another number.
 pub const MOST_MEMBERS: u8 = 6;

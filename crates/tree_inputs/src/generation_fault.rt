@@ -3,9 +3,9 @@
 ghost use Rattle.text_out.specs.Gathers.{Gathers};
 ghost use Rattle.tree_inputs.specs.GenerationFaults.{generation_fault_text, generation_fault_status};
 
-use frame::{Fault, FaultStatus, ListFault};
 use rst_outside::Sink;
 use text_out::{Block, literal};
+use tool_frame::{Fault, FaultStatus, ListFault};
 
 /// Why a text gives no file of full trees of its points.
 #[derive(Clone, Copy, Debug, PartialEq, Eq)]

@@ -3,7 +3,7 @@
 ghost use Rattle.std.specs.Prelude.{◌≡◌, ◌<◌, ◌≤◌, ◌↔◌, IsTrue, IfOk, length, replicate, slice_index, slice_set};
 ghost use Rattle.tree_judge.specs.ArcLoads.{both_loads, no_loads};
 
-use number_row::Row;
+use lists::Row;
 use std::alloc::{AllocError, Global};
 use std::marker::Model;
 

@@ -3,8 +3,8 @@
 ghost use Rattle.std.specs.Prelude.{◌≡◌, ◌≤◌, length, IfSome, IfNone, IfOk};
 ghost use Rattle.net_graph.specs.Network.{IsNetwork, IsFirstApart};
 
+use lists::Row;
 use net_graph::{EdgeSet, NetGraph, first_apart_within};
-use number_row::Row;
 use std::alloc::{AllocError, Global};
 use std::marker::Model;
 

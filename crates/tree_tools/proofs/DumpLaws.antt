@@ -1,11 +1,11 @@
 -- From the file that was read to the list that is printed.
 use Rattle.std.proofs.Common.{Bool, Result, Ok, Err, IfOk, ap}
-use Rattle.frame.specs.declared.take.TheConstants.{TEXT_LIMIT}
-use Rattle.frame.specs.declared.text_fault.TextFault.{TextFault}
-use Rattle.frame.specs.declared.text_fault.TextFault.TheVariants.{Input, Text}
-use Rattle.frame.specs.Outside.{Readable}
-use Rattle.frame.specs.Ends.{print_of}
-use Rattle.frame.specs.FromText.{FromText}
+use Rattle.tool_frame.specs.declared.take.TheConstants.{TEXT_LIMIT}
+use Rattle.tool_frame.specs.declared.text_fault.TextFault.{TextFault}
+use Rattle.tool_frame.specs.declared.text_fault.TextFault.TheVariants.{Input, Text}
+use Rattle.tool_frame.specs.Outside.{Readable}
+use Rattle.tool_frame.specs.Ends.{print_of}
+use Rattle.tool_frame.specs.FromText.{FromText}
 use Rattle.fst_file.specs.declared.fault.FstFault.{FstFault}
 use Rattle.tree_tools.specs.declared.listing.Listing.{Listing}
 use Rattle.tree_tools.specs.Dump.{Dumps, dump_print}

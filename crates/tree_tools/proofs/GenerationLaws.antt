@@ -1,12 +1,12 @@
 -- From the file that was found to what is due to the text.
 use Rattle.std.proofs.Common.{ℕ, Result, Ok, Err, IfOk, subst, ap}
 use Rattle.fst_file.specs.Value.{FstValue}
-use Rattle.frame.specs.declared.take.TheConstants.{TEXT_LIMIT}
-use Rattle.frame.specs.declared.text_fault.TextFault.{TextFault}
-use Rattle.frame.specs.declared.text_fault.TextFault.TheVariants.{Input, Text}
-use Rattle.frame.specs.Outside.{Readable}
-use Rattle.frame.specs.Ends.{print_of}
-use Rattle.frame.specs.FromText.{FromText}
+use Rattle.tool_frame.specs.declared.take.TheConstants.{TEXT_LIMIT}
+use Rattle.tool_frame.specs.declared.text_fault.TextFault.{TextFault}
+use Rattle.tool_frame.specs.declared.text_fault.TextFault.TheVariants.{Input, Text}
+use Rattle.tool_frame.specs.Outside.{Readable}
+use Rattle.tool_frame.specs.Ends.{print_of}
+use Rattle.tool_frame.specs.FromText.{FromText}
 use Rattle.tree_inputs.specs.declared.generation_fault.GenerationFault.{GenerationFault}
 use Rattle.tree_inputs.specs.declared.generation_fault.GenerationFault.TheVariants.{List as InList, TooManyTrees}
 use Rattle.tree_inputs.specs.Generation.{IsTreeList, GeneratesFst}

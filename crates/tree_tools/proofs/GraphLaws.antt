@@ -1,11 +1,11 @@
 -- From the file that was read to the grid that is printed.
 use Rattle.std.proofs.Common.{Result, Ok, Err, IfOk, refl}
-use Rattle.frame.specs.declared.take.TheConstants.{TEXT_LIMIT}
-use Rattle.frame.specs.declared.text_fault.TextFault.{TextFault}
-use Rattle.frame.specs.declared.text_fault.TextFault.TheVariants.{Input, Text}
-use Rattle.frame.specs.Outside.{Readable}
-use Rattle.frame.specs.Ends.{print_of}
-use Rattle.frame.specs.FromText.{FromText}
+use Rattle.tool_frame.specs.declared.take.TheConstants.{TEXT_LIMIT}
+use Rattle.tool_frame.specs.declared.text_fault.TextFault.{TextFault}
+use Rattle.tool_frame.specs.declared.text_fault.TextFault.TheVariants.{Input, Text}
+use Rattle.tool_frame.specs.Outside.{Readable}
+use Rattle.tool_frame.specs.Ends.{print_of}
+use Rattle.tool_frame.specs.FromText.{FromText}
 use Rattle.fst_file.specs.declared.fault.FstFault.{FstFault}
 use Rattle.tree_tools.specs.declared.graph_answer.GraphAnswer.{GraphAnswer}
 use Rattle.tree_tools.specs.Graph.{GraphsFile}

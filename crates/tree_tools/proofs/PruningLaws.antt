@@ -1,12 +1,12 @@
 -- From the file that was pruned to what is due to the text.
 use Rattle.std.proofs.Common.{Result, Ok, Err, IfOk, ap}
 use Rattle.fst_file.specs.Value.{FstValue}
-use Rattle.frame.specs.declared.take.TheConstants.{TEXT_LIMIT}
-use Rattle.frame.specs.declared.text_fault.TextFault.{TextFault}
-use Rattle.frame.specs.declared.text_fault.TextFault.TheVariants.{Input, Text}
-use Rattle.frame.specs.Outside.{Readable}
-use Rattle.frame.specs.Ends.{print_of}
-use Rattle.frame.specs.FromText.{FromText}
+use Rattle.tool_frame.specs.declared.take.TheConstants.{TEXT_LIMIT}
+use Rattle.tool_frame.specs.declared.text_fault.TextFault.{TextFault}
+use Rattle.tool_frame.specs.declared.text_fault.TextFault.TheVariants.{Input, Text}
+use Rattle.tool_frame.specs.Outside.{Readable}
+use Rattle.tool_frame.specs.Ends.{print_of}
+use Rattle.tool_frame.specs.FromText.{FromText}
 use Rattle.fst_file.specs.declared.fault.FstFault.{FstFault}
 use Rattle.tree_tools.specs.declared.file_answer.FileAnswer.{FileAnswer}
 use Rattle.tree_tools.specs.Generation.{fst_print}

@@ -2,14 +2,14 @@
 use Rattle.std.specs.Prelude.{ℕ, ◌≡◌, Bool, List, codes, Result, Ok, Err}
 use Rattle.fst_file.specs.Value.{FstValue}
 use Rattle.fst_file.specs.Text.{SpellsFstFile}
-use Rattle.dump_plot.specs.Trees.{tree_list_text}
-use Rattle.frame.specs.declared.status.AnswerStatus.TheVariants.{Done}
-use Rattle.frame.specs.declared.take.TheConstants.{TEXT_LIMIT}
-use Rattle.frame.specs.Outside.{Outside}
-use Rattle.frame.specs.Ends.{Print, Ends}
-use Rattle.frame.specs.FaultTexts.{text_fault_text, text_fault_status}
-use Rattle.frame.specs.FromText.{FromText}
-use Rattle.frame.specs.Leaves.{LeavesShelf}
+use Rattle.printed_texts.specs.Trees.{tree_list_text}
+use Rattle.tool_frame.specs.declared.status.AnswerStatus.TheVariants.{Done}
+use Rattle.tool_frame.specs.declared.take.TheConstants.{TEXT_LIMIT}
+use Rattle.tool_frame.specs.Outside.{Outside}
+use Rattle.tool_frame.specs.Ends.{Print, Ends}
+use Rattle.tool_frame.specs.FaultTexts.{text_fault_text, text_fault_status}
+use Rattle.tool_frame.specs.FromText.{FromText}
+use Rattle.tool_frame.specs.Leaves.{LeavesShelf}
 use Rattle.fst_file.specs.declared.fault.FstFault.{FstFault}
 use Rattle.fst_file.specs.Said.{fst_fault_text}
 use Rattle.tree_inputs.specs.Files.{ReadsFst, fst_fault_status}

@@ -1,12 +1,12 @@
 -- The grid of a file's points, as an answer of a tool.
 use Rattle.std.specs.Prelude.{ℕ, List, Result, Ok, Err}
-use Rattle.dump_plot.specs.Grid.{grid_stp_text}
-use Rattle.frame.specs.declared.status.AnswerStatus.{AnswerStatus}
-use Rattle.frame.specs.declared.status.AnswerStatus.TheVariants.{Done}
-use Rattle.frame.specs.declared.take.TheConstants.{TEXT_LIMIT}
-use Rattle.frame.specs.declared.text_fault.TextFault.{TextFault}
-use Rattle.frame.specs.Outside.{Readable}
-use Rattle.frame.specs.FromText.{FromText}
+use Rattle.printed_texts.specs.Grid.{grid_stp_text}
+use Rattle.tool_frame.specs.declared.status.AnswerStatus.{AnswerStatus}
+use Rattle.tool_frame.specs.declared.status.AnswerStatus.TheVariants.{Done}
+use Rattle.tool_frame.specs.declared.take.TheConstants.{TEXT_LIMIT}
+use Rattle.tool_frame.specs.declared.text_fault.TextFault.{TextFault}
+use Rattle.tool_frame.specs.Outside.{Readable}
+use Rattle.tool_frame.specs.FromText.{FromText}
 use Rattle.fst_file.specs.declared.fault.FstFault.{FstFault}
 use Rattle.tree_inputs.specs.Files.{ReadsFst}
 use Rattle.tree_tools.specs.declared.graph_answer.GraphAnswer.{GraphAnswer}

@@ -4,12 +4,12 @@ use Rattle.full_tree.specs.declared.code.Tree.{Tree}
 use Rattle.fst_file.specs.Value.{FstValue}
 use Rattle.fst_file.specs.Text.{SpellsFstFile}
 use Rattle.fst_prune.specs.Kept.{AreKeptTrees}
-use Rattle.frame.specs.declared.take.TheConstants.{TEXT_LIMIT}
-use Rattle.frame.specs.Outside.{Outside}
-use Rattle.frame.specs.Ends.{Print, Ends}
-use Rattle.frame.specs.FaultTexts.{text_fault_text, text_fault_status}
-use Rattle.frame.specs.FromText.{FromText}
-use Rattle.frame.specs.Leaves.{LeavesShelf}
+use Rattle.tool_frame.specs.declared.take.TheConstants.{TEXT_LIMIT}
+use Rattle.tool_frame.specs.Outside.{Outside}
+use Rattle.tool_frame.specs.Ends.{Print, Ends}
+use Rattle.tool_frame.specs.FaultTexts.{text_fault_text, text_fault_status}
+use Rattle.tool_frame.specs.FromText.{FromText}
+use Rattle.tool_frame.specs.Leaves.{LeavesShelf}
 use Rattle.tree_tools.specs.declared.file_answer.FileAnswer.{FileAnswer}
 use Rattle.fst_file.specs.declared.fault.FstFault.{FstFault}
 use Rattle.fst_file.specs.Said.{fst_fault_text}

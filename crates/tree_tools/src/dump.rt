@@ -2,16 +2,16 @@
 
 ghost use Rattle.std.specs.Prelude.{IfOk};
 ghost use Rattle.rst_outside.specs.Shelf.{ShelfState};
-ghost use Rattle.frame.specs.Outside.{outside, readable};
-ghost use Rattle.frame.specs.Taking.{TakesSome};
+ghost use Rattle.tool_frame.specs.Outside.{outside, readable};
+ghost use Rattle.tool_frame.specs.Taking.{TakesSome};
 ghost use Rattle.tree_tools.specs.Dump.{EndsDumpfst};
 ghost use Rattle.tree_tools.specs.Listing.{FindsListing};
 
 use crate::listing::Listing;
-use frame::{TextFault, conclude};
 use fst_file::FstFault;
 use rst_outside::{Sink, Source};
 use std::alloc::{AllocError, Global};
+use tool_frame::{TextFault, conclude};
 use tree_inputs::take_fst;
 
 /// Runs `dumpfst`: reads a file of full trees from the input and prints its trees, each with its members and its

@@ -2,9 +2,9 @@
 
 ghost use Rattle.tree_tools.specs.FileAnswer.{file_text, file_status, IsWritable};
 
-use frame::{Answer, AnswerStatus};
 use fst_file::{FstFile, write_file};
 use rst_outside::{PutFault, Sink};
+use tool_frame::{Answer, AnswerStatus};
 
 /// A file of full trees that a tool prints.
 #[derive(Debug, Drop)]

@@ -2,10 +2,10 @@
 
 ghost use Rattle.tree_tools.specs.GraphAnswer.{graph_answer_text, graph_answer_status, HasGrid};
 
-use dump_plot::grid_as_stp;
-use frame::{Answer, AnswerStatus};
 use fst_file::FstFile;
+use printed_texts::grid_as_stp;
 use rst_outside::{PutFault, Sink};
+use tool_frame::{Answer, AnswerStatus};
 
 /// A file of full trees, of whose points a tool prints the grid.
 #[derive(Debug, Drop)]

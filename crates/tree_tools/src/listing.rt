@@ -2,10 +2,10 @@
 
 ghost use Rattle.tree_tools.specs.Listing.{listing_text, listing_status, IsAnything};
 
-use dump_plot::dump_trees;
-use frame::{Answer, AnswerStatus};
 use fst_file::FstFile;
+use printed_texts::dump_trees;
 use rst_outside::{PutFault, Sink};
+use tool_frame::{Answer, AnswerStatus};
 
 /// The list of a file's trees, with or without their pieces.
 #[derive(Debug, Drop)]

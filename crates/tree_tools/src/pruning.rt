@@ -2,16 +2,16 @@
 
 ghost use Rattle.std.specs.Prelude.{IfOk};
 ghost use Rattle.rst_outside.specs.Shelf.{ShelfState};
-ghost use Rattle.frame.specs.Outside.{outside, readable};
-ghost use Rattle.frame.specs.Taking.{TakesSome};
-ghost use Rattle.frame.specs.FromText.{FromText};
+ghost use Rattle.tool_frame.specs.Outside.{outside, readable};
+ghost use Rattle.tool_frame.specs.Taking.{TakesSome};
+ghost use Rattle.tool_frame.specs.FromText.{FromText};
 ghost use Rattle.tree_tools.specs.Pruning.{EndsPrunefst, FindsPruned};
 
 use crate::file_answer::FileAnswer;
-use frame::{TEXT_LIMIT, TextFault, conclude};
 use fst_file::FstFault;
 use rst_outside::{Sink, Source};
 use std::alloc::{AllocError, Global};
+use tool_frame::{TEXT_LIMIT, TextFault, conclude};
 use tree_inputs::{pruned, take_fst};
 
 /// Runs `prunefst`: reads a file of full trees from the input and prints the file of the same points and of the trees

@@ -8,10 +8,10 @@ use Rattle.cert_check.specs.Named.{Named}
 use Rattle.cert_check.specs.Rulings.{verdict_of}
 use Rattle.cert_check.specs.Verdicts.{IsVerdictIn, byte_limit}
 use Rattle.cert_check.specs.Accepted.{AcceptsAsIn, IsAcceptedIn, IsAccepting}
-use Rattle.frame.specs.declared.take.InputFault.{InputFault}
-use Rattle.frame.specs.declared.take.InputFault.TheVariants.{TooLong}
-use Rattle.frame.specs.Taking.{IsWholeInput, IsInputFault}
-use Rattle.verdict_line.specs.declared.judging.Judged.{Judged}
+use Rattle.tool_frame.specs.declared.take.InputFault.{InputFault}
+use Rattle.tool_frame.specs.declared.take.InputFault.TheVariants.{TooLong}
+use Rattle.tool_frame.specs.Taking.{IsWholeInput, IsInputFault}
+use Rattle.verdict_line.specs.declared.judged_input.Judged.{Judged}
 
 -- The verdict on bytes, with what follows of it: of bytes that aren't too many it accepts exactly those that should be
 -- accepted, it says what the answer says, and no network of the graph is shorter than the bound.

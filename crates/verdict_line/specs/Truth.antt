@@ -4,7 +4,7 @@ use Rattle.rst_outside.specs.Sink.{SinkState, Appended}
 use Rattle.net_graph.specs.Network.{IsLowerBound, IsShortest}
 use Rattle.cert_tree.specs.declared.split.SplitOn.{SplitOn}
 use Rattle.cert_tree.specs.Tree.{Tree}
-use Rattle.cut_cert.specs.Value.{WrittenAnswer}
+use Rattle.answer_text.specs.Value.{WrittenAnswer}
 use Rattle.cert_check.specs.Named.{Named}
 use Rattle.cert_check.specs.Accepted.{AcceptsIn, IsAcceptedIn}
 use Rattle.verdict_line.specs.Verdicts.{accepted_line}

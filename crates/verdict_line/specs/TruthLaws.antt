@@ -10,7 +10,7 @@ use Rattle.cert_check.specs.Rulings.{verdict_of}
 use Rattle.cert_check.specs.Verdicts.{byte_limit}
 use Rattle.cert_check.specs.Accepted.{IsAccepting}
 use Rattle.cert_check.specs.AcceptedLaws.{shortest_where_optimal}
-use Rattle.frame.specs.Statuses.{answer_code}
+use Rattle.tool_frame.specs.Statuses.{answer_code}
 use Rattle.verdict_line.specs.declared.counting.Counting.{Counting}
 use Rattle.verdict_line.specs.Judging.{JudgesBytes}
 use Rattle.verdict_line.specs.Truth.{JudgesTruly}

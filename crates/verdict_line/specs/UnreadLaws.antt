@@ -1,12 +1,12 @@
 -- What a tool leaves untouched where memory is wanting.
 use Rattle.std.proofs.Common.{ℕ, ◌≡◌, List, Some, None, Result, Ok, Err}
 use Rattle.std.specs.Prelude.{OnErr}
-use Rattle.frame.specs.declared.status.AnswerStatus.{AnswerStatus}
-use Rattle.frame.specs.declared.status.FaultStatus.{FaultStatus}
-use Rattle.frame.specs.declared.status.TheConstants.{NO_MEMORY}
-use Rattle.frame.specs.Outside.{Writable}
-use Rattle.frame.specs.Ends.{Concludes, print_of, prints_of}
-use Rattle.frame.specs.EndLaws.{nothing_found}
+use Rattle.tool_frame.specs.declared.status.AnswerStatus.{AnswerStatus}
+use Rattle.tool_frame.specs.declared.status.FaultStatus.{FaultStatus}
+use Rattle.tool_frame.specs.declared.status.TheConstants.{NO_MEMORY}
+use Rattle.tool_frame.specs.Outside.{Writable}
+use Rattle.tool_frame.specs.Ends.{Concludes, print_of, prints_of}
+use Rattle.tool_frame.specs.EndLaws.{nothing_found}
 
 -- What holds where the tool found nothing holds where memory was wanting.
 pub without_memory : {A : Type 0} {F : Type 0} {E : Type 0} (text : A → List ℕ) (answer_status : A → AnswerStatus)

@@ -1,13 +1,13 @@
 -- The line that tells a verdict, and the status that the tool ends with.
 use Rattle.std.specs.Prelude.{ℕ, ◌+◌, Bool, List, ◌++◌, codes, decimal}
-use Rattle.cut_cert.specs.Text.{status_word}
+use Rattle.answer_text.specs.Text.{status_word}
 use Rattle.tree_judge.specs.declared.cause.Cause.{Cause}
 use Rattle.tree_judge.specs.declared.cause.Cause.TheVariants.{NotAnswer, OffGrid, OffGridVertex, EdgeOrder, NotJoined, WrongLength, Decided, DecidedVertex, TooDeep, RootInCut, IdleCut, Overload, WrongBound, WrongStatus}
 use Rattle.cert_check.specs.declared.verdict.Ruling.{Ruling}
 use Rattle.cert_check.specs.declared.verdict.Ruling.TheVariants.{Accepted, Refused}
-use Rattle.frame.specs.declared.status.AnswerStatus.{AnswerStatus}
-use Rattle.frame.specs.declared.status.AnswerStatus.TheVariants as ends
-use Rattle.frame.specs.Ends.{Print}
+use Rattle.tool_frame.specs.declared.status.AnswerStatus.{AnswerStatus}
+use Rattle.tool_frame.specs.declared.status.AnswerStatus.TheVariants as ends
+use Rattle.tool_frame.specs.Ends.{Print}
 use Rattle.verdict_line.specs.declared.line.VerdictLine.{VerdictLine}
 use Rattle.verdict_line.specs.declared.counting.Counting.{Counting}
 use Rattle.verdict_line.specs.declared.counting.Counting.TheVariants.{FromZero, FromOne}

@@ -3,10 +3,10 @@
 
 mod cause;
 mod counting;
-mod judging;
+mod judged_input;
 mod line;
 
 pub use cause::write_refusal;
 pub use counting::Counting;
-pub use judging::{About, Judged, judge_input};
+pub use judged_input::{About, Judged, judge_input};
 pub use line::VerdictLine;

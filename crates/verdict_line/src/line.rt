@@ -7,11 +7,11 @@ ghost use Rattle.verdict_line.specs.Verdicts.{line_text, line_text_by, line_stat
 
 use crate::cause::write_refusal_by;
 use crate::counting::Counting;
+use answer_text::status_word;
 use cert_check::{Cause, Ruling};
-use cut_cert::status_word;
-use frame::{Answer, AnswerStatus};
 use rst_outside::{PutFault, Sink};
 use text_out::{Block, finish, literal, number};
+use tool_frame::{Answer, AnswerStatus};
 
 /// The line of a verdict on an answer that isn't too long.
 #[derive(Clone, Copy, Debug, PartialEq, Eq)]

@@ -6,7 +6,7 @@ use Rattle.net_graph.specs.DecisionLaws.{IsDecisionFor-nothing, Agrees-nothing}
 use Rattle.cert_tree.specs.declared.split.SplitOn.{SplitOn}
 use Rattle.cert_tree.specs.Tree.{Tree}
 use Rattle.cert_tree.specs.TreeValue.{TreesBoundNetworks, tree_value}
-use Rattle.cut_cert.specs.Value.{WrittenAnswer}
+use Rattle.answer_text.specs.Value.{WrittenAnswer}
 use Rattle.cert_check.specs.Named.{Named, on_grid}
 use Rattle.cert_check.specs.Accepted.{AcceptsIn, AcceptsAsIn, AcceptedBoundHolds}
 

@@ -4,13 +4,13 @@ use Rattle.std.specs.Prelude.{Option, Some, None, IsSome, IfNone, IfSome, ◌↔
 use Rattle.std.proofs.lemmas.Bool.{cases_lt}
 use Rattle.std.proofs.Math.Seq.{take-append-add}
 use Rattle.std.proofs.lemmas.List.{append-nil, take_all, take-append-le}
-use Rattle.cut_cert.specs.declared.event.Event.{Event}
-use Rattle.cut_cert.specs.declared.event.Event.TheVariants as event
-use Rattle.cut_cert.specs.declared.event.AnswerEvent.{AnswerEvent}
-use Rattle.cut_cert.specs.declared.reader.EventReader.{EventReader}
-use Rattle.cut_cert.specs.Given.{given}
-use Rattle.cut_cert.specs.Reading.{IsReadWhole, StopsAt}
-use Rattle.cut_cert.specs.Reader.{BeginsWith, CeasesAt, Reads}
+use Rattle.answer_text.specs.declared.event.Event.{Event}
+use Rattle.answer_text.specs.declared.event.Event.TheVariants as event
+use Rattle.answer_text.specs.declared.event.AnswerEvent.{AnswerEvent}
+use Rattle.answer_text.specs.declared.reader.EventReader.{EventReader}
+use Rattle.answer_text.specs.Given.{given}
+use Rattle.answer_text.specs.Reading.{IsReadWhole, StopsAt}
+use Rattle.answer_text.specs.Reader.{BeginsWith, CeasesAt, Reads}
 use Rattle.tree_judge.specs.declared.cause.Cause.{Cause}
 use Rattle.tree_judge.specs.declared.cause.Cause.TheVariants.{NotAnswer}
 use Rattle.cert_check.specs.Named.{Named}

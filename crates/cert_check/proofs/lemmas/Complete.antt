@@ -5,11 +5,11 @@ use Rattle.std.proofs.lemmas.List.{append-nil}
 use Rattle.cert_tree.specs.declared.split.SplitOn.{SplitOn}
 use Rattle.cert_tree.specs.Tree.{Tree}
 use Rattle.net_graph.specs.Members.{members_of}
-use Rattle.cut_cert.specs.declared.event.AnswerEvent.{AnswerEvent}
-use Rattle.cut_cert.specs.Forms.{silent_lines}
-use Rattle.cut_cert.specs.Value.{WrittenAnswer}
-use Rattle.cut_cert.specs.Events.{Told, events_of}
-use Rattle.cut_cert.specs.Spelling.{SpellsAnswer, OneReading}
+use Rattle.answer_text.specs.declared.event.AnswerEvent.{AnswerEvent}
+use Rattle.answer_text.specs.Forms.{silent_lines}
+use Rattle.answer_text.specs.Value.{WrittenAnswer}
+use Rattle.answer_text.specs.Events.{Told, events_of}
+use Rattle.answer_text.specs.Spelling.{SpellsAnswer, OneReading}
 use Rattle.tree_judge.specs.declared.claim.Claim.{Claim}
 use Rattle.tree_judge.specs.AnswerLaws.{answer_passes}
 use Rattle.tree_judge.specs.Ends.{IsRightEnd}

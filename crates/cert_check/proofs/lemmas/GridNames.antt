@@ -7,8 +7,8 @@ use Rattle.hanan_grid.specs.Grid.{xs_of, ys_of, hanan_grid_of, vertex_of}
 use Rattle.hanan_grid.specs.GridLaws.{IsRising-xs_of, IsRising-ys_of}
 use Rattle.hanan_grid.specs.Names.{IsCrossing, NamesNoEdge, name_of_edge, point_of_vertex}
 use Rattle.hanan_grid.specs.NamesLaws.{IsCrossing-point_of_vertex, same_edge, vertex_of-point_of_vertex}
-use Rattle.cut_cert.specs.declared.label.EdgeLabel.TheVariants as edge
-use Rattle.cut_cert.specs.declared.label.VertexLabel.TheVariants as vertex
+use Rattle.answer_text.specs.declared.label.EdgeLabel.TheVariants as edge
+use Rattle.answer_text.specs.declared.label.VertexLabel.TheVariants as vertex
 use Rattle.cert_check.specs.Named.{IsNamed, on_grid}
 use Rattle.cert_check.specs.Resolved.{LabelsNoEdge, LabelsNoVertex}
 

@@ -1,6 +1,6 @@
 -- Judging one line after another.
 use Rattle.std.proofs.Common.{ℕ, suc, List, ◌∷◌, inl, inr}
-use Rattle.cut_cert.specs.Events.{Told}
+use Rattle.answer_text.specs.Events.{Told}
 use Rattle.cert_check.specs.Named.{Named}
 use Rattle.cert_check.proofs.lemmas.ToldParts.{numbered}
 use Rattle.tree_judge.specs.declared.cause.Cause.{Cause}

@@ -2,13 +2,13 @@
 use Rattle.std.proofs.Common.{ℕ, ◌≡◌, refl, sym, ap, ◌∙◌, subst}
 use Rattle.cert_tree.specs.declared.split.SplitOn.{SplitOn}
 use Rattle.cert_tree.specs.declared.split.SplitOn.TheVariants as split
-use Rattle.cut_cert.specs.declared.event.Event.{Event}
-use Rattle.cut_cert.specs.declared.event.Event.TheVariants as event
-use Rattle.cut_cert.specs.declared.label.EdgeLabel.{EdgeLabel}
-use Rattle.cut_cert.specs.declared.label.VertexLabel.{VertexLabel}
-use Rattle.cut_cert.specs.declared.split.SplitName.{SplitName}
-use Rattle.cut_cert.specs.declared.split.SplitName.TheVariants as name
-use Rattle.cut_cert.specs.Answers.{IsSplitOn, split_label}
+use Rattle.answer_text.specs.declared.event.Event.{Event}
+use Rattle.answer_text.specs.declared.event.Event.TheVariants as event
+use Rattle.answer_text.specs.declared.label.EdgeLabel.{EdgeLabel}
+use Rattle.answer_text.specs.declared.label.VertexLabel.{VertexLabel}
+use Rattle.answer_text.specs.declared.split.SplitName.{SplitName}
+use Rattle.answer_text.specs.declared.split.SplitName.TheVariants as name
+use Rattle.answer_text.specs.Answers.{IsSplitOn, split_label}
 use Rattle.tree_judge.specs.declared.cause.Cause.{Cause}
 use Rattle.tree_judge.specs.declared.cause.Cause.TheVariants as cause
 use Rattle.tree_judge.specs.declared.step.Step.{Step}

@@ -1,8 +1,8 @@
 -- There is one verdict on bytes: each line passes or fails, in one way.
 use Rattle.std.proofs.Common.{ℕ, ◌≡◌, Bool, List, [], ◌∷◌, ◌++◌, Option, inl, inr, sym, ap, ◌∙◌, subst, take, arith}
-use Rattle.cut_cert.specs.declared.event.Event.{Event}
-use Rattle.cut_cert.specs.declared.event.AnswerEvent.{AnswerEvent}
-use Rattle.cut_cert.specs.Spelling.{OneReading}
+use Rattle.answer_text.specs.declared.event.Event.{Event}
+use Rattle.answer_text.specs.declared.event.AnswerEvent.{AnswerEvent}
+use Rattle.answer_text.specs.Spelling.{OneReading}
 use Rattle.tree_judge.specs.declared.cause.Cause.{Cause}
 use Rattle.tree_judge.specs.declared.claim.Claim.{Claim}
 use Rattle.tree_judge.specs.Judged.{SoFar, bound_found, nothing_told}

@@ -1,6 +1,6 @@
 -- Lines that each pass, one after another, and the verdict that accepts behind them.
 use Rattle.std.proofs.Common.{ℕ, suc, ◌≡◌, Bool, List, [], ◌∷◌, ◌++◌, inl, inr, refl, subst}
-use Rattle.cut_cert.specs.Events.{Told}
+use Rattle.answer_text.specs.Events.{Told}
 use Rattle.cert_check.specs.Named.{Named}
 use Rattle.cert_check.proofs.lemmas.ToldParts.{numbered}
 use Rattle.tree_judge.specs.declared.cause.Cause.{Cause}
@@ -12,7 +12,7 @@ use Rattle.cert_check.specs.Lines.{Behind}
 use Rattle.cert_check.specs.Lines.Behind.{Ended, Ceased, Further}
 use Rattle.tree_judge.specs.Judged.{SoFar, bound_found}
 use Rattle.cert_check.specs.Judged.{Passes, Judges}
-use Rattle.cut_cert.specs.declared.event.AnswerEvent.{AnswerEvent}
+use Rattle.answer_text.specs.declared.event.AnswerEvent.{AnswerEvent}
 
 -- each of these lines passes behind what was told, and this is told behind the last of them
 abbrev pub Runs : Named → SoFar → List Told → SoFar → Type 0

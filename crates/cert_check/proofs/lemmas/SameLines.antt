@@ -2,13 +2,13 @@
 use Rattle.std.proofs.Common.{ℕ, zero, suc, ◌≡◌, ◌<◌, ◌≤◌, List, [], ◌∷◌, ◌++◌, ◌-◌, take, drop, ◌⊎◌, inl, inr, refl, sym, ap, ◌∙◌, subst, arith, append_assoc}
 use Rattle.std.proofs.lemmas.Bool.{cases_lt}
 use Rattle.std.proofs.lemmas.List.{take-append-drop}
-use Rattle.cut_cert.specs.declared.event.AnswerEvent.{AnswerEvent}
-use Rattle.cut_cert.specs.declared.form.Form.{Form}
-use Rattle.cut_cert.specs.Forms.{silent_lines}
-use Rattle.cut_cert.specs.Value.{WrittenAnswer}
-use Rattle.cut_cert.specs.Spelling.{SpellsAnswer, OneReading}
-use Rattle.cut_cert.specs.Events.{events_of}
-use Rattle.cut_cert.specs.Reading.{BeginsAnswer, line_feeds, StopsAt}
+use Rattle.answer_text.specs.declared.event.AnswerEvent.{AnswerEvent}
+use Rattle.answer_text.specs.declared.form.Form.{Form}
+use Rattle.answer_text.specs.Forms.{silent_lines}
+use Rattle.answer_text.specs.Value.{WrittenAnswer}
+use Rattle.answer_text.specs.Spelling.{SpellsAnswer, OneReading}
+use Rattle.answer_text.specs.Events.{events_of}
+use Rattle.answer_text.specs.Reading.{BeginsAnswer, line_feeds, StopsAt}
 use Rattle.cert_check.specs.Lines.{Behind, ReadsLines, TellsFront}
 use Rattle.cert_check.specs.Lines.Behind.{Ended, Ceased, Further}
 

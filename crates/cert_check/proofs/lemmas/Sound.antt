@@ -1,10 +1,10 @@
 -- A verdict that accepts is right: what the answer says of its network and its tree holds.
 use Rattle.std.proofs.Common.{ℕ, suc, ◌≡◌, Bool, List, inl, inr, sym, ap, ◌∙◌, subst}
-use Rattle.cut_cert.specs.Forms.{silent_lines}
-use Rattle.cut_cert.specs.Value.{WrittenAnswer}
-use Rattle.cut_cert.specs.Answers.{edge_labels}
-use Rattle.cut_cert.specs.Spelling.{FitsTree, SpellsAnswer}
-use Rattle.cut_cert.specs.Reading.{IsReadWhole}
+use Rattle.answer_text.specs.Forms.{silent_lines}
+use Rattle.answer_text.specs.Value.{WrittenAnswer}
+use Rattle.answer_text.specs.Answers.{edge_labels}
+use Rattle.answer_text.specs.Spelling.{FitsTree, SpellsAnswer}
+use Rattle.answer_text.specs.Reading.{IsReadWhole}
 use Rattle.tree_judge.specs.AnswerLaws.{answer_sound}
 use Rattle.tree_judge.specs.Judged.{bound_found, nothing_told}
 use Rattle.cert_check.specs.Named.{Named}

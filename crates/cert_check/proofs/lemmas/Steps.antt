@@ -1,7 +1,7 @@
 -- What a judge says of the step of a line, said of the line.
 use Rattle.std.proofs.Common.{ℕ, ◌≡◌, Bool, List, Some, None, inr}
 use Rattle.std.specs.Prelude.{Option, IfNone, IfSome}
-use Rattle.cut_cert.specs.declared.event.Event.{Event}
+use Rattle.answer_text.specs.declared.event.Event.{Event}
 use Rattle.tree_judge.specs.declared.cause.Cause.{Cause}
 use Rattle.tree_judge.specs.declared.judge.Judge.{Judge}
 use Rattle.tree_judge.specs.declared.step.Step.{Step}

@@ -4,19 +4,19 @@ use Rattle.std.proofs.Common.{refl, sym, ap, ◌∙◌, subst}
 use Rattle.std.proofs.lemmas.List.{get_or_append_left, get_or-append-add, length-map}
 use Rattle.std.proofs.lemmas.List.Elements.{All-nil, All-cons, All-head, All-tail, All-append}
 use Rattle.net_graph.specs.declared.packing.Cut.{Cut}
-use Rattle.cut_cert.specs.declared.label.EdgeLabel.{EdgeLabel}
+use Rattle.answer_text.specs.declared.label.EdgeLabel.{EdgeLabel}
 use Rattle.cert_tree.specs.declared.split.SplitOn.{SplitOn}
 use Rattle.cert_tree.specs.Tree.{Tree}
 use Rattle.cert_tree.specs.Tree.Tree.{Leaf, Split}
 use Rattle.cert_tree.specs.Preorder.{nodes_of}
-use Rattle.cut_cert.specs.declared.event.Event.TheVariants as event
-use Rattle.cut_cert.specs.declared.split.SplitName.{SplitName}
-use Rattle.cut_cert.specs.declared.form.Form.{Form}
-use Rattle.cut_cert.specs.declared.version.Version.{Version}
-use Rattle.cut_cert.specs.Value.{WrittenAnswer}
-use Rattle.cut_cert.specs.Answers.{IsNodeOn, edge_labels, labelled, split_label}
-use Rattle.cut_cert.specs.Events.{cut_told}
-use Rattle.cut_cert.specs.Spelling.{FitsTree}
+use Rattle.answer_text.specs.declared.event.Event.TheVariants as event
+use Rattle.answer_text.specs.declared.split.SplitName.{SplitName}
+use Rattle.answer_text.specs.declared.form.Form.{Form}
+use Rattle.answer_text.specs.declared.version.Version.{Version}
+use Rattle.answer_text.specs.Value.{WrittenAnswer}
+use Rattle.answer_text.specs.Answers.{IsNodeOn, edge_labels, labelled, split_label}
+use Rattle.answer_text.specs.Events.{cut_told}
+use Rattle.answer_text.specs.Spelling.{FitsTree}
 use Rattle.tree_judge.specs.declared.step.Step.TheVariants as step
 use Rattle.tree_judge.specs.Answers.{answer_steps}
 use Rattle.tree_judge.specs.Judged.{SoFar}

@@ -1,9 +1,9 @@
 -- The labels of a graph's edges and vertices, which are numbers, and those of any subject.
 use Rattle.std.proofs.Common.{ℕ, ◌≡◌, ◌+◌, refl, arith}
 use Rattle.net_graph.specs.Graph.{Graph}
-use Rattle.cut_cert.specs.Forms.{set_size}
-use Rattle.cut_cert.specs.declared.label.EdgeLabel.TheVariants as edge
-use Rattle.cut_cert.specs.declared.label.VertexLabel.TheVariants as vertex
+use Rattle.answer_text.specs.Forms.{set_size}
+use Rattle.answer_text.specs.declared.label.EdgeLabel.TheVariants as edge
+use Rattle.answer_text.specs.declared.label.VertexLabel.TheVariants as vertex
 use Rattle.cert_check.specs.declared.subject.Subject.{Subject}
 use Rattle.cert_check.specs.declared.subject.Subject.TheVariants as subject
 use Rattle.cert_check.specs.Named.{IsNamed, in_graph, named_of}

@@ -1,25 +1,25 @@
 -- What the lines of an answer tell, one after another.
 use Rattle.std.proofs.Common.{ℕ, suc, ◌≡◌, List, [], ◌∷◌, ◌++◌, length, map, Some, None, refl, sym, ap, ◌∙◌}
 use Rattle.net_graph.specs.declared.packing.Cut.{Cut}
-use Rattle.cut_cert.specs.declared.label.EdgeLabel.{EdgeLabel}
+use Rattle.answer_text.specs.declared.label.EdgeLabel.{EdgeLabel}
 use Rattle.cert_tree.specs.Tree.{Tree}
 use Rattle.cert_tree.specs.Tree.Tree.{Leaf, Split}
-use Rattle.cut_cert.specs.declared.form.Form.{Form}
-use Rattle.cut_cert.specs.declared.form.Form.TheVariants as form
-use Rattle.cut_cert.specs.Forms.{IsVersionOf, silent_lines}
-use Rattle.cut_cert.specs.Spelling.{FitsAnswer, FitsNote}
-use Rattle.cut_cert.specs.declared.head.AnswerHead.{AnswerHead}
-use Rattle.cut_cert.specs.declared.split.SplitName.{SplitName}
-use Rattle.cut_cert.specs.declared.split.SplitName.TheVariants as name
-use Rattle.cut_cert.specs.declared.version.Version.{Version}
-use Rattle.cut_cert.specs.declared.version.Version.TheVariants as version
-use Rattle.cut_cert.specs.declared.event.Event.TheVariants as event
-use Rattle.cut_cert.specs.declared.event.AnswerEvent.{AnswerEvent}
-use Rattle.cut_cert.specs.AnswerLine.{Line}
-use Rattle.cut_cert.specs.LineKinds as line
-use Rattle.cut_cert.specs.Value.{WrittenAnswer}
-use Rattle.cut_cert.specs.Lines.{body_lines, head_lines, proof_lines, split_line, tree_lines}
-use Rattle.cut_cert.specs.Events.{Told, cut_told, event_at, events_from, events_of, head_with, line_told, no_head}
+use Rattle.answer_text.specs.declared.form.Form.{Form}
+use Rattle.answer_text.specs.declared.form.Form.TheVariants as form
+use Rattle.answer_text.specs.Forms.{IsVersionOf, silent_lines}
+use Rattle.answer_text.specs.Spelling.{FitsAnswer, FitsNote}
+use Rattle.answer_text.specs.declared.head.AnswerHead.{AnswerHead}
+use Rattle.answer_text.specs.declared.split.SplitName.{SplitName}
+use Rattle.answer_text.specs.declared.split.SplitName.TheVariants as name
+use Rattle.answer_text.specs.declared.version.Version.{Version}
+use Rattle.answer_text.specs.declared.version.Version.TheVariants as version
+use Rattle.answer_text.specs.declared.event.Event.TheVariants as event
+use Rattle.answer_text.specs.declared.event.AnswerEvent.{AnswerEvent}
+use Rattle.answer_text.specs.AnswerLine.{Line}
+use Rattle.answer_text.specs.LineKinds as line
+use Rattle.answer_text.specs.Value.{WrittenAnswer}
+use Rattle.answer_text.specs.Lines.{body_lines, head_lines, proof_lines, split_line, tree_lines}
+use Rattle.answer_text.specs.Events.{Told, cut_told, event_at, events_from, events_of, head_with, line_told, no_head}
 
 -- what the lines of the edges tell
 abbrev pub edges_told : List EdgeLabel → List Told

@@ -5,20 +5,20 @@ use Rattle.points_in.specs.declared.point.Point.{Point}
 use Rattle.hanan_grid.specs.Grid.{hanan_grid_of}
 use Rattle.cert_tree.specs.Tree.{Tree}
 use Rattle.cert_tree.specs.Tree.Tree.{Leaf, Split}
-use Rattle.cut_cert.specs.declared.form.Form.TheVariants as form
-use Rattle.cut_cert.specs.Forms.{IsVersionOf}
-use Rattle.cut_cert.specs.declared.split.SplitName.{SplitName}
-use Rattle.cut_cert.specs.declared.split.SplitName.TheVariants as name
-use Rattle.cut_cert.specs.declared.version.Version.{Version}
-use Rattle.cut_cert.specs.declared.version.Version.TheVariants as version
-use Rattle.cut_cert.specs.AnswerLine.{Line}
-use Rattle.cut_cert.specs.LineKinds as line
-use Rattle.cut_cert.specs.Value.{WrittenAnswer, upgraded}
-use Rattle.cut_cert.specs.Words.{edge_words}
-use Rattle.cut_cert.specs.Lines.{answer_lines, body_lines, head_lines, line_text, lines_text, network_lines, proof_lines, split_line, tree_lines}
-use Rattle.cut_cert.specs.Text.{answer_text}
-use Rattle.cut_cert.specs.Events.{events_of}
-use Rattle.cut_cert.specs.Spelling.{OneReading, SpellsAnswer}
+use Rattle.answer_text.specs.declared.form.Form.TheVariants as form
+use Rattle.answer_text.specs.Forms.{IsVersionOf}
+use Rattle.answer_text.specs.declared.split.SplitName.{SplitName}
+use Rattle.answer_text.specs.declared.split.SplitName.TheVariants as name
+use Rattle.answer_text.specs.declared.version.Version.{Version}
+use Rattle.answer_text.specs.declared.version.Version.TheVariants as version
+use Rattle.answer_text.specs.AnswerLine.{Line}
+use Rattle.answer_text.specs.LineKinds as line
+use Rattle.answer_text.specs.Value.{WrittenAnswer, upgraded}
+use Rattle.answer_text.specs.Words.{edge_words}
+use Rattle.answer_text.specs.Lines.{answer_lines, body_lines, head_lines, line_text, lines_text, network_lines, proof_lines, split_line, tree_lines}
+use Rattle.answer_text.specs.Text.{answer_text}
+use Rattle.answer_text.specs.Events.{events_of}
+use Rattle.answer_text.specs.Spelling.{OneReading, SpellsAnswer}
 use Rattle.cert_check.specs.Named.{Named, on_grid}
 use Rattle.cert_check.specs.declared.verdict.Finished.{Finished}
 use Rattle.cert_check.specs.Lines.Behind.{Ended}

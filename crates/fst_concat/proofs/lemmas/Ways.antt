@@ -10,7 +10,7 @@ use Rattle.concatenation.specs.Concatenation.{total_of}
 use Rattle.concatenation.specs.Choices.{taken_of, IsLeastUnder}
 use Rattle.concatenation.specs.Trails.{no_choices, IsOpenPlace, CanGoOn, IsNoBetter}
 use Rattle.fst_concat.specs.declared.trail.Step.TheVariants.{Close, Fork}
-use Rattle.fst_concat.specs.declared.search.Way.{Way}
+use Rattle.fst_concat.specs.declared.trail_search.Way.{Way}
 use Rattle.fst_concat.specs.declared.judge.Verdict.{Verdict}
 use Rattle.fst_concat.specs.declared.judge.Verdict.TheVariants.{Done, Undecided}
 use Rattle.fst_concat.specs.Verdict.{VerdictHolds}

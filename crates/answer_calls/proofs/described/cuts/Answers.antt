@@ -1,7 +1,7 @@
 use Rattle.std.proofs.Common.{All, [], ◌∷◌, ◌++◌, sym, subst}
 use Rattle.std.proofs.lemmas.List.Elements.{All-push}
 use Rattle.hanan_grid.specs.Grid.{hanan_grid_of}
-use Rattle.cut_cert.specs.Answers.{IsCutOn}
+use Rattle.answer_text.specs.Answers.{IsCutOn}
 use Rattle.answer_calls.proofs.described.cuts.Goals as goal
 
 pub loop-line-preserved : goal.loop-line-preserved

@@ -1,6 +1,6 @@
 use Rattle.std.specs.Prelude.{All}
 use Rattle.hanan_grid.specs.Grid.{hanan_grid_of}
-use Rattle.cut_cert.specs.Answers.{IsCutOn}
+use Rattle.answer_text.specs.Answers.{IsCutOn}
 use Rattle.answer_calls.proofs.described.cuts.Given as goal
 
 -- each cut so far is one on the grid

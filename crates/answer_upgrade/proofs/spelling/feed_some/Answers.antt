@@ -1,6 +1,6 @@
 use Rattle.std.proofs.Common.{◌≤◌, ◌++◌, take, drop, refl, arith}
 use Rattle.std.proofs.lemmas.Result.{err_from_is_err_and}
-use Rattle.cut_cert.specs.declared.form.Form.TheVariants as form
+use Rattle.answer_text.specs.declared.form.Form.TheVariants as form
 use Rattle.answer_upgrade.proofs.StoppedBytes.{stands_for, stops_in, one_byte, all_bytes}
 use Rattle.answer_upgrade.proofs.spelling.feed_some.Goals as goal
 

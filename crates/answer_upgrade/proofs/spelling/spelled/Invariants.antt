@@ -1,5 +1,5 @@
 use Rattle.std.proofs.Common.{◌≡◌, ◌+◌, ℕ, List, ◌++◌, length}
-use Rattle.cut_cert.specs.Reader.{bytes_fed}
+use Rattle.answer_text.specs.Reader.{bytes_fed}
 use Rattle.answer_upgrade.specs.Spelling.{IsReading}
 use Rattle.answer_upgrade.proofs.spelling.spelled.Given as goal
 

@@ -1,7 +1,7 @@
 use Rattle.std.proofs.Common.{◌++◌, ◌∷◌, [], length, refl, ap, arith, length-append}
 use Rattle.text_out.specs.GatherLaws.{gathers_nothing, gathers_two}
 use Rattle.answer_upgrade.proofs.UpgradedLines.{next_line, done_more, text_more, none_left, all_done}
-use Rattle.cut_cert.specs.declared.form.Form.TheVariants as form
+use Rattle.answer_text.specs.declared.form.Form.TheVariants as form
 use Rattle.answer_upgrade.proofs.upgrade.write_lines.Goals as goal
 
 pub lines-init : goal.lines-init

@@ -1,10 +1,10 @@
 use Rattle.std.proofs.Common.{◌≡◌, ℕ, List, length, map}
 use Rattle.text_out.specs.Gathers.{Gathers}
-use Rattle.cut_cert.specs.declared.form.Form.TheVariants as form
-use Rattle.cut_cert.specs.declared.version.Version.{Version}
-use Rattle.cut_cert.specs.AnswerLine.{Line}
-use Rattle.cut_cert.specs.LineFits.{FitsLines}
-use Rattle.cut_cert.specs.Lines.{lines_text}
+use Rattle.answer_text.specs.declared.form.Form.TheVariants as form
+use Rattle.answer_text.specs.declared.version.Version.{Version}
+use Rattle.answer_text.specs.AnswerLine.{Line}
+use Rattle.answer_text.specs.LineFits.{FitsLines}
+use Rattle.answer_text.specs.Lines.{lines_text}
 use Rattle.answer_upgrade.specs.Upgraded.{upgraded_line}
 use Rattle.answer_upgrade.proofs.UpgradedLines.{Passed}
 use Rattle.answer_upgrade.proofs.upgrade.write_lines.Given as goal

@@ -2,9 +2,9 @@ use Rattle.std.proofs.Common.{map, ap, subst}
 use Rattle.text_out.specs.Gathers.{Gathers}
 use Rattle.answer_upgrade.specs.Upgraded.{upgraded_line}
 use Rattle.text_out.specs.GatherLaws.{writes_one}
-use Rattle.cut_cert.specs.declared.form.Form.TheVariants as form
-use Rattle.cut_cert.specs.declared.version.Version.TheVariants as version
-use Rattle.cut_cert.specs.Lines.{answer_lines, lines_text}
+use Rattle.answer_text.specs.declared.form.Form.TheVariants as form
+use Rattle.answer_text.specs.declared.version.Version.TheVariants as version
+use Rattle.answer_text.specs.Lines.{answer_lines, lines_text}
 use Rattle.answer_upgrade.proofs.UpgradedLines.{answer_becomes}
 use Rattle.answer_upgrade.proofs.upgrade.write_upgraded.Goals as goal
 

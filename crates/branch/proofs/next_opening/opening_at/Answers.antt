@@ -1,6 +1,6 @@
 -- How an open leaf is opened.
 use Rattle.std.proofs.Common.{◌<◌, ◌^◌, arith}
-use Rattle.branch.proofs.OpeningLemmas.{note_decided, note_can_split, place_within, place_small, parent_costs, parent_feasible, choice_undecided, one_more_outside, one_more_inside, next_leaf, plain_opening, is_opening}
+use Rattle.branch.proofs.lemmas.OpeningLemmas.{note_decided, note_can_split, place_within, place_small, parent_costs, parent_feasible, choice_undecided, one_more_outside, one_more_inside, next_leaf, plain_opening, is_opening}
 use Rattle.branch.proofs.next_opening.opening_at.Goals as goal
 
 pub split_choice-requires-clause-decision : goal.split_choice-requires-clause-decision

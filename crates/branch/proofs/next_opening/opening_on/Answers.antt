@@ -1,9 +1,9 @@
 -- How a leaf is opened on a vertex.
 use Rattle.std.proofs.Common.{◌<◌, ◌^◌, length, refl, rules, arith}
 use Rattle.cert_tree.specs.declared.split.SplitOn.TheVariants as split
-use Rattle.branch.proofs.OpeningLemmas.{note_decided, place_within, place_small, parent_costs, parent_feasible}
-use Rattle.branch.proofs.OpeningLemmas.{one_more_outside, one_more_inside}
-use Rattle.branch.proofs.OpeningLemmas.{leaf_to_split, split_within, vertex_undecided, chosen_opening}
+use Rattle.branch.proofs.lemmas.OpeningLemmas.{note_decided, place_within, place_small, parent_costs, parent_feasible}
+use Rattle.branch.proofs.lemmas.OpeningLemmas.{one_more_outside, one_more_inside}
+use Rattle.branch.proofs.lemmas.OpeningLemmas.{leaf_to_split, split_within, vertex_undecided, chosen_opening}
 use Rattle.branch.proofs.next_opening.opening_on.Goals as goal
 
 pub overflow_cast-place : goal.overflow_cast-place

@@ -2,7 +2,7 @@
 use Rattle.std.proofs.Common.{◌≤◌, arith}
 use Rattle.std.proofs.lemmas.List.Elements.{All-nil}
 use Rattle.branch.specs.declared.note.LeafNote.{LeafNote}
-use Rattle.branch.proofs.ScanLemmas.{least_lower, least_kept, none_below, some_below}
+use Rattle.branch.proofs.lemmas.ScanLemmas.{least_lower, least_kept, none_below, some_below}
 use Rattle.branch.proofs.open.next_open.Goals as goal
 use Rattle.branch.proofs.open.next_open.Goals.{then-note-least, else-note-least}
 

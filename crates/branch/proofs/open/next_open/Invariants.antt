@@ -1,4 +1,4 @@
-use Rattle.branch.proofs.ScanLemmas.{IsLeastSoFar}
+use Rattle.branch.proofs.lemmas.ScanLemmas.{IsLeastSoFar}
 use Rattle.branch.proofs.open.next_open.Given as goal
 
 abbrev pub invariant-loop-place : goal.invariant-loop-place

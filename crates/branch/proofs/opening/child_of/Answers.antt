@@ -1,7 +1,7 @@
 -- A child begins with few cuts.
 use Rattle.std.proofs.Common.{◌≤◌, ◌*◌, length, List, subst, sym}
 use Rattle.net_graph.specs.declared.packing.Cut.{Cut}
-use Rattle.branch.proofs.CarriedLemmas.{carried-few}
+use Rattle.branch.proofs.lemmas.CarriedLemmas.{carried-few}
 use Rattle.branch.proofs.opening.child_of.Goals as goal
 
 pub leaf_from-requires-clause-few : goal.leaf_from-requires-clause-few

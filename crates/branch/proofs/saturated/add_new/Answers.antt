@@ -1,5 +1,5 @@
 use Rattle.std.proofs.Common.{rules}
-use Rattle.branch.proofs.SaturatedLemmas.{among_more}
+use Rattle.branch.proofs.lemmas.SaturatedLemmas.{among_more}
 use Rattle.branch.proofs.saturated.add_new.Goals as goal
 use Rattle.branch.proofs.saturated.add_new.Goals.{then-not-has+in_ok-push, else-not-has}
 

@@ -2,7 +2,7 @@ use Rattle.std.proofs.Common.{◌/◌, ◌-◌, ◌<◌, true, length, get_or, r
 use Rattle.std.proofs.lemmas.List.Elements.{Contains-get_or}
 use Rattle.net_graph.specs.declared.arcs.Arc.{Arc}
 use Rattle.branch.specs.SaturatedArcs.{IsEdgeOfOne}
-use Rattle.branch.proofs.SaturatedLemmas.{put_one}
+use Rattle.branch.proofs.lemmas.SaturatedLemmas.{put_one}
 use Rattle.branch.proofs.saturated.edges_back.Goals as goal
 
 pub loop-place-preserved-then-has : goal.loop-place-preserved-then-has

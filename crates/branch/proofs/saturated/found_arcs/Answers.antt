@@ -2,7 +2,7 @@ use Rattle.std.proofs.Common.{true, false, length, ap, ◌∙◌, length-set}
 use Rattle.std.proofs.lemmas.List.{length-replicate}
 use Rattle.std.proofs.lemmas.List.Elements.{All-nil}
 use Rattle.branch.specs.SaturatedArcs.{IsOfSaturated}
-use Rattle.branch.proofs.SaturatedLemmas.{All-from_two}
+use Rattle.branch.proofs.lemmas.SaturatedLemmas.{All-from_two}
 use Rattle.branch.proofs.saturated.found_arcs.Goals as goal
 use Rattle.branch.proofs.saturated.found_arcs.Goals.{then-place-len+in_ok-next+in_ok-add_new-2, else-place-len}
 

@@ -10,7 +10,7 @@ use Rattle.net_graph.specs.Graph.{Graph}
 use Rattle.dual_ascent.specs.declared.costs.EdgeCosts.{EdgeCosts}
 use Rattle.dual_ascent.specs.CostLaws.{length-costs_of, saturated_edge}
 use Rattle.branch.specs.SaturatedArcs.{HasSaturatedArc, IsOfSaturated, IsUsedUpEdge}
-use Rattle.branch.proofs.SaturatedLemmas.{IsNetwork-saturated, HasSaturatedArc-used_up}
+use Rattle.branch.proofs.lemmas.SaturatedLemmas.{IsNetwork-saturated, HasSaturatedArc-used_up}
 use Rattle.branch.proofs.saturated.saturated_network_by.Goals as goal
 
 pub found_arcs-requires : goal.found_arcs-requires

@@ -2,7 +2,7 @@ use Rattle.std.proofs.Common.{◌<◌, false, length, arith}
 use Rattle.std.proofs.lemmas.Bool.{both_ways}
 use Rattle.std.proofs.lemmas.List.{length-replicate}
 use Rattle.branch.specs.SaturatedArcs.{IsUsedUpEdge}
-use Rattle.branch.proofs.SaturatedLemmas.{put_more, put_none, put_all}
+use Rattle.branch.proofs.lemmas.SaturatedLemmas.{put_more, put_none, put_all}
 use Rattle.branch.proofs.saturation.saturated_edges.Goals as goal
 use Rattle.branch.proofs.saturation.saturated_edges.Goals.{then-is_used_up_edge, else-is_used_up_edge}
 

@@ -4,8 +4,8 @@ use Rattle.net_graph.specs.Graph.{Graph}
 use Rattle.branch.specs.declared.solved.Solved.{Solved}
 use Rattle.branch.specs.declared.split_kind.SplitKind.{SplitKind}
 use Rattle.branch.specs.Solving.{ways_of}
-use Rattle.branch.proofs.LeadsLemmas.{ends_plain}
-use Rattle.branch.proofs.SolvingLemmas.{no_split_of_kind}
+use Rattle.branch.proofs.lemmas.LeadsLemmas.{ends_plain}
+use Rattle.branch.proofs.lemmas.SolvingLemmas.{no_split_of_kind}
 use Rattle.branch.proofs.solve.solve_graph.Goals as goal
 
 pub returns-clause-enough : goal.returns-clause-enough

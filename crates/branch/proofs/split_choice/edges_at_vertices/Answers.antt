@@ -2,7 +2,7 @@
 use Rattle.std.proofs.Common.{ℕ, ◌≡◌, ◌<◌, length, take, get_or, List, ap, ◌∙◌, arith}
 use Rattle.std.proofs.lemmas.List.{with_items_is}
 use Rattle.branch.specs.Meeting.{edges_at}
-use Rattle.branch.proofs.MeetingLemmas.{edges_at-le_seen, counted_more, counted_kept}
+use Rattle.branch.proofs.lemmas.MeetingLemmas.{edges_at-le_seen, counted_more, counted_kept}
 use Rattle.branch.proofs.split_choice.edges_at_vertices.Goals as goal
 use Rattle.branch.proofs.split_choice.edges_at_vertices.Goals.{then-has, else-has}
 

@@ -1,6 +1,6 @@
 -- One more edge, which is a candidate or isn't.
 use Rattle.std.proofs.Common.{◌≡◌, true, false, refl, sym, ◌∙◌, rules, arith}
-use Rattle.branch.proofs.CandidateLemmas.{gathered_first, gathered_more, gathered_kept, edge_candidate, no_edge, not_within, not_undecided}
+use Rattle.branch.proofs.lemmas.CandidateLemmas.{gathered_first, gathered_more, gathered_kept, edge_candidate, no_edge, not_within, not_undecided}
 use Rattle.branch.proofs.split_choice.undecided_edges.Goals as goal
 use Rattle.branch.proofs.split_choice.undecided_edges.Goals.{then-has+then-eq+in_ok-push, else-has, else-has-via-then-has+else-eq, else-has-via-else-has}
 

@@ -1,6 +1,6 @@
 use Rattle.branch.specs.Notes.{IsEdgeCandidate}
 use Rattle.branch.specs.Candidates.{IsEdgeToSplit}
-use Rattle.branch.proofs.CandidateLemmas.{IsGathered}
+use Rattle.branch.proofs.lemmas.CandidateLemmas.{IsGathered}
 use Rattle.branch.proofs.split_choice.undecided_edges.Given as goal
 
 abbrev pub invariant-loop-e : goal.invariant-loop-e

@@ -1,8 +1,8 @@
 -- One more vertex, which is a candidate or isn't.
 use Rattle.std.proofs.Common.{◌≡◌, ◌<◌, true, false, length, sym, ◌∙◌, arith}
 use Rattle.branch.specs.Meeting.{edges_at}
-use Rattle.branch.proofs.CandidateLemmas.{gathered_more, gathered_kept, no_vertex}
-use Rattle.branch.proofs.MeetingLemmas.{count_read}
+use Rattle.branch.proofs.lemmas.CandidateLemmas.{gathered_more, gathered_kept, no_vertex}
+use Rattle.branch.proofs.lemmas.MeetingLemmas.{count_read}
 use Rattle.branch.proofs.split_choice.undecided_vertices.Goals as goal
 use Rattle.branch.proofs.split_choice.undecided_vertices.Goals.{then-size-gt0+then-vertex_undecided+in_ok-push, else-size-gt0, else-size-gt0-via-then-size-gt0+else-vertex_undecided, else-size-gt0-via-else-size-gt0}
 

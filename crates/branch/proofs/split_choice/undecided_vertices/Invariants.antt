@@ -1,6 +1,6 @@
 use Rattle.branch.specs.Notes.{IsVertexCandidate}
 use Rattle.branch.specs.Candidates.{IsVertexToSplit}
-use Rattle.branch.proofs.CandidateLemmas.{IsGathered}
+use Rattle.branch.proofs.lemmas.CandidateLemmas.{IsGathered}
 use Rattle.branch.proofs.split_choice.undecided_vertices.Given as goal
 
 abbrev pub invariant-loop-v : goal.invariant-loop-v

@@ -2,8 +2,8 @@ use Rattle.std.proofs.Common.{◌∷◌, [], ◌++◌, length, Some, None, sym, 
 use Rattle.std.specs.Prelude.{Option, IfNone}
 use Rattle.std.proofs.Math.Logic.{∥∥₁_elim, ∥∥₁_map}
 use Rattle.std.proofs.Math.Nat.{ℕ_set}
-use Rattle.cut_cert.specs.Given.{given}
-use Rattle.cut_cert.specs.Reader.{Reads, line_due, set_read}
+use Rattle.answer_text.specs.Given.{given}
+use Rattle.answer_text.specs.Reader.{Reads, line_due, set_read}
 use Rattle.cert_check.specs.Named.{named_of}
 use Rattle.cert_check.proofs.lemmas.SubjectNames.{set_size_of}
 use Rattle.cert_check.proofs.lemmas.Bytes.{follows_spelling, follows_quiet, follows_judged}

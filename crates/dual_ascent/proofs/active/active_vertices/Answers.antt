@@ -6,7 +6,7 @@ use Rattle.net_graph.specs.Graph.{root_of}
 use Rattle.dual_ascent.specs.declared.active.ActiveVertex.{ActiveVertex}
 use Rattle.dual_ascent.specs.Active.{IsKept, AreActive}
 use Rattle.dual_ascent.specs.Steps.{SaturatedLeads}
-use Rattle.dual_ascent.proofs.ActiveLemmas.{AreActive-none, AreActive-skip, AreActive-push, below_next}
+use Rattle.dual_ascent.proofs.lemmas.ActiveLemmas.{AreActive-none, AreActive-skip, AreActive-push, below_next}
 use Rattle.dual_ascent.proofs.active.active_vertices.Goals as goal
 use Rattle.dual_ascent.proofs.active.active_vertices.Goals.{then-not-has+in_ok-leading+in_ok-push, else-not-has}
 

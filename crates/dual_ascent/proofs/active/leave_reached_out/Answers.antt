@@ -3,7 +3,7 @@ use Rattle.std.proofs.lemmas.Bool.{cases_lt}
 use Rattle.std.proofs.lemmas.List.{get_or_default}
 use Rattle.std.proofs.lemmas.List.Edits.{get_or-remove_below}
 use Rattle.dual_ascent.specs.declared.active.ActiveVertex.{ActiveVertex}
-use Rattle.dual_ascent.proofs.ActiveLemmas.{LeavesOut-none, LeavesOut-more}
+use Rattle.dual_ascent.proofs.lemmas.ActiveLemmas.{LeavesOut-none, LeavesOut-more}
 use Rattle.dual_ascent.proofs.active.leave_reached_out.Goals as goal
 
 pub loop-place-init : goal.loop-place-init

@@ -6,9 +6,9 @@ use Rattle.net_graph.specs.declared.packing.Cut.{Cut}
 use Rattle.dual_ascent.specs.Ascending.{AreLeftBehind, IsAscent, behind}
 use Rattle.dual_ascent.specs.Costs.{edges_of, lowered_by}
 use Rattle.dual_ascent.specs.Steps.{IsNextStep, IsNextCut}
-use Rattle.dual_ascent.proofs.EnteringLemmas.{edges_of-lowered}
-use Rattle.dual_ascent.proofs.PackLemmas.{unsaturated-lowered_by}
-use Rattle.dual_ascent.proofs.AscentLemmas.{IsUnderWay, IsUnderWay-none, IsUnderWay-pack, IsMaximal-iff, IsClosed, IsClosed-from_under_way, closed_with-behind}
+use Rattle.dual_ascent.proofs.lemmas.EnteringLemmas.{edges_of-lowered}
+use Rattle.dual_ascent.proofs.lemmas.PackLemmas.{unsaturated-lowered_by}
+use Rattle.dual_ascent.proofs.lemmas.AscentLemmas.{IsUnderWay, IsUnderWay-none, IsUnderWay-pack, IsMaximal-iff, IsClosed, IsClosed-from_under_way, closed_with-behind}
 use Rattle.dual_ascent.proofs.ascent.ascend_on.Goals as goal
 
 pub loop-packing-init : goal.loop-packing-init

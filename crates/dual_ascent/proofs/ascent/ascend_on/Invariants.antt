@@ -3,7 +3,7 @@ use Rattle.net_graph.specs.declared.packing.Cut.{Cut}
 use Rattle.dual_ascent.specs.Active.{AreActive}
 use Rattle.dual_ascent.specs.Ascending.{AreLeftBehind}
 use Rattle.dual_ascent.specs.Costs.{edges_of, unsaturated}
-use Rattle.dual_ascent.proofs.AscentLemmas.{IsUnderWay}
+use Rattle.dual_ascent.proofs.lemmas.AscentLemmas.{IsUnderWay}
 use Rattle.dual_ascent.proofs.ascent.ascend_on.Given as goal
 
 abbrev pub invariant-loop-packing : goal.invariant-loop-packing

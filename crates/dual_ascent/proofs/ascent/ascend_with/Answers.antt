@@ -4,7 +4,7 @@ use Rattle.net_graph.specs.Decision.{states_of}
 use Rattle.net_graph.specs.DecisionLaws.{length-states_of}
 use Rattle.dual_ascent.specs.Ascending.{IsAscent}
 use Rattle.dual_ascent.specs.Costs.{edges_of}
-use Rattle.dual_ascent.proofs.LoadLemmas.{edges-costs_of}
+use Rattle.dual_ascent.proofs.lemmas.LoadLemmas.{edges-costs_of}
 use Rattle.dual_ascent.proofs.ascent.ascend_with.Goals as goal
 
 pub ascend_on-requires-clause-edges : goal.ascend_on-requires-clause-edges

@@ -1,6 +1,6 @@
 use Rattle.std.proofs.Common.{◌≡◌, ◌∙◌, ap}
 use Rattle.dual_ascent.specs.Carried.{inside_edges, unentered}
-use Rattle.dual_ascent.proofs.CarriedLemmas.{IsFeasible-unentered}
+use Rattle.dual_ascent.proofs.lemmas.CarriedLemmas.{IsFeasible-unentered}
 use Rattle.dual_ascent.proofs.carried.carry.Goals as goal
 
 pub returns-then-len-edge_count-clause-feasible : goal.returns-then-len-edge_count-clause-feasible

@@ -8,7 +8,7 @@ use Rattle.net_graph.specs.Decision.{states_of}
 use Rattle.dual_ascent.specs.declared.costs.EdgeCosts.{EdgeCosts}
 use Rattle.dual_ascent.specs.Carried.{carried, inside_edges, unentered}
 use Rattle.dual_ascent.specs.Costs.{costs_of, left_in}
-use Rattle.dual_ascent.proofs.CarriedRoomLemmas.{left_under}
+use Rattle.dual_ascent.proofs.lemmas.CarriedRoomLemmas.{left_under}
 use Rattle.dual_ascent.proofs.carried.carry_costs.Goals as goal
 
 pub returns : goal.returns

@@ -7,8 +7,8 @@ use Rattle.dual_ascent.specs.declared.costs.EdgeCosts.{EdgeCosts}
 use Rattle.dual_ascent.specs.Ascending.{AreLeftBehind}
 use Rattle.dual_ascent.specs.Carried.{carried, inside_edges, unentered}
 use Rattle.dual_ascent.specs.Costs.{costs_of, left_in}
-use Rattle.dual_ascent.proofs.CarriedLemmas.{IsFeasible-unentered}
-use Rattle.dual_ascent.proofs.CarriedRoomLemmas.{carried-all, left_under, unentered-le}
+use Rattle.dual_ascent.proofs.lemmas.CarriedLemmas.{IsFeasible-unentered}
+use Rattle.dual_ascent.proofs.lemmas.CarriedRoomLemmas.{carried-all, left_under, unentered-le}
 use Rattle.dual_ascent.proofs.carried.carry_rooms.Goals as goal
 
 pub returns : goal.returns

@@ -6,7 +6,7 @@ use Rattle.net_graph.specs.declared.state.EdgeState.{EdgeState}
 use Rattle.net_graph.specs.declared.state.EdgeState.TheVariants.{Inside}
 use Rattle.net_graph.specs.Decision.{states_of}
 use Rattle.dual_ascent.specs.Carried.{inside_edges}
-use Rattle.dual_ascent.proofs.CarriedLemmas.{inside_one, inside_one-none, inside_edges-push, inside_edges-at_ends}
+use Rattle.dual_ascent.proofs.lemmas.CarriedLemmas.{inside_one, inside_one-none, inside_edges-push, inside_edges-at_ends}
 use Rattle.dual_ascent.proofs.carried.list_inside.Goals as goal
 use Rattle.dual_ascent.proofs.carried.list_inside.Goals.{in-Inside+in_ok-push, in_default}
 

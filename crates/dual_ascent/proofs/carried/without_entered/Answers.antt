@@ -10,8 +10,8 @@ use Rattle.net_graph.specs.DecisionLaws.{length-states_of}
 use Rattle.dual_ascent.specs.Carried.{is_entered_along}
 use Rattle.dual_ascent.specs.Costs.{edges_of, costs_of, raised_by}
 use Rattle.dual_ascent.specs.Entering.{EntersLeft, AreEntering}
-use Rattle.dual_ascent.proofs.CarriedCostLemmas.{AreWithinRooms, those_left, those_left-at, those_left-kept, those_left-taken, those_left-all, those_left_within, map-raised_by, raise_fits}
-use Rattle.dual_ascent.proofs.LoadLemmas.{edges-costs_of}
+use Rattle.dual_ascent.proofs.lemmas.CarriedCostLemmas.{AreWithinRooms, those_left, those_left-at, those_left-kept, those_left-taken, those_left-all, those_left_within, map-raised_by, raise_fits}
+use Rattle.dual_ascent.proofs.lemmas.LoadLemmas.{edges-costs_of}
 use Rattle.dual_ascent.proofs.carried.without_entered.Goals as goal
 use Rattle.dual_ascent.proofs.carried.without_entered.Goals.{then-is_entered+in_ok-list_entering, else-is_entered}
 

@@ -4,7 +4,7 @@ use Rattle.net_graph.specs.declared.packing.Cut.{Cut}
 use Rattle.net_graph.specs.Decision.{states_of}
 use Rattle.dual_ascent.specs.Carried.{is_entered_along}
 use Rattle.dual_ascent.specs.Costs.{costs_of}
-use Rattle.dual_ascent.proofs.CarriedCostLemmas.{those_left}
+use Rattle.dual_ascent.proofs.lemmas.CarriedCostLemmas.{those_left}
 use Rattle.dual_ascent.proofs.carried.without_entered.Given as goal
 
 -- what those leave that are there yet; and the weight of those that stay, each of which has 64 bits

@@ -3,7 +3,7 @@ use Rattle.std.proofs.lemmas.List.{take_all}
 use Rattle.dual_ascent.specs.declared.entering.EnteringArc.{EnteringArc}
 use Rattle.dual_ascent.specs.Costs.{IsLeastOf}
 use Rattle.dual_ascent.specs.Entering.{IsLeftOfOne}
-use Rattle.dual_ascent.proofs.CostLemmas.{IsLeftOfOne-more}
+use Rattle.dual_ascent.proofs.lemmas.CostLemmas.{IsLeftOfOne-more}
 use Rattle.dual_ascent.proofs.entering.least_left.Goals as goal
 
 pub loop-e-preserved : goal.loop-e-preserved

@@ -1,5 +1,5 @@
 use Rattle.std.proofs.Common.{◌*◌, arith}
-use Rattle.dual_ascent.proofs.EnteringLemmas.{AreEnteringBelow-none, AreEntering-all}
+use Rattle.dual_ascent.proofs.lemmas.EnteringLemmas.{AreEnteringBelow-none, AreEntering-all}
 use Rattle.dual_ascent.proofs.entering.list_entering.Goals as goal
 
 pub loop-place-init : goal.loop-place-init

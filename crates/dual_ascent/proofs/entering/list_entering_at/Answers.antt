@@ -4,7 +4,7 @@ use Rattle.std.proofs.lemmas.List.{take_all, take_more}
 use Rattle.net_graph.specs.declared.arcs.Arc.{Arc}
 use Rattle.net_graph.specs.Arcs.{IsArcOf, AreArcsFrom}
 use Rattle.dual_ascent.specs.Entering.{EntersLeft}
-use Rattle.dual_ascent.proofs.EnteringLemmas.{EnteringSoFar, EnteringSoFar-none, EnteringSoFar-skip, EnteringSoFar-push, EnteringSoFar-all, HasOnly}
+use Rattle.dual_ascent.proofs.lemmas.EnteringLemmas.{EnteringSoFar, EnteringSoFar-none, EnteringSoFar-skip, EnteringSoFar-push, EnteringSoFar-all, HasOnly}
 use Rattle.dual_ascent.proofs.entering.list_entering_at.Goals as goal
 use Rattle.dual_ascent.proofs.entering.list_entering_at.Goals.{in-Some+in_ok-push, in_default}
 

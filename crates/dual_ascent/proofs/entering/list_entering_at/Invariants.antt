@@ -1,5 +1,5 @@
 use Rattle.std.proofs.Common.{take}
-use Rattle.dual_ascent.proofs.EnteringLemmas.{EnteringSoFar}
+use Rattle.dual_ascent.proofs.lemmas.EnteringLemmas.{EnteringSoFar}
 use Rattle.dual_ascent.proofs.entering.list_entering_at.Given as goal
 
 abbrev pub invariant-loop-along : goal.invariant-loop-along

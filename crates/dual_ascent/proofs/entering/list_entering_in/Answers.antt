@@ -1,7 +1,7 @@
 use Rattle.std.proofs.Common.{ℕ, ◌≡◌, ◌+◌, ◌-◌, ◌*◌, ◌≤◌, min, length, arith, w64}
 use Rattle.std.specs.Int.{trailing_zeros}
-use Rattle.dual_ascent.proofs.EnteringLemmas.{AreEnteringBelow-skip, AreEnteringBelow-past}
-use Rattle.dual_ascent.proofs.MarkLemmas.{mark_within, mark_is_member, none_before, marks_behind, none_behind}
+use Rattle.dual_ascent.proofs.lemmas.EnteringLemmas.{AreEnteringBelow-skip, AreEnteringBelow-past}
+use Rattle.dual_ascent.proofs.lemmas.MarkLemmas.{mark_within, mark_is_member, none_before, marks_behind, none_behind}
 use Rattle.dual_ascent.proofs.entering.list_entering_in.Goals as goal
 
 pub loop-marks-init : goal.loop-marks-init

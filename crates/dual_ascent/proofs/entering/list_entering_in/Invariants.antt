@@ -1,6 +1,6 @@
 use Rattle.std.proofs.Common.{◌+◌, ◌*◌}
 use Rattle.dual_ascent.specs.Entering.{AreEnteringBelow}
-use Rattle.dual_ascent.proofs.MarkLemmas.{MarksMembers}
+use Rattle.dual_ascent.proofs.lemmas.MarkLemmas.{MarksMembers}
 use Rattle.dual_ascent.proofs.entering.list_entering_in.Given as goal
 
 -- the arcs that lead to vertices below v are listed, and the marks tell where the next members are

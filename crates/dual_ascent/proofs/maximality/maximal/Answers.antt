@@ -2,7 +2,7 @@ use Rattle.std.proofs.Common.{◌≡◌, ◌∙◌, ap, length, ◌↔◌, IsTru
 use Rattle.net_graph.specs.Decision.{states_of}
 use Rattle.net_graph.specs.DecisionLaws.{length-states_of}
 use Rattle.net_graph.specs.Flags.{has}
-use Rattle.dual_ascent.proofs.AscentLemmas.{IsMaximal-iff_marked}
+use Rattle.dual_ascent.proofs.lemmas.AscentLemmas.{IsMaximal-iff_marked}
 use Rattle.dual_ascent.proofs.maximality.maximal.Goals as goal
 use Rattle.dual_ascent.specs.CostLaws.{length-costs_of}
 

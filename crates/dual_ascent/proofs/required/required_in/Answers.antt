@@ -3,7 +3,7 @@ use Rattle.net_graph.specs.AddsLaws.{Adds-holds}
 use Rattle.net_graph.specs.Decision.{IsRequired}
 use Rattle.std.proofs.lemmas.List.{length-replicate}
 use Rattle.std.proofs.lemmas.Option.{same_Some}
-use Rattle.dual_ascent.proofs.RequiredLemmas.{RequiredBelow-skip, RequiredBelow-take, AreRequired-all}
+use Rattle.dual_ascent.proofs.lemmas.RequiredLemmas.{RequiredBelow-skip, RequiredBelow-take, AreRequired-all}
 use Rattle.dual_ascent.proofs.required.required_in.Goals as goal
 use Rattle.dual_ascent.proofs.required.required_in.Goals.{then-has, else-has}
 

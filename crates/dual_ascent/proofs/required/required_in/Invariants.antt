@@ -1,5 +1,5 @@
 use Rattle.std.proofs.Common.{◌≤◌, vec_len, vec_capacity}
-use Rattle.dual_ascent.proofs.RequiredLemmas.{RequiredBelow}
+use Rattle.dual_ascent.proofs.lemmas.RequiredLemmas.{RequiredBelow}
 use Rattle.dual_ascent.proofs.required.required_in.Given as goal
 
 abbrev pub invariant-loop-v : goal.invariant-loop-v

@@ -3,7 +3,7 @@ use Rattle.std.proofs.lemmas.Bool.{both_ways, cases_eq}
 use Rattle.std.proofs.lemmas.List.{length-replicate}
 use Rattle.net_graph.specs.AddsLaws.{Adds-iff, Adds-nothing, Adds-one, Adds-then}
 use Rattle.net_graph.specs.Decision.{IsRequired}
-use Rattle.dual_ascent.proofs.RequiredLemmas.{IsRequired-below}
+use Rattle.dual_ascent.proofs.lemmas.RequiredLemmas.{IsRequired-below}
 use Rattle.dual_ascent.proofs.required.required_set.Goals as goal
 use Rattle.dual_ascent.proofs.required.required_set.Goals.{then-required, else-required}
 

@@ -1,4 +1,4 @@
-use Rattle.fst_file.proofs.Lawful.{fst_lawful}
+use Rattle.fst_file.proofs.lemmas.Lawful.{fst_lawful}
 use Rattle.fst_file.proofs.laws.one_outcome.Goals as goal
 
 pub one_outcome-requires : goal.one_outcome-requires

@@ -1,6 +1,6 @@
 use Rattle.std.specs.Prelude.{◌++◌}
-use Rattle.fst_file.proofs.Lawful.{fst_lawful}
-use Rattle.fst_file.proofs.Sections.{file_spelled}
+use Rattle.fst_file.proofs.lemmas.Lawful.{fst_lawful}
+use Rattle.fst_file.proofs.lemmas.Sections.{file_spelled}
 use Rattle.fst_file.proofs.laws.one_reading.Goals as goal
 
 pub one_reading-requires : goal.one_reading-requires

@@ -1,5 +1,5 @@
-use Rattle.fst_file.proofs.Lawful.{fst_lawful}
-use Rattle.fst_file.proofs.Sections.{spelled_file, file_spelled}
+use Rattle.fst_file.proofs.lemmas.Lawful.{fst_lawful}
+use Rattle.fst_file.proofs.lemmas.Sections.{spelled_file, file_spelled}
 use Rattle.fst_file.proofs.laws.values_are_spelled.Goals as goal
 
 pub values_are_spelled-requires : goal.values_are_spelled-requires

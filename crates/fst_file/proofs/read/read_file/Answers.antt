@@ -1,7 +1,7 @@
 -- A file is a text of sections.
 use Rattle.std.specs.Prelude.{Ok, Err}
-use Rattle.fst_file.proofs.Lawful.{fst_lawful}
-use Rattle.fst_file.proofs.Sections.{file_spelled, read_spelled, read_fault, answers}
+use Rattle.fst_file.proofs.lemmas.Lawful.{fst_lawful}
+use Rattle.fst_file.proofs.lemmas.Sections.{file_spelled, read_spelled, read_fault, answers}
 use Rattle.fst_file.proofs.read.read_file.Goals as goal
 
 pub read_sections-requires : goal.read_sections-requires

@@ -1,6 +1,6 @@
 -- A word that is no place rules out each cross.
 use Rattle.full_tree.specs.declared.code.TreeCode.TheVariants.{Cross}
-use Rattle.fst_file.proofs.Codes.{no_south, no_east, no_north, cross_stands}
+use Rattle.fst_file.proofs.lemmas.Codes.{no_south, no_east, no_north, cross_stands}
 use Rattle.fst_file.proofs.tree_line.cross_in.Goals as goal
 
 pub returns-in_err-south-clause-none : goal.returns-in_err-south-clause-none

@@ -1,7 +1,7 @@
 -- Each word more is a drop, or no drops are spelled.
 use Rattle.std.proofs.Common.{arith}
 use Rattle.std.proofs.lemmas.Bool.{false≢true}
-use Rattle.fst_file.proofs.Drops.{drop_read, drop_passed, no_drop}
+use Rattle.fst_file.proofs.lemmas.Drops.{drop_read, drop_passed, no_drop}
 use Rattle.fst_file.proofs.tree_line.drops_in.Goals as goal
 
 pub returns-in_err-place-clause-none : goal.returns-in_err-place-clause-none

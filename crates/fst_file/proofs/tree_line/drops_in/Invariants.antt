@@ -1,5 +1,5 @@
 use Rattle.std.specs.Prelude.{length}
-use Rattle.fst_file.proofs.Drops.{DropsSoFar}
+use Rattle.fst_file.proofs.lemmas.Drops.{DropsSoFar}
 use Rattle.fst_file.proofs.tree_line.drops_in.Given as goal
 
 abbrev pub invariant-loop-words : goal.invariant-loop-words

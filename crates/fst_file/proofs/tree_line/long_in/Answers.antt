@@ -1,6 +1,6 @@
 -- A word that is no place rules out each long code.
 use Rattle.full_tree.specs.declared.code.TreeCode.TheVariants.{Long}
-use Rattle.fst_file.proofs.Codes.{no_tip, long_stands}
+use Rattle.fst_file.proofs.lemmas.Codes.{no_tip, long_stands}
 use Rattle.fst_file.proofs.tree_line.long_in.Goals as goal
 
 pub returns-in_err-tip-clause-none : goal.returns-in_err-tip-clause-none

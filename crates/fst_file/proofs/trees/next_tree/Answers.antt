@@ -1,7 +1,7 @@
 -- What is wrong with the tree that is kept is wrong with the one that the line spells.
 use Rattle.std.specs.Prelude.{length, ◌≤◌}
 use Rattle.std.proofs.Common.{inr, subst}
-use Rattle.fst_file.proofs.TreeSteps.{kept_fault}
+use Rattle.fst_file.proofs.lemmas.TreeSteps.{kept_fault}
 use Rattle.fst_file.proofs.trees.next_tree.Goals as goal
 
 pub returns-in-Some-tree_fault-clause-err : goal.returns-in-Some-tree_fault-clause-err

@@ -3,7 +3,7 @@ use Rattle.std.specs.Prelude.{◌≡◌, ◌++◌}
 use Rattle.std.proofs.Common.{sym, subst, ap, ◌∙◌}
 use Rattle.rst_outside.specs.Sink.{Writes}
 use Rattle.fst_file.specs.Pieces.{points_part, trees_part}
-use Rattle.fst_file.proofs.Written.{fst_text-pieces}
+use Rattle.fst_file.proofs.lemmas.Written.{fst_text-pieces}
 use Rattle.fst_file.proofs.write.write_file.Goals as goal
 
 pub returns : goal.returns

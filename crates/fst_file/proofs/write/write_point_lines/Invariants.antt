@@ -1,7 +1,7 @@
 use Rattle.std.specs.Prelude.{flat_map}
 use Rattle.std.proofs.Common.{take}
 use Rattle.text_out.specs.Gathers.{Gathers}
-use Rattle.text_lines.specs.Lines.{line_text}
+use Rattle.text_in.specs.Lines.{line_text}
 use Rattle.section_text.specs.Words.{point_words}
 use Rattle.fst_file.proofs.write.write_point_lines.Given as goal
 

@@ -1,8 +1,8 @@
 -- What was found, and how the run then ended, are a run.
 use Rattle.std.proofs.Common.{◌≡◌, codes}
-use Rattle.frame.specs.Outside.{writable, outside}
-use Rattle.frame.specs.Leaves.{LeavesFiles}
-use Rattle.frame.specs.EndLaws.{ends_with}
+use Rattle.tool_frame.specs.Outside.{writable, outside}
+use Rattle.tool_frame.specs.Leaves.{LeavesFiles}
+use Rattle.tool_frame.specs.EndLaws.{ends_with}
 use Rattle.verdict_line.specs.UnreadLaws.{without_memory}
 use Rattle.verdict_line.specs.Verdicts.{line_text, line_status}
 use Rattle.graph_tools.specs.Check.{ChecksGraph, checkgraph_fault_text, checkgraph_fault_status}

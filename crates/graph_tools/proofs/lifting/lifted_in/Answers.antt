@@ -2,10 +2,10 @@
 use Rattle.std.proofs.Common.{length, sym, subst}
 use Rattle.net_graph.specs.Graph.{Graph}
 use Rattle.net_graph.specs.Network.{IsNetwork}
-use Rattle.cut_cert.specs.declared.form.Form.TheVariants as form
-use Rattle.cut_cert.specs.Answers.{graph_value_of}
-use Rattle.cut_cert.specs.Spelling.{SpellsAnswer}
-use Rattle.cut_cert.specs.Text.{answer_text}
+use Rattle.answer_text.specs.declared.form.Form.TheVariants as form
+use Rattle.answer_text.specs.Answers.{graph_value_of}
+use Rattle.answer_text.specs.Spelling.{SpellsAnswer}
+use Rattle.answer_text.specs.Text.{answer_text}
 use Rattle.graph_solve.specs.Task.{all_edges}
 use Rattle.search_rules.specs.Options.{usual_in_graph}
 use Rattle.graph_tools.specs.Solution.{IsAnswerFor}

@@ -1,10 +1,10 @@
 -- What was found in the graph that was read was found in the text.
 use Rattle.std.proofs.Common.{subst}
 use Rattle.net_graph.specs.Graph.{Graph}
-use Rattle.frame.specs.declared.take.TheConstants.{TEXT_LIMIT}
-use Rattle.frame.specs.Outside.{readable}
-use Rattle.frame.specs.FromText.{FromText}
-use Rattle.graph_inputs.specs.Reading.{ReadsGraph}
+use Rattle.tool_frame.specs.declared.take.TheConstants.{TEXT_LIMIT}
+use Rattle.tool_frame.specs.Outside.{readable}
+use Rattle.tool_frame.specs.FromText.{FromText}
+use Rattle.graph_tools.specs.Reading.{ReadsGraph}
 use Rattle.graph_tools.specs.FoundLaws.{fault_in_text, found_in_text}
 use Rattle.graph_tools.specs.Reduce.{IsReductionFor}
 use Rattle.graph_tools.proofs.reducing.find_reduction.Goals as goal

@@ -1,10 +1,10 @@
 -- The answer is one in the graph: the search began with a network no longer than all edges together.
 use Rattle.std.proofs.Common.{◌<◌, ◌≤◌, ◌^◌, arith, length, subst, sym}
 use Rattle.net_graph.specs.Network.{length_of}
-use Rattle.cut_cert.specs.declared.answer.Answer.{Answer}
-use Rattle.cut_cert.specs.Answers.{IsAnswerOn, graph_value_of}
-use Rattle.cut_cert.specs.Notes.{no_note}
-use Rattle.cut_cert.specs.Text.{answer_text}
+use Rattle.answer_text.specs.declared.answer.Answer.{Answer}
+use Rattle.answer_text.specs.Answers.{IsAnswerOn, graph_value_of}
+use Rattle.answer_text.specs.Notes.{no_note}
+use Rattle.answer_text.specs.Text.{answer_text}
 use Rattle.graph_search.specs.AnsweringLaws.{told_fits}
 use Rattle.graph_search.specs.Kinds.{kind_of}
 use Rattle.graph_tools.specs.Solution.{IsAnswerFor}

@@ -2,10 +2,10 @@
 use Rattle.std.proofs.Common.{subst}
 use Rattle.net_graph.specs.Graph.{Graph}
 use Rattle.net_graph.specs.Network.{IsNetwork}
-use Rattle.frame.specs.declared.take.TheConstants.{TEXT_LIMIT}
-use Rattle.frame.specs.Outside.{readable}
-use Rattle.frame.specs.FromText.{FromText}
-use Rattle.graph_inputs.specs.Reading.{ReadsGraph}
+use Rattle.tool_frame.specs.declared.take.TheConstants.{TEXT_LIMIT}
+use Rattle.tool_frame.specs.Outside.{readable}
+use Rattle.tool_frame.specs.FromText.{FromText}
+use Rattle.graph_tools.specs.Reading.{ReadsGraph}
 use Rattle.graph_solve.specs.Task.{all_edges}
 use Rattle.graph_tools.specs.FoundLaws.{fault_in_text, found_in_text, read_holds}
 use Rattle.graph_tools.specs.Solution.{IsFor}

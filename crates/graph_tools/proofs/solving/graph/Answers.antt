@@ -1,12 +1,12 @@
 -- What was found, and how the run then ended, are a run, whatever the shelf is.
 use Rattle.std.proofs.Common.{codes, refl}
-use Rattle.frame.specs.declared.take.TheConstants.{TEXT_LIMIT}
-use Rattle.frame.specs.Outside.{outside, readable}
-use Rattle.frame.specs.EndLaws.{ends_with}
-use Rattle.frame.specs.FaultTexts.{text_fault_text, text_fault_status}
-use Rattle.frame.specs.FromText.{FromText}
-use Rattle.frame.specs.Leaves.{LeavesShelf}
-use Rattle.graph_inputs.specs.Reading.{ReadsGraph, graph_fault_text, graph_fault_status}
+use Rattle.tool_frame.specs.declared.take.TheConstants.{TEXT_LIMIT}
+use Rattle.tool_frame.specs.Outside.{outside, readable}
+use Rattle.tool_frame.specs.EndLaws.{ends_with}
+use Rattle.tool_frame.specs.FaultTexts.{text_fault_text, text_fault_status}
+use Rattle.tool_frame.specs.FromText.{FromText}
+use Rattle.tool_frame.specs.Leaves.{LeavesShelf}
+use Rattle.graph_tools.specs.Reading.{ReadsGraph, graph_fault_text, graph_fault_status}
 use Rattle.graph_tools.specs.FoundLaws.{all_found_holds, printed_or_not}
 use Rattle.graph_tools.specs.Solution.{IsFor, IsPrintable, IsSpelled, solution_text, solution_status}
 use Rattle.graph_tools.specs.Solve.{PrintsAnswer, SolvesGraph}

@@ -1,6 +1,6 @@
 use Rattle.std.proofs.Common.{rules, arith}
 use Rattle.hanan_grid.specs.Grid.{horizontal}
-use Rattle.hanan_grid.proofs.Rows.{row_more}
+use Rattle.hanan_grid.proofs.lemmas.Rows.{row_more}
 use Rattle.hanan_grid.proofs.edges.push_horizontal_row.Goals as goal
 
 pub loop-column-preserved : goal.loop-column-preserved

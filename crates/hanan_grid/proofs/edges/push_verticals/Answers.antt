@@ -1,6 +1,6 @@
 use Rattle.std.proofs.Common.{rules, arith, length}
 use Rattle.hanan_grid.specs.Grid.{vertical}
-use Rattle.hanan_grid.proofs.Rows.{table_more}
+use Rattle.hanan_grid.proofs.lemmas.Rows.{table_more}
 use Rattle.hanan_grid.proofs.edges.push_verticals.Goals as goal
 
 pub loop-row-preserved : goal.loop-row-preserved

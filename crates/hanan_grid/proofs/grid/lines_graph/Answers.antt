@@ -1,6 +1,6 @@
 use Rattle.std.proofs.Common.{arith, ◌∙◌}
 use Rattle.hanan_grid.specs.GridLaws.{length-xs_of-le, length-ys_of-le, length-xs_of-positive, length-ys_of-positive, IsRising-xs_of, IsRising-ys_of, few_crossings_of, few_edges_of}
-use Rattle.hanan_grid.proofs.GraphFaults.{known_fault_of_grid, graph_from_parts}
+use Rattle.hanan_grid.proofs.lemmas.GraphFaults.{known_fault_of_grid, graph_from_parts}
 use Rattle.hanan_grid.proofs.grid.lines_graph.Goals as goal
 
 pub line_edges-requires-clause-columns : goal.line_edges-requires-clause-columns

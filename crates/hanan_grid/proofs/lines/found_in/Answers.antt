@@ -1,7 +1,7 @@
 use Rattle.std.proofs.Common.{arith}
 use Rattle.std.proofs.lemmas.Int.{to_z-of_z}
 use Rattle.std.proofs.lemmas.Grind.{common_steps}
-use Rattle.hanan_grid.proofs.Found.{not_found}
+use Rattle.hanan_grid.proofs.lemmas.Found.{not_found}
 use Rattle.hanan_grid.proofs.lines.found_in.Goals as goal
 
 pub returns-in_default-clause-none : goal.returns-in_default-clause-none

@@ -1,6 +1,6 @@
 use Rattle.std.proofs.Common.{◌∙◌}
 use Rattle.std.proofs.lemmas.List.Filters.{dedup_is}
-use Rattle.hanan_grid.proofs.Sorting.{ascending_from_sort}
+use Rattle.hanan_grid.proofs.lemmas.Sorting.{ascending_from_sort}
 use Rattle.hanan_grid.proofs.lines.lines_of.Goals as goal
 
 pub returns : goal.returns

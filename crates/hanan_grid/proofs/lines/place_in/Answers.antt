@@ -1,7 +1,7 @@
 use Rattle.std.proofs.Common.{rules}
 use Rattle.std.specs.Prelude.{int_lt}
 use Rattle.std.proofs.lemmas.List.Sorted.{IsPartitionPoint-from_clause}
-use Rattle.hanan_grid.proofs.Sorting.{parted_by, place_of_from_parted}
+use Rattle.hanan_grid.proofs.lemmas.Sorting.{parted_by, place_of_from_parted}
 use Rattle.hanan_grid.proofs.lines.place_in.Goals as goal
 
 pub returns-clause-place : goal.returns-clause-place

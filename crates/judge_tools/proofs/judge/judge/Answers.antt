@@ -1,5 +1,5 @@
 -- What is found is the verdict on the input for the grid of the file's points, or the input's fault.
-use Rattle.frame.specs.Outside.{readable}
+use Rattle.tool_frame.specs.Outside.{readable}
 use Rattle.judge_tools.proofs.Verdict.{found_judgement, found_fault}
 use Rattle.judge_tools.proofs.judge.judge.Goals as goal
 

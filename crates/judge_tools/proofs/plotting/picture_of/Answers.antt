@@ -1,5 +1,5 @@
 -- Of an answer that is accepted the plot of its network is found.
-use Rattle.frame.specs.Outside.{readable}
+use Rattle.tool_frame.specs.Outside.{readable}
 use Rattle.judge_tools.proofs.Pictures.{found_plot}
 use Rattle.judge_tools.proofs.plotting.picture_of.Goals as goal
 

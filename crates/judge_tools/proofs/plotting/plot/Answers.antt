@@ -1,8 +1,8 @@
 -- What was found, and how the run then ended, are a run.
 use Rattle.std.proofs.Common.{◌≡◌, codes}
-use Rattle.frame.specs.Outside.{writable, outside}
-use Rattle.frame.specs.Leaves.{LeavesFiles}
-use Rattle.frame.specs.EndLaws.{ends_with}
+use Rattle.tool_frame.specs.Outside.{writable, outside}
+use Rattle.tool_frame.specs.Leaves.{LeavesFiles}
+use Rattle.tool_frame.specs.EndLaws.{ends_with}
 use Rattle.judge_tools.specs.Pictures.{picture_text, picture_status}
 use Rattle.judge_tools.specs.Plot.{Plots, plot_fault_text, plot_fault_status}
 use Rattle.verdict_line.specs.UnreadLaws.{without_memory}

@@ -1,7 +1,7 @@
 -- Bytes that cease to spell an answer are refused by their line.
 use Rattle.std.proofs.Common.{List, ℕ, ap, ◌∙◌, subst}
 use Rattle.net_graph.specs.Graph.{Graph}
-use Rattle.frame.specs.Outside.{readable}
+use Rattle.tool_frame.specs.Outside.{readable}
 use Rattle.answer_upgrade.specs.declared.told.Spelled.TheVariants.{Fault}
 use Rattle.answer_upgrade.specs.Spelling.{TellsSpelling}
 use Rattle.judge_tools.proofs.Upgrades.{taken_misspelled}

@@ -1,9 +1,9 @@
 -- What was taken, and how the run then ended, are a run.
 use Rattle.std.proofs.Common.{List, ℕ, sym, subst}
-use Rattle.frame.specs.Outside.{outside}
-use Rattle.cut_cert.specs.declared.form.Form.TheVariants as form
-use Rattle.cut_cert.specs.Spelling.{SpellsAnswer}
-use Rattle.cut_cert.specs.Text.{answer_text}
+use Rattle.tool_frame.specs.Outside.{outside}
+use Rattle.answer_text.specs.declared.form.Form.TheVariants as form
+use Rattle.answer_text.specs.Spelling.{SpellsAnswer}
+use Rattle.answer_text.specs.Text.{answer_text}
 use Rattle.answer_upgrade.specs.Upgraded.{upgraded}
 use Rattle.judge_tools.proofs.Upgrades.{printed_run, refused_run, starved_run}
 use Rattle.judge_tools.proofs.upgrading.upgrade.Goals as goal

@@ -1,7 +1,7 @@
 use Rattle.std.proofs.Common.{get_or, arith}
 use Rattle.std.proofs.lemmas.Option.{slice_get-get_or}
 use Rattle.net_graph.specs.declared.edge.Edge.{Edge}
-use Rattle.net_graph.proofs.ArcLemmas.{AreArcsBelow-more, AreArcsOf-from_below}
+use Rattle.net_graph.proofs.lemmas.ArcLemmas.{AreArcsBelow-more, AreArcsOf-from_below}
 use Rattle.net_graph.proofs.arcs.both_ways.Goals as goal
 
 pub loop-n-preserved : goal.loop-n-preserved

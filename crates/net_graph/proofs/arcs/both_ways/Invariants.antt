@@ -1,5 +1,5 @@
 use Rattle.std.proofs.Common.{◌≡◌, ◌*◌, ◌≤◌, length, vec_len, vec_capacity}
-use Rattle.net_graph.proofs.ArcLemmas.{AreArcsBelow}
+use Rattle.net_graph.proofs.lemmas.ArcLemmas.{AreArcsBelow}
 use Rattle.net_graph.proofs.arcs.both_ways.Given as goal
 
 abbrev pub invariant-loop-n : goal.invariant-loop-n

@@ -1,6 +1,6 @@
 use Rattle.std.proofs.Common.{rules, ltb}
 use Rattle.std.proofs.lemmas.List.Sorted.{IsPartitionedBy-ltb, IsPartitionPoint-from_clause}
-use Rattle.net_graph.proofs.ArcLemmas.{IsSplitAt-from_point}
+use Rattle.net_graph.proofs.lemmas.ArcLemmas.{IsSplitAt-from_point}
 use Rattle.net_graph.proofs.arcs.start_of.Goals as goal
 
 pub returns : goal.returns

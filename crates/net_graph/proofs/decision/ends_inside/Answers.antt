@@ -1,7 +1,7 @@
 -- No arc from the vertex is of an inside edge.
 use Rattle.std.proofs.Common.{false, refl, arith}
 use Rattle.std.proofs.lemmas.Bool.{both_ways}
-use Rattle.net_graph.proofs.DecisionLemmas.{none-ends_inside}
+use Rattle.net_graph.proofs.lemmas.DecisionLemmas.{none-ends_inside}
 use Rattle.net_graph.proofs.decision.ends_inside.Goals as goal
 
 pub returns : goal.returns

@@ -1,4 +1,4 @@
-use Rattle.net_graph.proofs.DecisionLemmas.{NoneInsideBelow}
+use Rattle.net_graph.proofs.lemmas.DecisionLemmas.{NoneInsideBelow}
 use Rattle.net_graph.proofs.decision.ends_inside.Given as goal
 
 -- no arc so far is of an inside edge

@@ -3,7 +3,7 @@ use Rattle.std.proofs.lemmas.List.Elements.{All-more}
 use Rattle.std.proofs.lemmas.List.{take_all}
 use Rattle.net_graph.specs.declared.packing.Cut.{Cut}
 use Rattle.net_graph.specs.Packing.{IsCut}
-use Rattle.net_graph.proofs.FeasibleLemmas.{AreCuts}
+use Rattle.net_graph.proofs.lemmas.FeasibleLemmas.{AreCuts}
 use Rattle.net_graph.proofs.feasibility.are_cuts.Goals as goal
 
 pub loop-cut-preserved : goal.loop-cut-preserved

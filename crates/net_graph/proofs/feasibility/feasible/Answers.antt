@@ -1,4 +1,4 @@
-use Rattle.net_graph.proofs.FeasibleLemmas.{feasible_with_cuts, feasible_without_cuts}
+use Rattle.net_graph.proofs.lemmas.FeasibleLemmas.{feasible_with_cuts, feasible_without_cuts}
 use Rattle.net_graph.proofs.feasibility.feasible.Goals as goal
 
 pub returns-then-are_cuts : goal.returns-then-are_cuts

@@ -1,4 +1,4 @@
-use Rattle.net_graph.proofs.FeasibleLemmas.{NoEndHeldBelow}
+use Rattle.net_graph.proofs.lemmas.FeasibleLemmas.{NoEndHeldBelow}
 use Rattle.net_graph.proofs.feasibility.holds_inside_end.Given as goal
 
 -- the set holds no end of an inside edge so far

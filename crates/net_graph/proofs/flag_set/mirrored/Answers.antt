@@ -1,7 +1,7 @@
 use Rattle.std.proofs.Common.{ℕ, zero, suc, ◌≡◌, ◌<◌, [], ◌∷◌, get_or, eqb, refl, arith}
 use Rattle.std.specs.Int.{bit_at}
 use Rattle.net_graph.specs.Flags.{flag_of_four}
-use Rattle.net_graph.proofs.FlagFours.{at_number}
+use Rattle.net_graph.proofs.lemmas.FlagFours.{at_number}
 use Rattle.net_graph.proofs.flag_set.mirrored.Goals as goal
 
 -- a flag of four, by the table

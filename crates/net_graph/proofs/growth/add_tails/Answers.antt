@@ -1,7 +1,7 @@
 use Rattle.std.proofs.Common.{◌≡◌, ◌∙◌, ◌≤◌, ap, get_or, length, arith, true}
 use Rattle.std.proofs.lemmas.Option.{slice_get-get_or}
 use Rattle.net_graph.specs.declared.arcs.Arc.{Arc}
-use Rattle.net_graph.proofs.GrowthLemmas.{AddsTails-apart, AddsTails-added, AddsTails-all}
+use Rattle.net_graph.proofs.lemmas.GrowthLemmas.{AddsTails-apart, AddsTails-added, AddsTails-all}
 use Rattle.net_graph.proofs.growth.add_tails.Goals as goal
 use Rattle.net_graph.proofs.growth.add_tails.Goals.{then-has, else-has}
 

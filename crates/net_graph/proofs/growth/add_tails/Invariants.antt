@@ -1,5 +1,5 @@
 use Rattle.std.proofs.Common.{◌≡◌}
-use Rattle.net_graph.proofs.GrowthLemmas.{AddsTails}
+use Rattle.net_graph.proofs.lemmas.GrowthLemmas.{AddsTails}
 use Rattle.net_graph.proofs.growth.add_tails.Given as goal
 
 abbrev pub invariant-loop-arc : goal.invariant-loop-arc

@@ -1,7 +1,7 @@
 use Rattle.std.proofs.Common.{ℕ, ◌<◌, List, subst}
 use Rattle.net_graph.specs.Growth.{LeadsToOne, HasArc}
 use Rattle.net_graph.specs.Search.{Extends}
-use Rattle.net_graph.proofs.GrowthLemmas.{found_below, IsGoneOver-grown, LeadsToOne-iff_back}
+use Rattle.net_graph.proofs.lemmas.GrowthLemmas.{found_below, IsGoneOver-grown, LeadsToOne-iff_back}
 use Rattle.net_graph.proofs.growth.grow_leading_to.Goals as goal
 
 pub search_on-requires-clause-gone_over : goal.search_on-requires-clause-gone_over

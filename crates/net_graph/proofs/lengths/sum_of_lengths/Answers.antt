@@ -1,6 +1,6 @@
 use Rattle.std.proofs.Common.{◌≡◌, ◌<◌, ◌∙◌, true, false, length, slice_index_or, sym, arith}
 use Rattle.net_graph.specs.declared.edge.Edge.{Edge}
-use Rattle.net_graph.proofs.LengthLemmas.{length_with_flag, length_without_flag, length_with_flag-le-sum}
+use Rattle.net_graph.proofs.lemmas.LengthLemmas.{length_with_flag, length_without_flag, length_with_flag-le-sum}
 use Rattle.net_graph.proofs.lengths.sum_of_lengths.Goals as goal
 use Rattle.net_graph.proofs.lengths.sum_of_lengths.Goals.{then-has, else-has}
 

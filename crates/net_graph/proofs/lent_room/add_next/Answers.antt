@@ -1,7 +1,7 @@
 use Rattle.std.proofs.Common.{◌≡◌, ◌∙◌, ◌<◌, ℕ, Bool, true, false, sym, refl, get_or, arith}
 use Rattle.std.proofs.lemmas.Option.{slice_get-get_or}
 use Rattle.net_graph.specs.declared.arcs.Arc.{Arc}
-use Rattle.net_graph.proofs.SearchLemmas.{AddsHeads-shut, AddsHeads-open, AddsHeads-all}
+use Rattle.net_graph.proofs.lemmas.SearchLemmas.{AddsHeads-shut, AddsHeads-open, AddsHeads-all}
 use Rattle.net_graph.proofs.lent_room.add_next.Goals as goal
 use Rattle.net_graph.proofs.lent_room.add_next.Goals.{then-is_open, else-is_open}
 

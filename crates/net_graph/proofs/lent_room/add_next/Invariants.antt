@@ -1,7 +1,7 @@
 use Rattle.std.proofs.Common.{◌≡◌, ◌<◌, take}
 use Rattle.net_graph.specs.Found.{AreFoundInRoom}
 use Rattle.net_graph.specs.Search.{OpenStep}
-use Rattle.net_graph.proofs.SearchLemmas.{AddsHeads}
+use Rattle.net_graph.proofs.lemmas.SearchLemmas.{AddsHeads}
 use Rattle.net_graph.proofs.lent_room.add_next.Given as goal
 
 abbrev pub invariant-loop-arc : goal.invariant-loop-arc

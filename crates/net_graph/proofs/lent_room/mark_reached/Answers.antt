@@ -1,8 +1,8 @@
 use Rattle.std.proofs.Common.{ℕ, ◌≡◌, ◌+◌, ◌≤◌, ◌<◌, [], ◌∷◌, List, length, take, get_or, replicate, refl, subst, arith, rules}
 use Rattle.std.proofs.lemmas.List.{length-take-le, get_or-take}
 use Rattle.net_graph.specs.Search.{OpenStep}
-use Rattle.net_graph.proofs.LentRoomLemmas.{AreFoundInRoom-none, at_place}
-use Rattle.net_graph.proofs.SearchLemmas.{Extends-keeps, LeadsFromOne-more, LeadsFromOne-iff, IsGoneOver-start, found_first, SearchSoFar-from_gone_over, SearchSoFar-more, SearchSoFar-all}
+use Rattle.net_graph.proofs.lemmas.LentRoomLemmas.{AreFoundInRoom-none, at_place}
+use Rattle.net_graph.proofs.lemmas.SearchLemmas.{Extends-keeps, LeadsFromOne-more, LeadsFromOne-iff, IsGoneOver-start, found_first, SearchSoFar-from_gone_over, SearchSoFar-more, SearchSoFar-all}
 use Rattle.net_graph.proofs.lent_room.mark_reached.Goals as goal
 
 pub add_vertex-count-requires-clause-found : goal.add_vertex-count-requires-clause-found

@@ -2,7 +2,7 @@ use Rattle.std.proofs.Common.{ℕ, ◌≡◌, ◌-◌, [], ◌∷◌, take, Cont
 use Rattle.net_graph.specs.Found.{AreFoundInRoom}
 use Rattle.net_graph.specs.Growth.{LeadsFromOne}
 use Rattle.net_graph.specs.Search.{OpenStep}
-use Rattle.net_graph.proofs.SearchLemmas.{SearchSoFar}
+use Rattle.net_graph.proofs.lemmas.SearchLemmas.{SearchSoFar}
 use Rattle.net_graph.proofs.lent_room.mark_reached.Given as goal
 
 -- The search has gone over the vertices before the place, and the start stays among the found ones.

@@ -1,5 +1,5 @@
 use Rattle.std.proofs.Common.{ap, sym, ◌∙◌, arith, length}
-use Rattle.net_graph.proofs.ApartLemmas.{first_unmarked, reached_more, reached_all}
+use Rattle.net_graph.proofs.lemmas.ApartLemmas.{first_unmarked, reached_more, reached_all}
 use Rattle.net_graph.proofs.network.first_apart.Goals as goal
 
 pub returns-then-not-has-clause-first : goal.returns-then-not-has-clause-first

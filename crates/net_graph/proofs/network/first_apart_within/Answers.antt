@@ -1,9 +1,9 @@
 use Rattle.std.proofs.Common.{ℕ, ◌≡◌, ◌≢◌, true, false, ap, sym, ◌∙◌, arith, length, get_or}
 use Rattle.std.proofs.lemmas.Bool.{eq-eqb, ne_eqb}
 use Rattle.net_graph.specs.Found.{flags_of_marks}
-use Rattle.net_graph.proofs.ApartLemmas.{MarksReached, first_unmarked, reached_more, reached_all}
-use Rattle.net_graph.proofs.LentRoomLemmas.{flag_of_mark}
-use Rattle.net_graph.proofs.NetworkLemmas.{marks_reached}
+use Rattle.net_graph.proofs.lemmas.ApartLemmas.{MarksReached, first_unmarked, reached_more, reached_all}
+use Rattle.net_graph.proofs.lemmas.LentRoomLemmas.{flag_of_mark}
+use Rattle.net_graph.proofs.lemmas.NetworkLemmas.{marks_reached}
 use Rattle.net_graph.proofs.network.first_apart_within.Goals as goal
 
 pub returns-then-marks-terminal-ne1-clause-first : goal.returns-then-marks-terminal-ne1-clause-first

@@ -1,4 +1,4 @@
-use Rattle.net_graph.proofs.NetworkLemmas.{IsNetwork-iff_marks}
+use Rattle.net_graph.proofs.lemmas.NetworkLemmas.{IsNetwork-iff_marks}
 use Rattle.net_graph.proofs.network.joins.Goals as goal
 
 pub returns : goal.returns

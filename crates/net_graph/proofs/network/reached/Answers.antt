@@ -1,5 +1,5 @@
 use Rattle.std.proofs.lemmas.Result.{IfOk-weaker}
-use Rattle.net_graph.proofs.NetworkLemmas.{marks_reached}
+use Rattle.net_graph.proofs.lemmas.NetworkLemmas.{marks_reached}
 use Rattle.net_graph.proofs.network.reached.Goals as goal
 
 pub returns-clause-reached : goal.returns-clause-reached

@@ -2,7 +2,7 @@ use Rattle.std.proofs.Common.{◌∙◌, ap, length, arith, length-set, true}
 use Rattle.std.proofs.lemmas.Bool.{iff_false}
 use Rattle.std.proofs.lemmas.Option.{slice_get_within}
 use Rattle.net_graph.specs.Decision.{InRootPart}
-use Rattle.net_graph.proofs.RootedLemmas.{HoldsBelow-yes, HoldsBelow-no, HoldsBelow-all}
+use Rattle.net_graph.proofs.lemmas.RootedLemmas.{HoldsBelow-yes, HoldsBelow-no, HoldsBelow-all}
 use Rattle.net_graph.proofs.rooted.root_part.Goals as goal
 use Rattle.net_graph.proofs.rooted.root_part.Goals.{then-is_in_root_part, else-is_in_root_part}
 

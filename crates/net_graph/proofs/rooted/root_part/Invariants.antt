@@ -1,6 +1,6 @@
 use Rattle.std.proofs.Common.{◌≡◌, length}
 use Rattle.net_graph.specs.Decision.{InRootPart}
-use Rattle.net_graph.proofs.RootedLemmas.{HoldsBelow}
+use Rattle.net_graph.proofs.lemmas.RootedLemmas.{HoldsBelow}
 use Rattle.net_graph.proofs.rooted.root_part.Given as goal
 
 -- of the edges so far the root part's are added

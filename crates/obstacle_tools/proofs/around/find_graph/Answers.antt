@@ -1,9 +1,9 @@
 -- The graph that was read is the one that is printed.
 use Rattle.std.proofs.Common.{refl, subst}
 use Rattle.net_graph.specs.Graph.{Graph}
-use Rattle.frame.specs.declared.take.TheConstants.{TEXT_LIMIT}
-use Rattle.frame.specs.Outside.{readable}
-use Rattle.frame.specs.FromText.{FromText}
+use Rattle.tool_frame.specs.declared.take.TheConstants.{TEXT_LIMIT}
+use Rattle.tool_frame.specs.Outside.{readable}
+use Rattle.tool_frame.specs.FromText.{FromText}
 use Rattle.graph_tools.specs.FoundLaws.{fault_in_text, found_in_text}
 use Rattle.obstacle_tools.specs.Around.{IsFileOf}
 use Rattle.obstacle_tools.specs.Reading.{ReadsAround}

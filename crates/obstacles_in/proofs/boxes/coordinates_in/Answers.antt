@@ -1,5 +1,5 @@
 -- A word that is no number rules out each box.
-use Rattle.obstacles_in.proofs.Coordinates.{no_right, no_upper}
+use Rattle.obstacles_in.proofs.lemmas.Coordinates.{no_right, no_upper}
 use Rattle.obstacles_in.proofs.boxes.coordinates_in.Goals as goal
 
 pub returns-in_err-x2-clause-none : goal.returns-in_err-x2-clause-none

@@ -1,4 +1,4 @@
-use Rattle.obstacles_in.proofs.Lawful.{obstacles_lawful}
+use Rattle.obstacles_in.proofs.lemmas.Lawful.{obstacles_lawful}
 use Rattle.obstacles_in.proofs.laws.one_outcome.Goals as goal
 
 pub one_outcome-requires : goal.one_outcome-requires

@@ -1,6 +1,6 @@
 use Rattle.std.specs.Prelude.{◌++◌}
-use Rattle.obstacles_in.proofs.Lawful.{obstacles_lawful}
-use Rattle.obstacles_in.proofs.Sections.{obstacles_spelled}
+use Rattle.obstacles_in.proofs.lemmas.Lawful.{obstacles_lawful}
+use Rattle.obstacles_in.proofs.lemmas.Sections.{obstacles_spelled}
 use Rattle.obstacles_in.proofs.laws.one_reading.Goals as goal
 
 pub one_reading-requires : goal.one_reading-requires

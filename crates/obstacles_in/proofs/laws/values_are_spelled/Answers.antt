@@ -1,5 +1,5 @@
-use Rattle.obstacles_in.proofs.Lawful.{obstacles_lawful}
-use Rattle.obstacles_in.proofs.Sections.{spelled_obstacles, obstacles_spelled}
+use Rattle.obstacles_in.proofs.lemmas.Lawful.{obstacles_lawful}
+use Rattle.obstacles_in.proofs.lemmas.Sections.{spelled_obstacles, obstacles_spelled}
 use Rattle.obstacles_in.proofs.laws.values_are_spelled.Goals as goal
 
 pub values_are_spelled-requires : goal.values_are_spelled-requires

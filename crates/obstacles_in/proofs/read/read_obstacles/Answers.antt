@@ -1,7 +1,7 @@
 -- Points and boxes are a text of sections.
 use Rattle.std.specs.Prelude.{Ok, Err}
-use Rattle.obstacles_in.proofs.Lawful.{obstacles_lawful}
-use Rattle.obstacles_in.proofs.Sections.{obstacles_spelled, read_spelled, read_fault, answers}
+use Rattle.obstacles_in.proofs.lemmas.Lawful.{obstacles_lawful}
+use Rattle.obstacles_in.proofs.lemmas.Sections.{obstacles_spelled, read_spelled, read_fault, answers}
 use Rattle.obstacles_in.proofs.read.read_obstacles.Goals as goal
 
 pub read_sections-requires : goal.read_sections-requires

@@ -4,7 +4,7 @@ use Rattle.std.proofs.Common.{arith, ap, ◌∙◌}
 use Rattle.hanan_grid.specs.Grid.{xs_of, ys_of}
 use Rattle.obstacles_in.specs.Obstacles.{columns_of, rows_of}
 use Rattle.obstacles_in.specs.Faults.{value_of}
-use Rattle.obstacles_in.proofs.Marks.{few_columns, few_rows, few_crossings}
+use Rattle.obstacles_in.proofs.lemmas.Marks.{few_columns, few_rows, few_crossings}
 use Rattle.obstacles_in.proofs.size.crossings.Goals as goal
 
 pub overflow_cast-result : goal.overflow_cast-result

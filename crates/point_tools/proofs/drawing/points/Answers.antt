@@ -1,8 +1,8 @@
 use Rattle.std.proofs.Common.{refl, codes}
-use Rattle.frame.specs.Outside.{outside}
-use Rattle.frame.specs.EndLaws.{ends_with}
-use Rattle.frame.specs.Leaves.{LeavesAll}
-use Rattle.frame.specs.FaultTexts.{input_fault_text, input_fault_status}
+use Rattle.tool_frame.specs.Outside.{outside}
+use Rattle.tool_frame.specs.EndLaws.{ends_with}
+use Rattle.tool_frame.specs.Leaves.{LeavesAll}
+use Rattle.tool_frame.specs.FaultTexts.{input_fault_text, input_fault_status}
 use Rattle.point_tools.specs.DrawnList.{drawn_text, drawn_status}
 use Rattle.point_tools.specs.Points.{PrintsDrawn}
 use Rattle.point_tools.proofs.drawing.points.Goals as goal

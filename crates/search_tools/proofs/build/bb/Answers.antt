@@ -1,11 +1,11 @@
 -- What was found, and how the run then ended, are a run, whatever the shelf is.
 use Rattle.std.proofs.Common.{codes, refl}
-use Rattle.frame.specs.declared.take.TheConstants.{TEXT_LIMIT}
-use Rattle.frame.specs.Outside.{outside, readable}
-use Rattle.frame.specs.EndLaws.{ends_with}
-use Rattle.frame.specs.FaultTexts.{text_fault_text, text_fault_status}
-use Rattle.frame.specs.FromText.{FromText}
-use Rattle.frame.specs.Leaves.{LeavesShelf}
+use Rattle.tool_frame.specs.declared.take.TheConstants.{TEXT_LIMIT}
+use Rattle.tool_frame.specs.Outside.{outside, readable}
+use Rattle.tool_frame.specs.EndLaws.{ends_with}
+use Rattle.tool_frame.specs.FaultTexts.{text_fault_text, text_fault_status}
+use Rattle.tool_frame.specs.FromText.{FromText}
+use Rattle.tool_frame.specs.Leaves.{LeavesShelf}
 use Rattle.search_tools.specs.Build.{Builds, build_fault_text, build_fault_status}
 use Rattle.search_tools.specs.Steps.{solution_text, solution_status}
 use Rattle.search_tools.proofs.SearchLaws.{built_or_not, built_writable}

@@ -1,9 +1,9 @@
 -- What was read is a file or its fault, and what was found of a file is an answer for it.
 use Rattle.std.proofs.Common.{Err, subst, sym}
 use Rattle.fst_file.specs.Value.{FstValue}
-use Rattle.frame.specs.declared.take.TheConstants.{TEXT_LIMIT}
-use Rattle.frame.specs.Outside.{readable}
-use Rattle.frame.specs.FromText.{FromText}
+use Rattle.tool_frame.specs.declared.take.TheConstants.{TEXT_LIMIT}
+use Rattle.tool_frame.specs.Outside.{readable}
+use Rattle.tool_frame.specs.FromText.{FromText}
 use Rattle.tree_inputs.specs.Files.{ReadsFst}
 use Rattle.search_tools.specs.declared.solution.Solution.{Solution}
 use Rattle.search_tools.specs.Steps.{FindsBuilt, SolvesFile}

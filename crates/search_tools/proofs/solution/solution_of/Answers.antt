@@ -3,9 +3,9 @@ use Rattle.std.proofs.Common.{◌≤◌, ◌^◌, ◌<◌, length, subst, sym, a
 use Rattle.hanan_grid.specs.Grid.{hanan_grid_of}
 use Rattle.net_graph.specs.Network.{length_of}
 use Rattle.fst_file.specs.Value.{FstValue}
-use Rattle.cut_cert.specs.declared.answer.Answer.{Answer}
-use Rattle.cut_cert.specs.Text.{answer_text}
-use Rattle.cut_cert.specs.Answers.{IsAnswerOn, value_of}
+use Rattle.answer_text.specs.declared.answer.Answer.{Answer}
+use Rattle.answer_text.specs.Text.{answer_text}
+use Rattle.answer_text.specs.Answers.{IsAnswerOn, value_of}
 use Rattle.search_tools.specs.Steps.{FindsNetwork, IsFor}
 use Rattle.graph_search.specs.AnsweringLaws.{told_fits}
 use Rattle.graph_search.specs.Kinds.{kind_of}

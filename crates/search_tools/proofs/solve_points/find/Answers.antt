@@ -1,9 +1,9 @@
 -- The trees of the input's points join them, and what was found of these trees is an answer.
 use Rattle.std.proofs.Common.{subst}
 use Rattle.fst_file.specs.Value.{FstValue}
-use Rattle.frame.specs.declared.take.TheConstants.{TEXT_LIMIT}
-use Rattle.frame.specs.Outside.{readable}
-use Rattle.frame.specs.FromText.{FromText}
+use Rattle.tool_frame.specs.declared.take.TheConstants.{TEXT_LIMIT}
+use Rattle.tool_frame.specs.Outside.{readable}
+use Rattle.tool_frame.specs.FromText.{FromText}
 use Rattle.tree_inputs.specs.Generation.{GeneratesFst}
 use Rattle.search_tools.proofs.SearchLaws.{generated_joins, found_pruned, fault_found}
 use Rattle.search_tools.proofs.solve_points.find.Goals as goal

@@ -2,7 +2,7 @@
 use Rattle.std.specs.Prelude.{ℕ, suc, List, Result, Ok, Err, IfErr}
 use Rattle.std.proofs.Common.{subst}
 use Rattle.points_in.specs.declared.point.Point.{Point}
-use Rattle.text_lines.specs.Lines.{LinesLeft}
+use Rattle.text_in.specs.Lines.{LinesLeft}
 use Rattle.section_text.specs.Format.{Format}
 use Rattle.section_text.specs.Faults.{FailsItem, items}
 use Rattle.section_text.specs.Left.{TakesLine, JudgesLeft}

@@ -1,4 +1,4 @@
-use Rattle.text_lines.specs.Lines.{lines_of}
+use Rattle.text_in.specs.Lines.{lines_of}
 use Rattle.section_text.specs.Faults.{nothing}
 use Rattle.section_text.proofs.Outcome.{judges_one}
 use Rattle.section_text.proofs.laws.one_outcome.Goals as goal

@@ -2,7 +2,7 @@
 use Rattle.std.specs.Prelude.{ℕ, zero, suc, ◌+◌, ◌-◌, ◌<◌, ◌≤◌, [], Err}
 use Rattle.std.proofs.Common.{arith}
 use Rattle.std.proofs.lemmas.Result.{err_from_is_err_and}
-use Rattle.text_lines.specs.Lines.{LinesLeft}
+use Rattle.text_in.specs.Lines.{LinesLeft}
 use Rattle.section_text.specs.Format.{Format}
 use Rattle.section_text.specs.Faults.{points}
 use Rattle.section_text.specs.Left.{JudgesLeft}

@@ -3,7 +3,7 @@ use Rattle.std.specs.Prelude.{ℕ, ◌≡◌, List, Result, Ok, Err, IfErr}
 use Rattle.std.proofs.Common.{refl, subst, inr}
 use Rattle.std.proofs.lemmas.Result.{err_from_is_err_and}
 use Rattle.points_in.specs.declared.point.Point.{Point}
-use Rattle.text_lines.specs.Lines.{LinesLeft, lines_of}
+use Rattle.text_in.specs.Lines.{LinesLeft, lines_of}
 use Rattle.section_text.specs.Format.{Format}
 use Rattle.section_text.specs.Faults.{nothing}
 use Rattle.section_text.specs.Judged.{Judges, JudgesWhole, IsOutcome, IsFirstFault}

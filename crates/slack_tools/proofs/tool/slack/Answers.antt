@@ -1,10 +1,10 @@
 use Rattle.std.proofs.Common.{refl, codes}
-use Rattle.frame.specs.declared.take.TheConstants.{TEXT_LIMIT}
-use Rattle.frame.specs.Outside.{outside, readable}
-use Rattle.frame.specs.EndLaws.{ends_with}
-use Rattle.frame.specs.FaultTexts.{list_fault_text, list_fault_status, text_fault_text, text_fault_status}
-use Rattle.frame.specs.FromText.{FromText}
-use Rattle.frame.specs.Leaves.{LeavesShelf}
+use Rattle.tool_frame.specs.declared.take.TheConstants.{TEXT_LIMIT}
+use Rattle.tool_frame.specs.Outside.{outside, readable}
+use Rattle.tool_frame.specs.EndLaws.{ends_with}
+use Rattle.tool_frame.specs.FaultTexts.{list_fault_text, list_fault_status, text_fault_text, text_fault_status}
+use Rattle.tool_frame.specs.FromText.{FromText}
+use Rattle.tool_frame.specs.Leaves.{LeavesShelf}
 use Rattle.slack_tools.specs.Slack.{BoundsEdges}
 use Rattle.slack_tools.specs.SlackAnswer.{answer_text, answer_status}
 use Rattle.slack_tools.proofs.SlackLaws.{found_or_not}

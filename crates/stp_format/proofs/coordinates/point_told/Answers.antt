@@ -2,7 +2,7 @@
 use Rattle.std.proofs.Common.{sym, ◌∙◌}
 use Rattle.stp_format.specs.Sections.{in_coordinates}
 use Rattle.stp_format.specs.Left.{line_of}
-use Rattle.stp_format.proofs.SectionLines.{left_out, no_point}
+use Rattle.stp_format.proofs.lemmas.SectionLines.{left_out, no_point}
 use Rattle.stp_format.proofs.coordinates.point_told.Goals as goal
 
 pub returns-then-is_left_out : goal.returns-then-is_left_out

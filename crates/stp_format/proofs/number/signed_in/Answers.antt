@@ -2,7 +2,7 @@
 use Rattle.std.specs.Prelude.{option_and_then}
 use Rattle.std.proofs.Common.{ap, sym, ◌∙◌}
 use Rattle.stp_format.specs.Numbers.{spelled_number, coordinate_of}
-use Rattle.stp_format.proofs.Spelled.{signed_parsed, no_text_no_number}
+use Rattle.stp_format.proofs.lemmas.Spelled.{signed_parsed, no_text_no_number}
 use Rattle.stp_format.proofs.number.signed_in.Goals as goal
 
 pub returns-in_default : goal.returns-in_default

@@ -3,7 +3,7 @@ use Rattle.std.specs.Prelude.{option_and_then}
 use Rattle.std.proofs.Common.{ap, sym, ◌∙◌}
 use Rattle.std.proofs.lemmas.Bool.{false≢true}
 use Rattle.stp_format.specs.Numbers.{spelled_number, coordinate_of, weight_of}
-use Rattle.stp_format.proofs.Spelled.{unsigned_parsed, no_text_no_number, other_spelled}
+use Rattle.stp_format.proofs.lemmas.Spelled.{unsigned_parsed, no_text_no_number, other_spelled}
 use Rattle.stp_format.proofs.number.unsigned_in.Goals as goal
 
 pub returns-in_default : goal.returns-in_default

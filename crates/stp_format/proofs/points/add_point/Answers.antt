@@ -7,7 +7,7 @@ use Rattle.points_in.specs.declared.points.Added.TheVariants.{New, Repeat}
 use Rattle.points_in.specs.declared.points.AddFault.{AddFault}
 use Rattle.points_in.specs.declared.points.AddFault.TheVariants as add
 use Rattle.stp_format.specs.Located.{with_point}
-use Rattle.stp_format.proofs.Located.{with_repeat, with_too_many, with_new}
+use Rattle.stp_format.proofs.lemmas.Located.{with_repeat, with_too_many, with_new}
 use Rattle.stp_format.proofs.points.add_point.Goals as goal
 
 abbrev done : Added → Result Added AddFault

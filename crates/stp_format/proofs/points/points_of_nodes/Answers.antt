@@ -9,7 +9,7 @@ use Rattle.stp_format.specs.Value.{point_of_node}
 use Rattle.stp_format.specs.Sections.{◌>>=◌}
 use Rattle.stp_format.specs.Reading.{IsFaultOf}
 use Rattle.stp_format.specs.Located.{with_point, with_nodes}
-use Rattle.stp_format.proofs.Steps.{fault_bind}
+use Rattle.stp_format.proofs.lemmas.Steps.{fault_bind}
 use Rattle.stp_format.proofs.points.points_of_nodes.Goals as goal
 
 pub returns-in_err-point : goal.returns-in_err-point

@@ -3,8 +3,8 @@ use Rattle.std.specs.Prelude.{Ok}
 use Rattle.std.proofs.Common.{ap, ◌∙◌}
 use Rattle.stp_format.specs.Sections.{no_sections, ◌>>=◌, outside, file_of}
 use Rattle.stp_format.specs.Left.{comes_to, section_or_end}
-use Rattle.stp_format.proofs.Steps.{tells_along}
-use Rattle.stp_format.proofs.Ends.{file_ends}
+use Rattle.stp_format.proofs.lemmas.Steps.{tells_along}
+use Rattle.stp_format.proofs.lemmas.Ends.{file_ends}
 use Rattle.stp_format.proofs.read.read_sections.Goals as goal
 
 pub returns : goal.returns

@@ -3,7 +3,7 @@ use Rattle.std.proofs.Common.{arith, sym, ◌∙◌}
 use Rattle.stp_format.specs.Reading.{stp_of}
 use Rattle.stp_format.specs.Sections.{no_sections, outside}
 use Rattle.stp_format.specs.Left.{comes_to}
-use Rattle.stp_format.proofs.Ends.{magic_leads, fault_given}
+use Rattle.stp_format.proofs.lemmas.Ends.{magic_leads, fault_given}
 use Rattle.stp_format.proofs.read.read_stp.Goals as goal
 
 pub returns-in-Some-clause-fault : goal.returns-in-Some-clause-fault

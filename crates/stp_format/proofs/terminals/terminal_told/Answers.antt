@@ -2,7 +2,7 @@
 use Rattle.std.proofs.Common.{sym, ◌∙◌}
 use Rattle.stp_format.specs.Sections.{in_terminals, naming}
 use Rattle.stp_format.specs.Left.{line_of}
-use Rattle.stp_format.proofs.SectionLines.{left_out, no_terminal}
+use Rattle.stp_format.proofs.lemmas.SectionLines.{left_out, no_terminal}
 use Rattle.stp_format.proofs.terminals.terminal_told.Goals as goal
 
 pub returns-then-is_left_out-clause-told : goal.returns-then-is_left_out-clause-told

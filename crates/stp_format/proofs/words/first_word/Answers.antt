@@ -1,7 +1,7 @@
 -- The first word ends at the first gap behind it; where there is none, it is the last one.
 use Rattle.std.proofs.Common.{sym, ap, ◌∙◌}
 use Rattle.stp_format.specs.Lines.{words_of}
-use Rattle.stp_format.proofs.LineWords.{some_bytes, words_of-word, words_of-last}
+use Rattle.stp_format.proofs.lemmas.LineWords.{some_bytes, words_of-word, words_of-last}
 use Rattle.stp_format.proofs.words.first_word.Goals as goal
 
 pub returns-then-not-is_empty-clause-found : goal.returns-then-not-is_empty-clause-found

@@ -1,10 +1,10 @@
 -- What was told is true, and a run that nothing troubles ends with an answer, as any run does that is as the words ask.
 use Rattle.std.proofs.Common.{inl, inr, refl, subst, map, string_bytes}
-use Rattle.frame.specs.Outside.{outside}
+use Rattle.tool_frame.specs.Outside.{outside}
 use Rattle.requests.specs.Requests.{request_of}
 use Rattle.suite.specs.Run.{EndsAsAsked}
-use Rattle.suite.proofs.Told.{told_by_run}
-use Rattle.suite.proofs.Complete.{completes_by_run}
+use Rattle.suite.proofs.lemmas.Told.{told_by_run}
+use Rattle.suite.proofs.lemmas.Complete.{completes_by_run}
 use Rattle.suite.proofs.program.run.Goals as goal
 
 pub returns-in-Ok-clause-run : goal.returns-in-Ok-clause-run

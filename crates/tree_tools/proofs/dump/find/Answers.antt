@@ -1,7 +1,7 @@
 use Rattle.std.proofs.Common.{refl, subst}
-use Rattle.frame.specs.declared.take.TheConstants.{TEXT_LIMIT}
-use Rattle.frame.specs.Outside.{readable}
-use Rattle.frame.specs.FromText.{FromText}
+use Rattle.tool_frame.specs.declared.take.TheConstants.{TEXT_LIMIT}
+use Rattle.tool_frame.specs.Outside.{readable}
+use Rattle.tool_frame.specs.FromText.{FromText}
 use Rattle.tree_inputs.specs.Files.{ReadsFst}
 use Rattle.tree_tools.proofs.dump.find.Goals as goal
 

@@ -1,8 +1,8 @@
 -- What the input gives is what the tool finds.
 use Rattle.std.proofs.Common.{subst}
-use Rattle.frame.specs.declared.take.TheConstants.{TEXT_LIMIT}
-use Rattle.frame.specs.Outside.{readable}
-use Rattle.frame.specs.FromText.{FromText}
+use Rattle.tool_frame.specs.declared.take.TheConstants.{TEXT_LIMIT}
+use Rattle.tool_frame.specs.Outside.{readable}
+use Rattle.tool_frame.specs.FromText.{FromText}
 use Rattle.tree_inputs.specs.Generation.{GeneratesFst}
 use Rattle.tree_tools.proofs.GenerationLaws.{fault_found}
 use Rattle.tree_tools.proofs.generation.find.Goals as goal

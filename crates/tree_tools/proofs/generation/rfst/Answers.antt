@@ -1,10 +1,10 @@
 use Rattle.std.proofs.Common.{refl, codes}
-use Rattle.frame.specs.declared.take.TheConstants.{TEXT_LIMIT}
-use Rattle.frame.specs.Outside.{outside, readable}
-use Rattle.frame.specs.EndLaws.{ends_with}
-use Rattle.frame.specs.FaultTexts.{text_fault_text, text_fault_status}
-use Rattle.frame.specs.FromText.{FromText}
-use Rattle.frame.specs.Leaves.{LeavesShelf}
+use Rattle.tool_frame.specs.declared.take.TheConstants.{TEXT_LIMIT}
+use Rattle.tool_frame.specs.Outside.{outside, readable}
+use Rattle.tool_frame.specs.EndLaws.{ends_with}
+use Rattle.tool_frame.specs.FaultTexts.{text_fault_text, text_fault_status}
+use Rattle.tool_frame.specs.FromText.{FromText}
+use Rattle.tool_frame.specs.Leaves.{LeavesShelf}
 use Rattle.tree_inputs.specs.GenerationFaults.{generation_fault_text, generation_fault_status}
 use Rattle.tree_tools.specs.Generation.{GeneratesFile}
 use Rattle.tree_tools.specs.FileAnswer.{file_text, file_status}

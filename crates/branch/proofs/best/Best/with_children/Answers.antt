@@ -1,7 +1,7 @@
 -- The shortest one of three networks.
 use Rattle.std.proofs.Common.{ap}
 use Rattle.branch.specs.declared.best.Best.{Best}
-use Rattle.branch.proofs.ShorterLemmas.{third_is, third_own}
+use Rattle.branch.proofs.lemmas.ShorterLemmas.{third_is, third_own}
 use Rattle.branch.proofs.best.Best.with_children.Goals as goal
 
 pub returns-clause-which : goal.returns-clause-which

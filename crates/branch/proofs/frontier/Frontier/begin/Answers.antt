@@ -1,7 +1,7 @@
 -- A search begins with one leaf.
 use Rattle.std.proofs.Common.{◌∙◌, ap, List, [], ◌∷◌, ◌++◌}
 use Rattle.branch.specs.declared.note.LeafNote.{LeafNote}
-use Rattle.branch.proofs.SearchLemmas.{search_begun}
+use Rattle.branch.proofs.lemmas.SearchLemmas.{search_begun}
 use Rattle.branch.proofs.frontier.Frontier.begin.Goals as goal
 
 pub returns-clause-search : goal.returns-clause-search

@@ -2,7 +2,7 @@ use Rattle.std.proofs.Common.{ℕ, zero, suc, ◌≡◌, ◌+◌, ◌≤◌, Lis
 use Rattle.std.specs.Prelude.{Option, Some, IfNone}
 use Rattle.std.proofs.lemmas.List.{length-take-le}
 use Rattle.std.proofs.Math.Logic.{∥∥₁_map}
-use Rattle.cut_cert.specs.Reader.{Reads}
+use Rattle.answer_text.specs.Reader.{Reads}
 use Rattle.cert_check.specs.Named.{named_of}
 use Rattle.cert_check.specs.Verdicts.{byte_limit}
 use Rattle.cert_check.specs.Underway.{Follows}

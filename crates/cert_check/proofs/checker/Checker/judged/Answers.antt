@@ -1,5 +1,5 @@
 use Rattle.std.proofs.Common.{take, ap, ◌∙◌, subst}
-use Rattle.cut_cert.specs.Reader.{line_due}
+use Rattle.answer_text.specs.Reader.{line_due}
 use Rattle.tree_judge.specs.declared.cause.Cause.TheVariants.{NotAnswer}
 use Rattle.cert_check.specs.declared.verdict.Verdict.TheVariants.{Refused}
 use Rattle.cert_check.specs.Verdicts.{byte_limit}

@@ -1,6 +1,6 @@
 use Rattle.std.proofs.Common.{take}
 use Rattle.dual_ascent.specs.Costs.{left_after}
-use Rattle.dual_ascent.proofs.EnteringLemmas.{ChangedSoFar}
+use Rattle.dual_ascent.proofs.lemmas.EnteringLemmas.{ChangedSoFar}
 use Rattle.dual_ascent.proofs.costs.ReducedCosts.lower.Given as goal
 
 abbrev pub invariant-loop-e : goal.invariant-loop-e

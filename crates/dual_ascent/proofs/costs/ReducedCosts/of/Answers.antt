@@ -3,8 +3,8 @@ use Rattle.net_graph.specs.declared.packing.Cut.{Cut}
 use Rattle.net_graph.specs.Decision.{states_of}
 use Rattle.net_graph.specs.DecisionLaws.{length-states_of}
 use Rattle.dual_ascent.specs.Costs.{lowered_by, edges_of, costs_of}
-use Rattle.dual_ascent.proofs.CostLemmas.{costs_of-take}
-use Rattle.dual_ascent.proofs.LoadLemmas.{edges-costs_of}
+use Rattle.dual_ascent.proofs.lemmas.CostLemmas.{costs_of-take}
+use Rattle.dual_ascent.proofs.lemmas.LoadLemmas.{edges-costs_of}
 use Rattle.dual_ascent.proofs.costs.ReducedCosts.of.Goals as goal
 
 pub list_entering-requires : goal.list_entering-requires

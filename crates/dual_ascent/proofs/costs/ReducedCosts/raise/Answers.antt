@@ -4,8 +4,8 @@ use Rattle.dual_ascent.specs.declared.costs.EdgeCosts.{EdgeCosts}
 use Rattle.dual_ascent.specs.declared.entering.EnteringArc.{EnteringArc}
 use Rattle.dual_ascent.specs.Costs.{cost_of, edges_of, raised_after}
 use Rattle.dual_ascent.specs.Entering.{EntersLeft}
-use Rattle.dual_ascent.proofs.ArcLemmas.{IsArcOf-number}
-use Rattle.dual_ascent.proofs.EnteringLemmas.{ChangedSoFar, ChangedSoFar-none, ChangedSoFar-more, raised_is}
+use Rattle.dual_ascent.proofs.lemmas.ArcLemmas.{IsArcOf-number}
+use Rattle.dual_ascent.proofs.lemmas.EnteringLemmas.{ChangedSoFar, ChangedSoFar-none, ChangedSoFar-more, raised_is}
 use Rattle.dual_ascent.proofs.costs.ReducedCosts.raise.Goals as goal
 
 pub loop-e-init : goal.loop-e-init

@@ -1,7 +1,7 @@
 use Rattle.std.proofs.Common.{◌≡◌, ◌∙◌, ◌<◌, ◌/◌, List, get_or, set, length, ap, arith}
 use Rattle.dual_ascent.specs.declared.costs.EdgeCosts.{EdgeCosts}
 use Rattle.dual_ascent.specs.Costs.{edges_of, cost_of, with_cost}
-use Rattle.dual_ascent.proofs.ArcLemmas.{edges_of-set, cost_of-set_same, cost_of-set_other}
+use Rattle.dual_ascent.proofs.lemmas.ArcLemmas.{edges_of-set, cost_of-set_same, cost_of-set_other}
 use Rattle.dual_ascent.proofs.costs.ReducedCosts.set_cost.Goals as goal
 
 pub returns-clause-edges : goal.returns-clause-edges

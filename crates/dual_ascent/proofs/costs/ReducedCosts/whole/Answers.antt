@@ -1,6 +1,6 @@
 use Rattle.std.proofs.Common.{◌∙◌, []}
 use Rattle.net_graph.specs.Decision.{states_of}
-use Rattle.dual_ascent.proofs.CostLemmas.{map-zip-left_of}
+use Rattle.dual_ascent.proofs.lemmas.CostLemmas.{map-zip-left_of}
 use Rattle.dual_ascent.proofs.costs.ReducedCosts.whole.Goals as goal
 
 pub returns : goal.returns

@@ -7,8 +7,8 @@ use Rattle.dual_ascent.specs.declared.step.Step.TheVariants.{Pack, Close}
 use Rattle.dual_ascent.specs.Active.{candidate_of}
 use Rattle.dual_ascent.specs.Costs.{IsLeastOf}
 use Rattle.dual_ascent.specs.Entering.{IsLeftOfOne}
-use Rattle.dual_ascent.proofs.EnteringLemmas.{IsLeastOf-entering}
-use Rattle.dual_ascent.proofs.StepLemmas.{IsNextStep-active, all_reached}
+use Rattle.dual_ascent.proofs.lemmas.EnteringLemmas.{IsLeastOf-entering}
+use Rattle.dual_ascent.proofs.lemmas.StepLemmas.{IsNextStep-active, all_reached}
 use Rattle.dual_ascent.proofs.state.AscentState.next_step.Goals as goal
 
 pub returns-then-is_empty-clause-next : goal.returns-then-is_empty-clause-next

@@ -5,8 +5,8 @@ use Rattle.dual_ascent.specs.declared.costs.EdgeCosts.{EdgeCosts}
 use Rattle.dual_ascent.specs.Active.{AreActive}
 use Rattle.dual_ascent.specs.Growing.{MayGrow, AreGrown, LeavesOut}
 use Rattle.dual_ascent.specs.Costs.{edges_of, lowered_by}
-use Rattle.dual_ascent.proofs.EnteringLemmas.{edges_of-lowered}
-use Rattle.dual_ascent.proofs.ActiveLemmas.{newly, MayGrow-packed, SaturatedLeads-kept, AreActive-packed}
+use Rattle.dual_ascent.proofs.lemmas.EnteringLemmas.{edges_of-lowered}
+use Rattle.dual_ascent.proofs.lemmas.ActiveLemmas.{newly, MayGrow-packed, SaturatedLeads-kept, AreActive-packed}
 use Rattle.dual_ascent.proofs.state.AscentState.pack.Goals as goal
 
 pub grow_all-requires-clause-edges : goal.grow_all-requires-clause-edges

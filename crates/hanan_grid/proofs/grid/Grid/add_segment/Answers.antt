@@ -1,5 +1,5 @@
 use Rattle.hanan_grid.specs.StretchLaws.{Adds-row_stretch, Adds-column_stretch}
-use Rattle.hanan_grid.proofs.Stretches.{row_found, column_found, not_level}
+use Rattle.hanan_grid.proofs.lemmas.Stretches.{row_found, column_found, not_level}
 use Rattle.hanan_grid.proofs.grid.Grid.add_segment.Goals as goal
 
 pub add_row-requires-clause-row : goal.add_row-requires-clause-row

@@ -2,7 +2,7 @@ use Rattle.std.proofs.Common.{◌≡◌, ◌<◌, ◌^◌, Some, subst, arith, r
 use Rattle.std.specs.Prelude.{slice_get}
 use Rattle.net_graph.specs.Graph.{total_of}
 use Rattle.hanan_grid.specs.Grid.{hanan_grid_of}
-use Rattle.hanan_grid.proofs.Found.{terminals_apart_le}
+use Rattle.hanan_grid.proofs.lemmas.Found.{terminals_apart_le}
 use Rattle.hanan_grid.proofs.grid.Grid.distance.Goals as goal
 
 pub distance_between-requires : goal.distance_between-requires

@@ -1,7 +1,7 @@
 use Rattle.std.proofs.Common.{refl, arith}
 use Rattle.std.proofs.lemmas.Bool.{false≢true}
 use Rattle.hanan_grid.specs.Neighbours.{IsRightOf}
-use Rattle.hanan_grid.proofs.Found.{AreInside, name_from_horizontal, name_from_vertical, no_edge_between}
+use Rattle.hanan_grid.proofs.lemmas.Found.{AreInside, name_from_horizontal, name_from_vertical, no_edge_between}
 use Rattle.hanan_grid.proofs.grid.Grid.edge_between.Goals as goal
 
 pub returns-then-is_right_of-clause-name : goal.returns-then-is_right_of-clause-name

@@ -2,7 +2,7 @@ use Rattle.std.proofs.Common.{◌≡◌, Some, rules, ◌∙◌}
 use Rattle.std.specs.Prelude.{slice_get}
 use Rattle.hanan_grid.specs.Grid.{hanan_grid_of}
 use Rattle.hanan_grid.specs.NamesLaws.{same_edge}
-use Rattle.hanan_grid.proofs.Readings.{name_from_ends}
+use Rattle.hanan_grid.proofs.lemmas.Readings.{name_from_ends}
 use Rattle.hanan_grid.proofs.grid.Grid.edge_name.Goals as goal
 
 pub returns-clause-name : goal.returns-clause-name

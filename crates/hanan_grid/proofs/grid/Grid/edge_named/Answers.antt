@@ -1,7 +1,7 @@
 use Rattle.std.proofs.Common.{◌≡◌, ◌∙◌, sym}
 use Rattle.hanan_grid.specs.Names.{NamesNoEdge, name_of_crossings}
 use Rattle.hanan_grid.specs.NamesLaws.{same_between}
-use Rattle.hanan_grid.proofs.Found.{IfNone_always, IfNone_then, crossings_of_name}
+use Rattle.hanan_grid.proofs.lemmas.Found.{IfNone_always, IfNone_then, crossings_of_name}
 use Rattle.hanan_grid.proofs.grid.Grid.edge_named.Goals as goal
 
 pub returns-in_err-from-clause-none : goal.returns-in_err-from-clause-none

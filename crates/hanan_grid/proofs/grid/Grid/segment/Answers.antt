@@ -1,6 +1,6 @@
 use Rattle.hanan_grid.specs.Stretch.{IsGridStretch, IsOnStretch}
 use Rattle.hanan_grid.specs.StretchLaws.{length_of-stretch, Joins-stretch}
-use Rattle.hanan_grid.proofs.Stretches.{joins_ends, edges_put}
+use Rattle.hanan_grid.proofs.lemmas.Stretches.{joins_ends, edges_put}
 use Rattle.hanan_grid.proofs.grid.Grid.segment.Goals as goal
 
 pub returns-clause-length : goal.returns-clause-length

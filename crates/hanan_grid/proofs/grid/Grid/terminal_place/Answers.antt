@@ -1,7 +1,7 @@
 use Rattle.std.proofs.Common.{◌≡◌, Some, rules}
 use Rattle.std.specs.Prelude.{slice_get}
 use Rattle.hanan_grid.specs.Grid.{hanan_grid_of}
-use Rattle.hanan_grid.proofs.Readings.{terminal_from_place}
+use Rattle.hanan_grid.proofs.lemmas.Readings.{terminal_from_place}
 use Rattle.hanan_grid.proofs.grid.Grid.terminal_place.Goals as goal
 
 pub returns-clause-point : goal.returns-clause-point

@@ -1,8 +1,8 @@
 use Rattle.std.proofs.Common.{◌∙◌, sym}
 use Rattle.hanan_grid.specs.Grid.{xs_of, ys_of}
 use Rattle.hanan_grid.specs.GridLaws.{IsRising-xs_of, IsRising-ys_of}
-use Rattle.hanan_grid.proofs.Found.{vertex_of-crossing}
-use Rattle.hanan_grid.proofs.Readings.{point_from_place}
+use Rattle.hanan_grid.proofs.lemmas.Found.{vertex_of-crossing}
+use Rattle.hanan_grid.proofs.lemmas.Readings.{point_from_place}
 use Rattle.hanan_grid.proofs.grid.Grid.vertex_at.Goals as goal
 
 pub returns-clause-vertex : goal.returns-clause-vertex

@@ -3,7 +3,7 @@ use Rattle.hanan_grid.specs.Grid.{xs_of, ys_of}
 use Rattle.hanan_grid.specs.GridLaws.{IsRising-xs_of, IsRising-ys_of}
 use Rattle.hanan_grid.specs.Names.{crossing}
 use Rattle.hanan_grid.specs.NamesLaws.{vertex_of-point_of_vertex}
-use Rattle.hanan_grid.proofs.Readings.{point_from_place}
+use Rattle.hanan_grid.proofs.lemmas.Readings.{point_from_place}
 use Rattle.hanan_grid.proofs.grid.Grid.vertex_point.Goals as goal
 
 pub returns-clause-point : goal.returns-clause-point

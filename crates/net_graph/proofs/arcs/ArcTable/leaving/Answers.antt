@@ -1,5 +1,5 @@
 use Rattle.std.proofs.Common.{◌≡◌, ◌-◌, ◌<◌, length, ap, arith}
-use Rattle.net_graph.proofs.ArcLemmas.{starts_around, starts_rise, AreArcsFrom-between}
+use Rattle.net_graph.proofs.lemmas.ArcLemmas.{starts_around, starts_rise, AreArcsFrom-between}
 use Rattle.net_graph.proofs.arcs.ArcTable.leaving.Goals as goal
 
 pub slice_bounds-result-count : goal.slice_bounds-result-count

@@ -1,6 +1,6 @@
 use Rattle.std.proofs.Common.{rules}
 use Rattle.std.proofs.lemmas.List.Sorted.{IsNonDecreasingBy-from_sort_by_key}
-use Rattle.net_graph.proofs.ArcLemmas.{AreArcsOf-permutation}
+use Rattle.net_graph.proofs.lemmas.ArcLemmas.{AreArcsOf-permutation}
 use Rattle.net_graph.proofs.arcs.ArcTable.of.Goals as goal
 
 pub starts_of-requires-clause-sorted : goal.starts_of-requires-clause-sorted

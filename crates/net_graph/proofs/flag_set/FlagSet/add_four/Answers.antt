@@ -1,6 +1,6 @@
-use Rattle.net_graph.proofs.FlagFours.{flags_after_four}
+use Rattle.net_graph.proofs.lemmas.FlagFours.{flags_after_four}
 use Rattle.std.proofs.Common.{◌+◌, ◌*◌, ◌/◌, ◌≡◌, length, arith}
-use Rattle.net_graph.proofs.FlagWords.{long_view}
+use Rattle.net_graph.proofs.lemmas.FlagWords.{long_view}
 use Rattle.net_graph.proofs.flag_set.FlagSet.add_four.Goals as goal
 
 pub index_mut-requires : goal.index_mut-requires

@@ -1,5 +1,5 @@
 use Rattle.std.proofs.Common.{rules}
-use Rattle.net_graph.proofs.FlagWords.{long_view, flags-none}
+use Rattle.net_graph.proofs.lemmas.FlagWords.{long_view, flags-none}
 use Rattle.net_graph.proofs.flag_set.FlagSet.clear.Goals as goal
 
 pub returns : goal.returns

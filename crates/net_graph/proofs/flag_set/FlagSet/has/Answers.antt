@@ -1,6 +1,6 @@
 use Rattle.std.proofs.Common.{false, ap, ◌∙◌, sym, Some}
 use Rattle.std.proofs.lemmas.Option.{slice_get-get_or}
-use Rattle.net_graph.proofs.FlagWords.{word_within, flag_read}
+use Rattle.net_graph.proofs.lemmas.FlagWords.{word_within, flag_read}
 use Rattle.net_graph.proofs.flag_set.FlagSet.has.Goals as goal
 
 pub index-requires : goal.index-requires

@@ -1,5 +1,5 @@
 use Rattle.std.proofs.Common.{sym}
-use Rattle.net_graph.proofs.FlagWords.{long_view}
+use Rattle.net_graph.proofs.lemmas.FlagWords.{long_view}
 use Rattle.net_graph.proofs.flag_set.FlagSet.len.Goals as goal
 
 pub returns : goal.returns

@@ -1,4 +1,4 @@
-use Rattle.net_graph.proofs.FlagWords.{word_within, flags_after_remove}
+use Rattle.net_graph.proofs.lemmas.FlagWords.{word_within, flags_after_remove}
 use Rattle.net_graph.proofs.flag_set.FlagSet.remove.Goals as goal
 
 pub index_mut-requires : goal.index_mut-requires

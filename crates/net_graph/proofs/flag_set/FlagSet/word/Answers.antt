@@ -1,6 +1,6 @@
 use Rattle.std.proofs.Common.{◌+◌, ◌*◌, ◌/◌, ◌≡◌, length, arith}
-use Rattle.net_graph.proofs.FlagFours.{flag_of_word}
-use Rattle.net_graph.proofs.FlagWords.{long_view}
+use Rattle.net_graph.proofs.lemmas.FlagFours.{flag_of_word}
+use Rattle.net_graph.proofs.lemmas.FlagWords.{long_view}
 use Rattle.net_graph.proofs.flag_set.FlagSet.word.Goals as goal
 
 pub index-requires : goal.index-requires

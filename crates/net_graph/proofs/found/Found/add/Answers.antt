@@ -1,7 +1,7 @@
 use Rattle.std.proofs.Common.{◌≡◌, ◌∙◌, ℕ, sym, ap, refl, false, length, length-append, arith}
 use Rattle.std.proofs.lemmas.List.{length-set}
 use Rattle.net_graph.specs.Flags.{has}
-use Rattle.net_graph.proofs.FoundLemmas.{room_left, AreMarksOf-more}
+use Rattle.net_graph.proofs.lemmas.FoundLemmas.{room_left, AreMarksOf-more}
 use Rattle.net_graph.proofs.found.Found.add.Goals as goal
 
 pub push_reserved-requires : goal.push_reserved-requires

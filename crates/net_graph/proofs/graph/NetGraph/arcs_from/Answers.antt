@@ -1,4 +1,4 @@
-use Rattle.net_graph.proofs.ArcLemmas.{AreArcsFrom-of_graph, AreArcsFrom-bounds}
+use Rattle.net_graph.proofs.lemmas.ArcLemmas.{AreArcsFrom-of_graph, AreArcsFrom-bounds}
 use Rattle.net_graph.proofs.graph.NetGraph.arcs_from.Goals as goal
 
 pub returns-clause-arcs : goal.returns-clause-arcs

@@ -3,7 +3,7 @@ use Rattle.std.specs.Prelude.{◌∷◌}
 use Rattle.std.proofs.Common.{ap, sym, ◌∙◌}
 use Rattle.stp_format.specs.Lines.{lines_of}
 use Rattle.stp_format.specs.Left.{lines_left}
-use Rattle.stp_format.proofs.Split.{lines_of-at, lines_of-none}
+use Rattle.stp_format.proofs.lemmas.Split.{lines_of-at, lines_of-none}
 use Rattle.stp_format.proofs.lines.Lines.next_line.Goals as goal
 
 pub returns-in-Some-clause-found : goal.returns-in-Some-clause-found

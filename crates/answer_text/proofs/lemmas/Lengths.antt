@@ -1,0 +1,139 @@
+-- The texts of lines one after another, and the lengths of lines.
+use Rattle.std.proofs.Common.{ℕ, ◌≡◌, ◌+◌, ◌<◌, List, [], ◌∷◌, ◌++◌, length, map, take, get_or, sym, ap, ◌∙◌, arith, length-append}
+use Rattle.std.specs.Prelude.{codes}
+use Rattle.std.specs.Fmt.{decimal, signed_decimal}
+use Rattle.std.proofs.lemmas.List.{append-nil, map-append, take_more}
+use Rattle.std.proofs.lemmas.List.Concat.{flat_map-append}
+use Rattle.points_in.specs.declared.point.Point.{Point}
+use Rattle.answer_text.specs.declared.label.EdgeLabel.{EdgeLabel}
+use Rattle.answer_text.specs.declared.label.EdgeLabel.TheVariants as edge
+use Rattle.answer_text.specs.declared.label.VertexLabel.TheVariants as vertex
+use Rattle.net_graph.specs.declared.packing.Cut.{Cut}
+use Rattle.hanan_grid.specs.declared.name.EdgeName.{EdgeName}
+use Rattle.answer_text.specs.declared.head.AnswerHead.{AnswerHead}
+use Rattle.answer_text.specs.declared.version.Version.TheVariants as version
+use Rattle.answer_text.specs.Value.{WrittenAnswer}
+use Rattle.answer_text.specs.AnswerLine.{Line}
+use Rattle.answer_text.specs.LineKinds as line
+use Rattle.answer_text.specs.Words.{set_text, status_word, concat_word, edge_words}
+use Rattle.answer_text.specs.Lines.{line_bytes, line_text, lines_text, head_lines, network_lines, proof_lines, tree_lines, answer_lines}
+
+-- the text of lines and of one more
+pub lines_text-push : (ls : List Line) (l : Line) → lines_text (ls ++ l ∷ []) ≡ lines_text ls ++ line_text l
+lines_text-push ls l = flat_map-append line_text ls (l ∷ []) ∙ ap (λ x. lines_text ls ++ x) (append-nil (line_text l))
+
+-- the lines of some cuts and of the next one
+pub cut_lines-more : (cuts : List Cut) (i : ℕ) (d : Cut) → i < length cuts → lines_text (map line.Cut (take i cuts)) ++ line_text (line.Cut (get_or cuts i d)) ≡ lines_text (map line.Cut (take (i + 1) cuts))
+cut_lines-more cuts i d inside =
+    sym (lines_text-push (map line.Cut (take i cuts)) (line.Cut (get_or cuts i d)))
+    ∙ ap lines_text (sym (map-append line.Cut (take i cuts) (get_or cuts i d ∷ [])) ∙ ap (map line.Cut) (sym (take_more cuts i d inside)))
+
+-- the length of lines and of one before them
+pub length-line : (l : Line) (ls : List Line) → length (lines_text (l ∷ ls)) ≡ length (line_bytes l) + 1 + length (lines_text ls)
+length-line l ls = omega (arith, length-append (line_text l) (lines_text ls), length-append (line_bytes l) (10 ∷ []))
+
+-- a word and a number
+word_number : (word : List ℕ) (n : ℕ) → length (word ++ decimal n) ≡ length word + length (decimal n)
+word_number word n = length-append word (decimal n)
+
+-- the note on the concatenation
+length-concat : (h : AnswerHead) → length (line_bytes (line.Concat h.concat)) ≡ 8 + length (concat_word h.concat.least) + length (decimal h.concat.total)
+length-concat h = simp length-append (omega arith)
+
+-- the first six lines
+pub length-head_lines : (h : AnswerHead) → length (lines_text (head_lines version.Two h))
+    ≡ 55 + length (decimal h.length) + length (decimal h.bound) + length (decimal h.openings) + length (decimal h.concat.total) + length (status_word h.optimal) + length (concat_word h.concat.least)
+length-head_lines h =
+    let openings_on : List Line = line.Openings h.openings ∷ line.Concat h.concat ∷ [] in
+    let status_on : List Line = line.Status h.optimal ∷ openings_on in
+    let bound_on : List Line = line.Bound h.bound ∷ status_on in
+    let length_on : List Line = line.Length h.length ∷ bound_on in
+    omega (
+      arith,
+      length-line (line.Title version.Two) length_on,
+      length-line (line.Length h.length) bound_on,
+      length-line (line.Bound h.bound) status_on,
+      length-line (line.Status h.optimal) openings_on,
+      length-line (line.Openings h.openings) (line.Concat h.concat ∷ []),
+      length-line (line.Concat h.concat) [],
+      word_number (codes "length ") h.length,
+      word_number (codes "bound ") h.bound,
+      length-append (codes "status ") (status_word h.optimal),
+      word_number (codes "openings ") h.openings,
+      length-concat h,
+    )
+
+-- the first five lines in a graph
+pub length-graph_head_lines : (h : AnswerHead) → length (lines_text (head_lines version.Graph h))
+    ≡ 45 + length (decimal h.length) + length (decimal h.bound) + length (decimal h.openings)
+    + length (status_word h.optimal)
+length-graph_head_lines h =
+    let status_on : List Line = line.Status h.optimal ∷ line.LastOpenings h.openings ∷ [] in
+    let bound_on : List Line = line.Bound h.bound ∷ status_on in
+    let length_on : List Line = line.Length h.length ∷ bound_on in
+    omega (
+      arith,
+      length-line (line.Title version.Graph) length_on,
+      length-line (line.Length h.length) bound_on,
+      length-line (line.Bound h.bound) status_on,
+      length-line (line.Status h.optimal) (line.LastOpenings h.openings ∷ []),
+      length-line (line.LastOpenings h.openings) [],
+      word_number (codes "length ") h.length,
+      word_number (codes "bound ") h.bound,
+      length-append (codes "status ") (status_word h.optimal),
+      word_number (codes "openings ") h.openings,
+    )
+
+-- the line of an edge's ends
+pub length-edge : (e : EdgeName) → length (line_text (line.Edge (edge.Ends e))) ≡ 4 + length (signed_decimal e.x1) + length (signed_decimal e.y1) + length (signed_decimal e.x2) + length (signed_decimal e.y2)
+length-edge e = simp length-append (omega arith)
+
+-- the line of a split on an edge
+pub length-split_edge : (e : EdgeLabel) → length (line_text (line.SplitEdge e)) ≡ 11 + length (line_text (line.Edge e))
+length-split_edge e = omega (arith, length-append (codes "split edge ") (edge_words e), length-append (codes "split edge " ++ edge_words e) (10 ∷ []), length-append (edge_words e) (10 ∷ []))
+
+-- the line of a split on a vertex
+pub length-split_vertex : (p : Point) → length (line_text (line.SplitVertex (vertex.At p))) ≡ 15 + length (signed_decimal p.x) + length (signed_decimal p.y)
+length-split_vertex p = simp length-append (omega arith)
+
+-- the lines of numbers
+pub length-edge_number : (n : ℕ) → length (line_text (line.Edge (edge.Number n))) ≡ 1 + length (decimal n)
+length-edge_number n = simp length-append (omega arith)
+
+pub length-vertex_number : (n : ℕ) → length (line_text (line.SplitVertex (vertex.Number n))) ≡ 14 + length (decimal n)
+length-vertex_number n = simp length-append (omega arith)
+
+-- the line of a cut
+pub length-cut : (c : Cut) → length (line_text (line.Cut c)) ≡ 6 + length (decimal c.weight) + length (set_text c.members)
+length-cut c = simp length-append (omega arith)
+
+-- a word's line with a number, and lines behind it
+pub length-number : (word : List ℕ) (n : ℕ) (l : Line) (ls : List Line) → line_bytes l ≡ word ++ decimal n → length (lines_text (l ∷ ls)) ≡ length word + 1 + length (decimal n) + length (lines_text ls)
+length-number word n l ls is = omega (arith, length-line l ls, ap length is, word_number word n)
+
+-- one more piece adds its length
+pub sum_more : (front piece whole : List ℕ) (sum more : ℕ) → sum ≡ length front → more ≡ length piece → front ++ piece ≡ whole → sum + more ≡ length whole
+sum_more front piece whole sum more so_far next parts =
+    let both : sum + more ≡ length (front ++ piece) = omega (arith, length-append front piece) in
+    both ∙ ap length parts
+
+-- the tree between the lines before it and after it
+length-proof : (lines : List Line) → length (lines_text (line.Tree ∷ (lines ++ line.End ∷ []))) ≡ 9 + length (lines_text lines)
+length-proof lines =
+    omega (arith, length-line line.Tree (lines ++ line.End ∷ []), ap length (flat_map-append line_text lines (line.End ∷ [])), length-append (lines_text lines) (lines_text (line.End ∷ [])))
+
+-- a whole answer
+pub length-answer_lines : (a : WrittenAnswer) → length (lines_text (answer_lines a))
+    ≡ length (lines_text (head_lines a.version a.head)) + length (lines_text (network_lines a.edges)) + 9 + length (lines_text (tree_lines a.version a.tree))
+length-answer_lines a =
+    let head = head_lines a.version a.head in
+    let network = network_lines a.edges in
+    let proof = proof_lines a.version a.tree in
+    omega (
+      arith,
+      ap length (flat_map-append line_text head (network ++ proof)),
+      ap length (flat_map-append line_text network proof),
+      length-append (lines_text head) (lines_text (network ++ proof)),
+      length-append (lines_text network) (lines_text proof),
+      length-proof (tree_lines a.version a.tree),
+    )

@@ -1,0 +1,22 @@
+use Rattle.std.proofs.Common.{◌^◌, refl}
+use Rattle.answer_text.proofs.lemmas.WordLemmas.{none_then}
+use Rattle.answer_text.proofs.lemmas.ScanClose.{same_small}
+use Rattle.answer_text.proofs.lemmas.ScanBlanks.{next-weight, dead-last, dead-other}
+use Rattle.answer_text.proofs.scan.Kept.number_ended.Goals as goal
+
+pub returns-in_ok-self-in-Weight-clause-next : goal.returns-in_ok-self-in-Weight-clause-next
+returns-in_ok-self-in-Weight-clause-next c = λ inside name.
+    next-weight c.args.self.now c.args.field c.args.value c.in_ok-self-in-Weight.field-0 c.clear.new.self c.in-Weight.is
+    (same_small c.try_from.result (2 ^ 64) c.args.value c.in_ok-self-in-Weight.field-0 c.ok.result c.try_from.ensures c.ok.ensures.value c.in_ok-self-in-Weight.was) c.clear.ensures inside name
+
+pub returns-in_ok-with_sign-in-Coordinate-clause-dead : goal.returns-in_ok-with_sign-in-Coordinate-clause-dead
+returns-in_ok-with_sign-in-Coordinate-clause-dead c =
+    none_then c.coordinate_ended.result c.coordinate_ended.ensures.none
+    (λ last inside. dead-last c.args.self.now c.args.field c.in-Coordinate.corner c.in-Coordinate.minus c.args.value c.in-Coordinate.is last inside)
+
+pub returns-in_default : goal.returns-in_default
+returns-in_default c = record {
+  next = tt;
+  dead = dead-other c.args.self.now c.args.field c.args.value c.in_default.not-Weight c.in_default.not-Coordinate;
+  stage = refl;
+}

@@ -1,0 +1,148 @@
+-- What a search comes to.
+use Rattle.std.proofs.Common.{ℕ, ◌≡◌, ◌+◌, ◌*◌, ◌<◌, ◌≤◌, ⊎_elim, Bool, true, false, List, length, min, take, slice_get, Option, None, Some, All, IsTrue, ◌↔◌, refl, sym, ◌∙◌, subst, arith}
+use Rattle.std.specs.Prelude.{IfNone, IfSome, is_some, not}
+use Rattle.std.proofs.Math.Nat.{min-le_left, min-le_right, le-min}
+use Rattle.std.proofs.lemmas.Option.{slice_get_within, slice_get-get_or, same_Some}
+use Rattle.net_graph.specs.declared.packing.Cut.{Cut}
+use Rattle.net_graph.specs.Graph.{Graph}
+use Rattle.net_graph.specs.Network.{IsLowerBound, length_of}
+use Rattle.net_graph.specs.Decision.{nothing_decided}
+use Rattle.net_graph.specs.DecisionLaws.{IsDecisionFor-nothing, Agrees-nothing}
+use Rattle.net_graph.specs.Saturation.{IsMaximal}
+use Rattle.cert_tree.specs.Preorder.{packings_of}
+use Rattle.cert_tree.specs.TreeValue.{tree_value, TreesBoundNetworks}
+use Rattle.branch.specs.declared.note.LeafNote.{LeafNote}
+use Rattle.branch.specs.declared.frontier.Frontier.{Frontier}
+use Rattle.branch.specs.Leaves.{DecidedLeaf, leaves_of}
+use Rattle.branch.specs.States.{IsOpenLeaf, IsReadyLeaf, IsState, leaf_value}
+use Rattle.branch.specs.Notes.{IsKeptNote, IsLesserOfNotes, IsNextNote}
+use Rattle.branch.specs.Searching.{search_state, is_anew_at, IsSearch, IsSettled, IsOpenAt}
+use Rattle.branch.specs.Solving.{IsSolved}
+use Rattle.branch.proofs.lemmas.ListLemmas.{AllZip-take, all_at, all_from_places, beside_left, beside_right}
+use Rattle.branch.proofs.lemmas.TreeLemmas.{length-leaves_of, packing_at, le-tree_value, tree_value-le}
+use Rattle.branch.proofs.lemmas.SearchLemmas.{state_of}
+use Rattle.branch.proofs.lemmas.VariantLemmas.{variant_same}
+
+module _ (g : Graph) (kept : Frontier) (search : IsSearch g kept) where
+  abbrev leaves : List DecidedLeaf
+  leaves = leaves_of (nothing_decided g) kept.tree
+
+  -- what no kept value is below, the tree's value isn't below
+  pub tree_above : (bound : ℕ) → All (λ (note : LeafNote). bound ≤ note.value) kept.notes.items → bound ≤ tree_value g (nothing_decided g) kept.tree
+  tree_above bound each = le-tree_value g (nothing_decided g) kept.tree bound
+      (λ k leaf at.
+      let (note, note_at, kept_note) = beside_left (IsKeptNote g kept.best.length) leaves kept.notes.items k leaf search.notes at in
+      let low : bound ≤ note.value = all_at (λ (n : LeafNote). bound ≤ n.value) kept.notes.items k note each note_at in
+      let value = kept_note.0.value in omega arith)
+
+  pub settled : All (λ (note : LeafNote). kept.best.length ≤ note.value) kept.notes.items → IsSettled (search_state g kept)
+  settled each = let length_is = search.best.length in let low = tree_above kept.best.length each in omega arith
+
+  -- the lesser of the kept values and the length is that of the tree's value and the length
+  pub bound_is : (bound : ℕ) → IsLesserOfNotes kept.best.length kept.notes.items bound →
+      bound ≡ min (tree_value g (nothing_decided g) kept.tree) kept.best.length
+  bound_is bound lesser =
+      let t = tree_value g (nothing_decided g) kept.tree in
+      let low : bound ≤ t = tree_above bound lesser.each in
+      let limit : bound ≤ kept.best.length = lesser.limit in
+      let least : bound ≤ min t kept.best.length = le-min low limit in
+      let left : min t kept.best.length ≤ t = min-le_left t kept.best.length in
+      let right : min t kept.best.length ≤ kept.best.length = min-le_right t kept.best.length in
+      ⊎_elim
+      (λ (same : bound ≡ kept.best.length). omega arith)
+      (λ (one : (place : ℕ) × (note : LeafNote) × (slice_get kept.notes.items place ≡ Some note) × (note.value ≡ bound)).
+      let (place, note, at, value) = one in
+      let (leaf, leaf_at, kept_note) = beside_right (IsKeptNote g kept.best.length) leaves kept.notes.items place note search.notes at in
+      let above : t ≤ leaf_value g leaf = tree_value-le g (nothing_decided g) kept.tree place leaf leaf_at in
+      let value_is = kept_note.0.value in
+      omega arith)
+      lesser.one
+
+  pub bound_lower : (bound : ℕ) → IsLesserOfNotes kept.best.length kept.notes.items bound → TreesBoundNetworks → IsLowerBound g bound
+  bound_lower bound lesser law = λ other joins.
+      let low : bound ≤ tree_value g (nothing_decided g) kept.tree = tree_above bound lesser.each in
+      let all : tree_value g (nothing_decided g) kept.tree ≤ length_of g other =
+      law g (nothing_decided g) kept.tree (IsDecisionFor-nothing g) search.valid other (Agrees-nothing g other) joins in
+      omega arith
+
+  pub few_cuts : All (λ (packing : List Cut). length packing ≤ 4 * length g.edges + 1) (packings_of kept.tree)
+  few_cuts = all_from_places (λ (packing : List Cut). length packing ≤ 4 * length g.edges + 1) (packings_of kept.tree)
+      (λ k packing at.
+      let within : k < length (packings_of kept.tree) = slice_get_within (packings_of kept.tree) k packing at in
+      let other : DecidedLeaf = record { decision = nothing_decided g; packing = packing } in
+      let leaf_at = slice_get-get_or leaves k other (omega (arith, length-leaves_of (nothing_decided g) kept.tree)) in
+      let (note, _, kept_note) = beside_left (IsKeptNote g kept.best.length) leaves kept.notes.items k _ search.notes leaf_at in
+      let same = same_Some _ packing (sym (packing_at (nothing_decided g) kept.tree k _ leaf_at) ∙ at) in
+      subst (λ (p : List Cut). length p ≤ 4 * length g.edges + 1) same kept_note.0.few)
+
+  pub open_maximal : All (λ (leaf : DecidedLeaf). IsOpenLeaf g kept.best.length leaf → IsMaximal g leaf.decision leaf.packing) leaves
+  open_maximal = all_from_places (λ (leaf : DecidedLeaf). IsOpenLeaf g kept.best.length leaf → IsMaximal g leaf.decision leaf.packing) leaves
+      (λ k leaf at below.
+      let state : IsState g kept.best.network kept.tree = state_of g kept.best kept.tree kept.notes.items search.best search.valid search.notes in
+      let ready = all_at (λ (l : DecidedLeaf). IsOpenLeaf g (length_of g kept.best.network) l → IsReadyLeaf g (length_of g kept.best.network) l)
+      leaves k leaf state.leaves at (subst (λ (n : ℕ). leaf_value g leaf < n) search.best.length below) in
+      ready.maximal)
+
+  -- all that is told is true
+  pub solved_is : (bound : ℕ) (optimal : Bool) → IsLesserOfNotes kept.best.length kept.notes.items bound →
+      (IsTrue optimal ↔ (bound ≡ kept.best.length)) → TreesBoundNetworks →
+      IsSolved g kept.first_length
+      (record { network = kept.best.network; length = kept.best.length; bound = bound; optimal = optimal; tree = kept.tree })
+  solved_is bound optimal lesser agree law = record {
+    network_of = search.best.network_of;
+    length_is = search.best.length;
+    no_longer = search.no_longer;
+    valid = search.valid;
+    bound = bound_is bound lesser;
+    optimal = agree;
+    lower = bound_lower bound lesser law;
+    cuts = few_cuts;
+    maximal = open_maximal;
+    run = search.run kept.tree (variant_same (is_anew_at kept.notes.items) 0 kept.tree);
+  }
+
+  -- the search is settled exactly where no open leaf was found
+  pub settled_where_none : (found : Option ℕ) (none : Bool) → is_some found ≡ not none →
+      IfNone found (All (λ (note : LeafNote). kept.best.length ≤ note.value) kept.notes.items) →
+      IfSome found (IsNextNote kept.best.length kept.notes.items) → IsTrue none ↔ IsSettled (search_state g kept)
+  settled_where_none None true is each next = (λ yes. settled each, λ holds. refl)
+  settled_where_none None false is each next = absurd cc
+  settled_where_none (Some place) true is each next = absurd cc
+  settled_where_none (Some place) false is each (note, at, below, least, earlier) = (
+    λ yes. absurd cc,
+    λ holds.
+        let (leaf, leaf_at, kept_note) = beside_right (IsKeptNote g kept.best.length) leaves kept.notes.items place note search.notes at in
+        let above = tree_value-le g (nothing_decided g) kept.tree place leaf leaf_at in
+        let value = kept_note.0.value in
+        let length_is = search.best.length in absurd (omega arith),
+  )
+
+  -- the leaves before one whose note is the next have greater values
+  earlier_leaves : (place value : ℕ) → All (λ (other : LeafNote). value < other.value) (take place kept.notes.items) →
+      All (λ (other : DecidedLeaf). value < leaf_value g other) (take place leaves)
+  earlier_leaves place value earlier = all_from_places (λ (other : DecidedLeaf). value < leaf_value g other) (take place leaves)
+      (λ k leaf at.
+      let both = AllZip-take (IsKeptNote g kept.best.length) place leaves kept.notes.items search.notes in
+      let (note, note_at, kept_note) = beside_left (IsKeptNote g kept.best.length) (take place leaves) (take place kept.notes.items) k leaf both at in
+      let more : value < note.value = all_at (λ (n : LeafNote). value < n.value) (take place kept.notes.items) k note earlier note_at in
+      let value_is = kept_note.0.value in omega arith)
+
+  -- the next note's leaf is the one that is open next
+  pub next_is_open : (place : ℕ) → IsNextNote kept.best.length kept.notes.items place → IsOpenAt (search_state g kept) place
+  next_is_open place (note, at, below, least, earlier) =
+      let (leaf, leaf_at, kept_note) = beside_right (IsKeptNote g kept.best.length) leaves kept.notes.items place note search.notes at in
+      let above : tree_value g (nothing_decided g) kept.tree ≤ leaf_value g leaf =
+      tree_value-le g (nothing_decided g) kept.tree place leaf leaf_at in
+      let low = tree_above note.value least in
+      let value = kept_note.0.value in
+      let length_is = search.best.length in
+      let lower : note.value < kept.best.length = below in
+      let least_is : note.value ≡ tree_value g (nothing_decided g) kept.tree = omega arith in
+      record {
+        leaf = leaf;
+        at = leaf_at;
+        below = omega arith;
+        least = omega arith;
+        earlier = subst (λ (n : ℕ). All (λ (other : DecidedLeaf). n < leaf_value g other) (take place leaves)) least_is
+            (earlier_leaves place note.value earlier);
+      }

@@ -1,4 +1,0 @@
-use Rattle.cut_cert.proofs.naming.write_split.Goals as goal
-
-pub returns-in-Vertex : goal.returns-in-Vertex
-returns-in-Vertex g c = rw c.in-Vertex.is c.write_vertex.ensures

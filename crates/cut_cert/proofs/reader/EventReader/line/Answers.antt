@@ -1,5 +1,0 @@
-use Rattle.cut_cert.proofs.ReaderLaws.{line_count}
-use Rattle.cut_cert.proofs.reader.EventReader.line.Goals as goal
-
-pub returns-clause-feeds : goal.returns-clause-feeds
-returns-clause-feeds c = λ V bytes events reads. line_count V bytes events c.args.self.now reads

@@ -1,8 +1,0 @@
-use Rattle.cut_cert.proofs.Upgraded.{upgraded_spells, upgraded_told}
-use Rattle.cut_cert.proofs.reading.upgraded_alike.Goals as goal
-
-pub returns-clause-spells : goal.returns-clause-spells
-returns-clause-spells c = upgraded_spells
-
-pub returns-clause-told : goal.returns-clause-told
-returns-clause-told c = upgraded_told

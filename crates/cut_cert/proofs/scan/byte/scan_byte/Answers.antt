@@ -1,9 +1,0 @@
-use Rattle.std.proofs.Common.{sym, subst}
-use Rattle.cut_cert.specs.Scanning.{IsSound, IsDead}
-use Rattle.cut_cert.proofs.WordLemmas.{none_then}
-use Rattle.cut_cert.proofs.scan.byte.scan_byte.Goals as goal
-
-pub returns-in-Word-clause-dead : goal.returns-in-Word-clause-dead
-returns-in-Word-clause-dead c =
-    none_then c.word_byte.result c.word_byte.ensures.dead
-    (λ dead sound. subst (λ s. IsDead c.args.kept.now s c.args.byte) (sym c.in-Word.is) (dead (subst (IsSound c.args.kept.now) c.in-Word.is sound).0 c.args.kept.now))

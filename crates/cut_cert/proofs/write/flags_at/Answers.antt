@@ -1,8 +1,0 @@
-use Rattle.std.proofs.Common.{arith}
-use Rattle.cut_cert.proofs.SetDigits.{flag_within}
-use Rattle.cut_cert.proofs.write.flags_at.Goals as goal
-
-pub returns-then-within-lt64 : goal.returns-then-within-lt64
-returns-then-within-lt64 c r low =
-    rw c.len.ensures (flag_within c.args.set.now c.word-flags.result c.args.place r c.requires
-    (omega (arith, c.len.ensures, c.if-within-lt64.true)) c.word-flags.ensures)

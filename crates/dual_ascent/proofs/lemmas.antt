@@ -1,0 +1,14 @@
+pub mod CostLemmas
+pub mod ArcLemmas
+pub mod LoadLemmas
+pub mod MarkLemmas
+pub mod EnteringLemmas
+pub mod SaturatedLemmas
+pub mod PackLemmas
+pub mod RequiredLemmas
+pub mod StepLemmas
+pub mod ActiveLemmas
+pub mod AscentLemmas
+pub mod CarriedLemmas
+pub mod CarriedCostLemmas
+pub mod CarriedRoomLemmas

@@ -1,0 +1,58 @@
+-- What is left of the arcs' room: a loop's steps.
+use Rattle.std.proofs.Common.{ℕ, ◌≡◌, ◌+◌, ◌<◌, ◌≤◌, min, List, [], ◌∷◌, ◌++◌, map, length, get_or, take, Option, Some, None, ◌⊎◌, inl, inr, ⊎_elim, refl, sym, ap, subst, ◌∙◌, arith}
+use Rattle.std.specs.List.{zip}
+use Rattle.std.proofs.lemmas.Bool.{cases_lt}
+use Rattle.std.proofs.lemmas.List.{take_more}
+use Rattle.std.proofs.lemmas.List.Elements.{Contains-append_left, Contains-push, Contains-push_cases}
+use Rattle.net_graph.specs.declared.edge.Edge.{Edge}
+use Rattle.net_graph.specs.declared.state.EdgeState.{EdgeState}
+use Rattle.net_graph.specs.declared.packing.Cut.{Cut}
+use Rattle.dual_ascent.specs.declared.entering.EnteringArc.{EnteringArc}
+use Rattle.dual_ascent.specs.Costs.{left_of, costs_of, lowered_by, lesser_of, IsLeastOf}
+use Rattle.dual_ascent.specs.Entering.{IsLeftOfOne}
+use Rattle.dual_ascent.proofs.lemmas.LoadLemmas.{map-lowered_by}
+
+-- the costs are those of each edge and its state
+pub map-zip-left_of : (edges : List Edge) (decision : List EdgeState) (packing : List Cut) →
+    map (λ (pair : Edge × EdgeState). left_of pair.0 pair.1 packing) (zip edges decision) ≡ costs_of edges decision packing
+map-zip-left_of [] decision packing = refl
+map-zip-left_of (e ∷ edges) [] packing = refl
+map-zip-left_of (e ∷ edges) (state ∷ decision) packing = ap (λ costs. left_of e state packing ∷ costs) (map-zip-left_of edges decision packing)
+
+-- the lesser of two least numbers is the least of both kinds
+pub IsLeastOf-either : (P Q R : ℕ → Type 0) (x y : Option ℕ) → ((n : ℕ) → R n → P n ⊎ Q n) → ((n : ℕ) → P n → R n) → ((n : ℕ) → Q n → R n) →
+    IsLeastOf P x → IsLeastOf Q y → IsLeastOf R (lesser_of x y)
+IsLeastOf-either P Q R None None split left right p q = λ n r. ⊎_elim (p n) (q n) (split n r)
+IsLeastOf-either P Q R None (Some y) split left right p q = (right y q.0, λ n r. ⊎_elim (λ here. absurd (p n here)) (q.1 n) (split n r))
+IsLeastOf-either P Q R (Some x) None split left right p q = (left x p.0, λ n r. ⊎_elim (p.1 n) (λ here. absurd (q n here)) (split n r))
+IsLeastOf-either P Q R (Some x) (Some y) split left right p q = (
+  ⊎_elim
+      (λ less. let is : x ≡ min x y = omega arith in subst R is (left x p.0))
+      (λ more. let is : y ≡ min x y = omega arith in subst R is (right y q.0))
+      (cases_lt x y),
+  λ n r. ⊎_elim
+      (λ here. let low : x ≤ n = p.1 n here in omega arith)
+      (λ here. let low : y ≤ n = q.1 n here in omega arith)
+      (split n r),
+)
+
+-- one more listed arc
+pub IsLeftOfOne-more : (list : List EnteringArc) (i : ℕ) (d : EnteringArc) (least : Option ℕ) → i < length list → IsLeastOf (IsLeftOfOne (take i list)) least →
+    IsLeastOf (IsLeftOfOne (take (i + 1) list)) (lesser_of least (Some (get_or list i d).left))
+IsLeftOfOne-more list i d least within so_far =
+    let last : EnteringArc = get_or list i d in
+    rw (take_more list i d within)
+    (IsLeastOf-either (IsLeftOfOne (take i list)) (λ n. n ≡ last.left) (IsLeftOfOne (take i list ++ last ∷ [])) least (Some last.left)
+    (λ n (e, listed, is). ⊎_elim
+    (λ earlier. inl (e, earlier, is))
+    (λ same. inr (sym is ∙ sym (ap (λ (x : EnteringArc). x.left) same)))
+    (Contains-push_cases (take i list) last e listed))
+    (λ n (e, listed, is). (e, Contains-append_left (take i list) (last ∷ []) e listed, is))
+    (λ n is. (last, Contains-push (take i list) last, sym is))
+    so_far (refl, λ n is. omega arith))
+
+-- one more cut of a packing
+pub costs_of-take : (edges : List Edge) (decision : List EdgeState) (packing : List Cut) (i : ℕ) (c : Cut) → i < length packing →
+    map (lowered_by (get_or packing i c)) (costs_of edges decision (take i packing)) ≡ costs_of edges decision (take (i + 1) packing)
+costs_of-take edges decision packing i c within =
+    map-lowered_by edges decision (take i packing) (get_or packing i c) ∙ ap (costs_of edges decision) (sym (take_more packing i c within))

@@ -1,0 +1,114 @@
+-- Arcs of which nothing is left are the saturated arcs.
+use Rattle.std.proofs.Common.{ℕ, ◌≡◌, ◌+◌, ◌*◌, ◌/◌, ◌%◌, ◌<◌, Bool, true, List, map, length, get_or, slice_get, Some, ◌↔◌, inl, inr, ⊎_elim, refl, sym, ap, ◌∙◌, arith}
+use Rattle.std.specs.Option.{option_map}
+use Rattle.std.proofs.lemmas.Option.{slice_get_within, slice_get-get_or, slice_get-map}
+use Rattle.net_graph.specs.declared.edge.Edge.{Edge}
+use Rattle.net_graph.specs.declared.state.EdgeState.{EdgeState}
+use Rattle.net_graph.specs.declared.state.EdgeState.TheVariants.{Undecided}
+use Rattle.net_graph.specs.declared.packing.Cut.{Cut}
+use Rattle.net_graph.specs.Arcs.{forward_arc, backward_arc}
+use Rattle.net_graph.specs.Graph.{Graph}
+use Rattle.net_graph.specs.Decision.{Decided, IsDecisionFor, states_of}
+use Rattle.net_graph.specs.DecisionLaws.{length-states_of}
+use Rattle.net_graph.specs.Search.{OpenStep}
+use Rattle.net_graph.specs.Packing.{enters, load}
+use Rattle.net_graph.specs.Packing.{room_of}
+use Rattle.net_graph.specs.Saturation.{SaturatedStep}
+use Rattle.dual_ascent.specs.declared.costs.EdgeCosts.{EdgeCosts}
+use Rattle.dual_ascent.specs.Costs.{left_of, costs_of, is_used_up, is_saturated, Entering}
+use Rattle.dual_ascent.proofs.lemmas.LoadLemmas.{left_after-same}
+use Rattle.dual_ascent.specs.CostLaws.{left_after-none, slice_get-costs_of, is_used_up-some}
+
+-- an edge's first arc is full where nothing is left of it
+is_saturated-even : (costs : List EdgeCosts) (n : ℕ) (room : EdgeCosts) → slice_get costs n ≡ Some room → is_saturated costs (2 * n) ≡ is_used_up room.there
+is_saturated-even costs n room at =
+    let half : 2 * n / 2 ≡ n = omega arith in
+    let even : 2 * n % 2 ≡ 0 = omega arith in
+    rw (half, at, even) refl
+
+-- .. and so is its second
+is_saturated-odd : (costs : List EdgeCosts) (n : ℕ) (room : EdgeCosts) → slice_get costs n ≡ Some room → is_saturated costs (2 * n + 1) ≡ is_used_up room.back
+is_saturated-odd costs n room at =
+    let half : (2 * n + 1) / 2 ≡ n = omega arith in
+    let odd : (2 * n + 1) % 2 ≡ 1 = omega arith in
+    rw (half, at, odd) refl
+
+-- an edge's first arc of which nothing is left may be walked
+there_open : (edges : List Edge) (costs : List EdgeCosts) (n : ℕ) (e : Edge) (room : EdgeCosts) → slice_get edges n ≡ Some e → slice_get costs n ≡ Some room →
+    room.there ≡ Some 0 → OpenStep edges (is_saturated costs) e.a e.b
+there_open edges costs n e room at at_room none =
+    (forward_arc n e, (n, e, at, inl refl), is_saturated-even costs n room at_room ∙ ap is_used_up none, refl, refl)
+
+-- .. and so may its second
+back_open : (edges : List Edge) (costs : List EdgeCosts) (n : ℕ) (e : Edge) (room : EdgeCosts) → slice_get edges n ≡ Some e → slice_get costs n ≡ Some room →
+    room.back ≡ Some 0 → OpenStep edges (is_saturated costs) e.b e.a
+back_open edges costs n e room at at_room none =
+    (backward_arc n e, (n, e, at, inr refl), is_saturated-odd costs n room at_room ∙ ap is_used_up none, refl, refl)
+
+-- arcs between the same vertices have the same load
+load-ends : (packing : List Cut) (a b u v : ℕ) → a ≡ u → b ≡ v → Some (load packing a b) ≡ Some (load packing u v)
+load-ends packing a b u v from to = ap (λ x. Some (load packing x b)) from ∙ ap (λ y. Some (load packing u y)) to
+
+-- .. and may be walked alike
+OpenStep-ends : (edges : List Edge) (opens : ℕ → Bool) (a b u v : ℕ) → a ≡ u → b ≡ v → OpenStep edges opens a b → OpenStep edges opens u v
+OpenStep-ends edges opens a b u v from to (arc, is, is_open, leaves, comes) = (arc, is, is_open, leaves ∙ from, comes ∙ to)
+
+-- a saturated arc may be walked
+OpenStep-from_saturated : (g : Graph) (decision : Decided) (packing : List Cut) (u v : ℕ) → SaturatedStep g decision packing u v →
+    OpenStep g.edges (is_saturated (costs_of g.edges (states_of g decision) packing)) u v
+OpenStep-from_saturated g decision packing u v (n, e, state, at, decided, ends, fills) =
+    let costs : List EdgeCosts = costs_of g.edges (states_of g decision) packing in
+    let room : EdgeCosts = left_of e state packing in
+    let at_room = slice_get-costs_of g.edges (states_of g decision) packing n e state at decided in
+    ⊎_elim
+    (λ (along : (e.a ≡ u) × (e.b ≡ v)).
+    let here : room_of state e ≡ Some (load packing e.a e.b) = fills ∙ sym (load-ends packing e.a e.b u v along.0 along.1) in
+    OpenStep-ends g.edges (is_saturated costs) e.a e.b u v along.0 along.1
+    (there_open g.edges costs n e room at at_room (left_after-same (room_of state e) (load packing e.a e.b) here)))
+    (λ (against : (e.a ≡ v) × (e.b ≡ u)).
+    let here : room_of state e ≡ Some (load packing e.b e.a) = fills ∙ sym (load-ends packing e.b e.a u v against.1 against.0) in
+    OpenStep-ends g.edges (is_saturated costs) e.b e.a u v against.1 against.0
+    (back_open g.edges costs n e room at at_room (left_after-same (room_of state e) (load packing e.b e.a) here)))
+    ends
+
+-- an arc that may be walked is saturated
+Saturated-from_open : (g : Graph) (decision : Decided) (packing : List Cut) → IsDecisionFor g decision → (u v : ℕ) →
+    OpenStep g.edges (is_saturated (costs_of g.edges (states_of g decision) packing)) u v → SaturatedStep g decision packing u v
+Saturated-from_open g decision packing size u v (arc, (n, e, at, way), full, leaves, comes) =
+    let costs : List EdgeCosts = costs_of g.edges (states_of g decision) packing in
+    let states : List EdgeState = states_of g decision in
+    let state : EdgeState = get_or states n Undecided in
+    let within : n < length states = omega (arith, slice_get_within g.edges n e at, length-states_of g decision size.edges) in
+    let decided : slice_get states n ≡ Some state = slice_get-get_or states n Undecided within in
+    let at_room = slice_get-costs_of g.edges (states_of g decision) packing n e state at decided in
+    ⊎_elim
+    (λ (is : arc ≡ forward_arc n e).
+    let used : is_used_up (left_of e state packing).there ≡ true = sym (is_saturated-even costs n (left_of e state packing) at_room) ∙ ap (λ x. is_saturated costs x.number) (sym is) ∙ full in
+    let fills : room_of state e ≡ Some (load packing e.a e.b) = left_after-none (room_of state e) (load packing e.a e.b) (is_used_up-some (left_of e state packing).there used) in
+    let from : e.a ≡ u = ap (λ x. x.from) (sym is) ∙ leaves in
+    let to : e.b ≡ v = ap (λ x. x.to) (sym is) ∙ comes in
+    (n, e, state, at, decided, inl (from, to), fills ∙ load-ends packing e.a e.b u v from to))
+    (λ (is : arc ≡ backward_arc n e).
+    let used : is_used_up (left_of e state packing).back ≡ true = sym (is_saturated-odd costs n (left_of e state packing) at_room) ∙ ap (λ x. is_saturated costs x.number) (sym is) ∙ full in
+    let fills : room_of state e ≡ Some (load packing e.b e.a) = left_after-none (room_of state e) (load packing e.b e.a) (is_used_up-some (left_of e state packing).back used) in
+    let from : e.b ≡ u = ap (λ x. x.from) (sym is) ∙ leaves in
+    let to : e.a ≡ v = ap (λ x. x.to) (sym is) ∙ comes in
+    (n, e, state, at, decided, inr (to, from), fills ∙ load-ends packing e.b e.a u v from to))
+    way
+
+-- arcs may be walked where the costs show nothing left exactly where they are saturated
+pub SaturatedStep-iff_open : (g : Graph) (decision : Decided) (packing : List Cut) → IsDecisionFor g decision → (u v : ℕ) →
+    OpenStep g.edges (is_saturated (costs_of g.edges (states_of g decision) packing)) u v ↔ SaturatedStep g decision packing u v
+SaturatedStep-iff_open g decision packing size u v =
+    (Saturated-from_open g decision packing size u v, OpenStep-from_saturated g decision packing u v)
+
+-- an arc that enters a set with nothing left may be walked
+pub OpenStep-from_entering : (edges : List Edge) (costs : List EdgeCosts) (members : List Bool) → map (λ (room : EdgeCosts). room.edge) costs ≡ edges →
+    Entering costs members 0 → (u : ℕ) × (v : ℕ) × OpenStep edges (is_saturated costs) u v × (enters members u v ≡ true)
+OpenStep-from_entering edges costs members of (room, (k, below, is), ways) =
+    let at_room : slice_get costs k ≡ Some room = slice_get-get_or costs k room below ∙ ap (λ x. Some x) is in
+    let at : slice_get edges k ≡ Some room.edge = ap (λ es. slice_get es k) (sym of) ∙ slice_get-map (λ (room : EdgeCosts). room.edge) costs k ∙ ap (option_map (λ (room : EdgeCosts). room.edge)) at_room in
+    ⊎_elim
+    (λ (there : (enters members room.edge.a room.edge.b ≡ true) × (room.there ≡ Some 0)). (room.edge.a, room.edge.b, there_open edges costs k room.edge room at at_room there.1, there.0))
+    (λ (back : (enters members room.edge.b room.edge.a ≡ true) × (room.back ≡ Some 0)). (room.edge.b, room.edge.a, back_open edges costs k room.edge room at at_room back.1, back.0))
+    ways

@@ -1,0 +1,8 @@
+pub mod Drops
+pub mod Codes
+pub mod Written
+pub mod TreeSteps
+pub mod Unique
+pub mod LineWords
+pub mod Lawful
+pub mod Sections

@@ -1,5 +1,0 @@
-use Rattle.graph_inputs.proofs.ReadingLaws.{no_fault}
-use Rattle.graph_inputs.proofs.reading.task_has_no_fault.Goals as goal
-
-pub returns : goal.returns
-returns c = no_fault

@@ -1,7 +1,0 @@
-use Rattle.graph_inputs.proofs.ReadingLaws.{task_apart}
-use Rattle.graph_inputs.proofs.reading.task_in.Goals as goal
-
-pub returns : goal.returns
-returns c =
-    task_apart c.args.file.now c.graph_of.result c.apart.result c.graph_of.ensures.graph c.graph_of.ensures.task
-    c.graph_of.ensures.fault c.apart.ensures.same c.apart.ensures.fault

@@ -1,0 +1,34 @@
+-- What the search found is told as it is, and so is what chains find in its place.
+use Rattle.std.proofs.Common.{Ok, ◌∙◌}
+use Rattle.net_graph.specs.Network.{length_of}
+use Rattle.graph_search.specs.Kinds.{kind_of}
+use Rattle.graph_search.specs.Searched.{IsTold}
+use Rattle.graph_search.proofs.ChainLemmas.{some_packing}
+use Rattle.graph_search.proofs.SearchedLaws.{told_or_not}
+use Rattle.graph_search.proofs.raised_search.searched_by.Goals as goal
+
+pub packing-requires : goal.packing-requires
+packing-requires _ c = some_packing c.tree.result.now
+
+pub closed_by_chains-requires : goal.closed_by_chains-requires
+closed_by_chains-requires _ c =
+    let told : IsTold c.args.g.now (kind_of c.args.rule) c.args.openings (length_of c.args.g.now c.args.first) c.in_ok-solved.solved =
+    told_or_not {E = Unit {0}} c.args.g.now (kind_of c.args.rule) c.args.openings (length_of c.args.g.now c.args.first)
+    c.raise.new.search (Ok c.in_ok-solved.solved)
+    (c.raise.ensures.graph ∙ c.in_ok-search.ensures.graph)
+    (c.raise.ensures.kind ∙ c.in_ok-search.ensures.kind ∙ c.kind_of.ensures)
+    (c.raise.ensures.first ∙ c.in_ok-search.ensures.first)
+    c.raise.ensures.vertices c.solve.ensures.began
+    c.in_ok-solved.ensures.solved c.in_ok-solved.ensures.few c.in_ok-solved.ensures.stopped c.in_ok-solved.ensures.plain in
+    told.searched.network_of
+
+pub returns : goal.returns
+returns _ c =
+    c.closed_by_chains.ensures (length_of c.args.g.now c.args.first)
+    (told_or_not {E = Unit {0}} c.args.g.now (kind_of c.args.rule) c.args.openings (length_of c.args.g.now c.args.first)
+    c.raise.new.search (Ok c.in_ok-solved.solved)
+    (c.raise.ensures.graph ∙ c.in_ok-search.ensures.graph)
+    (c.raise.ensures.kind ∙ c.in_ok-search.ensures.kind ∙ c.kind_of.ensures)
+    (c.raise.ensures.first ∙ c.in_ok-search.ensures.first)
+    c.raise.ensures.vertices c.solve.ensures.began
+    c.in_ok-solved.ensures.solved c.in_ok-solved.ensures.few c.in_ok-solved.ensures.stopped c.in_ok-solved.ensures.plain)

@@ -1,0 +1,103 @@
+-- What readers of a text and of a file answer is what they come to, and a Steiner problem has no fault.
+use Rattle.std.proofs.Common.{ℕ, ◌≡◌, ◌<◌, List, length, All, Some, Result, Ok, Err, IfOk, IfErr, OnOk}
+use Rattle.std.proofs.Common.{slice_get, sym, subst, ap, ◌∙◌, arith}
+use Rattle.std.proofs.lemmas.Option.{get_or_from_slice_get, slice_get_within}
+use Rattle.net_graph.specs.Graph.{Graph}
+use Rattle.net_graph.specs.Fault.{IsFirst}
+use Rattle.net_graph.specs.Network.{Reaches}
+use Rattle.stp_format.specs.declared.edge.StpEdge.{StpEdge}
+use Rattle.stp_format.specs.declared.fault.StpFault.{StpFault}
+use Rattle.stp_format.specs.declared.fault.StpFault.TheVariants as stp
+use Rattle.stp_format.specs.Value.{StpValue}
+use Rattle.stp_format.specs.Reading.{IsFaultOf, stp_of}
+use Rattle.stp_format.specs.Said.{IsMemory as IsMemoryOfFile}
+use Rattle.graph_solve.specs.declared.fault.TaskFault.{TaskFault}
+use Rattle.graph_solve.specs.declared.fault.TaskFault.TheVariants as task
+use Rattle.graph_solve.specs.Task.{all_edges, graph_of_stp}
+use Rattle.graph_solve.specs.Fault.{IsTask, IsFirstFault}
+use Rattle.graph_solve.specs.Said.{IsMemory as IsMemoryOfTask}
+use Rattle.graph_tools.specs.declared.text_fault.GraphTextFault.TheVariants.{InFile, InGraph}
+use Rattle.graph_tools.specs.Reading.{IsTaskText, ReadsFile, TakesTask, TaskHasNoFault}
+
+-- a fault of what is due is due, but for want of memory
+fault_due : (due : Result StpValue StpFault) (fault : StpFault) → IsFaultOf fault due →
+    (IsMemoryOfFile fault → ⊥) → due ≡ Err fault
+fault_due due (stp.Memory error) is other = absurd (other tt)
+fault_due due fault is other = is
+
+-- an answer of the reader that is no want of memory
+file_read : (bytes : List ℕ) (read found : Result StpValue StpFault) →
+    IfOk read (λ file. stp_of bytes ≡ Ok file) → IfErr read (λ f. IsFaultOf f (stp_of bytes)) → found ≡ read →
+    IfErr found (λ fault. IsMemoryOfFile fault → ⊥) → ReadsFile bytes found
+file_read bytes read (Ok file) found fault same told =
+    subst (λ r. IfOk r (λ v. stp_of bytes ≡ Ok v)) (sym same) found
+file_read bytes read (Err why) found fault same told =
+    (fault_due (stp_of bytes) why (subst (λ r. IfErr r (λ f. IsFaultOf f (stp_of bytes))) (sym same) fault) told, told)
+
+pub file_apart : {E : Type 0} (bytes : List ℕ) (read : Result StpValue StpFault)
+    (result : Result (Result StpValue StpFault) E) → IfOk read (λ file. stp_of bytes ≡ Ok file) →
+    IfErr read (λ f. IsFaultOf f (stp_of bytes)) → IfOk result (λ found. found ≡ read) →
+    IfOk result (λ found. IfErr found (λ fault. IsMemoryOfFile fault → ⊥)) → IfOk result (ReadsFile bytes)
+file_apart bytes read (Ok answer) found fault same told = file_read bytes read answer found fault same told
+file_apart bytes read (Err error) found fault same told = tt
+
+-- the same of the graph of a file
+task_read : (file : StpValue) (read found : Result Graph TaskFault) → IfOk read (λ g. g ≡ graph_of_stp file) →
+    OnOk read (IsTask file) → IfErr read (IsFirstFault file) → found ≡ read →
+    IfErr found (λ fault. IsMemoryOfTask fault → ⊥) → TakesTask file found
+task_read file read (Ok g) graph is fault same told =
+    (subst (λ r. OnOk r (IsTask file)) (sym same) is, subst (λ r. IfOk r (λ h. h ≡ graph_of_stp file)) (sym same) graph)
+task_read file read (Err why) graph is fault same told =
+    (subst (λ r. IfErr r (IsFirstFault file)) (sym same) fault, told)
+
+pub task_apart : {E : Type 0} (file : StpValue) (read : Result Graph TaskFault)
+    (result : Result (Result Graph TaskFault) E) → IfOk read (λ g. g ≡ graph_of_stp file) → OnOk read (IsTask file) →
+    IfErr read (IsFirstFault file) → IfOk result (λ found. found ≡ read) →
+    IfOk result (λ found. IfErr found (λ fault. IsMemoryOfTask fault → ⊥)) → IfOk result (TakesTask file)
+task_apart file read (Ok answer) graph is fault same told = task_read file read answer graph is fault same told
+task_apart file read (Err error) graph is fault same told = tt
+
+-- what holds of each holds of the one at a place
+at_place : {X : Type 0} (P : X → Type 0) (xs : List X) (place : ℕ) (x : X) → All P xs → slice_get xs place ≡ Some x →
+    P x
+at_place P xs place x all at =
+    subst P (get_or_from_slice_get xs place x x at) (all place x (slice_get_within xs place x at))
+
+-- an edge of length 0 is none of a file whose edges all have a length
+has_length : (edges : List StpEdge) (place : ℕ) → All (λ e. 0 < e.length) edges →
+    IsFirst (λ (e : StpEdge). e.length ≡ 0) edges place → ⊥
+has_length edges place lengths first =
+    let (edge, at, zero) = first.here in
+    let some : 0 < edge.length = at_place (λ e. 0 < e.length) edges place edge lengths at in omega (arith, some, zero)
+
+-- a Steiner problem has no first fault
+pub task_faultless : (file : StpValue) (fault : TaskFault) → IsTask file → IsFirstFault file fault →
+    (IsMemoryOfTask fault → ⊥) → ⊥
+task_faultless file task.TooManyNodes is many told = let few = is.lengths.terminal.small.nodes in omega (arith, few, many)
+task_faultless file task.TooManyEdges is (nodes, many) told =
+    let few = is.lengths.terminal.small.edges in omega (arith, few, many)
+task_faultless file task.TooManyTerminals is (nodes, edges, many) told =
+    let few = is.lengths.terminal.small.terminals in omega (arith, few, many)
+task_faultless file task.NoTerminals is (small, none) told =
+    let some : 0 < length file.terminals = is.lengths.terminal.terminal in
+    let zero : length file.terminals ≡ 0 = ap (λ (ts : List ℕ). length ts) none in omega (arith, some, zero)
+task_faultless file (task.ZeroLength number) is (terminal, (place, named, first)) told =
+    has_length file.edges place is.lengths.lengths first
+task_faultless file (task.TooLong total) is (lengths, same, long) told =
+    let short = is.total in omega (arith, short, same, long)
+task_faultless file (task.Apart node) is (lengths, short, apart) told =
+    let g = graph_of_stp file in
+    apart.first.apart
+    (at_place (Reaches g (all_edges g)) g.terminals apart.place apart.first.terminal is.joined apart.first.at)
+task_faultless file (task.Memory error) is fault told = told tt
+
+-- one text is one file
+same_file : (bytes : List ℕ) (file other : StpValue) → stp_of bytes ≡ Ok file → stp_of bytes ≡ Ok other → file ≡ other
+same_file bytes file other is are = let both : Ok file ≡ Ok other = sym is ∙ are in cc
+
+pub no_fault : TaskHasNoFault
+no_fault bytes file (InFile fault) is (due, told) =
+    let both : Ok file ≡ Err fault = sym is.text ∙ due in absurd cc
+no_fault bytes file (InGraph fault) is (other, text, (first, told)) =
+    let same = same_file bytes other file text is.text in
+    task_faultless file fault is.task (subst (λ f. IsFirstFault f fault) same first) told

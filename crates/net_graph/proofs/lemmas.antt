@@ -1,0 +1,13 @@
+pub mod ArcLemmas
+pub mod FoundLemmas
+pub mod LentRoomLemmas
+pub mod SearchLemmas
+pub mod GrowthLemmas
+pub mod NetworkLemmas
+pub mod ApartLemmas
+pub mod FlagWords
+pub mod FlagFours
+pub mod LengthLemmas
+pub mod DecisionLemmas
+pub mod RootedLemmas
+pub mod FeasibleLemmas

@@ -1,0 +1,6 @@
+pub mod Coordinates
+pub mod Marks
+pub mod Unique
+pub mod LineWords
+pub mod Lawful
+pub mod Sections

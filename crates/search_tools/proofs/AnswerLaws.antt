@@ -1,0 +1,63 @@
+-- From the answer that was found to what is told of it.
+use Rattle.std.proofs.Common.{ℕ, ◌≡◌, List, length, Ok, subst, ap, sym, ◌∙◌}
+use Rattle.points_in.specs.declared.point.Point.{Point}
+use Rattle.full_tree.specs.declared.code.Tree.{Tree as FullTree}
+use Rattle.fst_file.specs.Value.{FstValue}
+use Rattle.answer_text.specs.declared.head.AnswerHead.{AnswerHead}
+use Rattle.answer_text.specs.Text.{answer_text}
+use Rattle.answer_text.specs.Value.{WrittenAnswer}
+use Rattle.cert_tree.specs.Preorder.{split_count}
+use Rattle.cert_check.specs.Accepted.{IsAccepted}
+use Rattle.tree_inputs.specs.Generation.{IsTreeList, most_members}
+use Rattle.search_tools.specs.declared.solution.Solution.{Solution}
+use Rattle.search_rules.specs.Options.{usual_options}
+use Rattle.search_tools.specs.Permitted.{search_text}
+use Rattle.search_tools.specs.Steps.{IsFor, IsSpelled, SolvesPruned, solution_text}
+use Rattle.search_tools.specs.SolutionLaws.{permitted_answer, told_value}
+use Rattle.search_tools.specs.declared.trial_line.TrialLine.{TrialLine}
+use Rattle.search_tools.specs.TrialLine.{trial_print}
+use Rattle.search_tools.specs.Trial.{Tries, drawn_terminals, line_for}
+use Rattle.search_tools.specs.TrialSteps.{IsSomeAnswer, line_of}
+
+-- The text of an answer is accepted, where it spells it.
+pub accepted_text : (s : Solution) → IsSomeAnswer s → IsSpelled s → IsAccepted s.grid (solution_text s)
+accepted_text s (options, ps, trees, is) spells =
+    let text = search_text options.openings ps s.answer.network s.answer.tree s.answer.head.concat in
+    let permitted = permitted_answer options ps trees s is spells in
+    subst (λ (w : WrittenAnswer). IsAccepted s.grid (answer_text w)) (sym (told_value options ps trees s is))
+    (subst (λ (qs : List Point). IsAccepted qs text) (sym is.grid) permitted.accepted)
+
+-- what is told of an answer for the drawn points
+told_line : (n seed : ℕ) (trees : List FullTree) (s : Solution) → IsFor usual_options (drawn_terminals n seed) trees s →
+    line_of n seed s ≡ line_for n seed s.answer.network s.answer.tree
+told_line n seed trees s is =
+    let told : List Point → AnswerHead → TrialLine =
+    λ ps head. record {
+      count = n;
+      seed = seed;
+      points = length ps;
+      length = head.length;
+      bound = head.bound;
+      optimal = head.optimal;
+      splits = split_count s.answer.tree;
+    } in
+    ap (λ (ps : List Point). told ps s.answer.head) is.grid ∙ ap (told (drawn_terminals n seed)) is.head
+
+-- What is told of an answer for the kept trees of a file of the drawn points, where the answer's text spells it.
+pub tried_answer : (n seed : ℕ) (file : FstValue) (s : Solution) → file.points ≡ drawn_terminals n seed →
+    IsTreeList (drawn_terminals n seed) most_members file.trees → SolvesPruned usual_options file s → IsSpelled s →
+    Tries n seed (Ok (trial_print (line_of n seed s)))
+tried_answer n seed file s points are (kept, are_kept, is) spells =
+    let for_drawn = subst (λ (ps : List Point). IsFor usual_options ps kept s) points is in (
+      s.answer.network,
+      s.answer.tree,
+      record {
+        generated = file.trees;
+        trees = kept;
+        note = s.answer.head.concat;
+        are_generated = are.exact;
+        are_kept = are_kept;
+        permitted = permitted_answer usual_options (drawn_terminals n seed) kept s for_drawn spells;
+      },
+      ap trial_print (told_line n seed kept s for_drawn),
+    )

@@ -1,3 +1,0 @@
-pub mod Words
-pub mod Fronts
-pub mod Numbers

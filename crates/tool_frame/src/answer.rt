@@ -1,0 +1,33 @@
+//! What a tool answers.
+
+ghost use Rattle.std.specs.Prelude.{◌≡◌, List, ℕ};
+ghost use Rattle.rst_outside.specs.Sink.{Writes};
+ghost use Rattle.tool_frame.specs.declared.status.AnswerStatus.{AnswerStatus};
+
+use crate::status::AnswerStatus;
+use rst_outside::{PutFault, Sink};
+
+/// What a tool answers: a text, and the status that it ends with.
+pub trait Answer {
+    /// Its text.
+    ghost text: { Self → List ℕ };
+
+    /// Its status.
+    ghost status: { Self → AnswerStatus };
+
+    /// What an answer has to meet so that its text can be written.
+    ghost fits: { Self → Type 0 };
+
+    /// What its writer tells of it, whatever the sink does.
+    ghost told: { Self → Type 0 };
+
+    /// The status that the tool ends with once the text is written.
+    fn status(&self) -> AnswerStatus
+        ensures { result ≡ status self.now };
+
+    /// Writes the text. It takes no memory; on an `Err` the sink failed, and the text was cut short.
+    fn write<O: Sink>(&self, out: &mut O) -> Result<(), PutFault>
+        requires { fits self.now }
+        ensures writes { Writes (O.state out.old) (text self.now) (O.state out.new) result }
+        ensures told { told self.now };
+}

@@ -1,0 +1,41 @@
+//! Faults of texts, as the crates of their formats say them.
+
+ghost use Rattle.std.specs.Prelude.{◌≡◌, IfOk, IfErr};
+ghost use Rattle.tool_frame.specs.FaultTexts.{format_fault_status};
+
+use crate::fault::Fault;
+use crate::status::FaultStatus;
+use rst_outside::Sink;
+use std::alloc::AllocError;
+use text_in::FormatFault;
+use text_out::Block;
+
+/// What a reader took of a text, or the text's fault. An `Err` is want of memory, which the reader tells among its
+/// faults.
+pub fn apart<T, F: FormatFault>(read: Result<T, F>) -> Result<Result<T, F>, AllocError>
+    ensures same { IfOk result (λ found. found ≡ read) }
+    ensures fault { IfOk result (λ found. IfErr found (λ fault. F.IsMemory fault → ⊥)) }
+{
+    match read {
+        Ok(value) => Ok(Ok(value)),
+        Err(fault) => Ok(Err(fault.of_text()?)),
+    }
+}
+
+impl<F: FormatFault> Fault for F {
+    ghost text = { F.text };
+
+    ghost status = { λ fault. format_fault_status (F.passes_limit fault) };
+
+    fn status(&self) -> FaultStatus {
+        if self.passes_limit() {
+            FaultStatus::TooLarge
+        } else {
+            FaultStatus::Malformed
+        }
+    }
+
+    fn write<R: Sink>(&self, block: &mut Block, err: &mut R) {
+        FormatFault::write(self, block, err);
+    }
+}

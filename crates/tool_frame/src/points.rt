@@ -1,0 +1,156 @@
+//! Points and their grid, read from a text or from a file.
+
+ghost use Rattle.std.specs.Prelude.{◌≡◌, ◌++◌, ℕ, List, IfOk, decimal};
+ghost use Rattle.text_out.specs.Gathers.{Gathers};
+ghost use Rattle.tool_frame.specs.Taking.{KeepsFiles};
+ghost use Rattle.points_in.specs.Text.{HasPointCause};
+ghost use Rattle.tool_frame.specs.Points.{IsListFault, ReadsGrid, ReadsPointsFile};
+ghost use Rattle.tool_frame.specs.FaultTexts.{list_fault_text, list_fault_status, points_fault_text, points_fault_status};
+
+use crate::fault::Fault;
+use crate::status::FaultStatus;
+use crate::take::{FileFault, take_file};
+use hanan_grid::{Grid, GridFault};
+use points_in::{PointFault, read_points};
+use rst_outside::{Shelf, Sink};
+use std::alloc::{AllocError, Global};
+use text_in::write_total;
+use text_out::{Block, literal, number};
+
+/// Why a text gives no grid of points. Bytes count from 0.
+#[derive(Clone, Copy, Debug, PartialEq, Eq)]
+pub enum ListFault {
+    /// The word that begins at this byte is no number.
+    BadNumber(u64),
+    /// The number that begins at this byte is below -2^63 or above 2^63-1.
+    NumberTooLarge(u64),
+    /// The point whose x begins at this byte is the 51st distinct one.
+    TooManyPoints(u64),
+    /// The last x has no y.
+    OddCount,
+    /// It lists no point.
+    NoPoints,
+    /// The edges of its points' grid sum to 2^63 or more: to this total.
+    GridTooLong { total: u128 },
+}
+
+/// Why a file gives no grid of points.
+#[derive(Clone, Copy, Debug, PartialEq, Eq)]
+pub enum PointsFault {
+    /// It isn't taken whole.
+    File(FileFault),
+    /// Its text gives none.
+    List(ListFault),
+}
+
+// The same fault of a list. An `Err` is want of memory.
+fn list_fault_of(fault: PointFault) -> Result<ListFault, AllocError>
+    ensures { (bytes : List ℕ) → HasPointCause fault bytes → IfOk result (IsListFault bytes) }
+{
+    match fault {
+        PointFault::BadNumber(at) => Ok(ListFault::BadNumber(at)),
+        PointFault::NumberTooLarge(at) => Ok(ListFault::NumberTooLarge(at)),
+        PointFault::TooManyPoints(at) => Ok(ListFault::TooManyPoints(at)),
+        PointFault::OddCount => Ok(ListFault::OddCount),
+        PointFault::NoPoints => Ok(ListFault::NoPoints),
+        PointFault::Memory(error) => Err(error),
+    }
+}
+
+/// The grid of the points that a text lists. An `Err` is want of memory.
+pub fn read_grid(alloc: Global, bytes: &[u8]) -> Result<Result<Grid, ListFault>, AllocError>
+    ensures { IfOk result (ReadsGrid bytes.now) }
+{
+    let points = match read_points(alloc, bytes) {
+        Ok(points) => points,
+        Err(fault) => return Ok(Err(list_fault_of(fault)?)),
+    };
+    match Grid::new(alloc, &points) {
+        Ok(grid) => Ok(Ok(grid)),
+        Err(GridFault::TooLong { total }) => Ok(Err(ListFault::GridTooLong { total })),
+        Err(GridFault::Memory(error)) => Err(error),
+    }
+}
+
+/// The grid of the points that the file of this name lists, which may have `limit` bytes. An `Err` is want of memory.
+pub fn read_points_file<S: Shelf>(
+    alloc: Global,
+    shelf: &mut S,
+    name: &str,
+    limit: u64,
+) -> Result<Result<Grid, PointsFault>, AllocError>
+    ensures reads { IfOk result (ReadsPointsFile limit (S.state shelf.old) (S.state shelf.new) name.now) }
+    ensures files { KeepsFiles (S.state shelf.old) (S.state shelf.new) }
+{
+    let bytes = match take_file(alloc, shelf, name, limit)? {
+        Ok(bytes) => bytes,
+        Err(fault) => return Ok(Err(PointsFault::File(fault))),
+    };
+    match read_grid(alloc, bytes.as_slice())? {
+        Ok(grid) => Ok(Ok(grid)),
+        Err(fault) => Ok(Err(PointsFault::List(fault))),
+    }
+}
+
+impl Fault for ListFault {
+    ghost text = { list_fault_text };
+
+    ghost status = { list_fault_status };
+
+    fn status(&self) -> FaultStatus {
+        match self {
+            ListFault::TooManyPoints(_) => FaultStatus::TooLarge,
+            _ => FaultStatus::Malformed,
+        }
+    }
+
+    fn write<R: Sink>(&self, block: &mut Block, err: &mut R) {
+        match self {
+            ListFault::BadNumber(at) => write_at(block, err, b"not a whole number at byte ", *at),
+            ListFault::NumberTooLarge(at) => write_at(
+                block,
+                err,
+                b"number out of range at byte ",
+                *at,
+            ),
+            ListFault::TooManyPoints(at) => write_at(
+                block,
+                err,
+                b"more than 50 points at byte ",
+                *at,
+            ),
+            ListFault::OddCount => literal(block, err, b"a coordinate is missing"),
+            ListFault::NoPoints => literal(block, err, b"no points"),
+            ListFault::GridTooLong { total } => write_total(block, err, *total),
+        }
+    }
+}
+
+impl Fault for PointsFault {
+    ghost text = { points_fault_text };
+
+    ghost status = { points_fault_status };
+
+    fn status(&self) -> FaultStatus {
+        match self {
+            PointsFault::File(fault) => fault.status(),
+            PointsFault::List(fault) => fault.status(),
+        }
+    }
+
+    fn write<R: Sink>(&self, block: &mut Block, err: &mut R) {
+        match self {
+            PointsFault::File(fault) => fault.write(block, err),
+            PointsFault::List(fault) => fault.write(block, err),
+        }
+    }
+}
+
+// What is said of a fault, and the byte where it is.
+#[tactic(auto, using(text_out::specs::GatherLaws::pieces))]
+fn write_at<R: Sink>(block: &mut Block, err: &mut R, fault: &[u8], at: u64)
+    ensures { Gathers (R.state err.old) block.old (fault.now ++ decimal at) (R.state err.new) block.new }
+{
+    literal(block, err, fault);
+    number(block, err, at);
+}

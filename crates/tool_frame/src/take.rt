@@ -1,0 +1,137 @@
+//! Inputs and files that are read whole, within a limit.
+
+ghost use Rattle.std.specs.Prelude.{◌≡◌, ◌<◌, length, IfOk};
+ghost use Rattle.text_out.specs.Gathers.{Gathers};
+ghost use Rattle.tool_frame.specs.Taking.{TakesInput, FeedsInput, TakesSome, TakesFile, KeepsFiles};
+ghost use Rattle.tool_frame.specs.FaultTexts.{input_fault_text, input_fault_status, file_fault_text, file_fault_status, too_long_text};
+
+use crate::fault::Fault;
+use crate::status::FaultStatus;
+use rst_outside::{
+    Consumer, FeedFault, Shelf, Sink, Source, TakeFault, feed_all, take_all, take_named,
+};
+use std::alloc::{AllocError, Global};
+use text_out::{Block, literal, number};
+
+/// The greatest number of bytes of a text that is taken whole.
+pub const TEXT_LIMIT: u64 = 1 << 26;
+
+/// Why an input is not taken whole.
+#[derive(Clone, Copy, Debug, PartialEq, Eq)]
+pub enum InputFault {
+    /// A read failed.
+    Unread,
+    /// It has more than this number of bytes.
+    TooLong { limit: u64 },
+}
+
+/// Why a file is not taken whole.
+#[derive(Clone, Copy, Debug, PartialEq, Eq)]
+pub enum FileFault {
+    /// A read failed.
+    Unread,
+    /// It has more than this number of bytes.
+    TooLong { limit: u64 },
+}
+
+/// All bytes of the input, of which there may be `limit`. An `Err` is want of memory.
+pub fn take_input<I: Source>(
+    alloc: Global,
+    input: &mut I,
+    limit: u64,
+) -> Result<Result<Vec<u8>, InputFault>, AllocError>
+    ensures takes { IfOk result (TakesInput limit (I.state input.old) (I.state input.new)) }
+    ensures some { TakesSome (I.state input.old) (I.state input.new) }
+{
+    match take_all(alloc, input, limit) {
+        Ok(bytes) => Ok(Ok(bytes)),
+        Err(TakeFault::Failed) => Ok(Err(InputFault::Unread)),
+        Err(TakeFault::TooLong) => Ok(Err(InputFault::TooLong { limit })),
+        Err(TakeFault::Memory(error)) => Err(error),
+    }
+}
+
+/// Feeds the consumer all bytes of the input, of which there may be `limit`, by way of the buffer. It takes no memory.
+pub fn feed_input<I: Source, C: Consumer>(
+    input: &mut I,
+    buffer: &mut [u8],
+    consumer: &mut C,
+    limit: u64,
+) -> Result<(), InputFault>
+    requires { 0 < length buffer.old }
+    ensures feeds { FeedsInput C.stands limit (I.state input.old) (I.state input.new) consumer.old consumer.new result }
+    ensures some { TakesSome (I.state input.old) (I.state input.new) }
+{
+    feed_all(input, buffer, consumer, limit).map_err(|fault| match fault {
+        FeedFault::Failed => InputFault::Unread,
+        FeedFault::TooLong => InputFault::TooLong { limit },
+    })
+}
+
+/// All bytes of the file of this name, of which there may be `limit`. An `Err` is want of memory.
+pub fn take_file<S: Shelf>(
+    alloc: Global,
+    shelf: &mut S,
+    name: &str,
+    limit: u64,
+) -> Result<Result<Vec<u8>, FileFault>, AllocError>
+    ensures takes { IfOk result (TakesFile limit (S.state shelf.old) (S.state shelf.new) name.now) }
+    ensures files { KeepsFiles (S.state shelf.old) (S.state shelf.new) }
+{
+    match take_named(alloc, shelf, name, limit) {
+        Ok(bytes) => Ok(Ok(bytes)),
+        Err(TakeFault::Failed) => Ok(Err(FileFault::Unread)),
+        Err(TakeFault::TooLong) => Ok(Err(FileFault::TooLong { limit })),
+        Err(TakeFault::Memory(error)) => Err(error),
+    }
+}
+
+impl Fault for InputFault {
+    ghost text = { input_fault_text };
+
+    ghost status = { input_fault_status };
+
+    fn status(&self) -> FaultStatus {
+        match self {
+            InputFault::Unread => FaultStatus::Unread,
+            InputFault::TooLong { .. } => FaultStatus::TooLarge,
+        }
+    }
+
+    fn write<R: Sink>(&self, block: &mut Block, err: &mut R) {
+        match self {
+            InputFault::Unread => literal(block, err, b"cannot read input"),
+            InputFault::TooLong { limit } => write_too_long(block, err, *limit),
+        }
+    }
+}
+
+impl Fault for FileFault {
+    ghost text = { file_fault_text };
+
+    ghost status = { file_fault_status };
+
+    fn status(&self) -> FaultStatus {
+        match self {
+            FileFault::Unread => FaultStatus::Unread,
+            FileFault::TooLong { .. } => FaultStatus::TooLarge,
+        }
+    }
+
+    fn write<R: Sink>(&self, block: &mut Block, err: &mut R) {
+        match self {
+            FileFault::Unread => literal(block, err, b"cannot read the points"),
+            FileFault::TooLong { limit } => write_too_long(block, err, *limit),
+        }
+    }
+}
+
+// What is said of too many bytes.
+#[tactic(auto, using(text_out::specs::GatherLaws::pieces))]
+fn write_too_long<R: Sink>(block: &mut Block, err: &mut R, limit: u64)
+    ensures { Gathers (R.state err.old) block.old (too_long_text limit) (R.state err.new) block.new }
+{
+    literal(block, err, b"more than ");
+    number(block, err, limit);
+    literal(block, err, b" bytes");
+}

@@ -1,9 +1,0 @@
--- The checker was fed the bytes alone.
-use Rattle.std.proofs.Common.{[]}
-use Rattle.cert_check.specs.Named.{on_grid}
-use Rattle.trial_tools.proofs.judging.verdict_on.Goals as goal
-
-pub returns : goal.returns
-returns c =
-    c.finish-verdict.ensures.complete (on_grid c.args.grid.now) c.args.bytes.now
-    (c.feed.ensures (on_grid c.args.grid.now) [] c.begin-checker.ensures)
