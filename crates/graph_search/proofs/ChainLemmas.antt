@@ -1,5 +1,5 @@
 -- Searches by chains.
-use Rattle.std.proofs.Common.{ℕ, zero, suc, ◌≡◌, ◌+◌, ◌<◌, ◌≤◌, Bool, List, length, true, false, refl, sym, ◌∙◌, subst, arith}
+use Rattle.std.proofs.Common.{ℕ, zero, suc, ◌≡◌, ◌<◌, ◌≤◌, Bool, List, length, true, false, refl, sym, ◌∙◌, subst, arith}
 use Rattle.std.proofs.Common.{length-append}
 use Rattle.net_graph.specs.Graph.{Graph}
 use Rattle.net_graph.specs.Network.{length_of}
@@ -16,7 +16,7 @@ use Rattle.branch.specs.KindLaws.{leaf_splits_vertices}
 use Rattle.branch.specs.PlainOpenings.{LeadsInOpenings, LeadsByOpenings}
 use Rattle.branch.specs.RunLaws.{EndsRunOfOpenings-longer}
 use Rattle.branch.specs.Runs.{EndsRunOfOpenings}
-use Rattle.branch.specs.Searching.{SearchState, TakesStep, OpensTo}
+use Rattle.branch.specs.Searching.{SearchState, TakesStep}
 use Rattle.branch.specs.Solving.{IsSolved}
 use Rattle.graph_search.specs.Chains.{IsAhead, IsFoundByChains}
 use Rattle.graph_search.specs.Searched.{EndsByKind, IsTold}

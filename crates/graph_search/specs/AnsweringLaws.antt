@@ -11,7 +11,7 @@ use Rattle.branch.specs.RunLaws.{EndsRunOfOpenings-longer}
 use Rattle.answer_text.specs.declared.head.AnswerHead.{AnswerHead}
 use Rattle.answer_text.specs.declared.head.ConcatNote.{ConcatNote}
 use Rattle.answer_text.specs.Answers.{IsAnswerOn}
-use Rattle.graph_search.specs.Searched.{IsSearched, IsTold, bound_of, value_on}
+use Rattle.graph_search.specs.Searched.{IsSearched, IsTold, value_on}
 use Rattle.graph_search.specs.Answering.{answer_with, head_with}
 use Rattle.graph_search.specs.TreeLaws.{nodes_on, packings_on}
 

@@ -17,7 +17,7 @@ use Rattle.graph_solve.specs.Task.{all_edges, graph_of_stp}
 use Rattle.graph_solve.specs.Fault.{IsTask, IsFirstFault}
 use Rattle.graph_solve.specs.Said.{IsMemory as IsMemoryOfTask}
 use Rattle.graph_tools.specs.declared.text_fault.GraphTextFault.TheVariants.{InFile, InGraph}
-use Rattle.graph_tools.specs.Reading.{IsTaskText, ReadsFile, TakesTask, TaskHasNoFault}
+use Rattle.graph_tools.specs.Reading.{ReadsFile, TakesTask, TaskHasNoFault}
 
 -- a fault of what is due is due, but for want of memory
 fault_due : (due : Result StpValue StpFault) (fault : StpFault) → IsFaultOf fault due →

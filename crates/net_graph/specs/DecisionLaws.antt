@@ -10,8 +10,7 @@ use Rattle.net_graph.specs.declared.state.EdgeState.TheVariants.{Undecided, Insi
 use Rattle.net_graph.specs.declared.state.VertexState.{VertexState}
 use Rattle.net_graph.specs.declared.state.VertexState.TheVariants.{Met, Missed}
 use Rattle.net_graph.specs.declared.state.VertexState.TheVariants as vertex
-use Rattle.std.proofs.lemmas.List.Elements.{Contains-get_or}
-use Rattle.net_graph.specs.Graph.{Graph, IsGraph, root_of}
+use Rattle.net_graph.specs.Graph.{Graph}
 use Rattle.net_graph.specs.Decision.{Decided, IsMet, IsMissed, IsFree, IsRequired, EndsInside, IsDecisionFor, IsUndecided, IsVertexUndecided, Agrees, nothing_decided, with_edge, with_vertex, is_missed, has_missed_end, state_at_ends, states_at_ends, states_of}
 use Rattle.net_graph.specs.EntryLaws.{slice_get-set_same, slice_get-set_other, slice_get-replicate}
 

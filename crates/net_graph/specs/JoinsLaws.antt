@@ -1,11 +1,11 @@
 -- What is joined by an edge set, in any graph and from any root.
 use Rattle.std.specs.Prelude.{ℕ, ◌≡◌, Bool, List, [], ◌∷◌, ◌++◌, All, Contains, flat_map}
 use Rattle.std.proofs.Common.{sym, inl, inr, ⊎_elim, append_assoc, append-nil, subst}
-use Rattle.std.proofs.lemmas.List.Elements.{All-contains, All-head, All-tail, Contains-append_cases}
+use Rattle.std.proofs.lemmas.List.Elements.{All-head, All-tail, Contains-append_cases}
 use Rattle.net_graph.specs.Flags.{IsSubset}
-use Rattle.net_graph.specs.Graph.{Graph, root_of}
+use Rattle.net_graph.specs.Graph.{Graph}
 use Rattle.net_graph.specs.Joins.{slice_get-has, has-slice_get}
-use Rattle.net_graph.specs.Network.{HasEnds, Links, Joins, IsNetwork}
+use Rattle.net_graph.specs.Network.{HasEnds, Links, Joins}
 use Rattle.net_graph.specs.Search.{Leads}
 use Rattle.net_graph.specs.SearchLaws.{Leads-trans, Leads-weaker, Leads-back}
 

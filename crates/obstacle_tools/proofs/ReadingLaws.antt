@@ -1,8 +1,7 @@
 -- What readers of a text and takers of a task answer is what these come to, and a Steiner problem has no fault.
-use Rattle.std.proofs.Common.{ℕ, ◌≡◌, ◌<◌, List, [], ◌++◌, Some, Result, Ok, Err, IfOk, IfErr, OnOk}
-use Rattle.std.proofs.Common.{slice_get, sym, subst, ◌∙◌, arith}
+use Rattle.std.proofs.Common.{ℕ, ◌≡◌, List, Some, Result, Ok, Err, IfOk, IfErr, OnOk}
+use Rattle.std.proofs.Common.{slice_get, sym, subst, arith}
 use Rattle.std.specs.Prelude.{All, ◌↔◌}
-use Rattle.std.proofs.lemmas.List.{append-nil}
 use Rattle.std.proofs.lemmas.Option.{get_or_from_slice_get, slice_get_within}
 use Rattle.net_graph.specs.Graph.{Graph}
 use Rattle.net_graph.specs.Network.{Reaches}

@@ -1,7 +1,6 @@
 -- What follows of what `obstacles` printed.
-use Rattle.std.proofs.Common.{ℕ, ◌≡◌, Bool, true, false, List, codes, Some, slice_get, ◌⊎◌, inl, inr, subst, ap, ◌∙◌}
+use Rattle.std.proofs.Common.{ℕ, ◌≡◌, Bool, true, false, List, codes, ◌⊎◌, inl, inr, subst, ap, ◌∙◌}
 use Rattle.std.proofs.lemmas.Option.{get_or_from_slice_get, slice_get_within}
-use Rattle.std.specs.Prelude.{All}
 use Rattle.rst_outside.specs.Sink.{Appended}
 use Rattle.obstacles_in.specs.Obstacles.{ObstaclesValue}
 use Rattle.obstacle_grid.specs.Crossing.{CrossesNone, NoEdgeCrosses}
@@ -23,7 +22,7 @@ use Rattle.graph_tools.specs.Truth.{SolvesTruly}
 use Rattle.graph_tools.specs.TruthLaws.{solves_truly}
 use Rattle.obstacle_tools.specs.Reading.{around_fault_text, around_fault_status}
 use Rattle.obstacle_tools.specs.Around.{EndsObstacles, EndsObstaclesSolve, EndsObstaclesStp, SolvesAround, WritesGraph}
-use Rattle.obstacle_tools.specs.Truth.{AvoidsBoxes, ObstaclesTruly, PrintsTruly, SolvesAroundTruly, WritesGraphTruly}
+use Rattle.obstacle_tools.specs.Truth.{AvoidsBoxes, ObstaclesTruly}
 
 -- a set of edges of the graph crosses no box
 avoids_boxes : NoEdgeCrosses → (o : ObstaclesValue) (network : List Bool) → AvoidsBoxes o network

@@ -5,9 +5,9 @@ use net_graph::NetGraph;
 use planar_cuts::Faces;
 use std::alloc::{AllocError, Global};
 
-/// The ground of a graph, on which exchanges in it are carried out: the smaller graph, where there is one, and the faces
-/// of a drawing of it, or of the graph where there is none. Where there are faces, cheapest cuts are closed curves; else
-/// they are found by flows. Nothing rests on it: it decides time, and what is found.
+/// The ground of a graph, on which exchanges in it are carried out: the smaller graph, where there is one, and the
+/// faces of a drawing of it, or of the graph where there is none. Where there are faces, cheapest cuts are closed
+/// curves; else they are found by flows. Nothing rests on it: it decides time, and what is found.
 #[derive(Drop)]
 pub struct Ground {
     pub(crate) smaller: Option<Smaller>,

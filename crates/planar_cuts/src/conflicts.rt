@@ -147,8 +147,8 @@ impl Conflicts {
         true
     }
 
-    // Puts what leads back higher than an edge, of the edges before it at its upper end, on the left, and what is on the
-    // other side of it on the right; whether that can be.
+    // Puts what leads back higher than an edge, of the edges before it at its upper end, on the left, and what is on
+    // the other side of it on the right; whether that can be.
     fn merge_earlier(&mut self, edge: u32, merged: &mut Pair) -> bool {
         for _ in 0..count(&self.pairs) {
             let pair = self.top();

@@ -14,7 +14,6 @@ use Rattle.fst_concat.specs.declared.chosen.ChosenKind.{ChosenKind}
 use Rattle.fst_concat.specs.declared.chosen.ChosenKind.TheVariants.{Least, Spent}
 use Rattle.fst_concat.specs.Chosen.{IsFirstApart}
 use Rattle.branch.specs.States.{IsNetworkOf}
-use Rattle.answer_text.specs.declared.head.ConcatNote.{ConcatNote}
 use Rattle.answer_text.specs.Text.{answer_text}
 use Rattle.answer_text.specs.declared.form.Form.TheVariants as form
 use Rattle.answer_text.specs.Spelling.{SpellsAnswer}

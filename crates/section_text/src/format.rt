@@ -73,7 +73,8 @@ pub trait SectionFormat {
         ensures follows { IfOk result (format.Follows (points_of basis.now) items.now) }
         ensures err { IfErr result (FailsItem format (points_of basis.now) items.now line words.old) };
 
-    /// What is read where the text ends behind these items. An `Err` is what is wrong with the whole, or want of memory.
+    /// What is read where the text ends behind these items. An `Err` is what is wrong with the whole, or want of
+    /// memory.
     fn whole(
         alloc: Global,
         basis: Self::Basis,

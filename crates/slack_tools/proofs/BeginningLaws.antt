@@ -1,5 +1,5 @@
 -- The packing of a tree's only leaf.
-use Rattle.std.proofs.Common.{ℕ, ◌≡◌, ◌+◌, ◌<◌, ◌≤◌, List, length, length-append, slice_get, Some, subst, arith}
+use Rattle.std.proofs.Common.{◌≡◌, ◌<◌, ◌≤◌, List, length, length-append, slice_get, Some, subst, arith}
 use Rattle.net_graph.specs.declared.packing.Cut.{Cut}
 use Rattle.net_graph.specs.Graph.{Graph}
 use Rattle.net_graph.specs.Decision.{nothing_decided}

@@ -1,10 +1,10 @@
 -- How the calls that write one text add up.
 use Rattle.std.specs.Prelude.{◌≡◌, ℕ, ◌+◌, List, [], ◌∷◌, ◌++◌, Option, None, Some, option_map, Result, Ok, Err, ⊤}
 use Rattle.std.specs.List.{range_with_len}
-use Rattle.std.proofs.Common.{refl, sym, ◌∙◌, ap, subst, append_assoc, take, get_or, zero-add}
+use Rattle.std.proofs.Common.{refl, sym, ◌∙◌, ap, subst, append_assoc, zero-add}
 use Rattle.std.proofs.lemmas.Bool.{false≢true}
 use Rattle.std.proofs.lemmas.Grind.{take_at_read, flat_map-append}
-use Rattle.std.proofs.lemmas.List.{append-nil, take_more, take_all, flat_map_more, map-id}
+use Rattle.std.proofs.lemmas.List.{append-nil, take_all, map-id}
 use Rattle.std.proofs.lemmas.List.FromFn.{map-range_with_len_more}
 use Rattle.rst_outside.specs.Sink.{SinkState, Wrote, CutShort, Writes}
 use Rattle.rst_outside.specs.SinkLaws.{wrote_nothing, wrote_more, cut_later, cut_sooner}

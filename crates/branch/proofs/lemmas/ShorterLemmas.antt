@@ -1,6 +1,6 @@
 -- The shorter one of two networks, and the first of them on a tie.
-use Rattle.std.proofs.Common.{ℕ, ◌≡◌, ◌<◌, ◌≤◌, inl, inr, ⊎_elim, Bool, true, false, List, Result, Ok, Err, IfOk, Option, Some, None}
-use Rattle.std.proofs.Common.{leb, refl, ap, sym, ◌∙◌, subst, arith}
+use Rattle.std.proofs.Common.{ℕ, ◌≡◌, ◌<◌, ◌≤◌, inl, inr, ⊎_elim, Bool, false, List, Result, Ok, Err, IfOk, Option, Some, None}
+use Rattle.std.proofs.Common.{leb, refl, ap, sym, subst, arith}
 use Rattle.std.proofs.lemmas.Bool.{cases_lt, le-leb}
 use Rattle.net_graph.specs.Graph.{Graph}
 use Rattle.net_graph.specs.Network.{length_of}

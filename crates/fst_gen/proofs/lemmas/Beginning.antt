@@ -1,11 +1,11 @@
 -- What is asked of a code holds in its beginning, as far as it speaks of this alone.
-use Rattle.std.proofs.Common.{ℕ, ◌≡◌, ◌≢◌, ◌+◌, ◌<◌, ◌≤◌, ℤ, pos, ◌<ℤ◌, List, [], ◌∷◌, ◌++◌, length, get_or, map, refl, ap, sym, subst, ◌∙◌, ◌⊎◌, inl, inr, ⊎_elim, arith, length-append, Option, Some, None, IfSome}
+use Rattle.std.proofs.Common.{ℕ, ◌≡◌, ◌≢◌, ◌+◌, ◌<◌, ℤ, pos, ◌<ℤ◌, List, [], ◌∷◌, ◌++◌, length, get_or, map, ap, sym, subst, ◌∙◌, ◌⊎◌, inl, inr, ⊎_elim, arith, length-append, Option, Some, None, IfSome}
 use Rattle.std.specs.Prelude.{All, AllPairs, Contains, option_to_list}
 use Rattle.std.proofs.lemmas.Int.{ints}
 use Rattle.std.proofs.lemmas.List.{append_assoc, get_or_append_left, get_or-append-add, get_or_default}
 use Rattle.std.proofs.lemmas.List.Elements.{All-nil, All-cons, All-head, All-tail, All-append, All-contains, Contains-append_left, Contains-append_right, Contains-append_cases}
 use Rattle.points_in.specs.declared.point.Point.{Point}
-use Rattle.hanan_grid.specs.Distance.{origin, distance_between, distance_of}
+use Rattle.hanan_grid.specs.Distance.{distance_between, distance_of}
 use Rattle.spanning.specs.Bottleneck.{IsHop, IsBottleneck}
 use Rattle.spanning.specs.BottleneckLaws.{Leads-hop, distance_of-same}
 use Rattle.net_graph.specs.Search.{Leads}
@@ -13,15 +13,14 @@ use Rattle.full_tree.specs.declared.way.Way.{Way}
 use Rattle.full_tree.specs.declared.way.Way.TheVariants.{East, North, West, South}
 use Rattle.full_tree.specs.declared.straight.Piece.{Piece}
 use Rattle.full_tree.specs.declared.station.Station.{Station}
-use Rattle.full_tree.specs.declared.code.TreeCode.{TreeCode}
 use Rattle.full_tree.specs.declared.code.TreeCode.TheVariants.{Long}
-use Rattle.full_tree.specs.Geometry.{point_at, along, across, point_seen, RisesFrom, Alternates}
+use Rattle.full_tree.specs.Geometry.{point_at, along, across, point_seen, RisesFrom}
 use Rattle.full_tree.specs.Form.{along_of, across_of, IsOnShortLeg}
 use Rattle.full_tree.specs.LongLaws.{All-first, All-second, long_names_few}
 use Rattle.full_tree.specs.Pieces.{piece_between, foot, side_foot, line_over, long_leg, short_leg, drop_pieces, side_piece}
-use Rattle.full_tree.specs.Stations.{station, station_at, drop_stations, first_stations, end_stations, last_foot}
-use Rattle.full_tree.specs.Passing.{Passes, IsClear, IsEndOf, IsWithinBottleneck, KeepsBottlenecks}
-use Rattle.fst_gen.specs.Prefix.{HasPrefix, MayBegin, FailingBeginningNeverPasses, first_pieces}
+use Rattle.full_tree.specs.Stations.{station, station_at, drop_stations, first_stations, last_foot}
+use Rattle.full_tree.specs.Passing.{Passes, IsClear, IsWithinBottleneck, KeepsBottlenecks}
+use Rattle.fst_gen.specs.Prefix.{MayBegin, FailingBeginningNeverPasses, first_pieces}
 use Rattle.fst_gen.proofs.lemmas.Pairs.{no_distance}
 use Rattle.fst_gen.proofs.lemmas.Prefixes.{rises_first, in_turn_first, stations_begin, keeps_first}
 

@@ -1,7 +1,6 @@
 -- What a tree that is put into a store does for it.
 use Rattle.std.proofs.Common.{ℕ, ◌≡◌, ◌<◌, ◌≤◌, List, length, get_or, refl, ap, sym, subst, ◌∙◌, arith, ⊎_elim}
 use Rattle.std.specs.Prelude.{All, Some, map, Result, Ok, Err, MatchResult}
-use Rattle.std.specs.Int.{bit_at}
 use Rattle.std.specs.Ordering.{nat_cmp}
 use Rattle.std.specs.BTreeMap.{BTreeMap, get, btree_map_len, IsOrdered}
 use Rattle.std.proofs.lemmas.Bool.{cases_eq}
@@ -10,13 +9,12 @@ use Rattle.std.proofs.lemmas.List.{get_or-map, length-map}
 use Rattle.std.proofs.lemmas.Map.Keys.{below_from_sorted}
 use Rattle.std.proofs.lemmas.List.Elements.{All-contains, Contains-get_or}
 use Rattle.std.proofs.lemmas.Map.Entries.{btree_map_get_place}
-use Rattle.std.proofs.lemmas.Nat.Bits.{bit_at-lt, same_from_bits}
 use Rattle.std.proofs.lemmas.Option.{slice_get-get_or}
 use Rattle.points_in.specs.declared.point.Point.{Point}
 use Rattle.full_tree.specs.declared.code.Tree.{Tree}
 use Rattle.full_tree.specs.declared.code.TreeCode.{TreeCode}
 use Rattle.full_tree.specs.Code.{members_of, named_places}
-use Rattle.full_tree.specs.MembersLaws.{Climbs-ascending_places, same_from_members, Contains-from_ascending_places}
+use Rattle.full_tree.specs.MembersLaws.{Climbs-ascending_places, Contains-from_ascending_places}
 use Rattle.full_tree.specs.OrderLaws.{tree_cmp_total}
 use Rattle.full_tree.specs.Pieces.{code_length}
 use Rattle.fst_gen.specs.declared.fault.GenFault.{GenFault}

@@ -1,5 +1,5 @@
 -- How far apart crossings of a grid are, against the sum of its edges.
-use Rattle.std.proofs.Common.{ℕ, ◌+◌, ◌*◌, ◌≡◌, ◌<◌, ◌≤◌, List, length, arith}
+use Rattle.std.proofs.Common.{ℕ, ◌*◌, ◌<◌, ◌≤◌, List, length, arith}
 use Rattle.points_in.specs.declared.point.Point.{Point}
 use Rattle.net_graph.specs.Graph.{total_of}
 use Rattle.hanan_grid.specs.Grid.{xs_of, ys_of, hanan_grid_of}

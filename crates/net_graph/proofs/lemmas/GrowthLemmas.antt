@@ -13,7 +13,7 @@ use Rattle.net_graph.specs.Growth.{LeadsToOne, LeadsFromOne, HasArc, IsClosedBut
 use Rattle.net_graph.specs.Search.{OpenStep, Finds, Extends}
 use Rattle.net_graph.specs.SearchLaws.{Leads-start, Leads-more, Leads-trans, Leads-weaker}
 use Rattle.net_graph.specs.Turned.{OpenStep-turned, Leads-turned}
-use Rattle.net_graph.proofs.lemmas.SearchLemmas.{Extends-none, Extends-more, Extends-keeps}
+use Rattle.net_graph.proofs.lemmas.SearchLemmas.{Extends-more, Extends-keeps}
 
 -- found vertices are below the size
 pub found_below : (found : Finds) (members : List Bool) → HasMembers found members → (v : ℕ) → Contains found.order v → v < found.size

@@ -1,7 +1,7 @@
 -- Found numbers in lent room: the first ones, and one more.
-use Rattle.std.proofs.Common.{◌≡◌, ◌≢◌, ℕ, zero, suc, ◌+◌, ◌<◌, ◌≤◌, Bool, true, false, List, [], ◌∷◌, ◌++◌, map, take, length, get_or, set, replicate, cond, eqb, slice_get, Some, Contains, ⊎_elim, sym, ap, ◌∙◌, refl, arith}
+use Rattle.std.proofs.Common.{◌≡◌, ◌≢◌, ℕ, zero, suc, ◌+◌, ◌<◌, ◌≤◌, Bool, false, List, [], ◌∷◌, ◌++◌, map, take, length, get_or, set, replicate, cond, eqb, slice_get, Some, ⊎_elim, sym, ap, ◌∙◌, refl, arith}
 use Rattle.std.proofs.Math.ListN.{get_or-map}
-use Rattle.std.proofs.lemmas.Bool.{cases_lt, eq-eqb, ne_eqb}
+use Rattle.std.proofs.lemmas.Bool.{cases_lt, ne_eqb}
 use Rattle.std.proofs.lemmas.List.{length-set, length-map, length-replicate, length-take-le, get_or-take, get_or-replicate, get_or_past, map-set, take_more_set}
 use Rattle.std.proofs.lemmas.List.Elements.{All-nil}
 use Rattle.std.proofs.lemmas.List.Folds.{sum_by-replicate}
@@ -13,10 +13,6 @@ use Rattle.net_graph.proofs.lemmas.FoundLemmas.{room_left, AreMarksOf-more}
 -- a number's flag is whether its mark is 1
 pub flag_of_mark : (marks : List ℕ) (v : ℕ) → has (flags_of_marks marks) v ≡ eqb (get_or marks v 0) 1
 flag_of_mark marks v = get_or-map (λ (m : ℕ). eqb m 1) marks v 0
-
--- a marked number was found
-pub found_in_room : (marks queue : List ℕ) (count v : ℕ) → AreFoundInRoom marks queue count → get_or marks v 0 ≡ 1 → Contains (take count queue) v
-found_in_room marks queue count v are marked = are.marked.listed v (flag_of_mark marks v ∙ eq-eqb (get_or marks v 0) 1 marked)
 
 -- while some number has no mark there is room
 pub room_in_queue : (marks queue : List ℕ) (count v : ℕ) → AreFoundInRoom marks queue count → v < length marks → get_or marks v 0 ≢ 1 → count < length queue

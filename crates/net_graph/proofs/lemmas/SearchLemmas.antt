@@ -1,5 +1,5 @@
 -- The invariants of a search.
-use Rattle.std.proofs.Common.{◌≡◌, ℕ, ◌+◌, ◌<◌, ◌≤◌, Bool, true, false, List, [], ◌∷◌, ◌++◌, length, get_or, slice_get, Some, All, Contains, ◌⊎◌, ◌↔◌, ⊎_elim, sym, ap, ◌∙◌, subst, arith, length-append, append-nil, append_assoc}
+use Rattle.std.proofs.Common.{◌≡◌, ℕ, ◌+◌, ◌<◌, ◌≤◌, Bool, true, false, List, [], ◌∷◌, ◌++◌, length, get_or, slice_get, Some, All, Contains, ◌⊎◌, ◌↔◌, ⊎_elim, sym, ap, ◌∙◌, subst, arith, length-append, append_assoc}
 use Rattle.std.proofs.lemmas.Bool.{cases_lt}
 use Rattle.std.proofs.lemmas.List.{get_or_append_left}
 use Rattle.std.proofs.lemmas.List.Elements.{All-append, All-nil, All-push, All-contains, Contains-append_left, Contains-get_or, Contains-push, Contains-push_cases}
@@ -10,10 +10,6 @@ use Rattle.net_graph.specs.Arcs.{IsArcOf, AreArcsFrom}
 use Rattle.net_graph.specs.Growth.{LeadsFromOne, IsGoneOver}
 use Rattle.net_graph.specs.Search.{OpenStep, Leads, Extends}
 use Rattle.net_graph.specs.SearchLaws.{Leads-start, Leads-more, Leads-keeps}
-
--- a list extends itself
-pub Extends-none : (P : ℕ → Type 0) (xs : List ℕ) → Extends P xs xs
-Extends-none P xs = record { rest = []; is = sym (append-nil xs); each = All-nil P }
 
 -- one more number
 pub Extends-more : (P : ℕ → Type 0) (old now : List ℕ) (v : ℕ) → Extends P old now → P v → Extends P old (now ++ v ∷ [])

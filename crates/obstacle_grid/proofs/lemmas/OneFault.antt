@@ -1,5 +1,5 @@
 -- Points and boxes have one first fault at most, and none where all allowed edges together join the points.
-use Rattle.std.specs.Prelude.{◌≡◌, ◌<◌, ◌≤◌, ◌^◌, Result, Ok, Err, IfErr, IfOk, OnOk}
+use Rattle.std.specs.Prelude.{◌≡◌, Result, Ok, Err, IfErr, IfOk, OnOk}
 use Rattle.std.proofs.Common.{sym, ap, ◌∙◌, subst, arith}
 use Rattle.std.proofs.lemmas.Option.{slice_get_within, get_or_from_slice_get}
 use Rattle.net_graph.specs.Graph.{Graph}

@@ -1,9 +1,8 @@
 -- A run of `graph` or `checkgraph` that nothing troubles ends with an answer.
-use Rattle.std.proofs.Common.{ℕ, ◌≡◌, List, codes, Option, Some, Ok, Err, ◌⊎◌, inl, inr, sym, subst, ap, ◌∙◌}
+use Rattle.std.proofs.Common.{ℕ, List, codes, Some, Err, inl, inr, subst, ap, ◌∙◌}
 use Rattle.net_graph.specs.Network.{length_of}
 use Rattle.stp_format.specs.Value.{StpValue}
 use Rattle.tool_frame.specs.declared.take.TheConstants.{TEXT_LIMIT}
-use Rattle.tool_frame.specs.declared.text_fault.TextFault.{TextFault}
 use Rattle.tool_frame.specs.declared.text_fault.TextFault.TheVariants as text_fault
 use Rattle.tool_frame.specs.Statuses.{answer_code}
 use Rattle.tool_frame.specs.Outside.{Readable, Outside}
@@ -13,12 +12,11 @@ use Rattle.tool_frame.specs.FaultTexts.{text_fault_text, text_fault_status}
 use Rattle.tool_frame.specs.FromText.{FromText}
 use Rattle.tool_frame.specs.Leaves.{LeavesShelf, LeavesFiles}
 use Rattle.tool_frame.specs.Complete.{HasInput, HasFile}
-use Rattle.tool_frame.specs.TakingLaws.{file_is_taken, input_is_taken, whole_file_is, whole_input_is}
+use Rattle.tool_frame.specs.TakingLaws.{file_is_taken, input_is_taken, whole_file_is}
 use Rattle.graph_search.specs.Searched.{bound_of}
 use Rattle.graph_tools.specs.declared.checking.CheckgraphFault.{CheckgraphFault}
 use Rattle.graph_tools.specs.declared.checking.CheckgraphFault.TheVariants as checkgraph_fault
 use Rattle.graph_tools.specs.declared.checking.TheConstants.{GRAPH_ANSWER_LIMIT}
-use Rattle.graph_tools.specs.declared.text_fault.GraphTextFault.{GraphTextFault}
 use Rattle.graph_tools.specs.Reading.{IsTaskText, ReadsGraph, TaskHasNoFault, graph_fault_text, graph_fault_status}
 use Rattle.graph_tools.specs.FoundLaws.{found_faultless}
 use Rattle.graph_tools.specs.Solve.{EndsGraph, PrintsAnswer, SolvesGraph}

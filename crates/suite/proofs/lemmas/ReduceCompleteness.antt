@@ -1,5 +1,5 @@
 -- A run of `reduce` that nothing troubles ends with an answer.
-use Rattle.std.proofs.Common.{ℕ, ◌≡◌, Bool, true, false, List, codes, Option, Some, inl, inr, sym, subst, ap, ◌∙◌}
+use Rattle.std.proofs.Common.{ℕ, Bool, true, false, codes, Some, inl, inr, ap, ◌∙◌}
 use Rattle.net_graph.specs.Network.{length_of}
 use Rattle.tool_frame.specs.declared.take.TheConstants.{TEXT_LIMIT}
 use Rattle.tool_frame.specs.Statuses.{answer_code}

@@ -1,4 +1,4 @@
-use Rattle.std.proofs.Common.{All, [], ◌∷◌, ◌++◌, sym, subst}
+use Rattle.std.proofs.Common.{All, [], ◌∷◌, ◌++◌}
 use Rattle.std.proofs.lemmas.List.Elements.{All-push}
 use Rattle.hanan_grid.specs.Grid.{hanan_grid_of}
 use Rattle.answer_text.specs.Answers.{IsCutOn}

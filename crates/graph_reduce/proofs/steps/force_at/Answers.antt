@@ -9,7 +9,6 @@ use Rattle.graph_reduce.proofs.lemmas.NodeRuleLaws.{forced_seen}
 use Rattle.graph_reduce.proofs.lemmas.Renewing.{all_told, due_more, forced_other, forced_apart, other_below, renewed_forced, survey_within, survey_as}
 use Rattle.graph_reduce.proofs.lemmas.Stepping.{forced_step, tidy_within, within_forced}
 use Rattle.graph_reduce.proofs.steps.force_at.Goals as goal
-use Rattle.graph_reduce.proofs.steps.force_at.Goals.{After-force_edge}
 
 pub move_terminal-requires-clause-to : goal.move_terminal-requires-clause-to
 move_terminal-requires-clause-to c =

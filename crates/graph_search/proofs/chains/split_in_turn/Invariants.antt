@@ -1,4 +1,4 @@
-use Rattle.std.proofs.Common.{◌≡◌, ◌≤◌}
+use Rattle.std.proofs.Common.{◌≤◌}
 use Rattle.cert_tree.specs.Preorder.{split_count}
 use Rattle.graph_search.specs.Chains.{IsAhead}
 use Rattle.graph_search.proofs.chains.split_in_turn.Given as goal

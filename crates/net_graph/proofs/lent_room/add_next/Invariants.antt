@@ -1,4 +1,4 @@
-use Rattle.std.proofs.Common.{◌≡◌, ◌<◌, take}
+use Rattle.std.proofs.Common.{◌<◌, take}
 use Rattle.net_graph.specs.Found.{AreFoundInRoom}
 use Rattle.net_graph.specs.Search.{OpenStep}
 use Rattle.net_graph.proofs.lemmas.SearchLemmas.{AddsHeads}

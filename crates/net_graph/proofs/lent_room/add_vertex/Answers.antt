@@ -1,5 +1,5 @@
-use Rattle.std.proofs.Common.{inl, inr}
-use Rattle.net_graph.proofs.lemmas.LentRoomLemmas.{found_in_room, room_in_queue, queue_more, AreFoundInRoom-more}
+use Rattle.std.proofs.Common.{inl}
+use Rattle.net_graph.proofs.lemmas.LentRoomLemmas.{room_in_queue, queue_more, AreFoundInRoom-more}
 use Rattle.net_graph.proofs.lent_room.add_vertex.Goals as goal
 
 pub bounds-queue-count : goal.bounds-queue-count

@@ -1,4 +1,4 @@
-use Rattle.std.proofs.Common.{ℕ, ◌≡◌, ◌+◌, ◌≤◌, ◌<◌, [], ◌∷◌, List, length, take, get_or, replicate, refl, subst, arith, rules}
+use Rattle.std.proofs.Common.{ℕ, ◌≡◌, ◌≤◌, ◌<◌, [], ◌∷◌, List, length, take, get_or, replicate, refl, arith, rules}
 use Rattle.std.proofs.lemmas.List.{length-take-le, get_or-take}
 use Rattle.net_graph.specs.Search.{OpenStep}
 use Rattle.net_graph.proofs.lemmas.LentRoomLemmas.{AreFoundInRoom-none, at_place}

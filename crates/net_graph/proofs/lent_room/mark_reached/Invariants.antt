@@ -1,4 +1,4 @@
-use Rattle.std.proofs.Common.{ℕ, ◌≡◌, ◌-◌, [], ◌∷◌, take, Contains}
+use Rattle.std.proofs.Common.{ℕ, ◌-◌, [], ◌∷◌, take, Contains}
 use Rattle.net_graph.specs.Found.{AreFoundInRoom}
 use Rattle.net_graph.specs.Growth.{LeadsFromOne}
 use Rattle.net_graph.specs.Search.{OpenStep}

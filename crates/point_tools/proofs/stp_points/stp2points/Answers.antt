@@ -1,6 +1,6 @@
 use Rattle.std.proofs.Common.{refl, codes}
 use Rattle.tool_frame.specs.declared.take.TheConstants.{TEXT_LIMIT}
-use Rattle.tool_frame.specs.Outside.{outside, readable}
+use Rattle.tool_frame.specs.Outside.{outside}
 use Rattle.tool_frame.specs.EndLaws.{ends_with}
 use Rattle.tool_frame.specs.FaultTexts.{text_fault_text, text_fault_status}
 use Rattle.tool_frame.specs.FromText.{FromText}

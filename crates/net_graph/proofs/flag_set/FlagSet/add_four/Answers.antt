@@ -1,5 +1,5 @@
 use Rattle.net_graph.proofs.lemmas.FlagFours.{flags_after_four}
-use Rattle.std.proofs.Common.{◌+◌, ◌*◌, ◌/◌, ◌≡◌, length, arith}
+use Rattle.std.proofs.Common.{◌+◌, ◌/◌, ◌≡◌, length, arith}
 use Rattle.net_graph.proofs.lemmas.FlagWords.{long_view}
 use Rattle.net_graph.proofs.flag_set.FlagSet.add_four.Goals as goal
 

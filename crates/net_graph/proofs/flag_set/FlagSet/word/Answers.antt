@@ -1,4 +1,4 @@
-use Rattle.std.proofs.Common.{◌+◌, ◌*◌, ◌/◌, ◌≡◌, length, arith}
+use Rattle.std.proofs.Common.{◌+◌, ◌/◌, ◌≡◌, length, arith}
 use Rattle.net_graph.proofs.lemmas.FlagFours.{flag_of_word}
 use Rattle.net_graph.proofs.lemmas.FlagWords.{long_view}
 use Rattle.net_graph.proofs.flag_set.FlagSet.word.Goals as goal
