@@ -2,23 +2,25 @@
 
 use crate::scale::Scale;
 use crate::settings::Settings;
-use cut_groups::{BLOCKED, NONE, Tree, at, count, set};
+use cut_groups::{BLOCKED, NONE, Random, Tree, at, count, set};
+use cut_pool::{PARTS, Pool};
 use net_graph::NetGraph;
 use std::alloc::{AllocError, Global};
-
-/// Parts of a unit of weight.
-pub const PARTS: i64 = 16;
 
 /// What an arc costs is this times its overload, and a small charge.
 pub const OVER_FACTOR: i64 = 16;
 
-/// The limits of an arc, in parts.
+// The charge of an arc grows by this from empty to full, and by a drawn number below the noise.
+const FILL_CHARGE: i64 = 8;
+
+const NOISE: u32 = 3;
+
+// The limits of an arc, in parts, and whether the multipliers have lowered the threshold.
 #[derive(Clone, Copy)]
-pub struct Limit {
-    pub capacity: i64,
-    pub threshold: i64,
-    /// Whether the multipliers have lowered the threshold.
-    pub marked: bool,
+struct Limit {
+    capacity: i64,
+    threshold: i64,
+    marked: bool,
 }
 
 /// The loads of all arcs, in parts: of each arc off the tree the weights of the cuts that it
@@ -40,8 +42,8 @@ pub struct Loads {
     settings: Settings,
 }
 
-/// The limits of no arc.
-pub const NO_LIMIT: Limit = Limit {
+// The limits of no arc.
+const NO_LIMIT: Limit = Limit {
     capacity: 0,
     threshold: 0,
     marked: false,
@@ -78,7 +80,7 @@ impl Loads {
         }
         for group in 0..tree.groups() {
             let arc = tree.arc(group);
-            let length = loads.limit(arc).capacity;
+            let length = loads.length(arc);
             loads.lowest = loads.lowest.wrapping_sub(length);
             set(&mut loads.charges, arc, BLOCKED);
             set(&mut loads.prices, arc, BLOCKED);
@@ -104,9 +106,24 @@ impl Loads {
         Ok(())
     }
 
-    /// The limits of an arc.
-    pub fn limit(&self, arc: u32) -> Limit {
+    // The limits of an arc.
+    #[inline]
+    fn limit(&self, arc: u32) -> Limit {
         at(&self.limits, arc, NO_LIMIT)
+    }
+
+    /// The length of an arc.
+    pub fn length(&self, arc: u32) -> i64 {
+        self.limit(arc).capacity
+    }
+
+    /// The lengths of all arcs in units. An `Err` is want of memory.
+    pub fn lengths_in_units(&self, alloc: Global) -> Result<Vec<i64>, AllocError> {
+        let mut lengths = Vec::new(alloc);
+        for limit in &self.limits {
+            lengths.push(limit.capacity / PARTS)?;
+        }
+        Ok(lengths)
     }
 
     /// The arc of the slack, which every group may load in place of a cut; `NONE` where there is no slack.
@@ -125,26 +142,23 @@ impl Loads {
         at(&self.excess, arc, 0)
     }
 
-    /// The load of an arc.
-    pub fn load(&self, arc: u32) -> i64 {
+    // The load of an arc.
+    fn load(&self, arc: u32) -> i64 {
         at(&self.excess, arc, 0).wrapping_add(self.limit(arc).threshold)
     }
 
-    /// By how much an arc is above its threshold, or the most that 32 bits hold.
-    #[inline]
-    pub fn over(&self, arc: u32) -> i64 {
-        i64::from(at(&self.overs, arc, 0))
-    }
-
-    /// The overloads of all arcs.
+    /// By how much each arc is above its threshold, or the most that 32 bits hold.
     #[inline]
     pub fn overs(&self) -> &[u32] {
         self.overs.as_slice()
     }
 
-    /// Whether an arc is on the tree.
-    pub fn is_blocked(&self, arc: u32) -> bool {
-        at(&self.charges, arc, BLOCKED) == BLOCKED
+    /// Offers a pool the slack in place of a cut of a group, where there is slack. An `Err` is want of memory.
+    pub fn offer_slack(&self, pool: &mut Pool, group: u32) -> Result<(), AllocError> {
+        if self.slack_arc != NONE {
+            pool.offer(group, &[self.slack_arc])?;
+        }
+        Ok(())
     }
 
     /// The prices of all arcs: by their overload, and a charge.
@@ -153,9 +167,17 @@ impl Loads {
         self.prices.as_slice()
     }
 
-    /// Adds to the load of an arc. The price of one that is below its threshold before and after stays.
+    /// Adds to the weight of a cut of a pool, and to the loads of the arcs that enter it.
+    pub fn give(&mut self, pool: &mut Pool, cut: u32, amount: i64) {
+        for arc in pool.entered(cut) {
+            self.add(*arc, amount);
+        }
+        pool.add_weight(cut, amount);
+    }
+
+    // Adds to the load of an arc. The price of one that is below its threshold before and after stays.
     #[inline]
-    pub fn add(&mut self, arc: u32, amount: i64) {
+    fn add(&mut self, arc: u32, amount: i64) {
         let before = self.excess(arc);
         let after = before.wrapping_add(amount);
         set(&mut self.excess, arc, after);
@@ -178,16 +200,43 @@ impl Loads {
         set(&mut self.prices, arc, price.min(BLOCKED));
     }
 
-    /// Charges an arc off the tree.
-    pub fn charge(&mut self, arc: u32, charge: i64) {
-        if !self.is_blocked(arc) {
-            set(&mut self.charges, arc, charge);
-            self.price_anew(arc, self.excess(arc));
+    /// Draws the charges of all arcs: they keep away from full arcs and vary the cuts.
+    pub fn draw_charges(&mut self, random: &mut Random) {
+        for arc in 0..self.len() {
+            if at(&self.charges, arc, BLOCKED) != BLOCKED {
+                let noise = i64::from(random.below(NOISE));
+                let charge = self.fill_charge(arc).wrapping_add(noise);
+                set(&mut self.charges, arc, charge);
+                self.price_anew(arc, self.excess(arc));
+            }
         }
     }
 
-    /// Gives an arc a threshold, and marks it.
-    pub fn set_threshold(&mut self, arc: u32, threshold: i64) {
+    // What is charged for an arc by how full it is.
+    fn fill_charge(&self, arc: u32) -> i64 {
+        let capacity = self.limit(arc).capacity;
+        let load = self.load(arc).min(capacity);
+        let filled = load.wrapping_mul(FILL_CHARGE).checked_div(capacity);
+        filled.unwrap_or(FILL_CHARGE).wrapping_add(1)
+    }
+
+    /// Raises the multipliers: lowers the threshold of each arc above its length by as much as it is above, and gives a
+    /// lowered one back what it is below (the method of multipliers of Hestenes and Powell 1969, with step 1).
+    pub fn raise_multipliers(&mut self) {
+        for arc in 0..self.len() {
+            let limit = self.limit(arc);
+            let excess = self.load(arc).wrapping_sub(limit.capacity);
+            let threshold = limit.threshold.wrapping_sub(excess);
+            if excess > 0 {
+                self.set_threshold(arc, threshold);
+            } else if excess < 0 && limit.marked && limit.threshold < limit.capacity {
+                self.set_threshold(arc, threshold.min(limit.capacity));
+            }
+        }
+    }
+
+    // Gives an arc a threshold, and marks it.
+    fn set_threshold(&mut self, arc: u32, threshold: i64) {
         let threshold = threshold.max(self.lowest);
         let excess = self.load(arc).wrapping_sub(threshold);
         let capacity = self.limit(arc).capacity;

@@ -3,14 +3,14 @@
 ghost use Rattle.std.specs.Prelude.{◌≡◌, length, All, IfOk};
 
 use crate::budget::Budget;
-use crate::flood::Flood;
 use crate::guesses::Guesses;
 use crate::rounds::{Ending, Rounds};
 use crate::scale::{Scale, coarse_units, finest_unit, is_fine};
 use crate::settings::Settings;
 use crate::state::State;
 use cut_groups::{CutFinder, Tree};
-use net_graph::{Cut, NetGraph, Packing};
+use cut_pool::Seeker;
+use net_graph::{NetGraph, Packing};
 use std::alloc::{AllocError, Global};
 
 /// What an exchange proposes.
@@ -60,41 +60,39 @@ pub fn propose<F: CutFinder>(
         let scale = Scale { unit: *unit, slack };
         let coarse = budget.for_coarse_units();
         let first = play_rounds(alloc, graph, tree, scale, &start, finder, settings, coarse)?;
-        start = packing_of(alloc, graph, &first.state, *unit)?;
-        guesses = first.state.guesses(alloc, graph)?.or(guesses);
-        if first.ending == Ending::Impossible && is_fine(aims.length, *unit) {
+        guesses = first.guesses.or(guesses);
+        start = first.packing;
+        if matches!(first.ending, Ending::Impossible) && is_fine(aims.length, *unit) {
             return Ok(Proposal {
                 packing: start,
                 is_impossible: true,
                 guesses,
             });
         }
-        tree = first.state.into_tree();
+        tree = first.tree;
     }
     let scale = Scale {
         unit: finest,
         slack,
     };
-    let Played { state, ending } = play_rounds(
-        alloc, graph, tree, scale, &start, finder, settings, budget,
-    )?;
-    let packing = packing_of(alloc, graph, &state, finest)?;
+    let last = play_rounds(alloc, graph, tree, scale, &start, finder, settings, budget)?;
     Ok(Proposal {
-        packing,
-        is_impossible: ending == Ending::Impossible,
-        guesses: state.guesses(alloc, graph)?.or(guesses),
+        packing: last.packing,
+        is_impossible: matches!(last.ending, Ending::Impossible),
+        guesses: last.guesses.or(guesses),
     })
 }
 
 // What the rounds in one unit come to.
 #[derive(Drop)]
 struct Played {
-    state: State,
+    tree: Tree,
+    packing: Packing,
+    guesses: Guesses,
     ending: Ending,
 }
 
-// Plays the rounds in one unit, which begin with given cuts, takes back what has overload in the end, and gathers the
-// cuts. An `Err` is want of memory.
+// Plays the rounds in one unit, which begin with given cuts. An `Err` is want of memory.
 fn play_rounds<F: CutFinder>(
     alloc: Global,
     graph: &NetGraph,
@@ -104,36 +102,21 @@ fn play_rounds<F: CutFinder>(
     finder: &mut F,
     settings: Settings,
     budget: Budget,
-) -> Result<Played, AllocError> {
-    let mut state = State::along(alloc, graph, tree, scale, settings, budget.seed)?;
-    state.take_over(graph, scale.unit, start)?;
-    state.start(finder)?;
-    let terminals = graph.terminals().len();
-    let ending = Rounds::new(terminals, settings).play(&mut state, finder, budget)?;
-    state.kept.relieve(alloc, &state.loads)?;
-    state.kept.drop_slack(&state.loads);
-    state.kept.gather(alloc, &state.loads)?;
-    Ok(Played { state, ending })
-}
-
-// What was kept, as a packing. An `Err` is want of memory.
-fn packing_of(
-    alloc: Global,
-    graph: &NetGraph,
-    state: &State,
-    unit: u64,
-) -> Result<Packing, AllocError>
-    ensures { IfOk result (All (λ c. length c.members ≡ graph.now.vertices)) }
+) -> Result<Played, AllocError>
+    ensures { IfOk result (λ played. All (λ c. length c.members ≡ graph.now.vertices) played.packing) }
 {
-    let mut packing = Packing::empty(alloc);
-    let mut flood = Flood::new(alloc, graph)?;
-    for cut in &state.kept.cuts {
-        let arc = state.tree.arc(cut.group);
-        let others = state.kept.entered(*cut);
-        packing.push(Cut {
-            weight: cut.weight.unsigned_abs().wrapping_mul(unit),
-            members: flood.filled(alloc, graph, arc, others)?,
-        })?;
-    }
-    Ok(packing)
+    let mut state = State::along(alloc, graph, tree, scale, settings)?;
+    let mut seeker = Seeker::new(alloc, budget.seed);
+    state.take_over(alloc, graph, scale.unit, start)?;
+    state.start(&mut seeker, finder)?;
+    let mut rounds = Rounds::new(alloc, &state, graph.terminals().len(), settings)?;
+    let ending = rounds.play(&mut state, &mut seeker, finder, budget)?;
+    let guesses = rounds.guesses(alloc, graph, &state)?;
+    let packing = rounds.into_packing(alloc, graph, &state, scale.unit)?;
+    Ok(Played {
+        tree: state.groups.into_tree(),
+        packing,
+        guesses,
+        ending,
+    })
 }

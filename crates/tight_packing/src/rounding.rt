@@ -1,63 +1,90 @@
 //! The rounding of weights, group by group.
 
-use crate::loads::PARTS;
+use crate::groups::numbers_below;
+use crate::loads::Loads;
 use crate::state::State;
-use cut_groups::{NONE, at, set};
-use std::alloc::AllocError;
+use cut_groups::{NONE, Random, at, count};
+use cut_pool::{PARTS, Pool};
+use std::alloc::{AllocError, Global};
 
-impl State {
-    /// Rounds the weights of a group to whole units, in which they move from now on. The running
-    /// sum is rounded, larger cuts first: each weight moves by at most one unit, and since the sum of
-    /// the group is whole already it stays. An `Err` is want of memory.
-    pub fn coarsen(&mut self, group: u32) -> Result<(), AllocError> {
-        set(&mut self.grains, group, PARTS);
-        self.gather(group)?;
+/// What makes the weights of groups whole.
+#[derive(Drop)]
+pub struct Rounder {
+    // The groups in the order in which they become whole, and how many are.
+    order: Vec<u32>,
+    whole: u32,
+    // The cuts of a group, with what they are ordered by.
+    members: Vec<(i64, u32)>,
+}
+
+impl Rounder {
+    /// None of so many groups is whole. An `Err` is want of memory.
+    pub fn new(alloc: Global, groups: u32) -> Result<Rounder, AllocError> {
+        Ok(Rounder {
+            order: numbers_below(alloc, groups)?,
+            whole: 0,
+            members: Vec::new(alloc),
+        })
+    }
+
+    /// Begins anew, in a drawn order.
+    pub fn begin(&mut self, random: &mut Random) {
+        self.whole = 0;
+        random.shuffle(&mut self.order);
+    }
+
+    /// Makes groups whole until so many are, and tells whether all are. An `Err` is want of memory.
+    pub fn advance(&mut self, state: &mut State, aim: u32) -> Result<bool, AllocError> {
+        for place in self.whole..aim {
+            let group = at(&self.order, place, NONE);
+            state.groups.coarsen(group);
+            self.round(&mut state.pool, &mut state.loads, group)?;
+        }
+        self.whole = self.whole.max(aim);
+        Ok(self.whole >= count(&self.order))
+    }
+
+    /// Rounds the weights of all groups. An `Err` is want of memory.
+    pub fn round_all(&mut self, pool: &mut Pool, loads: &mut Loads) -> Result<(), AllocError> {
+        for group in 0..pool.groups() {
+            self.round(pool, loads, group)?;
+        }
+        Ok(())
+    }
+
+    // Rounds the weights of a group to whole units. The running
+    // sum is rounded, larger cuts first: each weight moves by at most one unit, and since the sum of
+    // the group is whole already it stays. An `Err` is want of memory.
+    fn round(&mut self, pool: &mut Pool, loads: &mut Loads, group: u32) -> Result<(), AllocError> {
+        self.gather(pool, group)?;
         let mut sum = 0i64;
         let mut given = 0i64;
         for (_, cut) in &self.members {
-            let weight = self.pool.cut(*cut).weight;
+            let weight = pool.cut(*cut).weight;
             sum = sum.wrapping_add(weight);
             let rounded = rounded(sum);
             let change = rounded.wrapping_sub(given).wrapping_sub(weight);
             if change != 0 {
-                self.pool.give(*cut, change, &mut self.loads);
+                loads.give(pool, *cut, change);
             }
             given = rounded;
         }
         Ok(())
     }
 
-    /// Rounds all groups. An `Err` is want of memory.
-    pub fn coarsen_all(&mut self) -> Result<(), AllocError> {
-        for group in 0..self.tree.groups() {
-            self.coarsen(group)?;
-        }
-        Ok(())
-    }
-
-    /// Lets all groups move parts of a unit again.
-    pub fn refine_all(&mut self) {
-        self.grains.fill(1);
-    }
-
     // Puts the cuts of a group in order: larger weights first. An `Err` is want of memory.
-    fn gather(&mut self, group: u32) -> Result<(), AllocError> {
+    fn gather(&mut self, pool: &Pool, group: u32) -> Result<(), AllocError> {
         self.members.clear();
-        let mut cut = self.pool.first(group);
-        for _ in 0..self.pool.len() {
+        let mut cut = pool.first(group);
+        for _ in 0..pool.len() {
             if cut == NONE {
                 break;
             }
-            let weight = self.pool.cut(cut).weight;
+            let weight = pool.cut(cut).weight;
             self.members.push((i64::MAX.wrapping_sub(weight), cut))?;
-            cut = self.pool.next(cut);
+            cut = pool.next(cut);
         }
         self.members.sort()
-    }
-
-    /// The group at a place of the order in which groups are rounded.
-    pub fn group_to_round(&self, place: u32) -> u32 {
-        at(&self.rounding, place, NONE)
     }
 }
 

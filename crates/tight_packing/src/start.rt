@@ -1,7 +1,8 @@
-//! The first weights: in turns each group gives a share of its length to its cheapest cut.
+//! The first weights: in turns each group gives a share of what it lacks to its cheapest cut.
 
 use crate::state::State;
-use cut_groups::{BLOCKED, CutFinder, NONE, Wanted, at};
+use cut_groups::{BLOCKED, CutFinder, NONE, Wanted};
+use cut_pool::{Pool, Seeker};
 use std::alloc::AllocError;
 
 // Turns, and how many groups are served between two draws of the charges.
@@ -22,16 +23,20 @@ struct Cheapest {
 }
 
 impl State {
-    /// Gives each group what it lacks of its length. An `Err` is want of memory.
-    pub fn start<F: CutFinder>(&mut self, finder: &mut F) -> Result<(), AllocError> {
+    /// Gives each group what it lacks. An `Err` is want of memory.
+    pub fn start<F: CutFinder>(
+        &mut self,
+        seeker: &mut Seeker,
+        finder: &mut F,
+    ) -> Result<(), AllocError> {
         for turn in 1..TURNS + 1 {
-            self.random.shuffle(&mut self.order);
-            for visit in 0..self.tree.groups() {
+            self.groups.shuffle(&mut seeker.random);
+            for visit in 0..self.groups.tree().groups() {
                 if visit % GROUPS_TO_CHARGES == 0 {
-                    self.draw_charges();
+                    self.loads.draw_charges(&mut seeker.random);
                 }
-                let group = at(&self.order, visit, NONE);
-                self.give_share(finder, group, turn)?;
+                let group = self.groups.visited(visit);
+                self.give_share(seeker, finder, group, turn)?;
             }
         }
         Ok(())
@@ -40,63 +45,45 @@ impl State {
     // Gives the cheapest cut of a group what it shall have more after a turn than before. An `Err` is want of memory.
     fn give_share<F: CutFinder>(
         &mut self,
+        seeker: &mut Seeker,
         finder: &mut F,
         group: u32,
         turn: i64,
     ) -> Result<(), AllocError> {
-        let length = self.loads.limit(self.tree.arc(group)).capacity;
-        let length = length.wrapping_sub(at(&self.given, group, 0));
-        let share = share_of(length, turn).wrapping_sub(share_of(length, turn.wrapping_sub(1)));
+        let lacking = self.groups.lacking(group);
+        let share = share_of(lacking, turn).wrapping_sub(share_of(lacking, turn.wrapping_sub(1)));
         if share <= 0 {
             return Ok(());
         }
-        self.offer_slack(group)?;
-        let mut cheapest = self.cheapest_known(group);
-        for place in 0..self.tree.terminal_count(group) {
-            let terminal = self.tree.terminal(group, place);
-            self.look_below(finder, group, terminal, &mut cheapest)?;
+        self.loads.offer_slack(&mut self.pool, group)?;
+        let mut cheapest = cheapest_known(&self.pool, self.loads.prices(), group);
+        for place in 0..self.groups.tree().terminal_count(group) {
+            self.look_below(seeker, finder, group, place, &mut cheapest)?;
         }
-        self.pool.give(cheapest.cut, share, &mut self.loads);
+        self.loads.give(&mut self.pool, cheapest.cut, share);
         Ok(())
     }
 
-    // The cheapest cut that a group has.
-    fn cheapest_known(&self, group: u32) -> Cheapest {
-        let mut cheapest = Cheapest {
-            cut: NONE,
-            price: BLOCKED,
-        };
-        let mut cut = self.pool.first(group);
-        for _ in 0..self.pool.len() {
-            if cut == NONE {
-                break;
-            }
-            let price = self.pool.price(cut, self.loads.prices());
-            if price < cheapest.price {
-                cheapest = Cheapest { cut, price };
-            }
-            cut = self.pool.next(cut);
-        }
-        cheapest
-    }
-
-    // Looks for a cheaper cut of a group with a terminal, with growing limits. An `Err` is want of memory.
+    // Looks for a cheaper cut of a group with one of its least terminals, with growing limits. An `Err` is want of
+    // memory.
     fn look_below<F: CutFinder>(
         &mut self,
+        seeker: &mut Seeker,
         finder: &mut F,
         group: u32,
-        terminal: u32,
+        place: u32,
         cheapest: &mut Cheapest,
     ) -> Result<(), AllocError> {
+        let tree = self.groups.tree();
         let mut limit = FIRST_LIMIT;
         for _ in 0..MOST_DOUBLINGS {
             let wanted = Wanted {
                 group,
-                terminal,
+                terminal: tree.terminal(group, place),
                 limit: limit.min(cheapest.price),
             };
-            if let Some(price) = self.search(finder, wanted)? {
-                let cut = self.pool.offer(group, &self.found)?.cut();
+            if let Some(price) = seeker.cheapest(finder, tree, self.loads.prices(), wanted)? {
+                let cut = self.pool.offer(group, seeker.found())?.cut();
                 *cheapest = Cheapest { cut, price };
                 break;
             }
@@ -109,8 +96,28 @@ impl State {
     }
 }
 
-// What a group of a length has after so many turns.
-fn share_of(length: i64, turns: i64) -> i64 {
-    let share = i128::from(length).wrapping_mul(i128::from(turns)) / i128::from(TURNS);
-    i64::try_from(share).unwrap_or(length)
+// The cheapest cut that a group has.
+fn cheapest_known(pool: &Pool, prices: &[i64], group: u32) -> Cheapest {
+    let mut cheapest = Cheapest {
+        cut: NONE,
+        price: BLOCKED,
+    };
+    let mut cut = pool.first(group);
+    for _ in 0..pool.len() {
+        if cut == NONE {
+            break;
+        }
+        let price = pool.price(cut, prices);
+        if price < cheapest.price {
+            cheapest = Cheapest { cut, price };
+        }
+        cut = pool.next(cut);
+    }
+    cheapest
+}
+
+// What a group that lacked some weight has got of it after so many turns.
+fn share_of(lacking: i64, turns: i64) -> i64 {
+    let share = i128::from(lacking).wrapping_mul(i128::from(turns)) / i128::from(TURNS);
+    i64::try_from(share).unwrap_or(lacking)
 }

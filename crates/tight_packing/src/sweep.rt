@@ -1,8 +1,11 @@
 //! Sweeps: in each group weight goes from the dearest cut that has some to the cheapest cut.
 
+use crate::line::Line;
+use crate::loads::Loads;
 use crate::state::State;
-use cut_groups::{CutFinder, NONE, at};
-use std::alloc::AllocError;
+use cut_groups::{CutFinder, NONE};
+use cut_pool::{Pool, Seeker};
+use std::alloc::{AllocError, Global};
 
 // Moves that a group may make in one sweep.
 const MOVES_PER_GROUP: u8 = 3;
@@ -12,6 +15,14 @@ const SWEEPS_TO_NEW_CUTS: u32 = 10;
 
 // Charges are drawn anew every so many sweeps.
 const SWEEPS_TO_CHARGES: u32 = 4;
+
+/// What makes sweeps.
+#[derive(Drop)]
+pub struct Sweeper {
+    line: Line,
+    sweeps: u32,
+    moves: u32,
+}
 
 // The dearest cut with weight and the cheapest cut of a group, with their costs; `NONE` where
 // there is none.
@@ -23,25 +34,59 @@ struct Extremes {
     least: i64,
 }
 
-impl State {
+impl Sweeper {
+    /// No sweep yet, among so many arcs. An `Err` is want of memory.
+    pub fn new(alloc: Global, arcs: u32) -> Result<Sweeper, AllocError> {
+        Ok(Sweeper {
+            line: Line::new(alloc, arcs)?,
+            sweeps: 0,
+            moves: 0,
+        })
+    }
+
+    /// How often weight was moved.
+    pub fn moves(&self) -> u32 {
+        self.moves
+    }
+
     /// Visits each group in drawn order: a group whose turn it is first looks for new cuts, for so many terminals. An
     /// `Err` is want of memory.
-    pub fn sweep<F: CutFinder>(&mut self, finder: &mut F, tries: u32) -> Result<(), AllocError> {
-        if self.work.sweeps % SWEEPS_TO_CHARGES == 0 {
-            self.draw_charges();
+    pub fn sweep<F: CutFinder>(
+        &mut self,
+        state: &mut State,
+        seeker: &mut Seeker,
+        finder: &mut F,
+        tries: u32,
+    ) -> Result<(), AllocError> {
+        if self.sweeps % SWEEPS_TO_CHARGES == 0 {
+            state.loads.draw_charges(&mut seeker.random);
         }
-        self.work.sweeps = self.work.sweeps.wrapping_add(1);
-        self.random.shuffle(&mut self.order);
-        for visit in 0..self.tree.groups() {
-            let group = at(&self.order, visit, NONE);
-            let turn = group.wrapping_mul(7).wrapping_add(self.work.sweeps);
+        self.sweeps = self.sweeps.wrapping_add(1);
+        state.groups.shuffle(&mut seeker.random);
+        for visit in 0..state.groups.tree().groups() {
+            let group = state.groups.visited(visit);
+            let turn = group.wrapping_mul(7).wrapping_add(self.sweeps);
             if turn % SWEEPS_TO_NEW_CUTS == 0 {
-                self.find_cuts(finder, group, tries)?;
+                state.find_cuts(seeker, finder, group, tries)?;
             }
-            for _ in 0..MOVES_PER_GROUP {
-                if !self.move_in(group)? {
-                    break;
-                }
+            let grain = state.groups.grain(group);
+            self.visit(&mut state.pool, &mut state.loads, group, grain)?;
+        }
+        Ok(())
+    }
+
+    // Moves weight in a group, in multiples of a grain, as often as it may and as that lowers the potential. An `Err`
+    // is want of memory.
+    fn visit(
+        &mut self,
+        pool: &mut Pool,
+        loads: &mut Loads,
+        group: u32,
+        grain: i64,
+    ) -> Result<(), AllocError> {
+        for _ in 0..MOVES_PER_GROUP {
+            if !self.move_in(pool, loads, group, grain)? {
+                break;
             }
         }
         Ok(())
@@ -49,50 +94,55 @@ impl State {
 
     // Moves weight in a group, and tells whether that lowered the potential. An `Err` is want of
     // memory.
-    fn move_in(&mut self, group: u32) -> Result<bool, AllocError> {
-        let extremes = self.extremes(group);
+    fn move_in(
+        &mut self,
+        pool: &mut Pool,
+        loads: &mut Loads,
+        group: u32,
+        grain: i64,
+    ) -> Result<bool, AllocError> {
+        let extremes = Extremes::of(pool, loads.overs(), group);
         if extremes.dear == NONE || extremes.most <= extremes.least {
             return Ok(false);
         }
-        self.pool.refresh(extremes.cheap);
-        let weight = self.pool.cut(extremes.dear).weight;
-        let from = self.pool.entered(extremes.dear);
-        let to = self.pool.entered(extremes.cheap);
-        self.line.draw(&self.loads, from, to, weight)?;
-        let amount = self.line.best(weight, at(&self.grains, group, 1));
+        pool.refresh(extremes.cheap);
+        let weight = pool.cut(extremes.dear).weight;
+        let from = pool.entered(extremes.dear);
+        let to = pool.entered(extremes.cheap);
+        self.line.draw(loads, from, to, weight)?;
+        let amount = self.line.best(weight, grain);
         if amount == 0 {
             return Ok(false);
         }
-        self.pool
-            .give(extremes.dear, amount.wrapping_neg(), &mut self.loads);
-        self.pool.give(extremes.cheap, amount, &mut self.loads);
-        self.work.moves = self.work.moves.saturating_add(1);
+        loads.give(pool, extremes.dear, amount.wrapping_neg());
+        loads.give(pool, extremes.cheap, amount);
+        self.moves = self.moves.saturating_add(1);
         Ok(true)
     }
+}
 
-    // The dearest cut with weight and the cheapest cut of a group, of equals the first.
-    fn extremes(&self, group: u32) -> Extremes {
+impl Extremes {
+    // The dearest cut with weight and the cheapest cut of a group where arcs cost so much, of equals the first.
+    fn of(pool: &Pool, costs: &[u32], group: u32) -> Extremes {
         let mut extremes = Extremes {
             dear: NONE,
             most: 0,
             cheap: NONE,
             least: 0,
         };
-        let mut number = self.pool.first(group);
-        for _ in 0..self.pool.len() {
-            let Some(cut) = self.pool.get(number) else {
+        let mut number = pool.first(group);
+        for _ in 0..pool.len() {
+            let Some(cut) = pool.get(number) else {
                 break;
             };
             let limit = extremes.limit(cut.weight > 0);
-            let cost = self.pool.cost_below(cut, &self.loads, limit);
+            let cost = pool.cost_below(cut, costs, limit);
             extremes.compare(number, cost, cut.weight > 0);
             number = cut.next;
         }
         extremes
     }
-}
 
-impl Extremes {
     // From which cost on it is all the same how much a further cut costs: without weight it is no dear one.
     #[inline]
     fn limit(&self, has_weight: bool) -> i64 {

@@ -1,15 +1,18 @@
 //! The best packing met, in whole units.
 
-use crate::loads::{Loads, PARTS};
+ghost use Rattle.std.specs.Prelude.{◌≡◌, length, All, IfOk};
+
+use crate::flood::Flood;
 use crate::pool::Pool;
-use cut_groups::{NONE, at, count, set};
+use cut_groups::{NONE, Tree, at, count, set};
+use net_graph::{Cut, NetGraph, Packing};
 use std::alloc::{AllocError, Global};
 
-/// A cut that is kept, with its weight in units.
+// A cut that is kept, with its weight in units.
 #[derive(Clone, Copy)]
-pub struct KeptCut {
-    pub weight: i64,
-    pub group: u32,
+struct KeptCut {
+    weight: i64,
+    group: u32,
     // The arcs off the tree that enter it: the places of the first and behind the last.
     first: u32,
     end: u32,
@@ -26,10 +29,10 @@ const NO_KEPT: KeptCut = KeptCut {
 /// The best packing met.
 #[derive(Drop)]
 pub struct Kept {
-    /// Its overload in units.
-    pub overload: i64,
-    /// Its cuts, each with some weight.
-    pub cuts: Vec<KeptCut>,
+    // Its overload in units.
+    overload: i64,
+    // Its cuts, each with some weight.
+    cuts: Vec<KeptCut>,
     entered: Vec<u32>,
 }
 
@@ -41,6 +44,11 @@ impl Kept {
             cuts: Vec::new(alloc),
             entered: Vec::new(alloc),
         }
+    }
+
+    /// Its overload in units; the greatest number before the first one.
+    pub fn overload(&self) -> i64 {
+        self.overload
     }
 
     /// Keeps weights of a pool's cuts, if their overload is less. An `Err` is want of memory.
@@ -67,19 +75,15 @@ impl Kept {
         Ok(())
     }
 
-    /// The arcs off the tree that enter a cut.
-    pub fn entered(&self, cut: KeptCut) -> &[u32] {
-        entered_of(&self.entered, cut)
-    }
-
-    /// Takes the overload off, from the heaviest cuts first; cuts without weight go. An `Err` is want of memory.
-    pub fn relieve(&mut self, alloc: Global, loads: &Loads) -> Result<(), AllocError> {
+    /// Takes the overload off arcs of some lengths in units, from the heaviest cuts first; cuts without weight go. An
+    /// `Err` is want of memory.
+    pub fn relieve(&mut self, alloc: Global, lengths: &[i64]) -> Result<(), AllocError> {
         if self.overload == 0 {
             return Ok(());
         }
         self.cuts
             .sort_by_key(|cut| i64::MAX.wrapping_sub(cut.weight))?;
-        let mut excess = self.excess(alloc, loads)?;
+        let mut excess = self.excess(alloc, lengths)?;
         for cut in self.cuts.iter_mut() {
             let arcs = entered_of(&self.entered, *cut);
             let taken = most_of(&excess, arcs).max(0).min(cut.weight);
@@ -92,10 +96,9 @@ impl Kept {
     }
 
     // Of each arc what it is loaded above its length, in units. An `Err` is want of memory.
-    fn excess(&self, alloc: Global, loads: &Loads) -> Result<Vec<i64>, AllocError> {
+    fn excess(&self, alloc: Global, lengths: &[i64]) -> Result<Vec<i64>, AllocError> {
         let mut excess = Vec::new(alloc);
-        for arc in 0..loads.len() {
-            let length = loads.limit(arc).capacity / PARTS;
+        for length in lengths {
             excess.push(length.wrapping_neg())?;
         }
         for cut in &self.cuts {
@@ -105,11 +108,11 @@ impl Kept {
     }
 
     /// Gathers the weights of each group in fewer cuts: from the lightest on each cut gives its weight to a heavier one
-    /// whose arcs have room for all of it. An `Err` is want of memory.
-    pub fn gather(&mut self, alloc: Global, loads: &Loads) -> Result<(), AllocError> {
+    /// whose arcs, of some lengths in units, have room for all of it. An `Err` is want of memory.
+    pub fn gather(&mut self, alloc: Global, lengths: &[i64]) -> Result<(), AllocError> {
         self.cuts
             .sort_by_key(|cut| (cut.group, i64::MAX.wrapping_sub(cut.weight)))?;
-        let mut excess = self.excess(alloc, loads)?;
+        let mut excess = self.excess(alloc, lengths)?;
         let cuts = count(&self.cuts);
         for behind in 0..cuts {
             let place = cuts.wrapping_sub(behind).wrapping_sub(1);
@@ -144,18 +147,38 @@ impl Kept {
         }
     }
 
-    /// Drops the slack where it stands in place of cuts.
-    pub fn drop_slack(&mut self, loads: &Loads) {
-        let slack = loads.slack_arc();
-        if slack == NONE {
-            return;
-        }
+    /// Drops the cuts in whose place an arc stands.
+    pub fn drop_slack(&mut self, slack: u32) {
         for cut in self.cuts.iter_mut() {
             if at(entered_of(&self.entered, *cut), 0, NONE) == slack {
                 cut.weight = 0;
             }
         }
         self.cuts.retain(|cut| cut.weight > 0);
+    }
+
+    /// The cuts as sets of the vertices of a graph, along a tree of it, with their weights in a unit. An `Err` is want of
+    /// memory.
+    pub fn packing(
+        &self,
+        alloc: Global,
+        graph: &NetGraph,
+        tree: &Tree,
+        unit: u64,
+    ) -> Result<Packing, AllocError>
+        ensures { IfOk result (All (λ c. length c.members ≡ graph.now.vertices)) }
+    {
+        let mut packing = Packing::empty(alloc);
+        let mut flood = Flood::new(alloc, graph)?;
+        for cut in &self.cuts {
+            let arc = tree.arc(cut.group);
+            let others = entered_of(&self.entered, *cut);
+            packing.push(Cut {
+                weight: cut.weight.unsigned_abs().wrapping_mul(unit),
+                members: flood.filled(alloc, graph, arc, others)?,
+            })?;
+        }
+        Ok(packing)
     }
 }
 

@@ -1,20 +1,23 @@
 //! The pool: cuts that the tree enters once, in groups by the arc of the tree that enters them.
 //! Until it is handed out a cut is the list of the arcs off the tree that enter it.
 
-use crate::loads::Loads;
 use cut_groups::{NONE, at, count, set};
 use std::alloc::{AllocError, Global};
+
+/// Parts of a unit of weight.
+pub const PARTS: i64 = 16;
 
 /// A cut of the pool.
 #[derive(Clone, Copy)]
 pub struct Cut {
-    /// In parts.
+    /// Its weight in parts of a unit.
     pub weight: i64,
+    /// Its group.
     pub group: u32,
-    /// For how many rounds it hasn't been the cheapest of its group.
-    pub age: u32,
     /// The next cut of its group, or `NONE`.
     pub next: u32,
+    // How often the pool was tidied since it was the cheapest of its group.
+    pub(crate) age: u32,
     // The arcs off the tree that enter it: the places of the first and behind the last.
     first: u32,
     end: u32,
@@ -22,8 +25,7 @@ pub struct Cut {
     print: u64,
 }
 
-/// Cuts. In each group the weights sum to the length of its arc, except where a function says
-/// otherwise.
+/// Cuts in groups, by their numbers.
 #[derive(Drop)]
 pub struct Pool {
     cuts: Vec<Cut>,
@@ -36,7 +38,9 @@ pub struct Pool {
 /// What became of a cut that was offered to the pool.
 #[derive(Clone, Copy)]
 pub enum Offered {
+    /// It was there, with this number.
     Known(u32),
+    /// It was taken in, with this number.
     Taken(u32),
 }
 
@@ -49,12 +53,12 @@ impl Offered {
     }
 }
 
-/// No cut.
-pub const NO_CUT: Cut = Cut {
+// No cut.
+const NO_CUT: Cut = Cut {
     weight: 0,
     group: NONE,
-    age: 0,
     next: NONE,
+    age: 0,
     first: 0,
     end: 0,
     print: 0,
@@ -126,37 +130,37 @@ impl Pool {
         }
     }
 
-    /// What a cut costs: the overloads of the arcs off the tree that enter it; or, where that is no less than a limit,
-    /// some number that isn't less either.
+    /// What a cut costs where arcs cost so much: the sum over the arcs off the tree that enter it; or, where that is no
+    /// less than a limit, some number that isn't less either.
     #[inline]
-    pub fn cost_below(&self, cut: &Cut, loads: &Loads, limit: i64) -> i64 {
+    pub fn cost_below(&self, cut: &Cut, costs: &[u32], limit: i64) -> i64 {
         let (eights, rest) = self.entered_by(cut).as_chunks::<8>();
         let mut sum = 0i64;
         for eight in eights {
             if sum >= limit {
                 return sum;
             }
-            sum = sum.wrapping_add(sum_of(loads.overs(), eight));
+            sum = sum.wrapping_add(sum_of(costs, eight));
         }
-        sum.wrapping_add(sum_of(loads.overs(), rest))
+        sum.wrapping_add(sum_of(costs, rest))
     }
 
-    /// The least cost of a group's cuts; `None` where it has none.
-    pub fn least_cost(&self, group: u32, loads: &Loads) -> Option<i64> {
+    /// The least cost of a group's cuts where arcs cost so much; `None` where it has none.
+    pub fn least_cost(&self, group: u32, costs: &[u32]) -> Option<i64> {
         let mut least = None;
         let mut number = self.first(group);
         for _ in 0..self.len() {
-            let Some(cut) = self.cuts.get(number as usize) else {
+            let Some(cut) = self.get(number) else {
                 break;
             };
             let before = least.unwrap_or(i64::MAX);
-            least = Some(before.min(self.cost_below(cut, loads, before)));
+            least = Some(before.min(self.cost_below(cut, costs, before)));
             number = cut.next;
         }
         least
     }
 
-    /// The price of a cut: those of the arcs off the tree that enter it.
+    /// The price of a cut: the sum of those of the arcs off the tree that enter it.
     pub fn price(&self, cut: u32, prices: &[i64]) -> i64 {
         let mut sum = 0i64;
         for arc in self.entered(cut) {
@@ -165,11 +169,9 @@ impl Pool {
         sum
     }
 
-    /// Adds to the weight of a cut and to the loads; the sums of the groups are the caller's care.
-    pub fn give(&mut self, cut: u32, amount: i64, loads: &mut Loads) {
-        for arc in self.entered(cut) {
-            loads.add(*arc, amount);
-        }
+    /// Adds to the weight of a cut.
+    #[inline]
+    pub fn add_weight(&mut self, cut: u32, amount: i64) {
         if let Some(cut) = self.cuts.get_mut(cut as usize) {
             cut.weight = cut.weight.wrapping_add(amount);
         }

@@ -1,5 +1,5 @@
 use Rattle.std.proofs.Common.{◌≡◌, length}
-use Rattle.tight_packing.proofs.flood.Flood.filled.Given as goal
+use Rattle.cut_pool.proofs.flood.Flood.filled.Given as goal
 
 abbrev pub invariant-loop-rank : goal.invariant-loop-rank
 invariant-loop-rank l = length l.members ≡ l.graph.vertices

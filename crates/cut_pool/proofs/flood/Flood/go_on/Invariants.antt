@@ -1,5 +1,5 @@
 use Rattle.std.proofs.Common.{◌≡◌, length}
-use Rattle.tight_packing.proofs.flood.Flood.go_on.Given as goal
+use Rattle.cut_pool.proofs.flood.Flood.go_on.Given as goal
 
 abbrev pub invariant-loop-arc : goal.invariant-loop-arc
 invariant-loop-arc l = length l.members ≡ length l.fn.members

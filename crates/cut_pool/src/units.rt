@@ -1,21 +1,20 @@
 //! Weights in whole units, and the overload of the arcs.
 
-use crate::loads::{Loads, PARTS};
 use crate::marks::Marks;
-use crate::pool::Pool;
+use crate::pool::{PARTS, Pool};
 use crate::users::Users;
-use cut_groups::{NONE, at, count, set};
+use cut_groups::{NONE, Random, at, count, set};
 use std::alloc::{AllocError, Global};
 
 /// Whole units on the cuts of a pool.
 #[derive(Drop)]
 pub struct Units {
-    /// The overload of all arcs.
-    pub total: i64,
-    /// The cuts that each arc enters.
-    pub users: Users,
-    /// The arcs whose load is above their length.
-    pub overloaded: Vec<u32>,
+    // The overload of all arcs.
+    total: i64,
+    // The cuts that each arc enters.
+    users: Users,
+    // The arcs whose load is above their length.
+    overloaded: Vec<u32>,
     weights: Vec<i64>,
     // Of each cut the step until which it takes and gives nothing.
     resting: Vec<u32>,
@@ -30,6 +29,8 @@ pub struct Units {
     // The arcs of the cut that gives a unit, and how many of them are loaded up to their length and no more.
     giver: Marks,
     freed: i64,
+    // How many units were moved so far.
+    moves: u32,
 }
 
 impl Units {
@@ -47,11 +48,29 @@ impl Units {
             full: Vec::new(alloc),
             giver: Marks::none(alloc, arcs)?,
             freed: 0,
+            moves: 0,
         })
     }
 
-    /// Takes the weights of a pool, which are whole units. An `Err` is want of memory.
-    pub fn begin(&mut self, loads: &Loads, pool: &Pool) -> Result<(), AllocError> {
+    /// Takes the weights of a pool, which are whole units, among arcs of these lengths in units. An `Err` is want of
+    /// memory.
+    pub fn begin(&mut self, lengths: &[i64], pool: &Pool) -> Result<(), AllocError> {
+        self.clear();
+        for length in lengths {
+            self.excess.push(length.wrapping_neg())?;
+            self.places.push(NONE)?;
+        }
+        self.users.clear(count(&self.excess))?;
+        for cut in 0..pool.len() {
+            let weight = pool.cut(cut).weight / PARTS;
+            self.add_cut(pool, cut)?;
+            self.give(pool, cut, weight)?;
+        }
+        self.keep()
+    }
+
+    // Drops all cuts and arcs.
+    fn clear(&mut self) {
         self.total = 0;
         self.overloaded.clear();
         self.weights.clear();
@@ -59,18 +78,54 @@ impl Units {
         self.excess.clear();
         self.places.clear();
         self.full.clear();
-        self.users.clear(loads.len())?;
-        for arc in 0..loads.len() {
-            let length = loads.limit(arc).capacity / PARTS;
-            self.excess.push(length.wrapping_neg())?;
-            self.places.push(NONE)?;
+    }
+
+    /// The overload of all arcs.
+    #[inline]
+    pub fn total(&self) -> i64 {
+        self.total
+    }
+
+    /// How many arcs there are.
+    pub fn arcs(&self) -> u32 {
+        count(&self.excess)
+    }
+
+    /// How many units were moved so far.
+    pub fn moves(&self) -> u32 {
+        self.moves
+    }
+
+    /// The cuts that each arc enters.
+    #[inline]
+    pub fn users(&self) -> &Users {
+        &self.users
+    }
+
+    /// A drawn overloaded arc; `NONE` where there is none.
+    pub fn draw_overloaded(&self, random: &mut Random) -> u32 {
+        let drawn = random.below(count(&self.overloaded));
+        at(&self.overloaded, drawn, NONE)
+    }
+
+    /// A drawn cut with weight that an arc enters, or `NONE`.
+    pub fn draw_user(&self, random: &mut Random, arc: u32) -> u32 {
+        let mut drawn = NONE;
+        let mut seen = 0u32;
+        let mut place = self.users.first(arc);
+        for _ in 0..self.users.len() {
+            let Some(user) = self.users.get(place) else {
+                break;
+            };
+            if self.weight(user.cut) > 0 {
+                seen = seen.wrapping_add(1);
+                if random.below(seen) == 0 {
+                    drawn = user.cut;
+                }
+            }
+            place = user.next;
         }
-        for cut in 0..pool.len() {
-            let weight = pool.cut(cut).weight / PARTS;
-            self.add_cut(pool, cut)?;
-            self.give(pool, cut, weight)?;
-        }
-        self.keep()
+        drawn
     }
 
     /// Takes in the next cut of a pool, with no unit. An `Err` is want of memory.
@@ -87,8 +142,15 @@ impl Units {
         self.users.add(cut, pool.entered(cut))
     }
 
-    /// Adds to the weight of a cut. An `Err` is want of memory.
-    pub fn give(&mut self, pool: &Pool, cut: u32, amount: i64) -> Result<(), AllocError> {
+    /// Moves a unit from one cut to another. An `Err` is want of memory.
+    pub fn shift(&mut self, pool: &Pool, from: u32, to: u32) -> Result<(), AllocError> {
+        self.moves = self.moves.saturating_add(1);
+        self.give(pool, from, -1)?;
+        self.give(pool, to, 1)
+    }
+
+    // Adds to the weight of a cut. An `Err` is want of memory.
+    fn give(&mut self, pool: &Pool, cut: u32, amount: i64) -> Result<(), AllocError> {
         let weight = at(&self.weights, cut, 0).wrapping_add(amount);
         set(&mut self.weights, cut, weight);
         if amount != 0 {
@@ -116,10 +178,16 @@ impl Units {
         set(&mut self.resting, cut, step);
     }
 
-    /// The load of an arc less its length.
+    // The load of an arc less its length.
     #[inline]
-    pub fn excess(&self, arc: u32) -> i64 {
+    fn excess(&self, arc: u32) -> i64 {
         at(&self.excess, arc, 0)
+    }
+
+    /// The room of an arc, once the giver has lost a unit.
+    #[inline]
+    pub fn room(&self, arc: u32) -> i64 {
+        i64::from(self.giver.has(arc)).wrapping_sub(self.excess(arc))
     }
 
     /// Keeps the weights as the best ones. An `Err` is want of memory.
@@ -147,12 +215,6 @@ impl Units {
             }
         }
         gain
-    }
-
-    /// Whether the cut that gives a unit is entered by an arc.
-    #[inline]
-    pub fn gives_at(&self, arc: u32) -> bool {
-        self.giver.has(arc)
     }
 
     /// What a unit more on a cut adds to the overload at least, once the giver has lost it.

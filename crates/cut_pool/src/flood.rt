@@ -47,6 +47,9 @@ impl Flood {
         self.reach(&mut members, ends_of(graph, arc).head)?;
         for rank in 0..graph.vertex_count() {
             let vertex = at(&self.reached, rank, NONE);
+            if vertex == NONE {
+                break;
+            }
             self.go_on(graph, &mut members, vertex)?;
         }
         Ok(members)
