@@ -81,9 +81,7 @@ impl Units {
             if to != from && !self.rests(to, step) {
                 // A move that changes more than the best one isn't looked at to the end.
                 let most = pick.change.saturating_add(gain);
-                if self.least_loss(to) > most {
-                    pick.pass();
-                } else if let Some(loss) = self.loss(pool, to, arc, most) {
+                if let Some(loss) = self.loss(pool, to, arc, most) {
                     pick.offer(loss.wrapping_sub(gain), from, to, random);
                 }
             }
@@ -93,11 +91,6 @@ impl Units {
 }
 
 impl Pick {
-    // Counts a move that is worse.
-    fn pass(&mut self) {
-        self.pairs = self.pairs.saturating_add(1);
-    }
-
     // Takes a move into account.
     fn offer(&mut self, change: i64, from: u32, to: u32, random: &mut Random) {
         self.pairs = self.pairs.saturating_add(1);

@@ -24,11 +24,8 @@ pub struct Units {
     places: Vec<u32>,
     // The weights of the least overload met.
     best: Vec<i64>,
-    // Of each cut how many of the arcs that enter it have no room for a unit more.
-    full: Vec<i64>,
-    // The arcs of the cut that gives a unit, and how many of them are loaded up to their length and no more.
+    // The arcs of the cut that gives a unit.
     giver: Marks,
-    freed: i64,
     // How many units were moved so far.
     moves: u32,
 }
@@ -45,9 +42,7 @@ impl Units {
             excess: Vec::new(alloc),
             places: Vec::new(alloc),
             best: Vec::new(alloc),
-            full: Vec::new(alloc),
             giver: Marks::none(alloc, arcs)?,
-            freed: 0,
             moves: 0,
         })
     }
@@ -77,7 +72,6 @@ impl Units {
         self.resting.clear();
         self.excess.clear();
         self.places.clear();
-        self.full.clear();
     }
 
     /// The overload of all arcs.
@@ -132,13 +126,6 @@ impl Units {
     pub fn add_cut(&mut self, pool: &Pool, cut: u32) -> Result<(), AllocError> {
         self.weights.push(0)?;
         self.resting.push(0)?;
-        let mut full = 0i64;
-        for arc in pool.entered(cut) {
-            if self.excess(*arc) >= 0 {
-                full = full.wrapping_add(1);
-            }
-        }
-        self.full.push(full)?;
         self.users.add(cut, pool.entered(cut))
     }
 
@@ -204,23 +191,13 @@ impl Units {
     /// Notes the cut that gives a unit, and tells how much of the overload that takes off.
     pub fn set_giver(&mut self, pool: &Pool, cut: u32) -> i64 {
         self.giver.mark(pool.entered(cut));
-        self.freed = 0;
         let mut gain = 0i64;
         for arc in pool.entered(cut) {
-            let excess = self.excess(*arc);
-            if excess > 0 {
+            if self.excess(*arc) > 0 {
                 gain = gain.wrapping_add(1);
-            } else if excess == 0 {
-                self.freed = self.freed.wrapping_add(1);
             }
         }
         gain
-    }
-
-    /// What a unit more on a cut adds to the overload at least, once the giver has lost it.
-    #[inline]
-    pub fn least_loss(&self, cut: u32) -> i64 {
-        at(&self.full, cut, 0).wrapping_sub(self.freed)
     }
 
     /// How much a unit more on a cut adds to the overload, once the giver has lost it, or some number above `most`
@@ -250,11 +227,6 @@ impl Units {
         set(&mut self.excess, arc, after);
         let change = after.max(0).wrapping_sub(before.max(0));
         self.total = self.total.wrapping_add(change);
-        if before < 0 && after >= 0 {
-            self.count_full(arc, 1);
-        } else if before >= 0 && after < 0 {
-            self.count_full(arc, -1);
-        }
         if before <= 0 && after > 0 {
             set(&mut self.places, arc, count(&self.overloaded));
             self.overloaded.push(arc)?;
@@ -262,19 +234,6 @@ impl Units {
             self.leave(arc);
         }
         Ok(())
-    }
-
-    // Adds to the number of arcs without room of each cut that an arc enters.
-    fn count_full(&mut self, arc: u32, amount: i64) {
-        let mut place = self.users.first(arc);
-        for _ in 0..self.users.len() {
-            let Some(user) = self.users.get(place) else {
-                break;
-            };
-            let full = at(&self.full, user.cut, 0).wrapping_add(amount);
-            set(&mut self.full, user.cut, full);
-            place = user.next;
-        }
     }
 
     // Takes an arc from among the overloaded ones.
