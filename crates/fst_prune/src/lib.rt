@@ -8,5 +8,6 @@ mod pair_array;
 mod pruning;
 mod within;
 
+pub use copying::copy;
 pub use laws::pruning_keeps_least_total;
 pub use pruning::prune;

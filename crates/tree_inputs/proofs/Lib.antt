@@ -1,3 +1,4 @@
 mod FaultLaws
 mod GenerationLaws
 mod PruningLaws
+mod ListLaws

@@ -1,5 +1,5 @@
 -- The trees that pruning keeps are those of a file.
-use Rattle.std.proofs.Common.{ℕ, ◌≤◌, ◌<◌, List, length, All, arith, subst}
+use Rattle.std.proofs.Common.{ℕ, ◌≤◌, ◌<◌, List, length, All, Result, Ok, Err, IfOk, arith, subst}
 use Rattle.std.specs.Prelude.{Contains, slice_index_or}
 use Rattle.std.proofs.lemmas.List.Elements.{recursion_from_All, All-from_recursion, All-weaker, All-contains, All-contains_itself}
 use Rattle.points_in.specs.declared.point.Point.{Point}
@@ -21,6 +21,13 @@ kept_trees ps trees kept are among few order = record {
       (λ tree inside. All-contains (IsTreeOf ps) trees tree (All-from_recursion (IsTreeOf ps) trees are.trees) inside) kept among);
   ordered = order;
 }
+
+-- The same where memory may be wanting.
+pub kept_or_not : {E : Type 0} (ps : List Point) (trees : List Tree) (found : Result (List Tree) E) → AreTreesOf ps trees →
+    IfOk found (All (Contains trees)) → IfOk found (λ kept. length kept ≤ length trees) → IfOk found IsInFileOrder →
+    IfOk found (AreTreesOf ps)
+kept_or_not ps trees (Ok kept) are among few order = kept_trees ps trees kept are among few order
+kept_or_not ps trees (Err memory) are among few order = tt
 
 -- a member of a tree is a place that its code names
 named_member : (tree : Tree) (i : ℕ) → Contains (members_of tree.code) i → Contains (named_places tree.code) i

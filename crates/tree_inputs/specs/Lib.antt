@@ -2,3 +2,4 @@ pub mod Files
 pub mod GenerationFaults
 pub mod Generation
 pub mod Pruning
+pub mod Lists

@@ -6,9 +6,11 @@ mod generation;
 mod generation_fault;
 mod laws;
 mod pruning;
+mod tree_lists;
 
 pub use fst_input::take_fst;
 pub use generation::{MOST_MEMBERS, take_generated, trees_of};
 pub use generation_fault::GenerationFault;
 pub use laws::spelled_has_no_fault;
-pub use pruning::pruned;
+pub use pruning::{kept_trees, pruned};
+pub use tree_lists::{TreeLists, lists_of};
