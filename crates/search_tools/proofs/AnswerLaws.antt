@@ -2,17 +2,16 @@
 use Rattle.std.proofs.Common.{ℕ, ◌≡◌, List, length, Ok, subst, ap, sym, ◌∙◌}
 use Rattle.points_in.specs.declared.point.Point.{Point}
 use Rattle.full_tree.specs.declared.code.Tree.{Tree as FullTree}
-use Rattle.fst_file.specs.Value.{FstValue}
 use Rattle.answer_text.specs.declared.head.AnswerHead.{AnswerHead}
 use Rattle.answer_text.specs.Text.{answer_text}
 use Rattle.answer_text.specs.Value.{WrittenAnswer}
 use Rattle.cert_tree.specs.Preorder.{split_count}
 use Rattle.cert_check.specs.Accepted.{IsAccepted}
-use Rattle.tree_inputs.specs.Generation.{IsTreeList, most_members}
+use Rattle.tree_inputs.specs.Generation.{most_members}
 use Rattle.search_tools.specs.declared.solution.Solution.{Solution}
 use Rattle.search_rules.specs.Options.{usual_options}
 use Rattle.search_tools.specs.Permitted.{search_text}
-use Rattle.search_tools.specs.Steps.{IsFor, IsSpelled, SolvesPruned, solution_text}
+use Rattle.search_tools.specs.Steps.{IsFor, IsSpelled, SolvesPoints, solution_text}
 use Rattle.search_tools.specs.SolutionLaws.{permitted_answer, told_value}
 use Rattle.search_tools.specs.declared.trial_line.TrialLine.{TrialLine}
 use Rattle.search_tools.specs.TrialLine.{trial_print}
@@ -43,21 +42,19 @@ told_line n seed trees s is =
     } in
     ap (λ (ps : List Point). told ps s.answer.head) is.grid ∙ ap (told (drawn_terminals n seed)) is.head
 
--- What is told of an answer for the kept trees of a file of the drawn points, where the answer's text spells it.
-pub tried_answer : (n seed : ℕ) (file : FstValue) (s : Solution) → file.points ≡ drawn_terminals n seed →
-    IsTreeList (drawn_terminals n seed) most_members file.trees → SolvesPruned usual_options file s → IsSpelled s →
-    Tries n seed (Ok (trial_print (line_of n seed s)))
-tried_answer n seed file s points are (kept, are_kept, is) spells =
-    let for_drawn = subst (λ (ps : List Point). IsFor usual_options ps kept s) points is in (
-      s.answer.network,
-      s.answer.tree,
-      record {
-        generated = file.trees;
-        trees = kept;
-        note = s.answer.head.concat;
-        are_generated = are.exact;
-        are_kept = are_kept;
-        permitted = permitted_answer usual_options (drawn_terminals n seed) kept s for_drawn spells;
-      },
-      ap trial_print (told_line n seed kept s for_drawn),
-    )
+-- What is told of an answer for the drawn points, where the answer's text spells it.
+pub tried_answer : (n seed : ℕ) (s : Solution) → SolvesPoints usual_options most_members (drawn_terminals n seed) (Ok s) →
+    IsSpelled s → Tries n seed (Ok (trial_print (line_of n seed s)))
+tried_answer n seed s (generated, kept, are, are_kept, is) spells = (
+  s.answer.network,
+  s.answer.tree,
+  record {
+    generated = generated;
+    trees = kept;
+    note = s.answer.head.concat;
+    are_generated = are;
+    are_kept = are_kept;
+    permitted = permitted_answer usual_options (drawn_terminals n seed) kept s is spells;
+  },
+  ap trial_print (told_line n seed kept s is),
+)

@@ -3,3 +3,4 @@ pub mod SearchedLaws
 pub mod SearchLaws
 pub mod JoinLaws
 pub mod NetworkLaws
+pub mod ShorterLaws

@@ -1,12 +1,10 @@
 -- From the answer that a tool found to what is due to the text.
 use Rattle.std.specs.Result.{ForOk}
-use Rattle.std.proofs.Common.{ℕ, length, Result, Ok, Err, None, IfOk, subst}
+use Rattle.std.proofs.Common.{ℕ, Result, Ok, Err, None, IfOk, subst}
 use Rattle.rst_outside.specs.Shelf.{ShelfState}
 use Rattle.rst_outside.specs.Source.{SourceState}
 use Rattle.points_in.specs.Terminals.{terminals_of}
 use Rattle.fst_file.specs.Value.{FstValue}
-use Rattle.fst_gen.specs.Joins.{JoinsAll}
-use Rattle.fst_gen.specs.Trees.{AreTreesOf}
 use Rattle.tool_frame.specs.declared.take.TheConstants.{TEXT_LIMIT}
 use Rattle.tool_frame.specs.declared.text_fault.TextFault.{TextFault}
 use Rattle.tool_frame.specs.declared.text_fault.TextFault.TheVariants.{Input, Text}
@@ -16,14 +14,13 @@ use Rattle.tool_frame.specs.FromText.{FromText}
 use Rattle.tree_inputs.specs.declared.generation_fault.GenerationFault.{GenerationFault}
 use Rattle.fst_file.specs.declared.fault.FstFault.{FstFault}
 use Rattle.tree_inputs.specs.Files.{ReadsFst}
-use Rattle.tree_inputs.specs.Generation.{GeneratesFst}
 use Rattle.search_rules.specs.declared.options.SearchOptions.{SearchOptions}
 use Rattle.search_tools.specs.declared.build_fault.BuildFault.{BuildFault}
 use Rattle.search_tools.specs.declared.build_fault.BuildFault.TheVariants.{InFile, Apart}
 use Rattle.search_tools.specs.declared.solution.Solution.{Solution}
 use Rattle.search_tools.specs.Solve.{Solves}
 use Rattle.search_tools.specs.Build.{Builds}
-use Rattle.search_tools.specs.Steps.{IsFor, IsPrintable, IsSpelled, SolvesPruned, FindsSolution, FindsBuilt, fault_of_file, solution_text, solution_status}
+use Rattle.search_tools.specs.Steps.{IsPrintable, IsSpelled, FindsSolution, FindsBuilt, fault_of_file, solution_text, solution_status}
 use Rattle.search_tools.specs.SolutionLaws.{permitted_answer, printed_answer}
 
 -- What `solve` found is what is due to the text, once the text of an answer is known to spell it.
@@ -117,26 +114,7 @@ built_writable options input input' found finds = λ r is s same.
     built_fits options (readable input no_shelf) (readable input' no_shelf) s
     (subst (λ f. FromText TEXT_LIMIT (FindsBuilt options) (readable input no_shelf) (readable input' no_shelf) f) same one)
 
--- the trees that were generated join their points
-pub generated_joins : (k : ℕ) (input input' : SourceState) (file : FstValue) →
-    ((shelf : ShelfState) → FromText {V = FstValue} {F = GenerationFault} TEXT_LIMIT (GeneratesFst k) (readable input shelf) (readable input' shelf) (Ok file)) →
-    JoinsAll (length file.points) file.trees
-generated_joins k input input' file finds = let (bytes, whole, (ps, lists, is, trees)) = finds no_shelf in trees.joins
-
--- an answer for the kept trees of a generated file is what is found in the text
-pub found_pruned : (options : SearchOptions) (k : ℕ) (before after : Readable) (file : FstValue) (s : Solution) →
-    FromText {V = FstValue} {F = GenerationFault} TEXT_LIMIT (GeneratesFst k) before after (Ok file) → SolvesPruned options file s →
-    FromText {V = Solution} {F = GenerationFault} TEXT_LIMIT (FindsSolution options k) before after (Ok s)
-found_pruned options k before after file s (bytes, whole, (ps, lists, is, trees)) (kept, are_kept, for_kept) =
-    (bytes, whole, (ps, file.trees, kept, lists, subst (λ h. AreTreesOf h k file.trees) is trees.exact, are_kept, subst (λ h. IsFor options h kept s) is for_kept))
-
 -- why there is no such file is why there is no answer
-pub fault_found : (options : SearchOptions) (k : ℕ) (before after : Readable) (fault : TextFault GenerationFault) →
-    FromText {V = FstValue} TEXT_LIMIT (GeneratesFst k) before after (Err fault) → FromText {V = Solution} TEXT_LIMIT (FindsSolution options k) before after (Err fault)
-fault_found options k before after (Text fault) is = is
-fault_found options k before after (Input fault) is = is
-
--- the same of `bb` and the file that it reads
 pub file_fault_found : (options : SearchOptions) (before after : Readable) (fault : TextFault FstFault) →
     FromText {V = FstValue} TEXT_LIMIT ReadsFst before after (Err fault) → FromText {V = Solution} TEXT_LIMIT (FindsBuilt options) before after (Err (fault_of_file fault))
 file_fault_found options before after (Text fault) is = is

@@ -3,11 +3,12 @@ use Rattle.std.specs.Prelude.{◌≡◌, ◌<◌, ◌≤◌, ◌^◌, ℕ, List,
 use Rattle.points_in.specs.declared.point.Point.{Point}
 use Rattle.points_in.specs.Terminals.{terminals_of}
 use Rattle.hanan_grid.specs.Grid.{hanan_grid_of}
+use Rattle.net_graph.specs.Graph.{Graph}
 use Rattle.net_graph.specs.Network.{length_of}
 use Rattle.full_tree.specs.declared.code.Tree.{Tree as FullTree}
 use Rattle.fst_file.specs.Value.{FstValue}
 use Rattle.fst_file.specs.Text.{SpellsFstFile}
-use Rattle.fst_gen.specs.Trees.{AreTreesOf}
+use Rattle.fst_gen.specs.Trees.{AreTreesOf, HasMoreSets}
 use Rattle.fst_prune.specs.Kept.{AreKeptTrees}
 use Rattle.concatenation.specs.Concatenation.{all_of}
 use Rattle.fst_concat.specs.declared.chosen.ChosenKind.{ChosenKind}
@@ -25,6 +26,7 @@ use Rattle.tool_frame.specs.declared.text_fault.TextFault.{TextFault}
 use Rattle.tool_frame.specs.declared.text_fault.TextFault.TheVariants.{Input, Text}
 use Rattle.fst_file.specs.declared.fault.FstFault.{FstFault}
 use Rattle.tree_inputs.specs.declared.generation_fault.GenerationFault.{GenerationFault}
+use Rattle.tree_inputs.specs.declared.generation_fault.GenerationFault.TheVariants.{List as InList, TooManyTrees}
 use Rattle.tree_inputs.specs.Files.{ReadsFst}
 use Rattle.tree_inputs.specs.Generation.{GeneratesFst}
 use Rattle.search_rules.specs.declared.options.SearchOptions.{SearchOptions}
@@ -52,6 +54,12 @@ pub record IsMadeOf (allowed : ℕ) (ps : List Point) (trees : List FullTree) (f
 abbrev pub FindsNetwork : ℕ → List Point → List FullTree → Result Found ℕ → Type 0
 FindsNetwork allowed ps trees (Ok found) = IsMadeOf allowed ps trees found
 FindsNetwork allowed ps trees (Err place) = IsFirstApart (length ps) trees (all_of trees) place
+
+-- A network that may stand in place of the one that was found: it is no longer, and what is told stays.
+pub record IsNoLonger (g : Graph) (found later : Found) : Type 0 where
+  pub network : IsNetworkOf g later.network
+  pub short : length_of g later.network ≤ length_of g found.network
+  pub note : later.note ≡ found.note
 
 -- the text of an answer for its grid
 abbrev pub solution_text : Solution → List ℕ
@@ -94,6 +102,15 @@ SolvesFile options file (Err place) = IsFirstApart (length file.points) file.tre
 abbrev pub SolvesPruned : SearchOptions → FstValue → Solution → Type 0
 SolvesPruned options file s =
     (trees : List FullTree) × AreKeptTrees file.trees trees × IsFor options file.points trees s
+
+-- What is found of terminals: an answer for them and for the kept ones of their trees of up to k members; or there are
+-- more than 20,000 of these.
+abbrev pub SolvesPoints : SearchOptions → ℕ → List Point → Result Solution GenerationFault → Type 0
+SolvesPoints options k ps (Ok s) =
+    (generated : List FullTree) × (trees : List FullTree) × AreTreesOf ps k generated × AreKeptTrees generated trees
+    × IsFor options ps trees s
+SolvesPoints options k ps (Err (InList fault)) = ⊥
+SolvesPoints options k ps (Err TooManyTrees) = HasMoreSets ps k 20000
 
 -- What `solve` finds in a text: an answer for the points that it lists and for the kept trees of theirs.
 abbrev pub FindsSolution : SearchOptions → ℕ → List ℕ → Result Solution GenerationFault → Type 0

@@ -4,6 +4,7 @@
 mod build;
 mod build_fault;
 mod judged_text;
+mod longer_trees;
 mod network;
 mod solution;
 mod solve_points;
@@ -13,6 +14,6 @@ mod trial_run;
 pub use build::bb;
 pub use build_fault::BuildFault;
 pub use solution::Solution;
-pub use solve_points::{solve, solved};
+pub use solve_points::{solve, solved_on};
 pub use trial_line::TrialLine;
 pub use trial_run::trial;

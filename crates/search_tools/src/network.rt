@@ -1,8 +1,10 @@
 //! A network no longer than full trees that join its points.
 
 ghost use Rattle.std.specs.Prelude.{◌≡◌, IfOk};
+ghost use Rattle.hanan_grid.specs.Grid.{hanan_grid_of};
+ghost use Rattle.branch.specs.States.{IsNetworkOf};
 ghost use Rattle.fst_file.specs.Value.{AreTreesOf};
-ghost use Rattle.search_tools.specs.Steps.{FindsNetwork, is_least};
+ghost use Rattle.search_tools.specs.Steps.{FindsNetwork, IsNoLonger, is_least};
 
 use answer_text::ConcatNote;
 use fst_concat::{ChosenKind, ConcatFault, concat, trees_in_form_have_members};
@@ -25,8 +27,8 @@ pub struct Found {
 }
 
 /// The union of the trees of a concatenation, of a least one where the search for it comes to its end within the
-/// allowed splits, without what no terminal needs, and made shorter where a local search finds how; or the place of the
-/// first terminal that all trees together leave apart. An outer `Err` is want of memory.
+/// allowed splits; or the place of the first terminal that all trees together leave apart. An outer `Err` is want of
+/// memory.
 pub fn network_on(
     alloc: Global,
     grid: &Grid,
@@ -43,13 +45,23 @@ pub fn network_on(
         Err(ConcatFault::Unspanned { place }) => return Ok(Err(place)),
         Err(ConcatFault::Memory(error)) => return Err(error),
     };
-    let union = network_of(alloc, grid, trees, chosen.places.as_slice())?;
-    let network = shortened(alloc, grid.graph(), &union, DESCENTS)?;
+    let network = network_of(alloc, grid, trees, chosen.places.as_slice())?;
     let note = ConcatNote {
         least: is_least(&chosen.kind),
         total: chosen.total,
     };
     Ok(Ok(Found { network, note }))
+}
+
+/// The network without what no terminal needs, and made shorter where a local search finds how. An `Err` is want of
+/// memory.
+pub fn improved(alloc: Global, grid: &Grid, found: Found) -> Result<Found, AllocError>
+    requires { IsNetworkOf (hanan_grid_of grid.now) found.network }
+    ensures { IfOk result (IsNoLonger (hanan_grid_of grid.now) found) }
+{
+    let Found { network, note } = found;
+    let network = shortened(alloc, grid.graph(), &network, DESCENTS)?;
+    Ok(Found { network, note })
 }
 
 // Whether no concatenation has a smaller total.

@@ -1,9 +1,13 @@
 //! The answer that a search gives for a file of full trees.
 
-ghost use Rattle.std.specs.Prelude.{IfOk};
-ghost use Rattle.search_tools.specs.Steps.{IsPrintable, IsSpelled, SolvesFile, solution_text, solution_status};
+ghost use Rattle.std.specs.Prelude.{List, IfOk};
+ghost use Rattle.hanan_grid.specs.Grid.{hanan_grid_of};
+ghost use Rattle.full_tree.specs.declared.code.Tree.{Tree};
+ghost use Rattle.branch.specs.States.{IsNetworkOf};
+ghost use Rattle.search_tools.specs.Steps.{IsFor, IsMadeOf, IsPrintable, IsSpelled, SolvesFile};
+ghost use Rattle.search_tools.specs.Steps.{solution_text, solution_status};
 
-use crate::network::{Found, network_on};
+use crate::network::{Found, improved, network_on};
 use answer_text::{Answer as CutAnswer, answer_len, write_answer};
 use fst_file::FstFile;
 use graph_search::{answer_with, searched_on};
@@ -57,9 +61,25 @@ pub fn solution_of(
         Ok(found) => found,
         Err(place) => return Ok(Err(place)),
     };
+    let found = improved(alloc, &grid, found)?;
+    Ok(Ok(answered(alloc, grid, found, options)?))
+}
+
+/// What a search finds that begins with a network of a grid: an answer for all trees of a concatenation of which the
+/// network is made. An `Err` is want of memory.
+pub fn answered(
+    alloc: Global,
+    grid: Grid,
+    found: Found,
+    options: SearchOptions,
+) -> Result<Solution, AllocError>
+    requires { IsNetworkOf (hanan_grid_of grid) found.network }
+    ensures { IfOk result (λ solution. (trees : List Tree) → IsMadeOf options.concat grid trees found
+        → IsFor options grid trees solution) }
+{
     let Found { network, note } = found;
     let solved = searched_on(alloc, &grid, network, options.in_graph())?;
     let answer = answer_with(options.openings, note, solved);
     prove!(answer_len(&grid, &answer) < 1 << 32);
-    Ok(Ok(Solution { grid, answer }))
+    Ok(Solution { grid, answer })
 }

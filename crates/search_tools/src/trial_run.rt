@@ -10,7 +10,7 @@ ghost use Rattle.search_tools.specs.TrialLine.{trial_text, trial_status};
 ghost use Rattle.search_tools.specs.Trial.{EndsTrial, Tries, drawn_terminals};
 
 use crate::judged_text::judge;
-use crate::solve_points::solved;
+use crate::solve_points::solved_on;
 use crate::trial_line::TrialLine;
 use drawn_points::{distinct_points, draw_points, short_grid};
 use hanan_grid::{Grid, GridFault};
@@ -18,7 +18,7 @@ use rst_outside::Sink;
 use search_rules::SearchOptions;
 use std::alloc::{AllocError, Global};
 use tool_frame::conclude;
-use tree_inputs::{GenerationFault, MOST_MEMBERS, trees_of};
+use tree_inputs::{GenerationFault, MOST_MEMBERS};
 
 /// Runs `trial`: draws `n` points, 1 to 50, from a seed, finds the answer for the distinct ones of them as `solve` does
 /// where no word asks for anything else, has it judged, and prints a line that sums it up. Gives the status that the
@@ -41,9 +41,8 @@ fn find(alloc: Global, n: u8, seed: u64) -> Result<Result<TrialLine, GenerationF
     ensures { IfOk result (λ found. Tries n seed (print_of trial_text trial_status found)) }
 {
     let grid = drawn_grid(alloc, n, seed)?;
-    match trees_of(alloc, grid, MOST_MEMBERS)? {
-        Ok(file) => {
-            let solution = solved(alloc, file, SearchOptions::USUAL)?;
+    match solved_on(alloc, grid, SearchOptions::USUAL, MOST_MEMBERS)? {
+        Ok(solution) => {
             judge(alloc, &solution)?;
             Ok(Ok(TrialLine::of(n, seed, &solution)))
         }
