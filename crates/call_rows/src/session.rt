@@ -26,7 +26,7 @@ impl RowRunner for CallRunner {
         self.reader.begin();
     }
 
-    fn take(&mut self, section: Section<'_>) -> Result<Option<Asked>, Fault> {
+    fn take(&mut self, section: &Section<'_>) -> Result<Option<Asked>, Fault> {
         self.reader.take(section)
     }
 
@@ -59,12 +59,12 @@ fn is_answered(alloc: Global, asked: &Asked, report: &mut String) -> Result<bool
 fn make(alloc: Global, call: &Call, answer: &mut String) -> Result<(), Fault> {
     match call.family() {
         "graph" => graph_calls::answer(alloc, call, answer),
-        "search" => search_calls::answer(alloc, call, answer),
-        "grid" => grid_calls::answer(alloc, call, answer),
-        "tree" => tree_calls::answer(alloc, call, answer),
-        "text" => text_calls::answer(alloc, call, answer),
-        "answer" => answer_calls::answer(alloc, call, answer),
-        "task" => task_calls::answer(alloc, call, answer),
+        "search" => graph_calls::search::answer(alloc, call, answer),
+        "grid" => point_calls::grid::answer(alloc, call, answer),
+        "tree" => point_calls::tree::answer(alloc, call, answer),
+        "text" => point_calls::text::answer(alloc, call, answer),
+        "task" => point_calls::task::answer(alloc, call, answer),
+        "answer" => point_calls::answer::answer(alloc, call, answer),
         "table" => tool_tables::answer(alloc, call, answer),
         _ => Err(Fault::UnknownSubject),
     }

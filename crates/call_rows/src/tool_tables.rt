@@ -9,8 +9,7 @@ use tool_table::Reader;
 pub fn answer(alloc: Global, call: &Call, answer: &mut String) -> Result<(), Fault> {
     let mut table = Vec::from_slice(alloc, call.bytes("table")?)?;
     if call.has("byte") {
-        let byte = call.word("byte")?.parse::<u8>();
-        table.push(byte.map_err(|_| Fault::BadNumber)?)?;
+        table.push(call.byte("byte")?)?;
     }
     if let Err(fault) = run_table(alloc, &mut Reader::new(alloc), &table, answer) {
         writeln!(answer, "{fault}")?;

@@ -1,4 +1,4 @@
-//! Ascents and choices, by a rule that a word names.
+//! Ascents, by a rule that a word names.
 
 ghost use Rattle.std.specs.Prelude.{◌≡◌, ◌<◌, false, length, IfOk};
 ghost use Rattle.net_graph.specs.Decision.{IsDecisionFor, states_of};
@@ -6,14 +6,15 @@ ghost use Rattle.net_graph.specs.Packing.{IsFeasible};
 ghost use Rattle.dual_ascent.specs.Costs.{costs_of};
 ghost use Rattle.dual_ascent.specs.Choosing.{IsCallableOnSome, AnswersAPlace};
 
-use crate::described::{decided, decision, graph, narrow};
-use crate::rules::{RowRule, place_by, rule};
+use crate::described::{decided, decision, graph};
+use crate::rules::ascent_rule;
 use crate::told::tell_cuts;
 use dual_ascent::{
     Ascent, Candidate, Chooser, ReducedCosts, Rule, ascend, ascend_with, carry, carry_costs,
 };
 use net_graph::{Decision, NetGraph, Packing};
-use row_tables::{Call, Fault, numbers};
+use row_tables::{Call, Fault};
+use search_rules::ascent_place;
 use std::alloc::{AllocError, Global};
 
 /// For each word under `rule`: the cuts of the ascent from no cut by this rule, under the decision of `decided`, and
@@ -21,7 +22,7 @@ use std::alloc::{AllocError, Global};
 /// too, and those of the ascent that goes on with them.
 pub fn ascents(alloc: Global, call: &Call, answer: &mut String) -> Result<(), Fault> {
     for word in call.text("rule")?.split_whitespace() {
-        let rule = rule(word)?;
+        let rule = ascent_rule(word)?;
         writeln!(answer, "{word}")?;
         tell_ascent(
             alloc,
@@ -30,7 +31,7 @@ pub fn ascents(alloc: Global, call: &Call, answer: &mut String) -> Result<(), Fa
             |list: &[Candidate]| -> usize
                 requires { 0 < length list.now }
                 ensures { result < length list.now }
-            { place_by(rule, list) },
+            { ascent_place(rule, list) },
         )?;
     }
     Ok(())
@@ -74,7 +75,7 @@ fn tell_ascent_under<F: Rule>(
     requires { IsDecisionFor g.now d.now }
 {
     let ascent = ascent_from_none(alloc, g, d, chooser)?;
-    tell_cuts(answer, &ascent.packing)?;
+    tell_cuts(answer, &ascent.packing, ":")?;
     tell_rest(alloc, call, g, d, &ascent, chooser, answer)
 }
 
@@ -173,13 +174,13 @@ fn tell_carried<F: Rule>(
 {
     tell_start(&carried.packing, answer)?;
     let ascent = ascent_from(alloc, g, carried, chooser)?;
-    tell_cuts(answer, &ascent.packing)
+    tell_cuts(answer, &ascent.packing, ":")
 }
 
 // Tells what is carried.
 fn tell_start(packing: &Packing, answer: &mut String) -> Result<(), Fault> {
     writeln!(answer, "carried")?;
-    tell_cuts(answer, packing)?;
+    tell_cuts(answer, packing, ":")?;
     Ok(writeln!(answer, "on")?)
 }
 
@@ -203,51 +204,4 @@ fn ascent_from<F: Rule>(
         return Err(Fault::NotAllowed);
     }
     Ok(ascend_with(alloc, g, &decision, packing, costs, chooser)?)
-}
-
-/// The place of the candidate that the rule under `rule` chooses, once it is kept. Each line under `candidates` has the
-/// number and the size of one.
-pub fn choice(alloc: Global, call: &Call, answer: &mut String) -> Result<(), Fault> {
-    let rule = rule(call.word("rule")?)?;
-    let list = candidates(alloc, call.text("candidates")?)?;
-    if list.is_empty() {
-        return Err(Fault::NotAllowed);
-    }
-    let place = chosen(
-        &list,
-        |list: &[Candidate]| -> usize
-            requires { 0 < length list.now }
-            ensures { result < length list.now }
-        { place_by(rule, list) },
-    );
-    Ok(writeln!(answer, "{place}")?)
-}
-
-// The candidates of lines.
-fn candidates(alloc: Global, lines: &str) -> Result<Vec<Candidate>, Fault> {
-    let mut list = Vec::new(alloc);
-    for line in lines.lines() {
-        list.push(candidate(alloc, line)?)?;
-    }
-    Ok(list)
-}
-
-// The candidate of a line: its number and its size.
-fn candidate(alloc: Global, line: &str) -> Result<Candidate, Fault> {
-    match numbers(alloc, line)?.as_slice() {
-        [number, size] => Ok(Candidate {
-            number: narrow(*number)?,
-            size: *size,
-        }),
-        _ => Err(Fault::BadNumber),
-    }
-}
-
-// The place that any rule chooses.
-fn chosen<F: Rule>(list: &[Candidate], rule: F) -> usize
-    requires callable { IsCallableOnSome (F.may_choose rule) }
-    requires place { AnswersAPlace (F.chooses rule) }
-    requires some { 0 < length list.now }
-{
-    Chooser::new(rule).choose(list)
 }

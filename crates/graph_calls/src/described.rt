@@ -9,7 +9,7 @@ use net_graph::{
     Cut, Decision, Edge, EdgeSet, EdgeState, GraphFault, NetGraph, Packing, VertexSet,
     vertex_undecided,
 };
-use row_tables::{Call, Fault, numbers};
+use row_tables::{Call, Fault, narrow, narrow_numbers, number, numbers};
 use std::alloc::Global;
 
 // What a text says of a graph: the count of its vertices, its edges and its terminals.
@@ -45,9 +45,9 @@ fn read_parts(alloc: Global, text: &str, parts: &mut GraphParts) -> Result<(), F
 // Reads a line of a graph.
 fn read_part(alloc: Global, line: &str, parts: &mut GraphParts) -> Result<(), Fault> {
     if let Some(rest) = line.strip_prefix("vertices") {
-        parts.vertices = only(alloc, rest)?;
+        parts.vertices = only(rest)?;
     } else if let Some(rest) = line.strip_prefix("terminals") {
-        parts.terminals = small_numbers(alloc, rest)?;
+        parts.terminals = narrow_numbers(alloc, rest)?;
     } else {
         parts.edges.push(edge(alloc, line)?)?;
     }
@@ -74,14 +74,17 @@ fn made(alloc: Global, parts: GraphParts) -> Result<Result<NetGraph, GraphFault>
 
 /// The graph under the key `graph`, which has no fault.
 pub fn graph(alloc: Global, call: &Call) -> Result<NetGraph, Fault> {
-    try_graph(alloc, call)?.map_err(|_| Fault::NotAllowed)
+    match try_graph(alloc, call)? {
+        Ok(g) => Ok(g),
+        Err(_) => Err(Fault::NotAllowed),
+    }
 }
 
 /// The set of edges under a key, of the size of the graph.
 pub fn edges(alloc: Global, call: &Call, g: &NetGraph, key: &str) -> Result<EdgeSet, Fault>
     ensures { IfOk result (λ set. length set ≡ length g.now.edges) }
 {
-    edges_of(alloc, g, &small_numbers(alloc, call.text(key)?)?)
+    edges_of(alloc, g, &call.narrow_numbers(alloc, key)?)
 }
 
 // The set of these edges, of the size of the graph.
@@ -136,7 +139,7 @@ pub fn decided(alloc: Global, g: &NetGraph, d: &Decision, line: &str) -> Result<
     ensures decision { IfOk result (λ now. IsDecisionFor g.now now) }
     ensures one_more { IfOk result (DecidesOneMore g.now d.now) }
 {
-    match read_step(alloc, line)? {
+    match read_step(line)? {
         Step::Inside(e) if is_open_edge(g, d, e) => Ok(d.with_inside(g, e)?),
         Step::Outside(e) if is_open_edge(g, d, e) => Ok(d.with_outside(g, e)?),
         Step::Met(v) if is_open_vertex(g, d, v) => Ok(d.with_met(g, v)?),
@@ -146,9 +149,9 @@ pub fn decided(alloc: Global, g: &NetGraph, d: &Decision, line: &str) -> Result<
 }
 
 // The step that a line says.
-fn read_step(alloc: Global, line: &str) -> Result<Step, Fault> {
+fn read_step(line: &str) -> Result<Step, Fault> {
     let (word, number) = line.split_once(' ').ok_or(Fault::NoArgument)?;
-    let n = only(alloc, number)?;
+    let n = only(number)?;
     match word {
         "inside" => Ok(Step::Inside(n)),
         "outside" => Ok(Step::Outside(n)),
@@ -184,26 +187,9 @@ pub fn packing(alloc: Global, call: &Call, g: &NetGraph, key: &str) -> Result<Pa
     Ok(packing)
 }
 
-/// The numbers of a text, each a u32.
-pub fn small_numbers(alloc: Global, text: &str) -> Result<Vec<u32>, Fault> {
-    let mut small = Vec::new(alloc);
-    for number in &numbers(alloc, text)? {
-        small.push(narrow(*number)?)?;
-    }
-    Ok(small)
-}
-
-/// The only number of a text, as a u32.
-pub fn only(alloc: Global, text: &str) -> Result<u32, Fault> {
-    match numbers(alloc, text)?.as_slice() {
-        [number] => narrow(*number),
-        _ => Err(Fault::BadNumber),
-    }
-}
-
-/// The number as a u32.
-pub fn narrow(number: u64) -> Result<u32, Fault> {
-    u32::try_from(number).map_err(|_| Fault::BadNumber)
+/// The only number of a text, of 32 bits.
+pub fn only(text: &str) -> Result<u32, Fault> {
+    narrow(number(text.trim())?)
 }
 
 // The edge of a line: its ends and its length.
@@ -236,8 +222,8 @@ fn cut_of(alloc: Global, g: &NetGraph, numbers: &[u64]) -> Result<Cut, Fault>
     })
 }
 
-// The set of these vertices.
-fn members_of(alloc: Global, g: &NetGraph, numbers: &[u64]) -> Result<VertexSet, Fault>
+/// The set of these vertices of a graph.
+pub fn members_of(alloc: Global, g: &NetGraph, numbers: &[u64]) -> Result<VertexSet, Fault>
     ensures { IfOk result (λ set. length set ≡ g.now.vertices) }
 {
     let mut set = VertexSet::empty(alloc, g.vertex_count())?;

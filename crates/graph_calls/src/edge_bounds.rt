@@ -6,17 +6,18 @@ ghost use Rattle.dual_ascent.specs.Choosing.{IsCallableOnSome, AnswersAPlace};
 ghost use Rattle.edge_slack.specs.EdgeBound.{IsInSomeNetwork};
 
 use crate::described::{edges, graph};
-use crate::rules::{place_by, rule};
+use crate::rules::ascent_rule;
 use dual_ascent::{Candidate, Chooser, Rule};
 use edge_slack::{edge_bound, taking_in};
 use net_graph::{EdgeSet, NetGraph, joins, root_part, value};
 use row_tables::{Call, Fault};
+use search_rules::ascent_place;
 use std::alloc::{AllocError, Global};
 
 /// For each edge in the root part of the network under `edges`, the value of the packing that bounds the networks which
 /// use it, by the rule under `rule`.
 pub fn edge_bounds(alloc: Global, call: &Call, answer: &mut String) -> Result<(), Fault> {
-    let rule = rule(call.word("rule")?)?;
+    let rule = ascent_rule(call.word("rule")?)?;
     tell_bounds(
         alloc,
         call,
@@ -24,7 +25,7 @@ pub fn edge_bounds(alloc: Global, call: &Call, answer: &mut String) -> Result<()
         |list: &[Candidate]| -> usize
             requires { 0 < length list.now }
             ensures { result < length list.now }
-        { place_by(rule, list) },
+        { ascent_place(rule, list) },
     )
 }
 

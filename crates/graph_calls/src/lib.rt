@@ -7,11 +7,12 @@ mod decisions;
 pub mod described;
 mod edge_bounds;
 mod networks;
-pub mod rules;
-mod searches;
+mod rules;
+pub mod search;
 mod sets;
 pub mod told;
 mod trees;
+mod ways;
 
 use row_tables::{Call, Fault};
 use std::alloc::Global;
@@ -21,13 +22,12 @@ pub fn answer(alloc: Global, call: &Call, answer: &mut String) -> Result<(), Fau
     match call.kind() {
         "edge_bounds" => edge_bounds::edge_bounds(alloc, call, answer),
         "network" => networks::network(alloc, call, answer),
-        "ways" => searches::ways(alloc, call, answer),
+        "ways" => ways::ways(alloc, call, answer),
         "edge_set" => sets::edge_set(alloc, call, answer),
         "fours" => sets::fours(alloc, call, answer),
         "decision" => decisions::decision_told(alloc, call, answer),
         "packing" => decisions::packing_told(alloc, call, answer),
         "ascents" => ascents::ascents(alloc, call, answer),
-        "choice" => ascents::choice(alloc, call, answer),
         "tree" => trees::tree(alloc, call, answer),
         _ => Err(Fault::UnknownSubject),
     }

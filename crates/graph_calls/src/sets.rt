@@ -2,18 +2,18 @@
 
 ghost use Rattle.std.specs.Prelude.{◌≡◌, length};
 
-use crate::described::{only, small_numbers};
+use crate::described::only;
 use crate::told::{tell_edges, tell_vertices};
 use net_graph::{EdgeSet, VertexSet};
-use row_tables::{Call, Fault};
+use row_tables::{Call, Fault, narrow_numbers};
 use std::alloc::Global;
 
 /// A set among so many edges as `size` says, once those under `add` are added and then those under `remove` are taken
 /// out: its copy, and what it holds once it is cleared.
 pub fn edge_set(alloc: Global, call: &Call, answer: &mut String) -> Result<(), Fault> {
-    let size = only(alloc, call.text("size")?)?;
-    let added = small_numbers(alloc, call.text("add")?)?;
-    let removed = small_numbers(alloc, call.text("remove")?)?;
+    let size = only(call.text("size")?)?;
+    let added = call.narrow_numbers(alloc, "add")?;
+    let removed = call.narrow_numbers(alloc, "remove")?;
     tell_set(alloc, size, &added, &removed, answer)
 }
 
@@ -55,7 +55,7 @@ fn tell_both(answer: &mut String, copy: &EdgeSet, cleared: &EdgeSet) -> Result<(
 /// A set among so many vertices as `size` says, once those are added, four by four, that each line under `fours` says:
 /// its place, and the value of its bits. Its words are told, and its members.
 pub fn fours(alloc: Global, call: &Call, answer: &mut String) -> Result<(), Fault> {
-    let size = only(alloc, call.text("size")?)?;
+    let size = only(call.text("size")?)?;
     let lines = call.text("fours")?;
     let mut set = VertexSet::empty(alloc, size)?;
     add_fours(alloc, lines, &mut set)?;
@@ -66,7 +66,7 @@ pub fn fours(alloc: Global, call: &Call, answer: &mut String) -> Result<(), Faul
 // Adds what each line says.
 fn add_fours(alloc: Global, lines: &str, set: &mut VertexSet) -> Result<(), Fault> {
     for line in lines.lines() {
-        add_four(&small_numbers(alloc, line)?, set)?;
+        add_four(&narrow_numbers(alloc, line)?, set)?;
     }
     Ok(())
 }

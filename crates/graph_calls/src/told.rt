@@ -30,11 +30,11 @@ fn tell_number(answer: &mut String, n: u32) -> Result<(), Fault> {
     Ok(write!(answer, " {n}")?)
 }
 
-/// Adds a line for each cut: the word `cut`, its weight, and its members.
-pub fn tell_cuts(answer: &mut String, packing: &Packing) -> Result<(), Fault> {
+/// Adds a line for each cut: the word `cut`, its weight, a mark, and its members.
+pub fn tell_cuts(answer: &mut String, packing: &Packing, mark: &str) -> Result<(), Fault> {
     for cut in packing.cuts() {
         tell_weight(answer, cut.weight)?;
-        tell_vertices(answer, ":", &cut.members)?;
+        tell_vertices(answer, mark, &cut.members)?;
     }
     Ok(())
 }

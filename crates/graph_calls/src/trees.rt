@@ -22,7 +22,7 @@ pub fn tree(alloc: Global, call: &Call, answer: &mut String) -> Result<(), Fault
 
 // The same on a graph.
 fn tree_on(alloc: Global, call: &Call, g: &NetGraph, answer: &mut String) -> Result<(), Fault> {
-    let e = only(alloc, call.text("split")?)?;
+    let e = only(call.text("split")?)?;
     if e >= g.edge_count() {
         return Err(Fault::NotAllowed);
     }
@@ -79,7 +79,7 @@ fn tell_leaves(
     for leaf in 0..tree.leaves() {
         let state = state_at(alloc, g, e, tree, leaf)?;
         writeln!(answer, "leaf {leaf} {state:?}")?;
-        tell_cuts(answer, tree.packing(leaf))?;
+        tell_cuts(answer, tree.packing(leaf), ":")?;
     }
     Ok(())
 }

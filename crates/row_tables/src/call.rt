@@ -1,9 +1,9 @@
 //! A call of a library that a table describes.
 
-use crate::counting::numbers;
+use crate::counting::{byte, narrow_numbers, number, numbers};
 use crate::fault::Fault;
-use crate::text::NamedText;
-use std::alloc::Global;
+use crate::text::{NamedText, make_whole, text_named};
+use std::alloc::{AllocError, Global};
 use std::str::from_utf8;
 
 /// What is called, and on what.
@@ -18,32 +18,53 @@ pub struct Call {
 }
 
 impl Call {
+    /// A call without arguments.
+    pub(crate) fn new(alloc: Global, name: &str, subject: &str) -> Result<Call, AllocError> {
+        Ok(Call {
+            name: String::from_str(alloc, name)?,
+            subject: String::from_str(alloc, subject)?,
+            arguments: Vec::new(alloc),
+        })
+    }
+
+    /// The call with each of its arguments said once, as it stands.
+    pub(crate) fn with_whole_arguments(mut self, alloc: Global) -> Result<Call, AllocError> {
+        make_whole(alloc, &mut self.arguments)?;
+        Ok(self)
+    }
+
     /// The word before the point of the subject, which names the crate that makes the call.
     pub fn family(&self) -> &str {
-        self.subject
-            .split_once('.')
-            .map_or("", |(family, _)| family)
+        match self.subject.split_once('.') {
+            Some((family, _)) => family,
+            None => "",
+        }
     }
 
     /// The word behind the point of the subject, which names the call.
     pub fn kind(&self) -> &str {
-        self.subject.split_once('.').map_or("", |(_, kind)| kind)
+        match self.subject.split_once('.') {
+            Some((_, kind)) => kind,
+            None => "",
+        }
     }
 
     /// Whether something stands under this key.
     pub fn has(&self, key: &str) -> bool {
-        self.arguments.iter().any(|it| it.name.as_str() == key)
+        text_named(&self.arguments, key).is_some()
     }
 
     /// The bytes under this key.
     pub fn bytes(&self, key: &str) -> Result<&[u8], Fault> {
-        let found = self.arguments.iter().find(|it| it.name.as_str() == key);
-        Ok(&found.ok_or(Fault::NoArgument)?.text.bytes)
+        match text_named(&self.arguments, key) {
+            Some(text) => Ok(&text.bytes),
+            None => Err(Fault::NoArgument),
+        }
     }
 
     /// The text under this key.
     pub fn text(&self, key: &str) -> Result<&str, Fault> {
-        from_utf8(self.bytes(key)?).map_err(|_| Fault::NotUtf8)
+        shown(self.bytes(key)?)
     }
 
     /// The first word under this key.
@@ -52,8 +73,31 @@ impl Call {
         words.next().ok_or(Fault::NoArgument)
     }
 
+    /// The number that the first word under this key spells.
+    pub fn number(&self, key: &str) -> Result<u64, Fault> {
+        number(self.word(key)?)
+    }
+
+    /// The same, where it is below 256.
+    pub fn byte(&self, key: &str) -> Result<u8, Fault> {
+        byte(self.word(key)?)
+    }
+
     /// The numbers under this key.
     pub fn numbers(&self, alloc: Global, key: &str) -> Result<Vec<u64>, Fault> {
         numbers(alloc, self.text(key)?)
+    }
+
+    /// The numbers under this key, each of 32 bits.
+    pub fn narrow_numbers(&self, alloc: Global, key: &str) -> Result<Vec<u32>, Fault> {
+        narrow_numbers(alloc, self.text(key)?)
+    }
+}
+
+/// Bytes as the text that they are.
+pub fn shown(bytes: &[u8]) -> Result<&str, Fault> {
+    match from_utf8(bytes) {
+        Ok(text) => Ok(text),
+        Err(_) => Err(Fault::NotUtf8),
     }
 }

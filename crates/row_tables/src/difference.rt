@@ -31,26 +31,36 @@ pub fn first_difference(
     came: &[u8],
     wanted: &[u8],
 ) -> Result<LineDifference, AllocError> {
-    let same = came.iter().zip(wanted).take_while(|(a, b)| a == b).count();
-    let before = came
-        .iter()
-        .take(same)
-        .filter(|byte| **byte == b'\n')
-        .count();
+    let (number, start) = same_lines(came, wanted);
     Ok(LineDifference {
-        number: before.saturating_add(1),
-        came: String::from_utf8_lossy(alloc, line_at(came, same))?,
-        wanted: String::from_utf8_lossy(alloc, line_at(wanted, same))?,
+        number,
+        came: String::from_utf8_lossy(alloc, line_from(came, start))?,
+        wanted: String::from_utf8_lossy(alloc, line_from(wanted, start))?,
     })
 }
 
-/// The line of a text that has the byte of this place.
-fn line_at(text: &[u8], at: usize) -> &[u8] {
-    let before = &text[..at.min(text.len())];
-    let start = before
-        .iter()
-        .rposition(|byte| *byte == b'\n')
-        .map_or(0, |place| place + 1);
-    let mut lines = text[start..].split_inclusive(|byte| *byte == b'\n');
-    lines.next().unwrap_or_default()
+/// The number, counted from 1, of the line in which two texts first differ, and the place where it begins in both.
+fn same_lines(a: &[u8], b: &[u8]) -> (usize, usize) {
+    let mut number: usize = 1;
+    let mut start = 0;
+    for place in 0..a.len().min(b.len()) {
+        if a[place] != b[place] {
+            break;
+        }
+        if a[place] == b'\n' {
+            number = number.saturating_add(1);
+            start = place + 1;
+        }
+    }
+    (number, start)
+}
+
+/// The line that begins at a place.
+fn line_from(text: &[u8], start: usize) -> &[u8] {
+    for place in start..text.len() {
+        if text[place] == b'\n' {
+            return &text[start..place + 1];
+        }
+    }
+    &text[start.min(text.len())..]
 }

@@ -1,58 +1,42 @@
 //! What is wrong with a table.
 
 use std::alloc::{AllocError, AllocFailed};
-use thiserror::Error;
+use std::fmt;
 
 /// What is wrong with a section of a table.
-#[derive(Clone, Copy, Debug, PartialEq, Eq, Drop, Error)]
+#[derive(Clone, Copy, Drop)]
 pub enum Fault {
     /// No marker has this name.
-    #[error("no marker has this name")]
     UnknownMarker,
     /// Lines stand where none belong.
-    #[error("lines stand where none belong")]
     StrayLines,
     /// No text has this name.
-    #[error("no text has this name")]
     UnknownText,
     /// The name stands already.
-    #[error("the name stands already")]
     NameTwice,
     /// A name is missing.
-    #[error("a name is missing")]
     NoName,
     /// Not a number in range.
-    #[error("not a number in range")]
     BadNumber,
     /// There is no text to change before this.
-    #[error("there is no text to change before this")]
     NoText,
     /// The text has no such line.
-    #[error("the text has no such line")]
     NoSuchLine,
     /// This stands in a row alone.
-    #[error("this stands in a row alone")]
     OutsideRow,
     /// The row before this has no status.
-    #[error("the row before this has no status")]
     NoStatus,
     /// The row before this has no answer.
-    #[error("the row before this has no answer")]
     NoAnswer,
     /// An argument is missing.
-    #[error("an argument is missing")]
     NoArgument,
     /// No subject has this name.
-    #[error("no subject has this name")]
     UnknownSubject,
     /// The call may not be made on this.
-    #[error("the call may not be made on this")]
     NotAllowed,
     /// Not UTF-8.
-    #[error("not UTF-8")]
     NotUtf8,
     /// Memory is wanting.
-    #[error("memory is wanting")]
     Memory,
 }
 
@@ -60,6 +44,28 @@ impl Fault {
     /// The fault with the number of its line.
     pub fn at(self, line: usize) -> TableFault {
         TableFault { line, fault: self }
+    }
+
+    /// What is said of it.
+    fn said(self) -> &'static str {
+        match self {
+            Fault::UnknownMarker => "no marker has this name",
+            Fault::StrayLines => "lines stand where none belong",
+            Fault::UnknownText => "no text has this name",
+            Fault::NameTwice => "the name stands already",
+            Fault::NoName => "a name is missing",
+            Fault::BadNumber => "not a number in range",
+            Fault::NoText => "there is no text to change before this",
+            Fault::NoSuchLine => "the text has no such line",
+            Fault::OutsideRow => "this stands in a row alone",
+            Fault::NoStatus => "the row before this has no status",
+            Fault::NoAnswer => "the row before this has no answer",
+            Fault::NoArgument => "an argument is missing",
+            Fault::UnknownSubject => "no subject has this name",
+            Fault::NotAllowed => "the call may not be made on this",
+            Fault::NotUtf8 => "not UTF-8",
+            Fault::Memory => "memory is wanting",
+        }
     }
 }
 
@@ -76,11 +82,16 @@ impl<T: Drop> From<AllocFailed<T>> for Fault {
 }
 
 /// What is wrong with a table, and in which line, counted from 1.
-#[derive(Clone, Copy, Debug, PartialEq, Eq, Drop, Error)]
-#[error("line {line}: {fault}")]
+#[derive(Clone, Copy, Drop)]
 pub struct TableFault {
     /// The line.
     pub line: usize,
     /// What is wrong there.
     pub fault: Fault,
+}
+
+impl fmt::Display for TableFault {
+    fn fmt<W: fmt::Write>(&self, f: &mut fmt::Formatter<W>) -> fmt::Result {
+        write!(f, "line {}: {}", self.line, self.fault.said())
+    }
 }

@@ -14,9 +14,9 @@ mod section;
 mod text;
 mod texts;
 
-pub use call::Call;
+pub use call::{Call, shown};
 pub use changing::change;
-pub use counting::{count, number, numbers, status};
+pub use counting::{byte, count, narrow, narrow_numbers, number, numbers, signed};
 pub use difference::{LineDifference, first_difference};
 pub use fault::{Fault, TableFault};
 pub use reader::{Asked, CallReader};

@@ -41,17 +41,11 @@ impl CallReader {
     }
 
     /// Takes a section, and gives the call that it ends.
-    pub fn take(&mut self, section: Section<'_>) -> Result<Option<Asked>, Fault> {
-        match section.key {
-            "answer" => return Ok(Some(self.end_call(section)?)),
-            "text" => self.add_text(section)?,
-            "call" => self.begin_call(section)?,
-            "line" | "line_feed" | "no_line_feed" | "times" => {
-                let alloc = self.alloc;
-                change(alloc, self.last_text().ok_or(Fault::NoText)?, section)?;
-            }
-            _ => self.add_argument(section)?,
+    pub fn take(&mut self, section: &Section<'_>) -> Result<Option<Asked>, Fault> {
+        if section.key == "answer" {
+            return Ok(Some(self.end_call(section)?));
         }
+        self.add(section)?;
         Ok(None)
     }
 
@@ -63,51 +57,57 @@ impl CallReader {
         Ok(())
     }
 
-    /// Names a text.
-    fn add_text(&mut self, section: Section<'_>) -> Result<(), Fault> {
-        let (name, of) = named(section.argument)?;
-        let text = self.texts.text(of, section.text)?;
-        self.texts.keep(name, text)
+    /// Takes a section that ends no call.
+    fn add(&mut self, section: &Section<'_>) -> Result<(), Fault> {
+        match section.key {
+            "text" => self.texts.add(section),
+            "call" => self.begin_call(section),
+            "line" | "line_feed" | "no_line_feed" | "times" => self.change_last(section),
+            _ => self.add_argument(section),
+        }
     }
 
     /// Begins a call, by its own name and that of its subject.
-    fn begin_call(&mut self, section: Section<'_>) -> Result<(), Fault> {
-        no_lines(&section)?;
+    fn begin_call(&mut self, section: &Section<'_>) -> Result<(), Fault> {
+        no_lines(section)?;
         if self.call.is_some() {
             return Err(Fault::NoAnswer);
         }
-        let (subject, name) = named(section.argument)?;
-        if name.is_empty() {
-            return Err(Fault::NoName);
-        }
+        let (subject, name) = names_of(section.argument)?;
         self.texts.keep(name, Text::empty(self.alloc))?;
-        self.call = Some(Call {
-            name: String::from_str(self.alloc, name)?,
-            subject: String::from_str(self.alloc, subject)?,
-            arguments: Vec::new(self.alloc),
-        });
+        self.call = Some(Call::new(self.alloc, name, subject)?);
         Ok(())
     }
 
     /// Gives the call an argument, under the key of its marker.
-    fn add_argument(&mut self, section: Section<'_>) -> Result<(), Fault> {
-        let text = self.texts.text(section.argument, section.text)?;
-        let name = String::from_str(self.alloc, section.key)?;
-        let call = self.call.as_mut().ok_or(Fault::OutsideRow)?;
-        Ok(call.arguments.push(NamedText { name, text })?)
+    fn add_argument(&mut self, section: &Section<'_>) -> Result<(), Fault> {
+        let text = self.texts.text(section.argument, &section.text)?;
+        let argument = NamedText::new(self.alloc, section.key, text)?;
+        match &mut self.call {
+            Some(call) => Ok(call.arguments.push(argument)?),
+            None => Err(Fault::OutsideRow),
+        }
+    }
+
+    /// Changes the text of the last section that has one.
+    fn change_last(&mut self, section: &Section<'_>) -> Result<(), Fault> {
+        let alloc = self.alloc;
+        match self.last_text() {
+            Some(text) => change(alloc, text, section),
+            None => Err(Fault::NoText),
+        }
     }
 
     /// Ends the call with the answer that is wanted.
-    fn end_call(&mut self, section: Section<'_>) -> Result<Asked, Fault> {
-        let answer = self.texts.text(section.argument, section.text)?;
-        let mut call = self.call.take().ok_or(Fault::OutsideRow)?;
-        for argument in &mut call.arguments {
-            argument.text = Text::once(argument.text.whole(self.alloc)?);
+    fn end_call(&mut self, section: &Section<'_>) -> Result<Asked, Fault> {
+        let answer = self.texts.whole(section.argument, &section.text)?;
+        match self.call.take() {
+            Some(call) => Ok(Asked {
+                call: call.with_whole_arguments(self.alloc)?,
+                answer,
+            }),
+            None => Err(Fault::OutsideRow),
         }
-        Ok(Asked {
-            call,
-            answer: answer.whole(self.alloc)?,
-        })
     }
 
     /// The text of the last section that has one: an argument of the open call, or else a named text.
@@ -117,4 +117,13 @@ impl CallReader {
             None => self.texts.last(),
         }
     }
+}
+
+/// The name of a call's subject and its own.
+fn names_of(argument: &str) -> Result<(&str, &str), Fault> {
+    let (subject, name) = named(argument)?;
+    if name.is_empty() {
+        return Err(Fault::NoName);
+    }
+    Ok((subject, name))
 }

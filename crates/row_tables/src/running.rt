@@ -1,11 +1,11 @@
 //! Running the rows of tables.
 
+use crate::call::shown;
 use crate::fault::{Fault, TableFault};
 use crate::section::{Section, sections_of};
 use rst_outside::{DirShelf, Shelf, take_named};
 use std::alloc::Global;
 use std::process::ExitCode;
-use std::str::from_utf8;
 use std::{env, io};
 
 /// The greatest number of bytes of a table.
@@ -20,7 +20,7 @@ pub trait RowRunner {
     fn begin(&mut self);
 
     /// Takes a section, and gives the row that it ends.
-    fn take(&mut self, section: Section<'_>) -> Result<Option<Self::Row>, Fault>;
+    fn take(&mut self, section: &Section<'_>) -> Result<Option<Self::Row>, Fault>;
 
     /// Ends a table: no row may be open.
     fn end(&self) -> Result<(), Fault>;
@@ -35,7 +35,7 @@ pub fn run_tables<R: RowRunner>(rt: &HostRuntime, runner: &mut R) -> io::Result<
     let mut shelf = DirShelf::new(rt);
     let mut all_well = true;
     for name in env::args(rt)?.skip(1) {
-        let is_well = runs_well(rt, &mut shelf, runner, name.as_str())?;
+        let is_well = prints_well(rt, &mut shelf, runner, name.as_str());
         all_well = all_well && is_well;
     }
     Ok(if all_well {
@@ -45,25 +45,47 @@ pub fn run_tables<R: RowRunner>(rt: &HostRuntime, runner: &mut R) -> io::Result<
     })
 }
 
-/// Runs the rows of the table in a file, prints their lines, and tells whether all is well.
-fn runs_well<S: Shelf, R: RowRunner>(
+/// Prints the lines of the table in a file, and tells whether all is well.
+fn prints_well<S: Shelf, R: RowRunner>(
     rt: &HostRuntime,
     shelf: &mut S,
     runner: &mut R,
     name: &str,
-) -> io::Result<bool> {
-    let alloc = rt.alloc();
-    let Ok(table) = take_named(alloc, shelf, name, LIMIT) else {
-        println!(rt; "{name}: cannot be read")?;
-        return Ok(false);
-    };
-    let mut report = String::new(alloc);
-    let outcome = run_table(alloc, runner, &table, &mut report);
-    print!(rt; "{report}")?;
-    match outcome {
+) -> bool {
+    let mut report = String::new(rt.alloc());
+    let outcome = run_file(rt.alloc(), shelf, runner, name, &mut report);
+    print!(rt; "{report}").is_ok() && matches!(outcome, Ok(true))
+}
+
+/// Runs the rows of the table in a file, adds their lines to the report, and tells whether all is well.
+fn run_file<S: Shelf, R: RowRunner>(
+    alloc: Global,
+    shelf: &mut S,
+    runner: &mut R,
+    name: &str,
+    report: &mut String,
+) -> Result<bool, Fault> {
+    match take_named(alloc, shelf, name, LIMIT) {
+        Ok(table) => run_named(alloc, runner, name, &table, report),
+        Err(_) => {
+            writeln!(report, "{name}: cannot be read")?;
+            Ok(false)
+        }
+    }
+}
+
+/// Runs the rows of a table, adds their lines to the report, and its fault, if it has one.
+fn run_named<R: RowRunner>(
+    alloc: Global,
+    runner: &mut R,
+    name: &str,
+    table: &[u8],
+    report: &mut String,
+) -> Result<bool, Fault> {
+    match run_table(alloc, runner, table, report) {
         Ok(is_well) => Ok(is_well),
         Err(fault) => {
-            println!(rt; "{name}: {fault}")?;
+            writeln!(report, "{name}: {fault}")?;
             Ok(false)
         }
     }
@@ -77,24 +99,40 @@ pub fn run_table<R: RowRunner>(
     table: &[u8],
     report: &mut String,
 ) -> Result<bool, TableFault> {
-    let table = from_utf8(table).map_err(|_| Fault::NotUtf8.at(1))?;
+    match shown(table) {
+        Ok(table) => run_sections(alloc, runner, &sections_of(alloc, table)?, report),
+        Err(fault) => Err(fault.at(1)),
+    }
+}
+
+/// Runs the rows of these sections.
+fn run_sections<R: RowRunner>(
+    alloc: Global,
+    runner: &mut R,
+    sections: &[Section<'_>],
+    report: &mut String,
+) -> Result<bool, TableFault> {
     runner.begin();
     let mut is_well = true;
     let mut line = 0;
-    for section in sections_of(alloc, table)? {
+    for section in sections {
         line = section.line;
-        let is_ok = runs_on(alloc, runner, section, report).map_err(|fault| fault.at(line))?;
-        is_well = is_well && is_ok;
+        match runs_on(alloc, runner, section, report) {
+            Ok(is_ok) => is_well = is_well && is_ok,
+            Err(fault) => return Err(fault.at(line)),
+        }
     }
-    runner.end().map_err(|fault| fault.at(line))?;
-    Ok(is_well)
+    match runner.end() {
+        Ok(()) => Ok(is_well),
+        Err(fault) => Err(fault.at(line)),
+    }
 }
 
 /// Takes a section, runs the row that it ends, if it ends one, and tells whether nothing differs.
 fn runs_on<R: RowRunner>(
     alloc: Global,
     runner: &mut R,
-    section: Section<'_>,
+    section: &Section<'_>,
     report: &mut String,
 ) -> Result<bool, Fault> {
     match runner.take(section)? {

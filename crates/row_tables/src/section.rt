@@ -1,7 +1,8 @@
 //! A table cut into sections: a marker line, and the lines behind it.
 
 use crate::fault::{Fault, TableFault};
-use std::alloc::Global;
+use crate::texts::first_word;
+use std::alloc::{AllocError, Global};
 
 /// A marker line, and the text of the lines up to the next one.
 #[derive(Drop)]
@@ -24,7 +25,9 @@ pub fn sections_of<'t>(alloc: Global, table: &'t str) -> Result<Vec<Section<'t>>
     let mut number: usize = 0;
     for line in table.split_inclusive('\n') {
         number = number.saturating_add(1);
-        add_line(alloc, &mut sections, number, line).map_err(|fault| fault.at(number))?;
+        if let Err(fault) = add_line(alloc, &mut sections, number, line) {
+            return Err(fault.at(number));
+        }
     }
     Ok(sections)
 }
@@ -56,8 +59,7 @@ fn add_marker<'t>(
     line: usize,
     marker: &'t str,
 ) -> Result<(), Fault> {
-    let marker = marker.trim_end_matches('\n');
-    let (key, argument) = marker.split_once(' ').unwrap_or((marker, ""));
+    let (key, argument) = first_word(without_feed(marker));
     if key.is_empty() {
         return Ok(());
     }
@@ -70,15 +72,29 @@ fn add_marker<'t>(
     })?)
 }
 
+/// A line without its line feed.
+fn without_feed(line: &str) -> &str {
+    match line.split_once('\n') {
+        Some((text, _)) => text,
+        None => line,
+    }
+}
+
 /// Adds a line to the text of a section, an empty one only once another line follows it.
 fn add_text(section: &mut Section<'_>, line: &str) -> Result<(), Fault> {
     if line == "\n" {
         section.empty_lines = section.empty_lines.saturating_add(1);
         return Ok(());
     }
-    for _ in 0..section.empty_lines {
-        section.text.push(b'\n')?;
-    }
+    add_line_feeds(&mut section.text, section.empty_lines)?;
     section.empty_lines = 0;
     Ok(section.text.extend_from_slice(line.as_bytes())?)
+}
+
+/// Adds so many line feeds.
+fn add_line_feeds(text: &mut Vec<u8>, count: usize) -> Result<(), AllocError> {
+    for _ in 0..count {
+        text.push(b'\n')?;
+    }
+    Ok(())
 }

@@ -44,3 +44,30 @@ pub struct NamedText {
     /// The text itself.
     pub text: Text,
 }
+
+impl NamedText {
+    /// A text under a name.
+    pub fn new(alloc: Global, name: &str, text: Text) -> Result<NamedText, AllocError> {
+        let name = String::from_str(alloc, name)?;
+        Ok(NamedText { name, text })
+    }
+}
+
+/// Has each text said once, as it stands.
+pub(crate) fn make_whole(alloc: Global, texts: &mut [NamedText]) -> Result<(), AllocError> {
+    for named in texts.iter_mut() {
+        let whole = named.text.whole(alloc)?;
+        named.text = Text::once(whole);
+    }
+    Ok(())
+}
+
+/// The text of this name among some, if it is there.
+pub(crate) fn text_named<'t>(texts: &'t [NamedText], name: &str) -> Option<&'t Text> {
+    for named in texts {
+        if named.name.as_str() == name {
+            return Some(&named.text);
+        }
+    }
+    None
+}

@@ -1,76 +1,63 @@
 //! What came of a row, compared with what it states.
 
 use crate::outcome::Outcome;
-use crate::row::{Relation, Row};
-use row_tables::{Fault, LineDifference, first_difference};
-use std::alloc::{AllocError, Global};
-use std::fmt;
-
-/// What differs from what a row states.
-#[derive(Drop)]
-pub enum Difference {
-    /// The program ended with another status.
-    Status {
-        came: u8,
-        wanted: u8,
-    },
-    /// The text on a stream came whole, where a part of it was wanted.
-    NotCut {
-        stream: &'static str,
-    },
-    /// The bytes on a stream are others, first in this line.
-    Line {
-        stream: &'static str,
-        line: LineDifference,
-    },
-}
-
-impl fmt::Display for Difference {
-    fn fmt<W: fmt::Write>(&self, f: &mut fmt::Formatter<W>) -> fmt::Result {
-        match self {
-            Difference::Status { came, wanted } => write!(f, "status {came}, wanted {wanted}"),
-            Difference::NotCut { stream } => write!(f, "{stream}: not cut short"),
-            Difference::Line { stream, line } => write!(f, "{stream}, {line}"),
-        }
-    }
-}
+use crate::row::{Relation, Row, Wanted};
+use row_tables::{Fault, first_difference};
+use std::alloc::Global;
 
 /// Adds a line to the report for all that differs, or one that says `ok`, and tells whether nothing differs.
 pub fn tell(alloc: Global, row: &Row, came: &Outcome, report: &mut String) -> Result<bool, Fault> {
     let name = row.name.as_str();
-    let found = differences(alloc, row, came)?;
-    if found.is_empty() {
+    let status_ok = tell_status(name, came.status, row.status, report)?;
+    let out_ok = tell_stream(alloc, name, "out", &came.out, &row.out, report)?;
+    let err_ok = tell_stream(alloc, name, "err", &came.err, &row.err, report)?;
+    let is_ok = status_ok && out_ok && err_ok;
+    if is_ok {
         writeln!(report, "{name}: ok")?;
     }
-    for difference in &found {
-        writeln!(report, "{name}: {difference}")?;
-    }
-    Ok(found.is_empty())
+    Ok(is_ok)
 }
 
-/// All that differs.
-fn differences(alloc: Global, row: &Row, came: &Outcome) -> Result<Vec<Difference>, AllocError> {
-    let mut found = Vec::new(alloc);
-    if came.status != row.status {
-        found.push(Difference::Status {
-            came: came.status,
-            wanted: row.status,
-        })?;
+/// Adds a line where the program ended with another status, and tells whether it did not.
+fn tell_status(name: &str, came: u8, wanted: u8, report: &mut String) -> Result<bool, Fault> {
+    if came == wanted {
+        return Ok(true);
     }
-    for (stream, bytes, wanted) in [("out", &came.out, &row.out), ("err", &came.err, &row.err)] {
-        let text = wanted.text.whole(alloc)?;
-        if !is_met(wanted.relation, bytes, &text) {
-            found.push(if *bytes == text {
-                Difference::NotCut { stream }
-            } else {
-                Difference::Line {
-                    stream,
-                    line: first_difference(alloc, bytes, &text)?,
-                }
-            })?;
-        }
+    writeln!(report, "{name}: status {came}, wanted {wanted}")?;
+    Ok(false)
+}
+
+/// Adds a line where the bytes on a stream are not those that are wanted, and tells whether they are.
+fn tell_stream(
+    alloc: Global,
+    name: &str,
+    stream: &str,
+    came: &[u8],
+    wanted: &Wanted,
+    report: &mut String,
+) -> Result<bool, Fault> {
+    let text = wanted.text.whole(alloc)?;
+    if is_met(wanted.relation, came, &text) {
+        return Ok(true);
     }
-    Ok(found)
+    tell_difference(alloc, name, stream, came, &text, report)?;
+    Ok(false)
+}
+
+/// Adds the line of the first difference, or one that says that the text came whole, where a part of it was wanted.
+fn tell_difference(
+    alloc: Global,
+    name: &str,
+    stream: &str,
+    came: &[u8],
+    text: &[u8],
+    report: &mut String,
+) -> Result<(), Fault> {
+    if came == text {
+        return Ok(writeln!(report, "{name}: {stream}: not cut short")?);
+    }
+    let line = first_difference(alloc, came, text)?;
+    Ok(writeln!(report, "{name}: {stream}, {line}")?)
 }
 
 /// Whether the bytes that came stand in a relation to a row's text.

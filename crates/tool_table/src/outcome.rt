@@ -34,23 +34,45 @@ pub fn outcome_on(
     input: Vec<u8>,
     files: Vec<ShelfFile>,
 ) -> Result<Outcome, AllocError> {
+    let reads = Vec::from_slice(alloc, &row.plan.failing_reads)?;
+    let mut input = MemSource::new(input, row.plan.step.max(1), reads);
+    let mut shelf = MemShelf::new(files, Vec::from_slice(alloc, &row.plan.failing_files)?);
+    outcome_over(alloc, row, &mut input, &mut shelf)
+}
+
+/// Runs a row over a source and a shelf.
+fn outcome_over(
+    alloc: Global,
+    row: &Row,
+    input: &mut MemSource,
+    shelf: &mut MemShelf,
+) -> Result<Outcome, AllocError> {
     let plan = &row.plan;
-    let step = plan.step.max(1);
-    let reads = Vec::from_slice(alloc, &plan.failing_reads)?;
-    let writes = Vec::from_slice(alloc, &plan.failing_writes)?;
-    let reports = Vec::from_slice(alloc, &plan.failing_reports)?;
-    let mut input = MemSource::new(input, step, reads);
-    let mut out = MemSink::with_room(alloc, plan.room, step, writes)?;
-    let mut err = MemSink::with_room(alloc, ERR_ROOM, step, reports)?;
-    let mut shelf = MemShelf::new(files, Vec::from_slice(alloc, &plan.failing_files)?);
+    let mut out = sink(alloc, plan.room, plan.step, &plan.failing_writes)?;
+    let mut err = sink(alloc, ERR_ROOM, plan.step, &plan.failing_reports)?;
     let status = run(
         alloc,
         row.words.as_slice(),
-        &mut input,
+        input,
         &mut out,
         &mut err,
-        &mut shelf,
+        shelf,
     );
+    left_behind(alloc, status, &out, &err)
+}
+
+/// A sink with so much room, which takes steps of so many bytes, and fails at these calls.
+fn sink(alloc: Global, room: usize, step: usize, failing: &[u64]) -> Result<MemSink, AllocError> {
+    MemSink::with_room(alloc, room, step.max(1), Vec::from_slice(alloc, failing)?)
+}
+
+/// What a run left behind that ended with a status.
+fn left_behind(
+    alloc: Global,
+    status: u8,
+    out: &MemSink,
+    err: &MemSink,
+) -> Result<Outcome, AllocError> {
     Ok(Outcome {
         status,
         out: Vec::from_slice(alloc, out.bytes())?,
@@ -62,10 +84,15 @@ pub fn outcome_on(
 pub fn shelf_files(alloc: Global, files: &[NamedText]) -> Result<Vec<ShelfFile>, AllocError> {
     let mut made = Vec::new(alloc);
     for file in files {
-        made.push(ShelfFile {
-            name: file.name.clone()?,
-            bytes: file.text.whole(alloc)?,
-        })?;
+        made.push(shelf_file(alloc, file)?)?;
     }
     Ok(made)
+}
+
+/// A file of a row for the shelf.
+fn shelf_file(alloc: Global, file: &NamedText) -> Result<ShelfFile, AllocError> {
+    Ok(ShelfFile {
+        name: file.name.clone()?,
+        bytes: file.text.whole(alloc)?,
+    })
 }

@@ -1,7 +1,7 @@
 //! A row: one run of the program, and what has to come of it.
 
 use row_tables::{NamedText, Text};
-use std::alloc::Global;
+use std::alloc::{AllocError, Global};
 
 /// How many bytes the fakes of the outside move in a call, and which of their calls fail, counted from 0.
 #[derive(Drop)]
@@ -31,7 +31,7 @@ impl Plan {
 }
 
 /// How the bytes that came are compared with those that a row states.
-#[derive(Clone, Copy, Debug, PartialEq, Eq)]
+#[derive(Clone, Copy)]
 pub enum Relation {
     /// They are the same.
     Same,
@@ -59,7 +59,7 @@ impl Wanted {
 }
 
 /// Which text of a row is varied.
-#[derive(Clone, Copy, Debug, PartialEq, Eq)]
+#[derive(Clone, Copy)]
 pub enum Varied {
     /// The input.
     Input,
@@ -68,7 +68,7 @@ pub enum Varied {
 }
 
 /// Which texts come of one: the row is run with each of them in its place.
-#[derive(Clone, Copy, Debug, PartialEq, Eq)]
+#[derive(Clone, Copy)]
 pub enum Variation {
     /// Each proper front of the text, the empty one first.
     Cuts,
@@ -105,9 +105,9 @@ pub struct Row {
 
 impl Row {
     /// A row without words, files and input, of which nothing comes but the status 0.
-    pub fn new(alloc: Global, name: String) -> Row {
-        Row {
-            name,
+    pub fn new(alloc: Global, name: &str) -> Result<Row, AllocError> {
+        Ok(Row {
+            name: String::from_str(alloc, name)?,
             words: Vec::new(alloc),
             files: Vec::new(alloc),
             input: Text::empty(alloc),
@@ -116,6 +116,6 @@ impl Row {
             err: Wanted::nothing(alloc),
             status: 0,
             variants: None,
-        }
+        })
     }
 }

@@ -5,13 +5,13 @@ use crate::outcome::outcome_of;
 use crate::row::{Relation, Row, Variants, Variation, Varied, Wanted};
 use crate::variants::tell_variants;
 use row_tables::{
-    Fault, NamedText, RowRunner, Section, Text, Texts, change, count, named, no_lines, numbers,
-    status,
+    Fault, NamedText, RowRunner, Section, Text, Texts, byte, change, count, named, no_lines,
+    numbers,
 };
-use std::alloc::Global;
+use std::alloc::{AllocError, Global};
 
 /// Which text the sections that change a text speak of.
-#[derive(Clone, Copy, Debug, PartialEq, Eq)]
+#[derive(Clone, Copy)]
 enum Place {
     Nowhere,
     Named,
@@ -42,17 +42,15 @@ impl Reader {
     }
 
     /// Names a text.
-    fn add_text(&mut self, section: Section<'_>) -> Result<(), Fault> {
-        let (name, of) = named(section.argument)?;
-        let text = self.texts.text(of, section.text)?;
-        self.texts.keep(name, text)?;
+    fn add_text(&mut self, section: &Section<'_>) -> Result<(), Fault> {
+        self.texts.add(section)?;
         self.place = Place::Named;
         Ok(())
     }
 
     /// Begins a row.
-    fn begin_row(&mut self, section: Section<'_>) -> Result<(), Fault> {
-        no_lines(&section)?;
+    fn begin_row(&mut self, section: &Section<'_>) -> Result<(), Fault> {
+        no_lines(section)?;
         if self.row.is_some() {
             return Err(Fault::NoStatus);
         }
@@ -62,101 +60,125 @@ impl Reader {
         if self.texts.has(section.argument) {
             return Err(Fault::NameTwice);
         }
-        let name = String::from_str(self.alloc, section.argument)?;
-        self.row = Some(Row::new(self.alloc, name));
+        self.row = Some(Row::new(self.alloc, section.argument)?);
         self.place = Place::Nowhere;
         Ok(())
     }
 
     /// Ends the row with its status.
-    fn end_row(&mut self, section: Section<'_>) -> Result<Row, Fault> {
-        no_lines(&section)?;
-        let mut row = self.row.take().ok_or(Fault::OutsideRow)?;
-        row.status = status(section.argument)?;
-        self.place = Place::Nowhere;
-        Ok(row)
+    fn end_row(&mut self, section: &Section<'_>) -> Result<Row, Fault> {
+        no_lines(section)?;
+        let row = self.open_row()?;
+        row.status = byte(section.argument)?;
+        self.taken_row()
     }
 
     /// Has the row that is open run with many texts in place of its last one, and ends it with the statuses that may
     /// come.
-    fn end_variants(&mut self, section: Section<'_>, variation: Variation) -> Result<Row, Fault> {
-        no_lines(&section)?;
-        let varied = match self.place {
-            Place::Input => Varied::Input,
-            Place::File => Varied::File,
-            _ => return Err(Fault::NoText),
-        };
+    fn end_variants(&mut self, section: &Section<'_>, variation: Variation) -> Result<Row, Fault> {
+        no_lines(section)?;
+        let varied = self.varied()?;
         let statuses = numbers(self.alloc, section.argument)?;
-        let mut row = self.row.take().ok_or(Fault::OutsideRow)?;
-        row.variants = Some(Variants {
+        self.open_row()?.variants = Some(Variants {
             varied,
             variation,
             statuses,
         });
+        self.taken_row()
+    }
+
+    /// The text that may be varied.
+    fn varied(&self) -> Result<Varied, Fault> {
+        match self.place {
+            Place::Input => Ok(Varied::Input),
+            Place::File => Ok(Varied::File),
+            _ => Err(Fault::NoText),
+        }
+    }
+
+    /// The row that was open.
+    fn taken_row(&mut self) -> Result<Row, Fault> {
         self.place = Place::Nowhere;
-        Ok(row)
+        self.row.take().ok_or(Fault::OutsideRow)
     }
 
     /// Puts a named text behind the one that may be changed.
-    fn add_behind(&mut self, section: Section<'_>) -> Result<(), Fault> {
+    fn add_behind(&mut self, section: &Section<'_>) -> Result<(), Fault> {
         let alloc = self.alloc;
-        let text = self.texts.text(section.argument, section.text)?;
-        let more = text.whole(alloc)?;
-        let last = self.last_text().ok_or(Fault::NoText)?;
-        let mut made = last.whole(alloc)?;
-        made.extend_from_slice(&more)?;
-        *last = Text::once(made);
-        Ok(())
+        let more = self.texts.whole(section.argument, &section.text)?;
+        match self.last_text() {
+            Some(last) => Ok(put_behind(alloc, last, &more)?),
+            None => Err(Fault::NoText),
+        }
     }
 
-    /// Adds what a section says to the row that is open.
-    fn add_to_row(&mut self, section: Section<'_>) -> Result<(), Fault> {
+    /// Changes the text of the last section that has one.
+    fn change_last(&mut self, section: &Section<'_>) -> Result<(), Fault> {
+        let alloc = self.alloc;
+        match self.last_text() {
+            Some(text) => change(alloc, text, section),
+            None => Err(Fault::NoText),
+        }
+    }
+
+    /// Adds what a section says to the row that is open, or to the texts.
+    fn add(&mut self, section: &Section<'_>) -> Result<(), Fault> {
         match section.key {
+            "behind" => self.add_behind(section),
+            "text" => self.add_text(section),
+            "row" => self.begin_row(section),
+            "line" | "line_feed" | "no_line_feed" | "times" => self.change_last(section),
             "file" => self.add_file(section),
-            "input" => {
-                let text = self.texts.text(section.argument, section.text)?;
-                self.open_row()?.input = text;
-                self.place = Place::Input;
-                Ok(())
-            }
+            "input" => self.set_input(section),
             "out" => self.set_out(Relation::Same, section),
             "out_begins_with" => self.set_out(Relation::BeginWith, section),
             "out_cut_from" => self.set_out(Relation::CutFrom, section),
             "err" => self.set_err(Relation::Same, section),
             "err_cut_from" => self.set_err(Relation::CutFrom, section),
-            _ => {
-                no_lines(&section)?;
-                self.place = Place::Nowhere;
-                let alloc = self.alloc;
-                set(alloc, self.open_row()?, section.key, section.argument)
-            }
+            _ => self.set_part(section),
         }
     }
 
     /// Adds a file to the shelf.
-    fn add_file(&mut self, section: Section<'_>) -> Result<(), Fault> {
+    fn add_file(&mut self, section: &Section<'_>) -> Result<(), Fault> {
         let (name, of) = named(section.argument)?;
-        let name = String::from_str(self.alloc, name)?;
-        let text = self.texts.text(of, section.text)?;
-        self.open_row()?.files.push(NamedText { name, text })?;
+        let text = self.texts.text(of, &section.text)?;
+        let file = NamedText::new(self.alloc, name, text)?;
+        self.open_row()?.files.push(file)?;
         self.place = Place::File;
         Ok(())
     }
 
+    /// States the input.
+    fn set_input(&mut self, section: &Section<'_>) -> Result<(), Fault> {
+        let text = self.texts.text(section.argument, &section.text)?;
+        self.open_row()?.input = text;
+        self.place = Place::Input;
+        Ok(())
+    }
+
     /// States what is wanted on `out`.
-    fn set_out(&mut self, relation: Relation, section: Section<'_>) -> Result<(), Fault> {
-        let text = self.texts.text(section.argument, section.text)?;
+    fn set_out(&mut self, relation: Relation, section: &Section<'_>) -> Result<(), Fault> {
+        let text = self.texts.text(section.argument, &section.text)?;
         self.open_row()?.out = Wanted { relation, text };
         self.place = Place::Out;
         Ok(())
     }
 
     /// States what is wanted on `err`.
-    fn set_err(&mut self, relation: Relation, section: Section<'_>) -> Result<(), Fault> {
-        let text = self.texts.text(section.argument, section.text)?;
+    fn set_err(&mut self, relation: Relation, section: &Section<'_>) -> Result<(), Fault> {
+        let text = self.texts.text(section.argument, &section.text)?;
         self.open_row()?.err = Wanted { relation, text };
         self.place = Place::Err;
         Ok(())
+    }
+
+    /// Sets the words of the row that is open, or a part of its plan.
+    fn set_part(&mut self, section: &Section<'_>) -> Result<(), Fault> {
+        no_lines(section)?;
+        self.place = Place::Nowhere;
+        let alloc = self.alloc;
+        set(alloc, self.open_row()?, section.key, section.argument)
     }
 
     /// The row that is open.
@@ -187,21 +209,16 @@ impl RowRunner for Reader {
     }
 
     /// Takes a section, and gives the row that it ends.
-    fn take(&mut self, section: Section<'_>) -> Result<Option<Row>, Fault> {
+    fn take(&mut self, section: &Section<'_>) -> Result<Option<Row>, Fault> {
         match section.key {
-            "status" => return Ok(Some(self.end_row(section)?)),
-            "each_cut" => return Ok(Some(self.end_variants(section, Variation::Cuts)?)),
-            "each_byte" => return Ok(Some(self.end_variants(section, Variation::Bytes)?)),
-            "behind" => self.add_behind(section)?,
-            "text" => self.add_text(section)?,
-            "row" => self.begin_row(section)?,
-            "line" | "line_feed" | "no_line_feed" | "times" => {
-                let alloc = self.alloc;
-                change(alloc, self.last_text().ok_or(Fault::NoText)?, section)?;
+            "status" => Ok(Some(self.end_row(section)?)),
+            "each_cut" => Ok(Some(self.end_variants(section, Variation::Cuts)?)),
+            "each_byte" => Ok(Some(self.end_variants(section, Variation::Bytes)?)),
+            _ => {
+                self.add(section)?;
+                Ok(None)
             }
-            _ => self.add_to_row(section)?,
         }
-        Ok(None)
     }
 
     /// Ends a table: no row may be open.
@@ -225,15 +242,19 @@ impl RowRunner for Reader {
     }
 }
 
+/// Puts bytes behind a text, which then stands once.
+fn put_behind(alloc: Global, text: &mut Text, more: &[u8]) -> Result<(), AllocError> {
+    let mut made = text.whole(alloc)?;
+    made.extend_from_slice(more)?;
+    *text = Text::once(made);
+    Ok(())
+}
+
 /// Sets the words of a row, or a part of its plan.
 fn set(alloc: Global, row: &mut Row, key: &str, argument: &str) -> Result<(), Fault> {
     match key {
-        "words" => {
-            for word in argument.split_whitespace() {
-                row.words.push(String::from_str(alloc, word)?)?;
-            }
-        }
-        "word" => row.words.push(String::from_str(alloc, argument)?)?,
+        "words" => return add_words(alloc, &mut row.words, argument),
+        "word" => return Ok(row.words.push(String::from_str(alloc, argument)?)?),
         "step" => row.plan.step = count(argument)?,
         "room" => row.plan.room = count(argument)?,
         "failing_reads" => row.plan.failing_reads = numbers(alloc, argument)?,
@@ -241,6 +262,14 @@ fn set(alloc: Global, row: &mut Row, key: &str, argument: &str) -> Result<(), Fa
         "failing_writes" => row.plan.failing_writes = numbers(alloc, argument)?,
         "failing_reports" => row.plan.failing_reports = numbers(alloc, argument)?,
         _ => return Err(Fault::UnknownMarker),
+    }
+    Ok(())
+}
+
+/// Adds the words of a line.
+fn add_words(alloc: Global, words: &mut Vec<String>, line: &str) -> Result<(), Fault> {
+    for word in line.split_whitespace() {
+        words.push(String::from_str(alloc, word)?)?;
     }
     Ok(())
 }

@@ -2,6 +2,8 @@
 
 use crate::outcome::{Outcome, outcome_on, shelf_files};
 use crate::row::{Row, Variants, Variation, Varied};
+use row_tables::NamedText;
+use rst_outside::ShelfFile;
 use std::alloc::{AllocError, Global};
 
 /// Runs a row with each of the texts that come of one, adds a line to the report for each that ends otherwise than it
@@ -12,25 +14,52 @@ pub fn tell_variants(
     variants: &Variants,
     report: &mut String,
 ) -> Result<bool, AllocError> {
-    let name = row.name.as_str();
     let text = varied_text(alloc, row, variants.varied)?;
     let count = count_of(variants.variation, text.len());
-    let mut all_well = true;
-    for number in 0..count {
-        let came = outcome_with(alloc, row, variants, &text, number)?;
-        if !may_come(&came, &variants.statuses) {
-            let status = came.status;
-            writeln!(
-                report,
-                "{name}: text {number}: status {status}, or what it printed"
-            )?;
-            all_well = false;
-        }
-    }
+    let all_well = tell_all(alloc, row, variants, &text, count, report)?;
     if all_well {
-        writeln!(report, "{name}: ok, {count} texts")?;
+        writeln!(report, "{}: ok, {count} texts", row.name)?;
     }
     Ok(all_well)
+}
+
+/// Runs a row with so many of the texts that come of one, and tells whether all ended as they may.
+fn tell_all(
+    alloc: Global,
+    row: &Row,
+    variants: &Variants,
+    text: &[u8],
+    count: usize,
+    report: &mut String,
+) -> Result<bool, AllocError> {
+    let mut all_well = true;
+    for number in 0..count {
+        let is_well = tell_one(alloc, row, variants, text, number, report)?;
+        all_well = all_well && is_well;
+    }
+    Ok(all_well)
+}
+
+/// Runs a row with the text of this number, adds a line where it ends otherwise than it may, and tells whether it
+/// does not.
+fn tell_one(
+    alloc: Global,
+    row: &Row,
+    variants: &Variants,
+    text: &[u8],
+    number: usize,
+    report: &mut String,
+) -> Result<bool, AllocError> {
+    let came = outcome_with(alloc, row, variants, text, number)?;
+    if may_come(&came, &variants.statuses) {
+        return Ok(true);
+    }
+    let (name, status) = (row.name.as_str(), came.status);
+    writeln!(
+        report,
+        "{name}: text {number}: status {status}, or what it printed"
+    )?;
+    Ok(false)
 }
 
 /// The text that is varied.
@@ -77,14 +106,26 @@ fn outcome_with(
     number: usize,
 ) -> Result<Outcome, AllocError> {
     let made = variant(alloc, text, variants.variation, number)?;
-    let mut files = shelf_files(alloc, &row.files)?;
-    match (variants.varied, files.last_mut()) {
-        (Varied::File, Some(file)) => {
-            file.bytes = made;
+    match variants.varied {
+        Varied::Input => outcome_on(alloc, row, made, shelf_files(alloc, &row.files)?),
+        Varied::File => {
+            let files = files_with(alloc, &row.files, made)?;
             outcome_on(alloc, row, row.input.whole(alloc)?, files)
         }
-        _ => outcome_on(alloc, row, made, files),
     }
+}
+
+/// The files of a row for the shelf, the last one with these bytes.
+fn files_with(
+    alloc: Global,
+    files: &[NamedText],
+    bytes: Vec<u8>,
+) -> Result<Vec<ShelfFile>, AllocError> {
+    let mut made = shelf_files(alloc, files)?;
+    if let Some(last) = made.last_mut() {
+        last.bytes = bytes;
+    }
+    Ok(made)
 }
 
 /// Whether a run ended as it may: with one of the statuses, and with a text on `out` alone where it is a result, and

@@ -1,0 +1,18 @@
+//! Calls that search: branch and bound, networks of saturated arcs, local search.
+
+mod asked;
+mod searching;
+mod shortening;
+mod telling;
+
+use row_tables::{Call, Fault};
+use std::alloc::Global;
+
+/// Makes the call of a row, and writes what comes of it.
+pub fn answer(alloc: Global, call: &Call, answer: &mut String) -> Result<(), Fault> {
+    match call.kind() {
+        "solve" | "steps" | "saturated" => searching::search(alloc, call, answer),
+        "shorter" => shortening::shorter(alloc, call, answer),
+        _ => Err(Fault::UnknownSubject),
+    }
+}

@@ -1,0 +1,153 @@
+//! Searches by splits, whole and step by step, and networks of saturated arcs.
+
+ghost use Rattle.std.specs.Prelude.{◌<◌, length};
+ghost use Rattle.cert_tree.specs.Preorder.{split_count};
+ghost use Rattle.dual_ascent.specs.Choosing.{IsCallableOnSome, AnswersAPlace};
+
+use crate::described::graph;
+use crate::search::asked::{asked_ascents, asked_kind, asked_splits, network};
+use crate::search::telling::tell_solved;
+use crate::told::tell_edges;
+use branch::{Search, Step, saturated_network, solve_graph};
+use dual_ascent::{Candidate, Chooser, Rule, ascend};
+use net_graph::{Decision, NetGraph, Packing};
+use row_tables::{Call, Fault};
+use search_rules::{ascent_place, split_place};
+use std::alloc::Global;
+
+/// Makes a call by the rules that the row names.
+pub fn search(alloc: Global, call: &Call, answer: &mut String) -> Result<(), Fault> {
+    let ascents = asked_ascents(call)?;
+    let splits = asked_splits(call)?;
+    search_by(
+        alloc,
+        call,
+        |list: &[Candidate]| -> usize
+            requires { 0 < length list.now }
+            ensures { result < length list.now }
+        { ascent_place(ascents, list) },
+        |list: &[Candidate]| -> usize
+            requires { 0 < length list.now }
+            ensures { result < length list.now }
+        { split_place(splits, list) },
+        answer,
+    )
+}
+
+// The same by any rules.
+fn search_by<F: Rule, G: Rule>(
+    alloc: Global,
+    call: &Call,
+    ascent: F,
+    split: G,
+    answer: &mut String,
+) -> Result<(), Fault>
+    requires ascent_callable { IsCallableOnSome (F.may_choose ascent) }
+    requires ascent_place { AnswersAPlace (F.chooses ascent) }
+    requires split_callable { IsCallableOnSome (G.may_choose split) }
+    requires split_place { AnswersAPlace (G.chooses split) }
+{
+    let g = graph(alloc, call)?;
+    let ascent = Chooser::new(ascent);
+    let split = Chooser::new(split);
+    match call.kind() {
+        "solve" => solve(alloc, call, &g, ascent, split, answer),
+        "steps" => steps(alloc, call, &g, ascent, split, answer),
+        _ => saturated(alloc, &g, &ascent, answer),
+    }
+}
+
+// What a search finds that begins with the edges under `edges` and may make so many splits as stand under `openings`.
+fn solve<F: Rule, G: Rule>(
+    alloc: Global,
+    call: &Call,
+    g: &NetGraph,
+    ascent: Chooser<F>,
+    split: Chooser<G>,
+    answer: &mut String,
+) -> Result<(), Fault> {
+    let first = network(alloc, call, g)?;
+    let allowed = call.byte("openings")?;
+    let kind = asked_kind(call)?;
+    let solved = solve_graph(alloc, g, first, allowed, ascent, split, kind)?;
+    tell_solved(answer, &solved)
+}
+
+// The same step by step: what the first leaf shows, once no cuts raised it, and what comes of each of the steps whose
+// number stands under `steps`.
+fn steps<F: Rule, G: Rule>(
+    alloc: Global,
+    call: &Call,
+    g: &NetGraph,
+    ascent: Chooser<F>,
+    split: Chooser<G>,
+    answer: &mut String,
+) -> Result<(), Fault> {
+    let first = network(alloc, call, g)?;
+    let kind = asked_kind(call)?;
+    let mut search = Search::start(alloc, g, first, ascent, split, kind)?;
+    search.raise(Packing::empty(alloc))?;
+    if let Some(shown) = search.shown() {
+        tell_edges(answer, "shown", shown)?;
+    }
+    take_steps(&mut search, call.byte("steps")?, answer)?;
+    tell_search(answer, &search)?;
+    Ok(writeln!(answer, "bound {}", search.finish().bound)?)
+}
+
+// Takes so many steps, and tells what comes of each. A step that is refused is taken once more, as the refusal leaves
+// the search as it was: `bench/allocations` refuses each of its allocations and looks whether the same tree comes.
+fn take_steps<F: Rule, G: Rule>(
+    search: &mut Search<F, G>,
+    count: u8,
+    answer: &mut String,
+) -> Result<(), Fault> {
+    for _ in 0..count {
+        if search.splits() >= 255 {
+            return Err(Fault::NotAllowed);
+        }
+        let word = match step_again(search)? {
+            Step::Split => "split",
+            Step::Settled => "settled",
+        };
+        writeln!(answer, "{word}")?;
+    }
+    Ok(())
+}
+
+// Takes a step, and once more where it was refused.
+fn step_again<F: Rule, G: Rule>(search: &mut Search<F, G>) -> Result<Step, Fault>
+    requires { split_count search.old.tree < 255 }
+{
+    if let Ok(step) = search.split_one() {
+        return Ok(step);
+    }
+    Ok(search.split_one()?)
+}
+
+// Tells the network, how far the search is, and by its place the leaf that is open next, if one is.
+fn tell_search<F: Rule, G: Rule>(answer: &mut String, search: &Search<F, G>) -> Result<(), Fault> {
+    tell_edges(answer, "network", search.network())?;
+    writeln!(answer, "settled {}", search.is_settled())?;
+    if let Some(place) = search.next_open() {
+        writeln!(answer, "next {place}")?;
+    }
+    writeln!(answer, "splits {}", search.splits())?;
+    Ok(writeln!(answer, "leaves {}", search.tree().leaves())?)
+}
+
+// The network of saturated arcs of the ascent from no cut, where nothing is decided.
+fn saturated<F: Rule>(
+    alloc: Global,
+    g: &NetGraph,
+    ascent: &Chooser<F>,
+    answer: &mut String,
+) -> Result<(), Fault> {
+    let decision = Decision::none(alloc, g)?;
+    let made = ascend(alloc, g, &decision, Packing::empty(alloc), ascent)?;
+    if made.closed {
+        return Err(Fault::NotAllowed);
+    }
+    let set = saturated_network(alloc, g, &decision, &made.packing)?;
+    tell_edges(answer, "saturated", &set)
+}

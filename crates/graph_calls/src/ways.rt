@@ -1,0 +1,48 @@
+//! Searches over the arcs of a graph that may be walked.
+
+ghost use Rattle.std.specs.Prelude.{◌≡◌, ◌%◌, ◌==◌, length};
+
+use crate::described::{graph, only};
+use crate::told::tell_vertices;
+use net_graph::{NetGraph, Passage, found_leading_to, reached_from};
+use row_tables::{Call, Fault};
+use std::alloc::Global;
+
+// Each edge may be walked from its end a to its end b alone.
+#[derive(Clone, Copy)]
+struct OneWay {
+    edges: u32,
+}
+
+impl Passage for OneWay {
+    ghost opens = { λ _ arc. arc % 2 == 0 };
+
+    ghost edges = { λ way. way.edges };
+
+    fn is_open(&self, arc: u32) -> bool {
+        arc % 2 == 0
+    }
+}
+
+/// What is reached from the vertex under `from`, and from where it is reached, where each edge of the graph may be
+/// walked from its first end to its second alone.
+pub fn ways(alloc: Global, call: &Call, answer: &mut String) -> Result<(), Fault> {
+    let v = only(call.text("from")?)?;
+    tell_ways(alloc, &graph(alloc, call)?, v, answer)
+}
+
+// The same on a graph.
+fn tell_ways(alloc: Global, g: &NetGraph, v: u32, answer: &mut String) -> Result<(), Fault> {
+    if v >= g.vertex_count() {
+        return Err(Fault::NotAllowed);
+    }
+    let way = OneWay {
+        edges: g.edge_count(),
+    };
+    tell_vertices(answer, "reached", &reached_from(alloc, g, v, &way)?)?;
+    tell_vertices(
+        answer,
+        "leading",
+        found_leading_to(alloc, g, v, &way)?.set(),
+    )
+}

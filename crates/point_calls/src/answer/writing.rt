@@ -1,0 +1,75 @@
+//! Answers that are written.
+
+ghost use Rattle.std.specs.Prelude.{IfOk};
+ghost use Rattle.hanan_grid.specs.Grid.{hanan_grid_of};
+ghost use Rattle.answer_text.specs.Answers.{IsAnswerOn};
+
+use crate::answer::described::cuts;
+use crate::grid::described::grid;
+use answer_text::{Answer, AnswerHead, ConcatNote, answer_len, write_answer};
+use cert_tree::CertTree;
+use graph_calls::described::edges;
+use hanan_grid::Grid;
+use row_tables::{Call, Fault, shown};
+use rst_outside::MemSink;
+use std::alloc::Global;
+
+/// The greatest number of bytes that are written.
+const ROOM: usize = 1 << 16;
+
+/// The text of an answer whose tree is a leaf, and its length.
+pub fn write(alloc: Global, call: &Call, answer: &mut String) -> Result<(), Fault> {
+    let grid = grid(alloc, call)?;
+    let described = described_answer(alloc, call, &grid)?;
+    write_described(alloc, &grid, &described, answer)
+}
+
+// The text of an answer, and its length.
+fn write_described(
+    alloc: Global,
+    grid: &Grid,
+    described: &Answer,
+    answer: &mut String,
+) -> Result<(), Fault>
+    requires { IsAnswerOn (hanan_grid_of grid.now) described.now }
+{
+    let mut sink = MemSink::with_room(alloc, ROOM, 7, Vec::new(alloc))?;
+    if write_answer(&mut sink, grid, described).is_err() {
+        writeln!(answer, "cut short")?;
+    }
+    let text = shown(sink.bytes())?;
+    Ok(writeln!(answer, "{text}{} bytes", answer_len(grid, described))?)
+}
+
+// The answer whose head, edges and cuts stand under these words.
+fn described_answer(alloc: Global, call: &Call, grid: &Grid) -> Result<Answer, Fault>
+    ensures { IfOk result (λ answer. IsAnswerOn (hanan_grid_of grid.now) answer) }
+{
+    let g = grid.graph();
+    let cuts = cuts(alloc, call, grid)?;
+    if cuts.len() > 4 * g.edge_count() as usize + 1 {
+        return Err(Fault::NotAllowed);
+    }
+    Ok(Answer {
+        head: head(alloc, call)?,
+        network: edges(alloc, call, g, "edges")?,
+        tree: CertTree::leaf(alloc, cuts)?,
+    })
+}
+
+// The head under `head`: length, bound, 1 for optimal or 0, openings, 1 for least or 0, and the total.
+fn head(alloc: Global, call: &Call) -> Result<AnswerHead, Fault> {
+    match call.numbers(alloc, "head")?.as_slice() {
+        [length, bound, optimal, openings, least, total] if *openings < 256 => Ok(AnswerHead {
+            length: *length,
+            bound: *bound,
+            optimal: *optimal == 1,
+            openings: *openings as u8,
+            concat: ConcatNote {
+                least: *least == 1,
+                total: u128::from(*total),
+            },
+        }),
+        _ => Err(Fault::BadNumber),
+    }
+}
