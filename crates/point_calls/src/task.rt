@@ -14,8 +14,8 @@ use std::alloc::Global;
 use stp_format::{StpFile, read_stp};
 use text_in::FormatFault;
 
-/// Makes the call of a row, and writes what comes of it: the fault of the STP file under `file` as a Steiner problem, or
-/// what is asked of its graph. The file may stand in several pieces, one behind the other.
+/// Makes the call of a row, and writes what comes of it: the fault of the STP file under `file` as a Steiner problem,
+/// or what is asked of its graph. The file may stand in several pieces, one behind the other.
 pub fn answer(alloc: Global, call: &Call, answer: &mut String) -> Result<(), Fault> {
     let file = given_file(alloc, call)?;
     match graph_of(alloc, &file) {
