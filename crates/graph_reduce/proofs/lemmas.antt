@@ -3,6 +3,7 @@ pub mod Lengths
 pub mod Walks
 pub mod Terminals
 pub mod Unions
+pub mod Originals
 pub mod Keeping
 pub mod Ends
 pub mod Drops
@@ -22,9 +23,6 @@ pub mod Renumbering
 pub mod LiftingLaw
 pub mod FitLaw
 pub mod Sizes
-pub mod HeldPlaces
-pub mod Carriers
-pub mod HeldStates
 pub mod Start
 pub mod Clearing
 pub mod Longer
@@ -33,8 +31,6 @@ pub mod Seeing
 pub mod SurveyLaws
 pub mod Agreeing
 pub mod Renewing
-pub mod Following
-pub mod LeadingUp
 pub mod NodeRuleLaws
 pub mod Bounds
 pub mod NodeTaken

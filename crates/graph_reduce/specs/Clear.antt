@@ -61,3 +61,7 @@ pub record GoesOn (old new : State) : Type 0 where
   pub step : IsStep old next
   pub rest : LeadsTo next new
   pub tidy : IsTidy new
+
+-- what each edge stands for is a set of the size of the forced edges
+abbrev pub HasSetsOfOneSize : State → Type 0
+HasSetsOfOneSize s = (place : ℕ) (x : Bundle) → HasEdge s place x → length x.originals ≡ length s.forced

@@ -1,3 +1,4 @@
+pub mod Originals
 pub mod State
 pub mod Rules
 pub mod Step
@@ -6,7 +7,6 @@ pub mod OneReduction
 pub mod Lifting
 pub mod Fitness
 pub mod Ending
-pub mod Held
 pub mod Clear
 pub mod NumberSets
 pub mod Survey
@@ -14,5 +14,4 @@ pub mod NodeRules
 pub mod Due
 pub mod UpToDate
 pub mod Left
-pub mod LeftArrays
 pub mod Text

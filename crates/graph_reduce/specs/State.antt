@@ -1,13 +1,9 @@
 -- States of a reduction: what is left of a graph with terminals, and what is certain by then.
 use Rattle.std.specs.Prelude.{ℕ, ◌+◌, ◌==◌, ◌≡◌, ◌⊎◌, Bool, true, false, not, ◌||◌, List, [], ◌∷◌, length, replicate, filter, slice_get, slice_set, Option, Some, Contains}
 use Rattle.net_graph.specs.declared.edge.Edge.{Edge}
+pub use Rattle.graph_reduce.specs.declared.originals.Bundle.{Bundle}
 use Rattle.net_graph.specs.Graph.{Graph}
 use Rattle.net_graph.specs.Network.{HasEnds}
-
--- an edge, and the set of the graph's edges that it stands for
-pub record Bundle : Type 0 where
-  pub edge : Edge
-  pub originals : List Bool
 
 -- Nodes keep the graph's numbers, and `nodes` is the set of those that are left. Edges are known by their places; a
 -- place whose edge is dropped holds none. The forced edges of the graph are in every lifted network, and the offset is

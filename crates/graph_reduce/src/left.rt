@@ -1,9 +1,11 @@
 //! The nodes and edges that are left, with their new numbers.
 
-ghost use Rattle.std.specs.Prelude.{◌≡◌, ◌<◌, ◌≤◌, length, map, slice_index, All, IfOk};
+ghost use Rattle.std.specs.Prelude.{◌≡◌, ◌<◌, length, map, slice_index, All, IfOk};
 ghost use Rattle.net_graph.specs.Members.{members_of};
-ghost use Rattle.graph_reduce.specs.Left.{places_left, edges_left, numbers_of, HaveEndsBelow};
+ghost use Rattle.graph_reduce.specs.Reduction.{bundles_left};
+ghost use Rattle.graph_reduce.specs.Left.{edges_left, numbers_of, HaveEndsBelow};
 
+use crate::originals::{Bundle, Originals};
 use lists::ItemList;
 use net_graph::{Edge, EdgeList, VertexList, VertexSet};
 use std::alloc::{AllocError, Global};
@@ -35,24 +37,10 @@ impl Numbering {
     }
 }
 
-/// The places that hold an edge. An `Err` is want of memory.
-pub(crate) fn held_places(alloc: Global, edges: &[Option<Edge>]) -> Result<Vec<u32>, AllocError>
-    requires { length edges.now ≤ 4900 }
-    ensures { IfOk result (λ v. v.items ≡ places_left 0 edges.now) }
-{
-    let mut places = Vec::new(alloc);
-    for (place, held) in edges.iter().enumerate() {
-        if held.is_some() {
-            places.push(place as u32)?;
-        }
-    }
-    Ok(places)
-}
-
 /// The edges that are left, between new numbers. An `Err` is want of memory.
 pub(crate) fn renumbered_edges(
     alloc: Global,
-    edges: &[Option<Edge>],
+    edges: &[Option<Bundle>],
     numbers: &[u32],
 ) -> Result<EdgeList, AllocError>
     requires { HaveEndsBelow (length numbers.now) edges.now }
@@ -60,15 +48,31 @@ pub(crate) fn renumbered_edges(
 {
     let mut left = Vec::new(alloc);
     for held in edges {
-        if let Some(edge) = held {
+        if let Some(bundle) = held {
             left.push(Edge {
-                a: numbers[edge.a as usize],
-                b: numbers[edge.b as usize],
-                length: edge.length,
+                a: numbers[bundle.edge.a as usize],
+                b: numbers[bundle.edge.b as usize],
+                length: bundle.edge.length,
             })?;
         }
     }
     Ok(ItemList::from_vec(left))
+}
+
+/// What the edges that are left stand for. An `Err` is want of memory.
+pub(crate) fn originals_left(
+    alloc: Global,
+    edges: Vec<Option<Bundle>>,
+) -> Result<Vec<Originals>, AllocError>
+    ensures { IfOk result (λ v. v.items ≡ map (λ x. x.originals) (bundles_left edges.items)) }
+{
+    let mut left = Vec::new(alloc);
+    for held in edges {
+        if let Some(bundle) = held {
+            left.push(bundle.originals)?;
+        }
+    }
+    Ok(left)
 }
 
 /// The new numbers of the terminals. An `Err` is want of memory.

@@ -9,6 +9,7 @@ mod node_edges;
 mod node_rules;
 mod number_sets;
 mod numbers;
+mod originals;
 mod places;
 mod reduction;
 mod set_lines;

@@ -1,10 +1,10 @@
 //! The parts of the first state of a reduction.
 
-ghost use Rattle.std.specs.Prelude.{◌≡◌, ◌<◌, ◌≤◌, true, length, map, replicate, IfOk, Some};
-ghost use Rattle.std.specs.List.{range_with_len};
-ghost use Rattle.graph_reduce.specs.State.{distinct_of};
+ghost use Rattle.std.specs.Prelude.{◌≡◌, ◌<◌, true, length, replicate, IfOk, Some};
+ghost use Rattle.graph_reduce.specs.State.{bundles_from, distinct_of};
 
 use crate::numbers::stands_in;
+use crate::originals::{Bundle, Originals};
 use net_graph::{Edge, VertexSet};
 use std::alloc::{AllocError, Global};
 
@@ -19,22 +19,23 @@ pub(crate) fn every_node(alloc: Global, count: u32) -> Result<VertexSet, AllocEr
     Ok(set)
 }
 
-// Each edge in its place. An `Err` is want of memory.
-pub(crate) fn every_edge(alloc: Global, edges: &[Edge]) -> Result<Vec<Option<Edge>>, AllocError>
-    ensures { IfOk result (λ v. v.items ≡ map (λ e. Some e) edges.now) }
+// Each edge in its place, which stands for itself. An `Err` is want of memory.
+pub(crate) fn every_edge(
+    alloc: Global,
+    edges: &[Edge],
+    size: u32,
+) -> Result<Vec<Option<Bundle>>, AllocError>
+    requires { length edges.now ≡ size }
+    ensures { IfOk result (λ v. v.items ≡ bundles_from size 0 edges.now) }
 {
-    edges.iter().map(|e| Some(*e)).collect(alloc)
-}
-
-// For each edge its own place. An `Err` is want of memory.
-pub(crate) fn own_places(alloc: Global, count: u32) -> Result<Vec<u32>, AllocError>
-    ensures { IfOk result (λ v. v.items ≡ range_with_len 0 count) }
-{
-    let mut places = Vec::with_capacity(alloc, count as usize)?;
-    for place in 0..count {
-        places.push(place)?;
+    let mut bundles = Vec::with_capacity(alloc, edges.len())?;
+    for (n, edge) in edges.iter().enumerate() {
+        bundles.push(Some(Bundle {
+            edge: *edge,
+            originals: Originals::of_one(alloc, size, n as u32)?,
+        }))?;
     }
-    Ok(places)
+    Ok(bundles)
 }
 
 // The numbers without repeats, each where it stands first. An `Err` is want of memory.

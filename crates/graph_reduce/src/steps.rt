@@ -123,7 +123,7 @@ fn join_at(work: &mut Work, survey: &mut Survey, due: &mut Due, v: u32) -> Resul
     match edges {
         NodeEdges::TwoEdges(earlier, later) => {
             survey.list(other_end(work.edge_at(later), v), earlier)?;
-            join_edges(work, v, earlier, later);
+            join_edges(work, v, earlier, later)?;
             drop_alike(work, survey, due, earlier)
         }
         _ => unreachable!(),

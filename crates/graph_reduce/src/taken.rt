@@ -34,13 +34,18 @@ pub(crate) fn drop_leaf(work: &mut Work, v: u32, edges: NodeEdges)
     }
 }
 
-/// Joins the two edges of a node that is no terminal, and drops the node.
-pub(crate) fn join_edges(work: &mut Work, v: u32, earlier: u32, later: u32)
+/// Joins the two edges of a node that is no terminal, and drops the node. An `Err` is want of memory.
+pub(crate) fn join_edges(
+    work: &mut Work,
+    v: u32,
+    earlier: u32,
+    later: u32,
+) -> Result<(), AllocError>
     requires reached { IsReached work.old }
     requires node { HasNode work.old v }
     requires free { ¬ IsTerminal work.old v }
     requires edges { HasTwoBelow work.old v (length work.old.edges) earlier later }
-    ensures { (joins : JoinsEdges v work.old work.new) × (joins.earlier ≡ earlier) × (joins.later ≡ later) }
+    ensures { OnOk result ((joins : JoinsEdges v work.old work.new) × (joins.earlier ≡ earlier) × (joins.later ≡ later)) }
 {
     let x = work.edge_at(earlier);
     let y = work.edge_at(later);
@@ -49,8 +54,9 @@ pub(crate) fn join_edges(work: &mut Work, v: u32, earlier: u32, later: u32)
         b: other_end(y, v),
         length: x.length + y.length,
     };
-    work.join_edges(earlier, later, edge);
+    work.join_edges(earlier, later, edge)?;
     work.drop_node(v);
+    Ok(())
 }
 
 /// Forces the edge of a terminal, and drops the terminal.

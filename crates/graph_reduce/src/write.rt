@@ -1,14 +1,13 @@
 //! The text of a reduction.
 
-ghost use Rattle.std.specs.Prelude.{◌≡◌, ◌<◌, ◌≤◌, ◌++◌, ◌∷◌, List, ℕ, length, flat_map, slice_get, slice_index_or, All, codes};
-ghost use Rattle.std.specs.Fmt.{decimal};
+ghost use Rattle.std.specs.Prelude.{◌<◌, ◌≤◌, length, flat_map, All};
 ghost use Rattle.rst_outside.specs.Sink.{Writes};
 ghost use Rattle.text_out.specs.Gathers.{Gathers};
 ghost use Rattle.net_graph.specs.Graph.{HasEndsBelow};
 ghost use Rattle.net_graph.specs.Members.{members_of};
 ghost use Rattle.graph_reduce.specs.Text.{number_line, next_number, left_line, left_lines, forced_text, nodes_text, edges_text, end_text, left_text, reduced_text};
-ghost use Rattle.graph_reduce.specs.Left.{originals_at};
 
+use crate::originals::Originals;
 use crate::reduction::Reduced;
 use crate::set_lines::{write_count, write_number, write_set};
 use net_graph::{Edge, NetGraph};
@@ -107,35 +106,34 @@ fn write_edge_lines<S: Sink>(block: &mut Block, sink: &mut S, reduced: &Reduced)
         (S.state sink.new) block.new }
 {
     for n in 0..reduced.graph().edge_count() {
-        write_edge(block, sink, reduced, n, reduced.graph().edge(n));
+        write_edge(block, sink, reduced.graph().edge(n), reduced.originals(n));
     }
 }
 
 // The line of an edge.
 #[tactic(auto, using(text_out::specs::GatherLaws::pieces))]
-fn write_edge<S: Sink>(block: &mut Block, sink: &mut S, reduced: &Reduced, n: u32, edge: Edge)
-    requires number { n < length reduced.now.graph.edges }
+fn write_edge<S: Sink>(block: &mut Block, sink: &mut S, edge: Edge, originals: &Originals)
     requires ends { HasEndsBelow 2500 edge }
-    ensures { Gathers (S.state sink.old) block.old (left_line edge (originals_at reduced.now n))
-        (S.state sink.new) block.new }
+    requires few { length originals.now ≤ 4900 }
+    ensures { Gathers (S.state sink.old) block.old (left_line edge originals.now) (S.state sink.new) block.new }
 {
     number(block, sink, edge.a.min(edge.b) + 1);
     literal(block, sink, b" ");
     number(block, sink, edge.a.max(edge.b) + 1);
     literal(block, sink, b" ");
     number(block, sink, edge.length);
-    write_originals(block, sink, reduced, n);
+    write_originals(block, sink, originals);
     literal(block, sink, b"\n");
 }
 
 // The original edges that an edge stands for, ascending, each behind a blank.
-fn write_originals<S: Sink>(block: &mut Block, sink: &mut S, reduced: &Reduced, n: u32)
-    requires { n < length reduced.now.graph.edges }
-    ensures { Gathers (S.state sink.old) block.old (flat_map next_number (members_of (originals_at reduced.now n)))
+fn write_originals<S: Sink>(block: &mut Block, sink: &mut S, originals: &Originals)
+    requires { length originals.now ≤ 4900 }
+    ensures { Gathers (S.state sink.old) block.old (flat_map next_number (members_of originals.now))
         (S.state sink.new) block.new }
 {
-    for e in 0..reduced.original_count() {
-        if reduced.stands_for(n, e) {
+    for e in 0..originals.len() {
+        if originals.has(e) {
             write_next(block, sink, e);
         }
     }

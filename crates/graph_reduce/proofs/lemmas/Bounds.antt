@@ -7,7 +7,7 @@ use Rattle.net_graph.specs.EntryLaws.{slice_get-set_other}
 use Rattle.net_graph.specs.Graph.{Graph, IsGraph}
 use Rattle.graph_reduce.specs.State.{Bundle, State, HasEdge, start_of}
 use Rattle.graph_reduce.specs.Survey.{IsNumbered}
-use Rattle.graph_reduce.specs.Clear.{LeadsTo, IsReached, GoesOn}
+use Rattle.graph_reduce.specs.Clear.{LeadsTo, IsReached, HasSetsOfOneSize, GoesOn}
 use Rattle.graph_reduce.proofs.lemmas.Clearing.{one_step, then_steps}
 use Rattle.graph_reduce.proofs.lemmas.Fits.{Fits, Fits-start, all}
 use Rattle.graph_reduce.proofs.lemmas.Lengths.{length_in-set}
@@ -33,6 +33,9 @@ module _ (s : State) (reached : IsReached s) where
         (sound.terminals (slice_index_or s.terminals k d)
         (In-from_Contains s.terminals (slice_index_or s.terminals k d) (Contains-get_or s.terminals k d below)));
   }
+
+  pub reached_sizes : HasSetsOfOneSize s
+  reached_sizes n x at = fits.sizes n x at ∙ sym fits.forced
 
   pub reached_length : (n : ℕ) (x : Bundle) → HasEdge s n x → s.offset + x.edge.length < 2 ^ 63
   reached_length n x at =

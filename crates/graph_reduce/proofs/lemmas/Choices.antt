@@ -1,7 +1,8 @@
 -- Sets of places as tests, and how one place is put in or taken out.
-use Rattle.std.specs.Prelude.{ℕ, ◌≡◌, ◌==◌, Bool, true, false, List, slice_get, slice_set, Some, if◌then◌else◌, ◌⊎◌}
+use Rattle.std.specs.Prelude.{ℕ, zero, suc, ◌≡◌, ◌==◌, Bool, true, false, List, [], ◌∷◌, slice_get, slice_set, Some, if◌then◌else◌, ◌⊎◌}
 use Rattle.std.proofs.Common.{refl, sym, ap, ◌∙◌, inl, inr, subst, arith, length-set}
 use Rattle.std.proofs.lemmas.Bool.{cases_eq, eq-eqb, ne_eqb}
+use Rattle.std.proofs.lemmas.List.{set-set}
 use Rattle.std.proofs.lemmas.Option.{slice_get_within, same_Some}
 use Rattle.net_graph.specs.EntryLaws.{slice_get-set_same, slice_get-set_other}
 
@@ -43,3 +44,13 @@ set_cases xs n k x y found = elim (cases_eq k n) [
     at_n : k ≡ n → slice_get (slice_set xs n x) n ≡ Some x
     at_n here = slice_get-set_same xs n x
         (let within = slice_get_within (slice_set xs n x) n y (found_n here) in omega (arith, within, length-set xs n x))
+
+-- one entry is written over, before and after another was
+pub set_over : {A : Type 0} (xs : List A) (i j : ℕ) (a b c : A) → (i ≡ j → ⊥) →
+    slice_set (slice_set (slice_set xs i a) j b) i c ≡ slice_set (slice_set xs i c) j b
+set_over [] i j a b c apart = refl
+set_over (x ∷ xs) zero zero a b c apart = absurd (apart refl)
+set_over (x ∷ xs) zero (suc j) a b c apart = refl
+set_over (x ∷ xs) (suc i) zero a b c apart = ap (λ more. b ∷ more) (set-set xs i a c)
+set_over (x ∷ xs) (suc i) (suc j) a b c apart =
+    ap (λ more. x ∷ more) (set_over xs i j a b c (λ same. apart (ap suc same)))

@@ -9,7 +9,7 @@ use Rattle.net_graph.specs.EntryLaws.{slice_get-replicate}
 use Rattle.net_graph.specs.Flags.{has}
 use Rattle.net_graph.specs.Joins.{slice_get-has}
 use Rattle.net_graph.specs.Graph.{Graph, IsGraph, total_of}
-use Rattle.graph_reduce.specs.State.{Bundle, State, HasEdge, union, bundles_from, distinct_of, start_of}
+use Rattle.graph_reduce.specs.State.{Bundle, State, HasEdge, bundles_from, distinct_of, start_of}
 use Rattle.graph_reduce.specs.Rules.{DropsAllEdges, DropsParallel, DropsLoneNode, JoinsEdges, ForcesEdge, moved, without_edge}
 use Rattle.graph_reduce.specs.Step.{Rule, Takes, Applies, order_of}
 use Rattle.graph_reduce.specs.Step.Rule.{OneTerminal, Loop, Parallel, Leaf, Passed, TerminalLeaf}
@@ -19,7 +19,7 @@ use Rattle.graph_reduce.proofs.lemmas.Keeping.{value_of, dropped, found_before, 
 use Rattle.graph_reduce.proofs.lemmas.Lengths.{length_in, length_in-set, length_in-none}
 use Rattle.graph_reduce.proofs.lemmas.Soundness.{bundle_at, no_loop}
 use Rattle.graph_reduce.proofs.lemmas.Terminals.{In, In-from_Contains, In-moved_to}
-use Rattle.graph_reduce.proofs.lemmas.Unions.{union_cases}
+use Rattle.graph_reduce.proofs.lemmas.Unions.{union_cases, length-union}
 
 -- all places are chosen
 abbrev pub all : ℕ → Bool
@@ -43,7 +43,7 @@ some_from_In (x ∷ xs) v is = omega arith
 
 -- ---- the first state
 
-length-bundles_from : (size n : ℕ) (es : List Edge) → length (bundles_from size n es) ≡ length es
+pub length-bundles_from : (size n : ℕ) (es : List Edge) → length (bundles_from size n es) ≡ length es
 length-bundles_from size n [] = refl
 length-bundles_from size n (e ∷ es) = ap suc (length-bundles_from size (n + 1) es)
 
@@ -114,11 +114,6 @@ fits_none g old new fits drops = subst (Fits g) (sym drops.becomes)
 fits_lone : (g : Graph) (v : ℕ) (old new : State) → Fits g old → DropsLoneNode v old new → Fits g new
 fits_lone g v old new fits drops = subst (Fits g) (sym drops.becomes)
     (fits_less g old _ fits (length-set old.nodes v false) refl refl refl (omega arith) (λ n x at. at))
-
-pub length-union : (xs ys : List Bool) → length xs ≡ length ys → length (union xs ys) ≡ length ys
-length-union [] ys size = refl
-length-union (x ∷ xs) [] size = absurd (omega arith)
-length-union (x ∷ xs) (y ∷ ys) size = ap suc (length-union xs ys (omega arith))
 
 fits_parallel : (g : Graph) (place : ℕ) (old new : State) → Fits g old → DropsParallel place old new → Fits g new
 fits_parallel g place old new fits drops = subst (Fits g) (sym drops.becomes)

@@ -1,5 +1,5 @@
 -- Texts of lists and sets, item after item.
-use Rattle.std.specs.Prelude.{ℕ, zero, suc, ◌≡◌, ◌+◌, ◌<◌, Bool, true, false, List, [], ◌∷◌, ◌++◌, flat_map, length, take, slice_get, slice_index_or, Some, if◌then◌else◌}
+use Rattle.std.specs.Prelude.{ℕ, zero, suc, ◌≡◌, ◌+◌, ◌<◌, Bool, true, false, List, [], ◌∷◌, ◌++◌, flat_map, length, take, slice_get, Some, if◌then◌else◌}
 use Rattle.std.proofs.Common.{sym, ap, ◌∙◌, append_assoc, arith, length-append}
 use Rattle.std.proofs.lemmas.Grind.{flat_map-append}
 use Rattle.std.proofs.lemmas.List.{append-nil, take_more}
@@ -24,21 +24,26 @@ members_without set n below is = sym (members_of-more set n below
     ∙ ap (λ b. members_of (take n set) ++ (if b then n ∷ [] else [])) is ∙ append-nil (members_of (take n set)))
 
 -- one edge more
-left_lines-suc : (edges : List Edge) (sets : List (List Bool)) (n : ℕ) (e : Edge) → slice_get edges n ≡ Some e →
-    n < length sets → left_lines (take n edges) (take n sets) ++ left_line e (slice_index_or sets n []) ≡
+left_lines-suc : (edges : List Edge) (sets : List (List Bool)) (n : ℕ) (e : Edge) (set : List Bool) →
+    slice_get edges n ≡ Some e → slice_get sets n ≡ Some set →
+    left_lines (take n edges) (take n sets) ++ left_line e set ≡
     left_lines (take (suc n) edges) (take (suc n) sets)
-left_lines-suc [] sets n e at below = absurd cc
-left_lines-suc (d ∷ edges) [] n e at below = absurd (omega arith)
-left_lines-suc (d ∷ edges) (set ∷ sets) zero e at below =
-    ap (λ x. left_line x set) (sym (same_Some d e at)) ∙ sym (append-nil (left_line d set))
-left_lines-suc (d ∷ edges) (set ∷ sets) (suc n) e at below =
-    append_assoc (left_line d set) (left_lines (take n edges) (take n sets)) (left_line e (slice_index_or sets n []))
-    ∙ ap (λ more. left_line d set ++ more) (left_lines-suc edges sets n e at (omega arith))
+left_lines-suc [] sets n e set at set_at = absurd cc
+left_lines-suc (d ∷ edges) [] n e set at set_at = absurd cc
+left_lines-suc (d ∷ edges) (t ∷ sets) zero e set at set_at =
+    let line : left_line e set ≡ left_line d t = (
+    let edge = same_Some d e at in let same = same_Some t set set_at in cc
+    ) in
+    line ∙ sym (append-nil (left_line d t))
+left_lines-suc (d ∷ edges) (t ∷ sets) (suc n) e set at set_at =
+    append_assoc (left_line d t) (left_lines (take n edges) (take n sets)) (left_line e set)
+    ∙ ap (λ more. left_line d t ++ more) (left_lines-suc edges sets n e set at set_at)
 
-pub left_lines-more : (edges : List Edge) (sets : List (List Bool)) (n : ℕ) (e : Edge) → slice_get edges n ≡ Some e →
-    n < length sets → left_lines (take n edges) (take n sets) ++ left_line e (slice_index_or sets n []) ≡
+pub left_lines-more : (edges : List Edge) (sets : List (List Bool)) (n : ℕ) (e : Edge) (set : List Bool) →
+    slice_get edges n ≡ Some e → slice_get sets n ≡ Some set →
+    left_lines (take n edges) (take n sets) ++ left_line e set ≡
     left_lines (take (n + 1) edges) (take (n + 1) sets)
-left_lines-more edges sets n e at below = left_lines-suc edges sets n e at below
+left_lines-more edges sets n e set at set_at = left_lines-suc edges sets n e set at set_at
     ∙ ap (λ m. left_lines (take m edges) (take m sets)) (let next : suc n ≡ n + 1 = omega arith in next)
 
 -- .. and how many there are

@@ -1,11 +1,11 @@
 -- What is in a union of sets of numbers.
-use Rattle.std.specs.Prelude.{ℕ, zero, suc, ◌≡◌, ◌⊎◌, ◌||◌, Bool, true, false, List, [], ◌∷◌}
-use Rattle.std.proofs.Common.{refl, sym, ◌∙◌}
+use Rattle.std.specs.Prelude.{ℕ, zero, suc, ◌≡◌, ◌⊎◌, ◌||◌, Bool, true, false, List, [], ◌∷◌, length}
+use Rattle.std.proofs.Common.{refl, sym, ap, ◌∙◌, arith}
 use Rattle.std.proofs.lemmas.Bool.{or_cases, or_left, or_right}
 use Rattle.net_graph.specs.Flags.{has}
 use Rattle.graph_reduce.specs.State.{union}
 
-or-false : (b : Bool) → (b || false) ≡ b
+pub or-false : (b : Bool) → (b || false) ≡ b
 or-false true = refl
 or-false false = refl
 
@@ -24,3 +24,21 @@ union_left xs ys e is = has-union xs ys e ∙ or_left (has xs e) (has ys e) is
 
 pub union_right : (xs ys : List Bool) (e : ℕ) → has ys e ≡ true → has (union xs ys) e ≡ true
 union_right xs ys e is = has-union xs ys e ∙ or_right (has xs e) (has ys e) is
+
+pub length-union : (xs ys : List Bool) → length xs ≡ length ys → length (union xs ys) ≡ length ys
+length-union [] ys size = refl
+length-union (x ∷ xs) [] size = absurd (omega arith)
+length-union (x ∷ xs) (y ∷ ys) size = ap suc (length-union xs ys (omega arith))
+
+-- either set may come first
+pub union-swap : (xs ys : List Bool) → length xs ≡ length ys → union xs ys ≡ union ys xs
+union-swap [] [] size = refl
+union-swap [] (y ∷ ys) size = absurd (omega arith)
+union-swap (x ∷ xs) [] size = absurd (omega arith)
+union-swap (x ∷ xs) (y ∷ ys) size = let rest = union-swap xs ys (omega arith) in let first = or_swap x y in cc
+  where
+    or_swap : (a b : Bool) → (a || b) ≡ (b || a)
+    or_swap true true = refl
+    or_swap true false = refl
+    or_swap false true = refl
+    or_swap false false = refl

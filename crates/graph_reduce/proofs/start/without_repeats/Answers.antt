@@ -1,7 +1,8 @@
 use Rattle.std.proofs.Common.{◌++◌, ◌∷◌, [], ◌∙◌, sym, ap, get_or, take, cond}
 use Rattle.std.proofs.lemmas.List.{take_more}
 use Rattle.graph_reduce.specs.State.{distinct_of}
-use Rattle.graph_reduce.proofs.lemmas.Start.{holds, distinct_of-push}
+use Rattle.graph_reduce.specs.Originals.{holds}
+use Rattle.graph_reduce.proofs.lemmas.Start.{distinct_of-push}
 use Rattle.graph_reduce.proofs.start.without_repeats.Goals as goal
 use Rattle.graph_reduce.proofs.start.without_repeats.Goals.{then-not-stands_in+in_ok-push, else-not-stands_in}
 

@@ -20,26 +20,26 @@ list-requires c =
     omega (arith, below, c.edges_of-edges.ensures.survey.places.size)
 
 pub drop_alike-requires-clause-edge : goal.drop_alike-requires-clause-edge
-drop_alike-requires-clause-edge c = let (joins, is, later) = c.join_edges.ensures in (
+drop_alike-requires-clause-edge c = let (joins, is, later) = c.in_ok-join_edges-in-TwoEdges.ensures in (
   one c.args.v c.args.work.now c.join_edges.new.work joins,
   subst (λ n. HasEdge c.join_edges.new.work n (one c.args.v c.args.work.now c.join_edges.new.work joins)) is
       (joined_at c.args.v c.args.work.now c.join_edges.new.work c.requires.tidy joins),
 )
 
 pub drop_alike-requires-clause-tidy : goal.drop_alike-requires-clause-tidy
-drop_alike-requires-clause-tidy c = let (joins, is, later) = c.join_edges.ensures in
+drop_alike-requires-clause-tidy c = let (joins, is, later) = c.in_ok-join_edges-in-TwoEdges.ensures in
     subst (IsTidyBut c.join_edges.new.work) is
     (tidy_joined c.args.v c.args.work.now c.join_edges.new.work c.requires.tidy joins)
 
 pub drop_alike-requires-clause-numbered : goal.drop_alike-requires-clause-numbered
-drop_alike-requires-clause-numbered c = let (joins, is, later) = c.join_edges.ensures in
+drop_alike-requires-clause-numbered c = let (joins, is, later) = c.in_ok-join_edges-in-TwoEdges.ensures in
     reached_numbered c.join_edges.new.work
     (reached_then c.args.work.now c.join_edges.new.work c.requires.reached
     (one_step c.args.work.now c.join_edges.new.work (passed_step c.args.work.now c.requires.tidy c.requires.leaves
     c.args.v c.join_edges.new.work c.requires.lowest joins)))
 
 pub drop_alike-requires-clause-index : goal.drop_alike-requires-clause-index
-drop_alike-requires-clause-index c = let (joins, is, later) = c.join_edges.ensures in
+drop_alike-requires-clause-index c = let (joins, is, later) = c.in_ok-join_edges-in-TwoEdges.ensures in
     let other = joined_other c.args.v c.args.work.now c.join_edges.new.work joins c.in-TwoEdges.later c.edge_at.result
     c.other_end.result later c.edge_at.ensures c.other_end.ensures in
     let told = all_told c.args.work.now c.args.v Passed c.edges_of-edges.result c.add_ends_of.new.self
@@ -62,7 +62,7 @@ both_ok (Ok x) both p q = both p q
 both_ok (Err e) both p q = tt
 
 pub returns-clause-more : goal.returns-clause-more
-returns-clause-more c = let (joins, is, later) = c.join_edges.ensures in
+returns-clause-more c = let (joins, is, later) = c.in_ok-join_edges-in-TwoEdges.ensures in
     both_ok c.drop_alike.result (λ leads tidy. record {
       next = c.join_edges.new.work;
       step = passed_step c.args.work.now c.requires.tidy c.requires.leaves c.args.v c.join_edges.new.work

@@ -1,5 +1,6 @@
 use Rattle.std.specs.Prelude.{length}
 use Rattle.std.proofs.Common.{ap, arith}
+use Rattle.graph_reduce.proofs.lemmas.Bounds.{reached_sizes}
 use Rattle.graph_reduce.proofs.lemmas.NodeTaken.{edge_forced_at, length_fits, terminal_below}
 use Rattle.graph_reduce.proofs.taken.force_edge.Goals as goal
 
@@ -7,6 +8,9 @@ pub force_edge-requires-clause-fits : goal.force_edge-requires-clause-fits
 force_edge-requires-clause-fits c =
     let fits = length_fits c.args.work.now c.args.place c.edge_at-x.result c.requires.reached c.edge_at-x.ensures in
     omega (arith, fits)
+
+pub force_edge-requires-clause-sizes : goal.force_edge-requires-clause-sizes
+force_edge-requires-clause-sizes c = reached_sizes c.args.work.now c.requires.reached
 
 pub drop_node-requires : goal.drop_node-requires
 drop_node-requires c =

@@ -1,4 +1,4 @@
-use Rattle.std.specs.Prelude.{◌≡◌, ◌<◌, ◌≤◌, length, take, slice_get, Some}
+use Rattle.std.specs.Prelude.{◌≡◌, ◌≤◌, length, take, slice_get, Some}
 use Rattle.std.proofs.Common.{ap, subst, arith}
 use Rattle.std.proofs.lemmas.List.{take_all}
 use Rattle.text_out.specs.GatherLaws.{gathers_two}
@@ -10,18 +10,12 @@ use Rattle.graph_reduce.proofs.write.write_edge_lines.Goals as goal
 pub loop-n-preserved : goal.loop-n-preserved
 loop-n-preserved g c =
     let r = c.args.reduced.now in
-    let below : c.loop-n.n < length r.originals = omega (
-      arith,
-      c.loop-n-test.true,
-      c.edge_count-n-end.ensures.count,
-      ap (λ h. length h.edges) c.graph.ensures.graph,
-      c.graph.ensures.edges,
-    ) in
     let at : slice_get r.graph.edges c.loop-n.n ≡ Some c.edge.result =
     subst (λ h. slice_get h.edges c.loop-n.n ≡ Some c.edge.result) c.graph-in-loop-n.ensures.graph
     c.edge.ensures.edge in
     gathers_two _ _ _ _ _ _ _ _ _ c.loop-n.invariant c.write_edge.ensures
-    (left_lines-more r.graph.edges r.originals c.loop-n.n c.edge.result at below)
+    (left_lines-more r.graph.edges r.originals c.loop-n.n c.edge.result c.originals.result.now at
+    c.originals.ensures.set)
 
 pub returns : goal.returns
 returns g c =

@@ -4,49 +4,46 @@ use Rattle.std.proofs.lemmas.List.{take_all}
 use Rattle.text_out.specs.GatherLaws.{gathers_two}
 use Rattle.text_out.specs.Gathers.{Gathers}
 use Rattle.net_graph.specs.Members.{members_of}
-use Rattle.graph_reduce.specs.Left.{originals_at}
 use Rattle.graph_reduce.specs.Text.{next_number}
 use Rattle.graph_reduce.proofs.lemmas.Texts.{members_with, members_without}
 use Rattle.graph_reduce.proofs.write.write_originals.Goals as goal
-use Rattle.graph_reduce.proofs.write.write_originals.Goals.{then-stands_for, else-stands_for}
+use Rattle.graph_reduce.proofs.write.write_originals.Goals.{then-has, else-has}
 
 pub loop-e-preserved : goal.loop-e-preserved
 loop-e-preserved g c =
-    let set = originals_at c.args.reduced.now c.args.n in
+    let set = c.args.originals.now in
     let e = c.loop-e.e in
     let below : e < length set = omega (
       arith,
       c.loop-e-test.true,
-      c.original_count-e-end.ensures.count,
-      c.original_count-e-end.ensures.sizes c.args.n c.requires,
+      c.len-e-end.ensures,
     ) in
-    elim c.if-stands_for.branch [
-      | then-stands_for w ↦ subst (λ b. Gathers (g.S.Sink.state c.args.sink.now) c.args.block.now
-          (flat_map next_number (members_of (take (e + 1) set))) (g.S.Sink.state c.if-stands_for.sink) b)
+    elim c.if-has.branch [
+      | then-has w ↦ subst (λ b. Gathers (g.S.Sink.state c.args.sink.now) c.args.block.now
+          (flat_map next_number (members_of (take (e + 1) set))) (g.S.Sink.state c.if-has.sink) b)
           (sym w.block-is)
           (subst (λ s. Gathers (g.S.Sink.state c.args.sink.now) c.args.block.now
           (flat_map next_number (members_of (take (e + 1) set))) (g.S.Sink.state s) w.write_next.new.block)
           (sym w.sink-is)
           (gathers_two _ _ _ _ _ _ _ _ _ c.loop-e.invariant w.write_next.ensures
-          (members_with next_number set e below (sym c.stands_for.ensures ∙ w.if-stands_for.true))))
-      | else-stands_for w ↦ subst (λ b. Gathers (g.S.Sink.state c.args.sink.now) c.args.block.now
-          (flat_map next_number (members_of (take (e + 1) set))) (g.S.Sink.state c.if-stands_for.sink) b)
+          (members_with next_number set e below (sym c.has.ensures ∙ w.if-has.true))))
+      | else-has w ↦ subst (λ b. Gathers (g.S.Sink.state c.args.sink.now) c.args.block.now
+          (flat_map next_number (members_of (take (e + 1) set))) (g.S.Sink.state c.if-has.sink) b)
           (sym w.block-is)
           (subst (λ s. Gathers (g.S.Sink.state c.args.sink.now) c.args.block.now
           (flat_map next_number (members_of (take (e + 1) set))) (g.S.Sink.state s) c.loop-e.block) (sym w.sink-is)
           (subst (λ ns. Gathers (g.S.Sink.state c.args.sink.now) c.args.block.now (flat_map next_number ns)
           (g.S.Sink.state c.loop-e.sink) c.loop-e.block)
-          (members_without set e below (sym c.stands_for.ensures ∙ w.if-stands_for.false)) c.loop-e.invariant))
+          (members_without set e below (sym c.has.ensures ∙ w.if-has.false)) c.loop-e.invariant))
     ]
 
 pub returns : goal.returns
 returns g c =
-    let set = originals_at c.args.reduced.now c.args.n in
+    let set = c.args.originals.now in
     let all : take c.loop-e.e set ≡ set = take_all c.loop-e.e set (omega (
       arith,
       c.loop-e-test.false,
-      c.original_count-e-end.ensures.count,
-      c.original_count-e-end.ensures.sizes c.args.n c.requires,
+      c.len-e-end.ensures,
     )) in
     subst (λ s. Gathers (g.S.Sink.state c.args.sink.now) c.args.block.now (flat_map next_number (members_of s))
     (g.S.Sink.state c.loop-e.sink) c.loop-e.block) all c.loop-e.invariant

@@ -1,10 +1,9 @@
 use Rattle.std.proofs.Common.{take, flat_map}
 use Rattle.text_out.specs.Gathers.{Gathers}
 use Rattle.net_graph.specs.Members.{members_of}
-use Rattle.graph_reduce.specs.Left.{originals_at}
 use Rattle.graph_reduce.specs.Text.{next_number}
 use Rattle.graph_reduce.proofs.write.write_originals.Given as goal
 
 abbrev pub invariant-loop-e : goal.invariant-loop-e
 invariant-loop-e g l = Gathers (g.S.Sink.state l.initial.sink) l.initial.block
-    (flat_map next_number (members_of (take l.e (originals_at l.reduced l.n)))) (g.S.Sink.state l.sink) l.block
+    (flat_map next_number (members_of (take l.e l.originals))) (g.S.Sink.state l.sink) l.block
