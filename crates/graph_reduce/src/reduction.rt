@@ -143,7 +143,7 @@ impl Reduced {
 
     /// What a set of the reduced graph's edges stands for, and the forced edges: a set of the original graph's edges.
     /// An `Err` is want of memory.
-    pub fn lift(&self, set: &EdgeSet) -> Result<EdgeSet, AllocError>
+    pub fn lift(&self, _alloc: Global, set: &EdgeSet) -> Result<EdgeSet, AllocError>
         requires { length set.now ≡ length self.now.graph.edges }
         ensures { IfOk result (λ lifted. lifted ≡ lift_of self.now set.now) }
     {
