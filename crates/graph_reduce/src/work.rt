@@ -13,7 +13,7 @@ use std::alloc::{AllocError, Global};
 use std::marker::Model;
 
 /// The state of a reduction. Its nodes and edges keep their numbers and places.
-#[derive(Debug, Drop)]
+#[derive(Drop)]
 pub(crate) struct Work {
     nodes: VertexSet,
     edges: Vec<Option<Bundle>>,
