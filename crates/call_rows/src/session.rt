@@ -1,7 +1,7 @@
 //! The calls of tables, made one by one.
 
 use crate::tool_tables;
-use row_tables::{Asked, Call, CallReader, Fault, RowRunner, Section, first_difference};
+use row_tables::{Asked, Call, CallReader, Fault, RowRunner, Section, Told, tell_difference};
 use std::alloc::Global;
 
 /// Reads calls, and makes them.
@@ -35,37 +35,43 @@ impl RowRunner for CallRunner {
     }
 
     /// Makes a call, and adds its line to the report.
-    fn run(&mut self, alloc: Global, asked: &Asked, report: &mut String) -> Result<bool, Fault> {
+    fn run(&mut self, alloc: Global, asked: &Asked, report: &mut Told) -> Result<bool, Fault> {
         is_answered(alloc, asked, report)
     }
 }
 
 /// Makes a call, adds its line to the report, `ok` or what differs, and tells whether nothing does.
-fn is_answered(alloc: Global, asked: &Asked, report: &mut String) -> Result<bool, Fault> {
-    let name = asked.call.name.as_str();
-    let mut answer = String::new(alloc);
-    make(alloc, &asked.call, &mut answer)?;
+fn is_answered(alloc: Global, asked: &Asked, report: &mut Told) -> Result<bool, Fault> {
+    let answer = answer_of(alloc, &asked.call)?;
     let is_ok = answer.as_bytes() == asked.answer.as_slice();
+    report.word(asked.call.name.as_str());
     if is_ok {
-        writeln!(report, "{name}: ok")?;
+        report.word(": ok\n");
     } else {
-        let difference = first_difference(alloc, answer.as_bytes(), &asked.answer)?;
-        writeln!(report, "{name}: {difference}")?;
+        report.word(": ");
+        tell_difference(alloc, answer.as_bytes(), &asked.answer, report)?;
     }
     Ok(is_ok)
 }
 
+/// What comes of a call.
+fn answer_of(alloc: Global, call: &Call) -> Result<String, Fault> {
+    let mut told = Told::new(alloc);
+    make(alloc, call, &mut told)?;
+    told.finish()
+}
+
 /// Makes the call of a row by what knows its subject: the word before the point names it.
-fn make(alloc: Global, call: &Call, answer: &mut String) -> Result<(), Fault> {
+fn make(alloc: Global, call: &Call, told: &mut Told) -> Result<(), Fault> {
     match call.family() {
-        "graph" => graph_calls::answer(alloc, call, answer),
-        "search" => graph_calls::search::answer(alloc, call, answer),
-        "grid" => point_calls::grid::answer(alloc, call, answer),
-        "tree" => point_calls::tree::answer(alloc, call, answer),
-        "text" => point_calls::text::answer(alloc, call, answer),
-        "task" => point_calls::task::answer(alloc, call, answer),
-        "answer" => point_calls::answer::answer(alloc, call, answer),
-        "table" => tool_tables::answer(alloc, call, answer),
+        "graph" => graph_calls::answer(alloc, call, told),
+        "search" => graph_calls::search::answer(alloc, call, told),
+        "grid" => point_calls::grid::answer(alloc, call, told),
+        "tree" => point_calls::tree::answer(alloc, call, told),
+        "text" => point_calls::text::answer(alloc, call, told),
+        "task" => point_calls::task::answer(alloc, call, told),
+        "answer" => point_calls::answer::answer(alloc, call, told),
+        "table" => tool_tables::answer(alloc, call, told),
         _ => Err(Fault::UnknownSubject),
     }
 }

@@ -13,21 +13,22 @@ use dual_ascent::{
     Ascent, Candidate, Chooser, ReducedCosts, Rule, ascend, ascend_with, carry, carry_costs,
 };
 use net_graph::{Decision, NetGraph, Packing};
-use row_tables::{Call, Fault};
+use row_tables::{Call, Fault, Told};
 use search_rules::ascent_place;
 use std::alloc::{AllocError, Global};
 
 /// For each word under `rule`: the cuts of the ascent from no cut by this rule, under the decision of `decided`, and
 /// whether it is closed. With one more step of the decision under `more`: the cuts that are carried to that decision
 /// too, and those of the ascent that goes on with them.
-pub fn ascents(alloc: Global, call: &Call, answer: &mut String) -> Result<(), Fault> {
+pub fn ascents(alloc: Global, call: &Call, told: &mut Told) -> Result<(), Fault> {
     for word in call.text("rule")?.split_whitespace() {
         let rule = ascent_rule(word)?;
-        writeln!(answer, "{word}")?;
+        told.word(word);
+        told.word("\n");
         tell_ascent(
             alloc,
             call,
-            answer,
+            told,
             |list: &[Candidate]| -> usize
                 requires { 0 < length list.now }
                 ensures { result < length list.now }
@@ -38,17 +39,12 @@ pub fn ascents(alloc: Global, call: &Call, answer: &mut String) -> Result<(), Fa
 }
 
 // The same by any rule.
-fn tell_ascent<F: Rule>(
-    alloc: Global,
-    call: &Call,
-    answer: &mut String,
-    rule: F,
-) -> Result<(), Fault>
+fn tell_ascent<F: Rule>(alloc: Global, call: &Call, told: &mut Told, rule: F) -> Result<(), Fault>
     requires callable { IsCallableOnSome (F.may_choose rule) }
     requires place { AnswersAPlace (F.chooses rule) }
 {
     let g = graph(alloc, call)?;
-    tell_ascent_on(alloc, call, &g, &Chooser::new(rule), answer)
+    tell_ascent_on(alloc, call, &g, &Chooser::new(rule), told)
 }
 
 // The same on a graph.
@@ -57,10 +53,10 @@ fn tell_ascent_on<F: Rule>(
     call: &Call,
     g: &NetGraph,
     chooser: &Chooser<F>,
-    answer: &mut String,
+    told: &mut Told,
 ) -> Result<(), Fault> {
     let d = decision(alloc, call, g)?;
-    tell_ascent_under(alloc, call, g, &d, chooser, answer)
+    tell_ascent_under(alloc, call, g, &d, chooser, told)
 }
 
 // The same under a decision.
@@ -70,13 +66,13 @@ fn tell_ascent_under<F: Rule>(
     g: &NetGraph,
     d: &Decision,
     chooser: &Chooser<F>,
-    answer: &mut String,
+    told: &mut Told,
 ) -> Result<(), Fault>
     requires { IsDecisionFor g.now d.now }
 {
     let ascent = ascent_from_none(alloc, g, d, chooser)?;
-    tell_cuts(answer, &ascent.packing, ":")?;
-    tell_rest(alloc, call, g, d, &ascent, chooser, answer)
+    tell_cuts(told, &ascent.packing, ":");
+    tell_rest(alloc, call, g, d, &ascent, chooser, told)
 }
 
 // What is told behind the cuts of an ascent.
@@ -87,7 +83,7 @@ fn tell_rest<F: Rule>(
     d: &Decision,
     ascent: &Ascent,
     chooser: &Chooser<F>,
-    answer: &mut String,
+    told: &mut Told,
 ) -> Result<(), Fault>
     requires decision { IsDecisionFor g.now d.now }
     requires feasible { IsFeasible g.now d.now ascent.now.packing }
@@ -95,13 +91,14 @@ fn tell_rest<F: Rule>(
         → ascent.now.costs ≡ costs_of g.now.edges (states_of g.now d.now) ascent.now.packing }
 {
     if ascent.closed {
-        return Ok(writeln!(answer, "closed")?);
+        told.word("closed\n");
+        return Ok(());
     }
     if !call.has("more") {
         return Ok(());
     }
     let further = carried(alloc, g, d, call.text("more")?, ascent)?;
-    tell_carried(alloc, g, further, chooser, answer)
+    tell_carried(alloc, g, further, chooser, told)
 }
 
 // The ascent from no cut.
@@ -166,22 +163,18 @@ fn tell_carried<F: Rule>(
     g: &NetGraph,
     carried: FurtherStart,
     chooser: &Chooser<F>,
-    answer: &mut String,
+    told: &mut Told,
 ) -> Result<(), Fault>
     requires decision { IsDecisionFor g.now carried.decision }
     requires feasible { IsFeasible g.now carried.decision carried.packing }
     requires costs { carried.costs ≡ costs_of g.now.edges (states_of g.now carried.decision) carried.packing }
 {
-    tell_start(&carried.packing, answer)?;
+    told.word("carried\n");
+    tell_cuts(told, &carried.packing, ":");
+    told.word("on\n");
     let ascent = ascent_from(alloc, g, carried, chooser)?;
-    tell_cuts(answer, &ascent.packing, ":")
-}
-
-// Tells what is carried.
-fn tell_start(packing: &Packing, answer: &mut String) -> Result<(), Fault> {
-    writeln!(answer, "carried")?;
-    tell_cuts(answer, packing, ":")?;
-    Ok(writeln!(answer, "on")?)
+    tell_cuts(told, &ascent.packing, ":");
+    Ok(())
 }
 
 // The ascent that goes on with what is carried.

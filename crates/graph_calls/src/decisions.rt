@@ -9,37 +9,25 @@ use dual_ascent::maximal;
 use net_graph::{
     Decision, NetGraph, Packing, VertexSet, feasible, required, value, vertex_undecided,
 };
-use row_tables::{Call, Fault};
+use row_tables::{Call, Fault, Told};
 use std::alloc::{AllocError, Global};
 
 /// What a copy of the decision under `decided` says of a graph: the states of the edges, and which vertices are
 /// required and which undecided.
-pub fn decision_told(alloc: Global, call: &Call, answer: &mut String) -> Result<(), Fault> {
+pub fn decision_told(alloc: Global, call: &Call, told: &mut Told) -> Result<(), Fault> {
     let g = graph(alloc, call)?;
-    tell_decision(alloc, &g, &decision(alloc, call, &g)?.copy()?, answer)
+    tell_decision(alloc, &g, &decision(alloc, call, &g)?.copy()?, told)
 }
 
 // What a decision says of a graph.
-fn tell_decision(
-    alloc: Global,
-    g: &NetGraph,
-    d: &Decision,
-    answer: &mut String,
-) -> Result<(), Fault>
-    requires { IsDecisionFor g.now d.now }
-{
-    tell_states(alloc, g, d, answer)?;
-    tell_vertices(answer, "required", &required_vertices(alloc, g, d)?)?;
-    tell_vertices(answer, "undecided", &undecided_vertices(alloc, g, d)?)
-}
-
-// Tells of the states of the edges.
-fn tell_states(alloc: Global, g: &NetGraph, d: &Decision, answer: &mut String) -> Result<(), Fault>
+fn tell_decision(alloc: Global, g: &NetGraph, d: &Decision, told: &mut Told) -> Result<(), Fault>
     requires { IsDecisionFor g.now d.now }
 {
     for state in &d.states(alloc, g)? {
-        writeln!(answer, "{state:?}")?;
+        told.debug_line("", state);
     }
+    tell_vertices(told, "required", &required_vertices(alloc, g, d)?);
+    tell_vertices(told, "undecided", &undecided_vertices(alloc, g, d)?);
     Ok(())
 }
 
@@ -67,60 +55,34 @@ fn undecided_vertices(alloc: Global, g: &NetGraph, d: &Decision) -> Result<Verte
 
 /// What is told of a copy of the packing under `cuts`, under the decision of `decided`: whether it is feasible, its
 /// value, and whether saturated arcs lead to all required vertices.
-pub fn packing_told(alloc: Global, call: &Call, answer: &mut String) -> Result<(), Fault> {
+pub fn packing_told(alloc: Global, call: &Call, told: &mut Told) -> Result<(), Fault> {
     let g = graph(alloc, call)?;
-    packing_told_on(alloc, call, &g, answer)
+    packing_told_on(alloc, call, &g, told)
 }
 
 // The same on a graph.
-fn packing_told_on(
-    alloc: Global,
-    call: &Call,
-    g: &NetGraph,
-    answer: &mut String,
-) -> Result<(), Fault> {
+fn packing_told_on(alloc: Global, call: &Call, g: &NetGraph, told: &mut Told) -> Result<(), Fault> {
     let d = decision(alloc, call, g)?;
     let p = packing(alloc, call, g, "cuts")?.copy()?;
-    tell_packing(packing_facts(alloc, g, &d, &p)?, answer)
+    tell_packing(alloc, g, &d, &p, told)
 }
 
-// What is told of a packing.
-#[derive(Clone, Copy)]
-struct PackingFacts {
-    feasible: bool,
-    value: u128,
-    maximal: bool,
-}
-
-// What is told of the packing.
-fn packing_facts(
+// Tells whether the packing is feasible, its value, and whether saturated arcs lead to all required vertices.
+fn tell_packing(
     alloc: Global,
     g: &NetGraph,
     d: &Decision,
     p: &Packing,
-) -> Result<PackingFacts, Fault>
+    told: &mut Told,
+) -> Result<(), Fault>
     requires decision { IsDecisionFor g.now d.now }
     requires members { All (λ c. length c.members ≡ g.now.vertices) p.now }
 {
     if p.len() > 1 << 32 {
         return Err(Fault::NotAllowed);
     }
-    Ok(PackingFacts {
-        feasible: feasible(g, d, p),
-        value: value(g, d, p),
-        maximal: maximal(alloc, g, d, p)?,
-    })
-}
-
-// Writes it.
-fn tell_packing(told: PackingFacts, answer: &mut String) -> Result<(), Fault> {
-    let PackingFacts {
-        feasible,
-        value,
-        maximal,
-    } = told;
-    Ok(writeln!(
-        answer,
-        "feasible {feasible}\nvalue {value}\nmaximal {maximal}"
-    )?)
+    told.line("feasible ", &feasible(g, d, p));
+    told.line("value ", &value(g, d, p));
+    told.line("maximal ", &maximal(alloc, g, d, p)?);
+    Ok(())
 }

@@ -9,7 +9,7 @@ use net_graph::{
     Cut, Decision, Edge, EdgeSet, EdgeState, GraphFault, NetGraph, Packing, VertexSet,
     vertex_undecided,
 };
-use row_tables::{Call, Fault, narrow, narrow_numbers, number, numbers};
+use row_tables::{Call, Fault, exactly, narrow, narrow_numbers, number, numbers};
 use std::alloc::Global;
 
 // What a text says of a graph: the count of its vertices, its edges and its terminals.
@@ -49,7 +49,7 @@ fn read_part(alloc: Global, line: &str, parts: &mut GraphParts) -> Result<(), Fa
     } else if let Some(rest) = line.strip_prefix("terminals") {
         parts.terminals = narrow_numbers(alloc, rest)?;
     } else {
-        parts.edges.push(edge(alloc, line)?)?;
+        parts.edges.push(edge(line)?)?;
     }
     Ok(())
 }
@@ -193,15 +193,13 @@ pub fn only(text: &str) -> Result<u32, Fault> {
 }
 
 // The edge of a line: its ends and its length.
-fn edge(alloc: Global, line: &str) -> Result<Edge, Fault> {
-    match numbers(alloc, line)?.as_slice() {
-        [a, b, length] => Ok(Edge {
-            a: narrow(*a)?,
-            b: narrow(*b)?,
-            length: *length,
-        }),
-        _ => Err(Fault::BadNumber),
-    }
+fn edge(line: &str) -> Result<Edge, Fault> {
+    let [a, b, length] = exactly::<3>(line)?;
+    Ok(Edge {
+        a: narrow(a)?,
+        b: narrow(b)?,
+        length,
+    })
 }
 
 // The cut of a line: its weight, and its members among the vertices of the graph.

@@ -10,18 +10,18 @@ use crate::rules::ascent_rule;
 use dual_ascent::{Candidate, Chooser, Rule};
 use edge_slack::{edge_bound, taking_in};
 use net_graph::{EdgeSet, NetGraph, joins, root_part, value};
-use row_tables::{Call, Fault};
+use row_tables::{Call, Fault, Told};
 use search_rules::ascent_place;
 use std::alloc::{AllocError, Global};
 
 /// For each edge in the root part of the network under `edges`, the value of the packing that bounds the networks which
 /// use it, by the rule under `rule`.
-pub fn edge_bounds(alloc: Global, call: &Call, answer: &mut String) -> Result<(), Fault> {
+pub fn edge_bounds(alloc: Global, call: &Call, told: &mut Told) -> Result<(), Fault> {
     let rule = ascent_rule(call.word("rule")?)?;
     tell_bounds(
         alloc,
         call,
-        answer,
+        told,
         |list: &[Candidate]| -> usize
             requires { 0 < length list.now }
             ensures { result < length list.now }
@@ -30,17 +30,12 @@ pub fn edge_bounds(alloc: Global, call: &Call, answer: &mut String) -> Result<()
 }
 
 // The same by any rule.
-fn tell_bounds<F: Rule>(
-    alloc: Global,
-    call: &Call,
-    answer: &mut String,
-    rule: F,
-) -> Result<(), Fault>
+fn tell_bounds<F: Rule>(alloc: Global, call: &Call, told: &mut Told, rule: F) -> Result<(), Fault>
     requires callable { IsCallableOnSome (F.may_choose rule) }
     requires place { AnswersAPlace (F.chooses rule) }
 {
     let g = graph(alloc, call)?;
-    tell_bounds_on(alloc, call, &g, &Chooser::new(rule), answer)
+    tell_bounds_on(alloc, call, &g, &Chooser::new(rule), told)
 }
 
 // The same on a graph.
@@ -49,13 +44,13 @@ fn tell_bounds_on<F: Rule>(
     call: &Call,
     g: &NetGraph,
     chooser: &Chooser<F>,
-    answer: &mut String,
+    told: &mut Told,
 ) -> Result<(), Fault> {
     let network = edges(alloc, call, g, "edges")?;
     if !joins(alloc, g, &network)? {
         return Err(Fault::NotAllowed);
     }
-    tell_bounds_of(alloc, g, &network, chooser, answer)
+    tell_bounds_of(alloc, g, &network, chooser, told)
 }
 
 // Adds the line of each edge of the network's root part.
@@ -64,7 +59,7 @@ fn tell_bounds_of<F: Rule>(
     g: &NetGraph,
     network: &EdgeSet,
     chooser: &Chooser<F>,
-    answer: &mut String,
+    told: &mut Told,
 ) -> Result<(), Fault>
     requires size { length network.now ≡ length g.now.edges }
     requires joins { IsNetwork g.now network.now }
@@ -72,7 +67,7 @@ fn tell_bounds_of<F: Rule>(
     let part = root_part(alloc, g, network)?;
     for e in 0..g.edge_count() {
         if part.has(e) {
-            tell_bound(alloc, g, e, chooser, answer)?;
+            tell_bound(alloc, g, e, chooser, told)?;
         }
     }
     Ok(())
@@ -84,13 +79,15 @@ fn tell_bound<F: Rule>(
     g: &NetGraph,
     e: u32,
     chooser: &Chooser<F>,
-    answer: &mut String,
+    told: &mut Told,
 ) -> Result<(), Fault>
     requires edge { e < length g.now.edges }
     requires network { IsInSomeNetwork g.now e }
 {
     let bound = bound_of(alloc, g, e, chooser)?;
-    Ok(writeln!(answer, "edge {e} bound {bound}")?)
+    told.value("edge ", &e);
+    told.line(" bound ", &bound);
+    Ok(())
 }
 
 // The value of the packing that bounds the networks which use an edge.

@@ -14,21 +14,21 @@ pub mod told;
 mod trees;
 mod ways;
 
-use row_tables::{Call, Fault};
+use row_tables::{Call, Fault, Told};
 use std::alloc::Global;
 
 /// Makes the call of a row, and writes what comes of it.
-pub fn answer(alloc: Global, call: &Call, answer: &mut String) -> Result<(), Fault> {
+pub fn answer(alloc: Global, call: &Call, told: &mut Told) -> Result<(), Fault> {
     match call.kind() {
-        "edge_bounds" => edge_bounds::edge_bounds(alloc, call, answer),
-        "network" => networks::network(alloc, call, answer),
-        "ways" => ways::ways(alloc, call, answer),
-        "edge_set" => sets::edge_set(alloc, call, answer),
-        "fours" => sets::fours(alloc, call, answer),
-        "decision" => decisions::decision_told(alloc, call, answer),
-        "packing" => decisions::packing_told(alloc, call, answer),
-        "ascents" => ascents::ascents(alloc, call, answer),
-        "tree" => trees::tree(alloc, call, answer),
+        "edge_bounds" => edge_bounds::edge_bounds(alloc, call, told),
+        "network" => networks::network(alloc, call, told),
+        "ways" => ways::ways(alloc, call, told),
+        "edge_set" => sets::edge_set(alloc, call, told),
+        "fours" => sets::fours(alloc, call, told),
+        "decision" => decisions::decision_told(alloc, call, told),
+        "packing" => decisions::packing_told(alloc, call, told),
+        "ascents" => ascents::ascents(alloc, call, told),
+        "tree" => trees::tree(alloc, call, told),
         _ => Err(Fault::UnknownSubject),
     }
 }

@@ -5,74 +5,41 @@ ghost use Rattle.std.specs.Prelude.{◌≡◌, ◌≤◌, length};
 use crate::described::{edges, try_graph};
 use crate::told::tell_edges;
 use net_graph::{EdgeSet, NetGraph, first_apart, first_apart_within, joins, length, root_part};
-use row_tables::{Call, Fault};
+use row_tables::{Call, Fault, Told};
 use std::alloc::{AllocError, Global};
-
-// Whether a set is a network, the first terminal apart by both searches, and the length.
-#[derive(Clone, Copy)]
-struct NetworkFacts {
-    joins: bool,
-    apart: Option<u8>,
-    within: Option<u8>,
-    length: u64,
-}
 
 /// The fault of the graph under `graph`; or what is told of its edges under `edges`: whether they are a network, the
 /// first terminal apart, the same by a search in lent room, their length and their root part.
-pub fn network(alloc: Global, call: &Call, answer: &mut String) -> Result<(), Fault> {
+pub fn network(alloc: Global, call: &Call, told: &mut Told) -> Result<(), Fault> {
     match try_graph(alloc, call)? {
-        Ok(g) => tell_network(alloc, call, &g, answer),
-        Err(fault) => Ok(writeln!(answer, "{fault}")?),
+        Ok(g) => tell_network(alloc, call, &g, told),
+        Err(fault) => {
+            told.line("", &fault);
+            Ok(())
+        }
     }
 }
 
 // What is told where the graph has no fault.
-fn tell_network(
-    alloc: Global,
-    call: &Call,
-    g: &NetGraph,
-    answer: &mut String,
-) -> Result<(), Fault> {
+fn tell_network(alloc: Global, call: &Call, g: &NetGraph, told: &mut Told) -> Result<(), Fault> {
     let set = edges(alloc, call, g, "edges")?;
-    tell_set(alloc, g, &set, answer)
+    tell_set(alloc, g, &set, told)
 }
 
 // What is told of a set.
-fn tell_set(alloc: Global, g: &NetGraph, set: &EdgeSet, answer: &mut String) -> Result<(), Fault>
+fn tell_set(alloc: Global, g: &NetGraph, set: &EdgeSet, told: &mut Told) -> Result<(), Fault>
     requires { length set.now ≡ length g.now.edges }
 {
     if g.terminal_count() > 255 {
         return Err(Fault::NotAllowed);
     }
-    tell_joined(joined(alloc, g, set)?, answer)?;
-    tell_edges(answer, "root part", &root_part(alloc, g, set)?)
-}
-
-// What is told of the set but for its root part.
-fn joined(alloc: Global, g: &NetGraph, set: &EdgeSet) -> Result<NetworkFacts, AllocError>
-    requires size { length set.now ≡ length g.now.edges }
-    requires few { length g.now.terminals ≤ 255 }
-{
-    Ok(NetworkFacts {
-        joins: joins(alloc, g, set)?,
-        apart: first_apart(alloc, g, set)?,
-        within: apart_within(alloc, g, set)?,
-        length: length(g, set),
-    })
-}
-
-// Writes it.
-fn tell_joined(told: NetworkFacts, answer: &mut String) -> Result<(), Fault> {
-    let NetworkFacts {
-        joins,
-        apart,
-        within,
-        length,
-    } = told;
-    Ok(writeln!(
-        answer,
-        "joins {joins}\napart {apart:?}, in lent room {within:?}\nlength {length}"
-    )?)
+    told.line("joins ", &joins(alloc, g, set)?);
+    told.word("apart ");
+    told.debug(&first_apart(alloc, g, set)?);
+    told.debug_line(", in lent room ", &apart_within(alloc, g, set)?);
+    told.line("length ", &length(g, set));
+    tell_edges(told, "root part", &root_part(alloc, g, set)?);
+    Ok(())
 }
 
 // The first terminal apart, by a search in lent room of one number more than there are vertices.

@@ -5,14 +5,14 @@ mod searching;
 mod shortening;
 mod telling;
 
-use row_tables::{Call, Fault};
+use row_tables::{Call, Fault, Told};
 use std::alloc::Global;
 
 /// Makes the call of a row, and writes what comes of it.
-pub fn answer(alloc: Global, call: &Call, answer: &mut String) -> Result<(), Fault> {
+pub fn answer(alloc: Global, call: &Call, told: &mut Told) -> Result<(), Fault> {
     match call.kind() {
-        "solve" | "steps" | "saturated" => searching::search(alloc, call, answer),
-        "shorter" => shortening::shorter(alloc, call, answer),
+        "solve" | "steps" | "saturated" => searching::search(alloc, call, told),
+        "shorter" => shortening::shorter(alloc, call, told),
         _ => Err(Fault::UnknownSubject),
     }
 }

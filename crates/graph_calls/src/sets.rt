@@ -5,16 +5,16 @@ ghost use Rattle.std.specs.Prelude.{◌≡◌, length};
 use crate::described::only;
 use crate::told::{tell_edges, tell_vertices};
 use net_graph::{EdgeSet, VertexSet};
-use row_tables::{Call, Fault, narrow_numbers};
+use row_tables::{Call, Fault, Told, exactly, narrow};
 use std::alloc::Global;
 
 /// A set among so many edges as `size` says, once those under `add` are added and then those under `remove` are taken
 /// out: its copy, and what it holds once it is cleared.
-pub fn edge_set(alloc: Global, call: &Call, answer: &mut String) -> Result<(), Fault> {
+pub fn edge_set(alloc: Global, call: &Call, told: &mut Told) -> Result<(), Fault> {
     let size = only(call.text("size")?)?;
     let added = call.narrow_numbers(alloc, "add")?;
     let removed = call.narrow_numbers(alloc, "remove")?;
-    tell_set(alloc, size, &added, &removed, answer)
+    tell_set(alloc, size, &added, &removed, told)
 }
 
 // Tells of a set, and of what it holds once it is cleared.
@@ -23,13 +23,15 @@ fn tell_set(
     size: u32,
     added: &[u32],
     removed: &[u32],
-    answer: &mut String,
+    told: &mut Told,
 ) -> Result<(), Fault> {
     let mut set = EdgeSet::empty(alloc, size)?;
     change(&mut set, added, removed);
     let copy = set.copy()?;
     set.clear();
-    tell_both(answer, &copy, &set)
+    tell_edges(told, "copy", &copy);
+    tell_edges(told, "cleared", &set);
+    Ok(())
 }
 
 // Adds edges to a set, and then takes out others.
@@ -46,46 +48,38 @@ fn change(set: &mut EdgeSet, added: &[u32], removed: &[u32]) {
     }
 }
 
-// Tells of a copy, and of what was cleared.
-fn tell_both(answer: &mut String, copy: &EdgeSet, cleared: &EdgeSet) -> Result<(), Fault> {
-    tell_edges(answer, "copy", copy)?;
-    tell_edges(answer, "cleared", cleared)
-}
-
 /// A set among so many vertices as `size` says, once those are added, four by four, that each line under `fours` says:
 /// its place, and the value of its bits. Its words are told, and its members.
-pub fn fours(alloc: Global, call: &Call, answer: &mut String) -> Result<(), Fault> {
+pub fn fours(alloc: Global, call: &Call, told: &mut Told) -> Result<(), Fault> {
     let size = only(call.text("size")?)?;
-    let lines = call.text("fours")?;
     let mut set = VertexSet::empty(alloc, size)?;
-    add_fours(alloc, lines, &mut set)?;
-    tell_words(&set, answer)?;
-    tell_vertices(answer, "members", &set)
+    add_fours(call.text("fours")?, &mut set)?;
+    tell_words(&set, told);
+    tell_vertices(told, "members", &set);
+    Ok(())
 }
 
 // Adds what each line says.
-fn add_fours(alloc: Global, lines: &str, set: &mut VertexSet) -> Result<(), Fault> {
+fn add_fours(lines: &str, set: &mut VertexSet) -> Result<(), Fault> {
     for line in lines.lines() {
-        add_four(&narrow_numbers(alloc, line)?, set)?;
+        let [place, value] = exactly::<2>(line)?;
+        add_four(narrow(place)?, value, set)?;
     }
     Ok(())
 }
 
-// Adds those of four vertices that two numbers say.
-fn add_four(numbers: &[u32], set: &mut VertexSet) -> Result<(), Fault> {
-    match numbers {
-        [place, value] if *value < 16 && *place < set.len() / 4 => {
-            set.add_four(*place, *value as u8);
-            Ok(())
-        }
-        _ => Err(Fault::NotAllowed),
+// Adds those of four vertices that the bits of a value say.
+fn add_four(place: u32, value: u64, set: &mut VertexSet) -> Result<(), Fault> {
+    if value > 15 || place >= set.len() / 4 {
+        return Err(Fault::NotAllowed);
     }
+    set.add_four(place, value as u8);
+    Ok(())
 }
 
 // Tells the words of a set.
-fn tell_words(set: &VertexSet, answer: &mut String) -> Result<(), Fault> {
+fn tell_words(set: &VertexSet, told: &mut Told) {
     for place in 0..set.len().div_ceil(64) {
-        writeln!(answer, "word {:#x}", set.word(place))?;
+        told.hex_line("word ", set.word(place));
     }
-    Ok(())
 }

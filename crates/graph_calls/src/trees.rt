@@ -9,24 +9,24 @@ use crate::described::{graph, only, packing};
 use crate::told::tell_cuts;
 use cert_tree::{CertTree, SplitOn};
 use net_graph::{EdgeState, NetGraph, Packing};
-use row_tables::{Call, Fault};
+use row_tables::{Call, Fault, Told};
 use std::alloc::{AllocError, Global};
 
 /// A certificate tree of one split, on the edge under `split`, whose children have the packings under `outside` and
 /// `inside`: how many splits and leaves it has, its nodes, its value, and of each leaf its cuts and the state of the
 /// edge.
-pub fn tree(alloc: Global, call: &Call, answer: &mut String) -> Result<(), Fault> {
+pub fn tree(alloc: Global, call: &Call, told: &mut Told) -> Result<(), Fault> {
     let g = graph(alloc, call)?;
-    tree_on(alloc, call, &g, answer)
+    tree_on(alloc, call, &g, told)
 }
 
 // The same on a graph.
-fn tree_on(alloc: Global, call: &Call, g: &NetGraph, answer: &mut String) -> Result<(), Fault> {
+fn tree_on(alloc: Global, call: &Call, g: &NetGraph, told: &mut Told) -> Result<(), Fault> {
     let e = only(call.text("split")?)?;
     if e >= g.edge_count() {
         return Err(Fault::NotAllowed);
     }
-    tell_tree(alloc, g, e, &given_tree(alloc, call, g, e)?, answer)
+    tell_tree(alloc, g, e, &given_tree(alloc, call, g, e)?, told)
 }
 
 // The tree with the packings that a row gives.
@@ -45,24 +45,23 @@ fn tell_tree(
     g: &NetGraph,
     e: u32,
     tree: &CertTree,
-    answer: &mut String,
+    told: &mut Told,
 ) -> Result<(), Fault>
     requires edge { e < length g.now.edges }
     requires splits { HasUndecidedSplits g.now (nothing_decided g.now) tree.now }
 {
-    tell_shape(answer, tree)?;
-    writeln!(answer, "value {}", tree.value(g))?;
-    tell_leaves(alloc, g, e, tree, answer)
+    tell_shape(told, tree);
+    told.line("value ", &tree.value(g));
+    tell_leaves(alloc, g, e, tree, told)
 }
 
 // Tells of the nodes.
-fn tell_shape(answer: &mut String, tree: &CertTree) -> Result<(), Fault> {
-    let (splits, leaves) = (tree.splits(), tree.leaves());
-    writeln!(answer, "splits {splits}, leaves {leaves}")?;
+fn tell_shape(told: &mut Told, tree: &CertTree) {
+    told.value("splits ", &tree.splits());
+    told.line(", leaves ", &tree.leaves());
     for node in tree.nodes() {
-        writeln!(answer, "{node:?}")?;
+        told.debug_line("", node);
     }
-    Ok(())
 }
 
 // Tells of each leaf the state of the edge, and the cuts.
@@ -71,15 +70,16 @@ fn tell_leaves(
     g: &NetGraph,
     e: u32,
     tree: &CertTree,
-    answer: &mut String,
+    told: &mut Told,
 ) -> Result<(), Fault>
     requires edge { e < length g.now.edges }
     requires splits { HasUndecidedSplits g.now (nothing_decided g.now) tree.now }
 {
     for leaf in 0..tree.leaves() {
         let state = state_at(alloc, g, e, tree, leaf)?;
-        writeln!(answer, "leaf {leaf} {state:?}")?;
-        tell_cuts(answer, tree.packing(leaf), ":")?;
+        told.value("leaf ", &leaf);
+        told.debug_line(" ", &state);
+        tell_cuts(told, tree.packing(leaf), ":");
     }
     Ok(())
 }

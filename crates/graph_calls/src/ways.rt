@@ -5,7 +5,7 @@ ghost use Rattle.std.specs.Prelude.{◌≡◌, ◌%◌, ◌==◌, length};
 use crate::described::{graph, only};
 use crate::told::tell_vertices;
 use net_graph::{NetGraph, Passage, found_leading_to, reached_from};
-use row_tables::{Call, Fault};
+use row_tables::{Call, Fault, Told};
 use std::alloc::Global;
 
 // Each edge may be walked from its end a to its end b alone.
@@ -26,23 +26,20 @@ impl Passage for OneWay {
 
 /// What is reached from the vertex under `from`, and from where it is reached, where each edge of the graph may be
 /// walked from its first end to its second alone.
-pub fn ways(alloc: Global, call: &Call, answer: &mut String) -> Result<(), Fault> {
+pub fn ways(alloc: Global, call: &Call, told: &mut Told) -> Result<(), Fault> {
     let v = only(call.text("from")?)?;
-    tell_ways(alloc, &graph(alloc, call)?, v, answer)
+    tell_ways(alloc, &graph(alloc, call)?, v, told)
 }
 
 // The same on a graph.
-fn tell_ways(alloc: Global, g: &NetGraph, v: u32, answer: &mut String) -> Result<(), Fault> {
+fn tell_ways(alloc: Global, g: &NetGraph, v: u32, told: &mut Told) -> Result<(), Fault> {
     if v >= g.vertex_count() {
         return Err(Fault::NotAllowed);
     }
     let way = OneWay {
         edges: g.edge_count(),
     };
-    tell_vertices(answer, "reached", &reached_from(alloc, g, v, &way)?)?;
-    tell_vertices(
-        answer,
-        "leading",
-        found_leading_to(alloc, g, v, &way)?.set(),
-    )
+    tell_vertices(told, "reached", &reached_from(alloc, g, v, &way)?);
+    tell_vertices(told, "leading", found_leading_to(alloc, g, v, &way)?.set());
+    Ok(())
 }

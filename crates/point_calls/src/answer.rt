@@ -6,16 +6,16 @@ mod reading;
 mod row;
 mod writing;
 
-use row_tables::{Call, Fault};
+use row_tables::{Call, Fault, Told};
 use std::alloc::Global;
 
 /// Makes the call of a row, and writes what comes of it.
-pub fn answer(alloc: Global, call: &Call, answer: &mut String) -> Result<(), Fault> {
+pub fn answer(alloc: Global, call: &Call, told: &mut Told) -> Result<(), Fault> {
     match call.kind() {
-        "read" => reading::read(alloc, call, answer),
-        "write" => writing::write(alloc, call, answer),
-        "judge" => judge_calls::judge(alloc, call, answer),
-        "number_row" => row::number_row(alloc, call, answer),
+        "read" => reading::read(alloc, call, told),
+        "write" => writing::write(alloc, call, told),
+        "judge" => judge_calls::judge(alloc, call, told),
+        "number_row" => row::number_row(alloc, call, told),
         _ => Err(Fault::UnknownSubject),
     }
 }

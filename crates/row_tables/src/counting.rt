@@ -13,7 +13,10 @@ pub fn number(word: &str) -> Result<u64, Fault> {
 
 /// The number of bytes or lines that a word spells.
 pub fn count(word: &str) -> Result<usize, Fault> {
-    Ok(number(word)? as usize)
+    match word.parse::<usize>() {
+        Ok(number) => Ok(number),
+        Err(_) => Err(Fault::BadNumber),
+    }
 }
 
 /// The number below 256 that a word spells.
@@ -43,29 +46,30 @@ pub fn narrow(number: u64) -> Result<u32, Fault> {
 /// The numbers that words spell.
 pub fn numbers(alloc: Global, words: &str) -> Result<Vec<u64>, Fault> {
     let mut numbers = Vec::new(alloc);
-    add_numbers(&mut numbers, words)?;
-    Ok(numbers)
-}
-
-/// Adds the numbers that words spell.
-fn add_numbers(numbers: &mut Vec<u64>, words: &str) -> Result<(), Fault> {
     for word in words.split_whitespace() {
         numbers.push(number(word)?)?;
     }
-    Ok(())
+    Ok(numbers)
+}
+
+/// The numbers that words spell, which are `N`.
+pub fn exactly<const N: usize>(words: &str) -> Result<[u64; N], Fault> {
+    let mut numbers = [0; N];
+    let mut words = words.split_whitespace();
+    for place in 0..N {
+        numbers[place] = number(words.next().ok_or(Fault::BadNumber)?)?;
+    }
+    if words.next().is_some() {
+        return Err(Fault::BadNumber);
+    }
+    Ok(numbers)
 }
 
 /// The numbers that words spell, each of 32 bits.
 pub fn narrow_numbers(alloc: Global, words: &str) -> Result<Vec<u32>, Fault> {
     let mut numbers = Vec::new(alloc);
-    add_narrow_numbers(&mut numbers, words)?;
-    Ok(numbers)
-}
-
-/// Adds the numbers that words spell, each of 32 bits.
-fn add_narrow_numbers(numbers: &mut Vec<u32>, words: &str) -> Result<(), Fault> {
     for word in words.split_whitespace() {
         numbers.push(narrow(number(word)?)?)?;
     }
-    Ok(())
+    Ok(numbers)
 }

@@ -1,42 +1,23 @@
 //! Where bytes differ from those that a row states.
 
+use crate::told::Told;
 use std::alloc::{AllocError, Global};
-use std::fmt;
 
-/// The first line in which bytes differ from a text.
-#[derive(Drop)]
-pub struct LineDifference {
-    /// Its number, counted from 1.
-    pub number: usize,
-    /// The line that came.
-    pub came: String,
-    /// The line that was wanted.
-    pub wanted: String,
-}
-
-impl fmt::Display for LineDifference {
-    fn fmt<W: fmt::Write>(&self, f: &mut fmt::Formatter<W>) -> fmt::Result {
-        let LineDifference {
-            number,
-            came,
-            wanted,
-        } = self;
-        write!(f, "line {number}: {came:?}, wanted {wanted:?}")
-    }
-}
-
-/// The line with the first byte in which the bytes that came differ from a text.
-pub fn first_difference(
+/// Tells the line with the first byte in which the bytes that came differ from a text.
+pub fn tell_difference(
     alloc: Global,
     came: &[u8],
     wanted: &[u8],
-) -> Result<LineDifference, AllocError> {
+    report: &mut Told,
+) -> Result<(), AllocError> {
     let (number, start) = same_lines(came, wanted);
-    Ok(LineDifference {
-        number,
-        came: String::from_utf8_lossy(alloc, line_from(came, start))?,
-        wanted: String::from_utf8_lossy(alloc, line_from(wanted, start))?,
-    })
+    let came = String::from_utf8_lossy(alloc, line_from(came, start))?;
+    let wanted = String::from_utf8_lossy(alloc, line_from(wanted, start))?;
+    report.value("line ", &number);
+    report.word(": ");
+    report.debug(&came);
+    report.debug_line(", wanted ", &wanted);
+    Ok(())
 }
 
 /// The number, counted from 1, of the line in which two texts first differ, and the place where it begins in both.

@@ -1,7 +1,7 @@
 //! What is wrong with a table.
 
+use crate::told::Told;
 use std::alloc::{AllocError, AllocFailed};
-use std::fmt;
 
 /// What is wrong with a section of a table.
 #[derive(Clone, Copy, Drop)]
@@ -90,8 +90,12 @@ pub struct TableFault {
     pub fault: Fault,
 }
 
-impl fmt::Display for TableFault {
-    fn fmt<W: fmt::Write>(&self, f: &mut fmt::Formatter<W>) -> fmt::Result {
-        write!(f, "line {}: {}", self.line, self.fault.said())
+impl TableFault {
+    /// Tells the line and what is wrong there, as a line.
+    pub fn tell(self, report: &mut Told) {
+        report.value("line ", &self.line);
+        report.word(": ");
+        report.word(self.fault.said());
+        report.word("\n");
     }
 }

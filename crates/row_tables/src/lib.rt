@@ -13,14 +13,16 @@ mod running;
 mod section;
 mod text;
 mod texts;
+mod told;
 
 pub use call::{Call, shown};
 pub use changing::change;
-pub use counting::{byte, count, narrow, narrow_numbers, number, numbers, signed};
-pub use difference::{LineDifference, first_difference};
+pub use counting::{byte, count, exactly, narrow, narrow_numbers, number, numbers, signed};
+pub use difference::tell_difference;
 pub use fault::{Fault, TableFault};
 pub use reader::{Asked, CallReader};
 pub use running::{RowRunner, run_table, run_tables};
 pub use section::{Section, sections_of};
 pub use text::{NamedText, Text};
 pub use texts::{Texts, named, no_lines};
+pub use told::Told;

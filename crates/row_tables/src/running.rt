@@ -3,6 +3,7 @@
 use crate::call::shown;
 use crate::fault::{Fault, TableFault};
 use crate::section::{Section, sections_of};
+use crate::told::Told;
 use rst_outside::{DirShelf, Shelf, take_named};
 use std::alloc::Global;
 use std::process::ExitCode;
@@ -26,7 +27,7 @@ pub trait RowRunner {
     fn end(&self) -> Result<(), Fault>;
 
     /// Runs a row, adds its lines to the report, `ok` or what differs, and tells whether nothing does.
-    fn run(&mut self, alloc: Global, row: &Self::Row, report: &mut String) -> Result<bool, Fault>;
+    fn run(&mut self, alloc: Global, row: &Self::Row, report: &mut Told) -> Result<bool, Fault>;
 }
 
 /// Runs the rows of the tables that the words of the program name, prints their lines, and gives the status: 1 where a
@@ -52,9 +53,12 @@ fn prints_well<S: Shelf, R: RowRunner>(
     runner: &mut R,
     name: &str,
 ) -> bool {
-    let mut report = String::new(rt.alloc());
-    let outcome = run_file(rt.alloc(), shelf, runner, name, &mut report);
-    print!(rt; "{report}").is_ok() && matches!(outcome, Ok(true))
+    let mut report = Told::new(rt.alloc());
+    let is_well = run_file(rt.alloc(), shelf, runner, name, &mut report);
+    match report.finish() {
+        Ok(report) => print!(rt; "{report}").is_ok() && is_well,
+        Err(_) => false,
+    }
 }
 
 /// Runs the rows of the table in a file, adds their lines to the report, and tells whether all is well.
@@ -63,13 +67,14 @@ fn run_file<S: Shelf, R: RowRunner>(
     shelf: &mut S,
     runner: &mut R,
     name: &str,
-    report: &mut String,
-) -> Result<bool, Fault> {
+    report: &mut Told,
+) -> bool {
     match take_named(alloc, shelf, name, LIMIT) {
         Ok(table) => run_named(alloc, runner, name, &table, report),
         Err(_) => {
-            writeln!(report, "{name}: cannot be read")?;
-            Ok(false)
+            report.word(name);
+            report.word(": cannot be read\n");
+            false
         }
     }
 }
@@ -80,13 +85,15 @@ fn run_named<R: RowRunner>(
     runner: &mut R,
     name: &str,
     table: &[u8],
-    report: &mut String,
-) -> Result<bool, Fault> {
+    report: &mut Told,
+) -> bool {
     match run_table(alloc, runner, table, report) {
-        Ok(is_well) => Ok(is_well),
+        Ok(is_well) => is_well,
         Err(fault) => {
-            writeln!(report, "{name}: {fault}")?;
-            Ok(false)
+            report.word(name);
+            report.word(": ");
+            fault.tell(report);
+            false
         }
     }
 }
@@ -97,7 +104,7 @@ pub fn run_table<R: RowRunner>(
     alloc: Global,
     runner: &mut R,
     table: &[u8],
-    report: &mut String,
+    report: &mut Told,
 ) -> Result<bool, TableFault> {
     match shown(table) {
         Ok(table) => run_sections(alloc, runner, &sections_of(alloc, table)?, report),
@@ -110,7 +117,7 @@ fn run_sections<R: RowRunner>(
     alloc: Global,
     runner: &mut R,
     sections: &[Section<'_>],
-    report: &mut String,
+    report: &mut Told,
 ) -> Result<bool, TableFault> {
     runner.begin();
     let mut is_well = true;
@@ -133,7 +140,7 @@ fn runs_on<R: RowRunner>(
     alloc: Global,
     runner: &mut R,
     section: &Section<'_>,
-    report: &mut String,
+    report: &mut Told,
 ) -> Result<bool, Fault> {
     match runner.take(section)? {
         Some(row) => runner.run(alloc, &row, report),

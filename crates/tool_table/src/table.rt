@@ -5,7 +5,7 @@ use crate::outcome::outcome_of;
 use crate::row::{Relation, Row, Variants, Variation, Varied, Wanted};
 use crate::variants::tell_variants;
 use row_tables::{
-    Fault, NamedText, RowRunner, Section, Text, Texts, byte, change, count, named, no_lines,
+    Fault, NamedText, RowRunner, Section, Text, Texts, Told, byte, change, count, named, no_lines,
     numbers,
 };
 use std::alloc::{AllocError, Global};
@@ -230,7 +230,7 @@ impl RowRunner for Reader {
     }
 
     /// Runs a row, and adds its lines to the report. What it prints is a text with the row's name, for the rows behind.
-    fn run(&mut self, alloc: Global, row: &Row, report: &mut String) -> Result<bool, Fault> {
+    fn run(&mut self, alloc: Global, row: &Row, report: &mut Told) -> Result<bool, Fault> {
         if let Some(variants) = &row.variants {
             self.texts.keep(row.name.as_str(), Text::empty(alloc))?;
             return Ok(tell_variants(alloc, row, variants, report)?);

@@ -2,7 +2,7 @@
 
 use crate::outcome::{Outcome, outcome_on, shelf_files};
 use crate::row::{Row, Variants, Variation, Varied};
-use row_tables::NamedText;
+use row_tables::{NamedText, Told};
 use rst_outside::ShelfFile;
 use std::alloc::{AllocError, Global};
 
@@ -12,13 +12,15 @@ pub fn tell_variants(
     alloc: Global,
     row: &Row,
     variants: &Variants,
-    report: &mut String,
+    report: &mut Told,
 ) -> Result<bool, AllocError> {
     let text = varied_text(alloc, row, variants.varied)?;
     let count = count_of(variants.variation, text.len());
     let all_well = tell_all(alloc, row, variants, &text, count, report)?;
     if all_well {
-        writeln!(report, "{}: ok, {count} texts", row.name)?;
+        report.word(row.name.as_str());
+        report.value(": ok, ", &count);
+        report.word(" texts\n");
     }
     Ok(all_well)
 }
@@ -30,7 +32,7 @@ fn tell_all(
     variants: &Variants,
     text: &[u8],
     count: usize,
-    report: &mut String,
+    report: &mut Told,
 ) -> Result<bool, AllocError> {
     let mut all_well = true;
     for number in 0..count {
@@ -48,17 +50,16 @@ fn tell_one(
     variants: &Variants,
     text: &[u8],
     number: usize,
-    report: &mut String,
+    report: &mut Told,
 ) -> Result<bool, AllocError> {
     let came = outcome_with(alloc, row, variants, text, number)?;
     if may_come(&came, &variants.statuses) {
         return Ok(true);
     }
-    let (name, status) = (row.name.as_str(), came.status);
-    writeln!(
-        report,
-        "{name}: text {number}: status {status}, or what it printed"
-    )?;
+    report.word(row.name.as_str());
+    report.value(": text ", &number);
+    report.value(": status ", &came.status);
+    report.word(", or what it printed\n");
     Ok(false)
 }
 

@@ -11,12 +11,12 @@ use crate::told::tell_edges;
 use branch::{Search, Step, saturated_network, solve_graph};
 use dual_ascent::{Candidate, Chooser, Rule, ascend};
 use net_graph::{Decision, NetGraph, Packing};
-use row_tables::{Call, Fault};
+use row_tables::{Call, Fault, Told};
 use search_rules::{ascent_place, split_place};
 use std::alloc::Global;
 
 /// Makes a call by the rules that the row names.
-pub fn search(alloc: Global, call: &Call, answer: &mut String) -> Result<(), Fault> {
+pub fn search(alloc: Global, call: &Call, told: &mut Told) -> Result<(), Fault> {
     let ascents = asked_ascents(call)?;
     let splits = asked_splits(call)?;
     search_by(
@@ -30,7 +30,7 @@ pub fn search(alloc: Global, call: &Call, answer: &mut String) -> Result<(), Fau
             requires { 0 < length list.now }
             ensures { result < length list.now }
         { split_place(splits, list) },
-        answer,
+        told,
     )
 }
 
@@ -40,7 +40,7 @@ fn search_by<F: Rule, G: Rule>(
     call: &Call,
     ascent: F,
     split: G,
-    answer: &mut String,
+    told: &mut Told,
 ) -> Result<(), Fault>
     requires ascent_callable { IsCallableOnSome (F.may_choose ascent) }
     requires ascent_place { AnswersAPlace (F.chooses ascent) }
@@ -51,9 +51,9 @@ fn search_by<F: Rule, G: Rule>(
     let ascent = Chooser::new(ascent);
     let split = Chooser::new(split);
     match call.kind() {
-        "solve" => solve(alloc, call, &g, ascent, split, answer),
-        "steps" => steps(alloc, call, &g, ascent, split, answer),
-        _ => saturated(alloc, &g, &ascent, answer),
+        "solve" => solve(alloc, call, &g, ascent, split, told),
+        "steps" => steps(alloc, call, &g, ascent, split, told),
+        _ => saturated(alloc, &g, &ascent, told),
     }
 }
 
@@ -64,13 +64,14 @@ fn solve<F: Rule, G: Rule>(
     g: &NetGraph,
     ascent: Chooser<F>,
     split: Chooser<G>,
-    answer: &mut String,
+    told: &mut Told,
 ) -> Result<(), Fault> {
     let first = network(alloc, call, g)?;
     let allowed = call.byte("openings")?;
     let kind = asked_kind(call)?;
     let solved = solve_graph(alloc, g, first, allowed, ascent, split, kind)?;
-    tell_solved(answer, &solved)
+    tell_solved(told, &solved);
+    Ok(())
 }
 
 // The same step by step: what the first leaf shows, once no cuts raised it, and what comes of each of the steps whose
@@ -81,18 +82,19 @@ fn steps<F: Rule, G: Rule>(
     g: &NetGraph,
     ascent: Chooser<F>,
     split: Chooser<G>,
-    answer: &mut String,
+    told: &mut Told,
 ) -> Result<(), Fault> {
     let first = network(alloc, call, g)?;
     let kind = asked_kind(call)?;
     let mut search = Search::start(alloc, g, first, ascent, split, kind)?;
     search.raise(Packing::empty(alloc))?;
     if let Some(shown) = search.shown() {
-        tell_edges(answer, "shown", shown)?;
+        tell_edges(told, "shown", shown);
     }
-    take_steps(&mut search, call.byte("steps")?, answer)?;
-    tell_search(answer, &search)?;
-    Ok(writeln!(answer, "bound {}", search.finish().bound)?)
+    take_steps(&mut search, call.byte("steps")?, told)?;
+    tell_search(told, &search);
+    told.line("bound ", &search.finish().bound);
+    Ok(())
 }
 
 // Takes so many steps, and tells what comes of each. A step that is refused is taken once more, as the refusal leaves
@@ -100,17 +102,16 @@ fn steps<F: Rule, G: Rule>(
 fn take_steps<F: Rule, G: Rule>(
     search: &mut Search<F, G>,
     count: u8,
-    answer: &mut String,
+    told: &mut Told,
 ) -> Result<(), Fault> {
     for _ in 0..count {
         if search.splits() >= 255 {
             return Err(Fault::NotAllowed);
         }
-        let word = match step_again(search)? {
-            Step::Split => "split",
-            Step::Settled => "settled",
-        };
-        writeln!(answer, "{word}")?;
+        told.word(match step_again(search)? {
+            Step::Split => "split\n",
+            Step::Settled => "settled\n",
+        });
     }
     Ok(())
 }
@@ -126,14 +127,14 @@ fn step_again<F: Rule, G: Rule>(search: &mut Search<F, G>) -> Result<Step, Fault
 }
 
 // Tells the network, how far the search is, and by its place the leaf that is open next, if one is.
-fn tell_search<F: Rule, G: Rule>(answer: &mut String, search: &Search<F, G>) -> Result<(), Fault> {
-    tell_edges(answer, "network", search.network())?;
-    writeln!(answer, "settled {}", search.is_settled())?;
+fn tell_search<F: Rule, G: Rule>(told: &mut Told, search: &Search<F, G>) {
+    tell_edges(told, "network", search.network());
+    told.line("settled ", &search.is_settled());
     if let Some(place) = search.next_open() {
-        writeln!(answer, "next {place}")?;
+        told.line("next ", &place);
     }
-    writeln!(answer, "splits {}", search.splits())?;
-    Ok(writeln!(answer, "leaves {}", search.tree().leaves())?)
+    told.line("splits ", &search.splits());
+    told.line("leaves ", &search.tree().leaves());
 }
 
 // The network of saturated arcs of the ascent from no cut, where nothing is decided.
@@ -141,7 +142,7 @@ fn saturated<F: Rule>(
     alloc: Global,
     g: &NetGraph,
     ascent: &Chooser<F>,
-    answer: &mut String,
+    told: &mut Told,
 ) -> Result<(), Fault> {
     let decision = Decision::none(alloc, g)?;
     let made = ascend(alloc, g, &decision, Packing::empty(alloc), ascent)?;
@@ -149,5 +150,6 @@ fn saturated<F: Rule>(
         return Err(Fault::NotAllowed);
     }
     let set = saturated_network(alloc, g, &decision, &made.packing)?;
-    tell_edges(answer, "saturated", &set)
+    tell_edges(told, "saturated", &set);
+    Ok(())
 }

@@ -3,32 +3,31 @@
 use crate::told::{tell_cuts, tell_edges};
 use branch::Solved;
 use cert_tree::{CertTree, SplitOn};
-use row_tables::Fault;
+use row_tables::Told;
 
 /// The length, the bound, whether the network is shortest, the network and the tree.
-pub fn tell_solved(answer: &mut String, solved: &Solved) -> Result<(), Fault> {
-    writeln!(answer, "length {}", solved.length)?;
-    writeln!(answer, "bound {}", solved.bound)?;
-    writeln!(answer, "optimal {}", solved.optimal)?;
-    tell_edges(answer, "network", &solved.network)?;
-    tell_tree(answer, &solved.tree)
+pub fn tell_solved(told: &mut Told, solved: &Solved) {
+    told.line("length ", &solved.length);
+    told.line("bound ", &solved.bound);
+    told.line("optimal ", &solved.optimal);
+    tell_edges(told, "network", &solved.network);
+    tell_tree(told, &solved.tree);
 }
 
 // The nodes of a tree in preorder, a leaf with its cuts.
-fn tell_tree(answer: &mut String, tree: &CertTree) -> Result<(), Fault> {
+fn tell_tree(told: &mut Told, tree: &CertTree) {
     let mut leaf = 0;
     for node in tree.nodes() {
         match node {
-            Some(SplitOn::Edge(e)) => writeln!(answer, "edge {e}")?,
-            Some(SplitOn::Vertex(v)) => writeln!(answer, "vertex {v}")?,
+            Some(SplitOn::Edge(e)) => told.line("edge ", e),
+            Some(SplitOn::Vertex(v)) => told.line("vertex ", v),
             None => {
-                writeln!(answer, "leaf")?;
+                told.word("leaf\n");
                 if leaf < tree.leaves() {
-                    tell_cuts(answer, tree.packing(leaf), "")?;
+                    tell_cuts(told, tree.packing(leaf), "");
                     leaf += 1;
                 }
             }
         }
     }
-    Ok(())
 }

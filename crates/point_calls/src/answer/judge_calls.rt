@@ -4,7 +4,7 @@ use crate::grid::described::grid;
 use cert_check::{Checker, Finished, Workroom};
 use graph_calls::told::tell_edges;
 use hanan_grid::Grid;
-use row_tables::{Call, Fault};
+use row_tables::{Call, Fault, Told};
 use std::alloc::{AllocError, Global};
 
 /// How many bytes are fed at once behind an answer.
@@ -13,7 +13,7 @@ const BLOCK: usize = 1 << 16;
 /// The verdict on the answer under `bytes` for the points under `points`, and the edges that were read before it:
 /// once for each number under `steps`, which says of how many bytes the pieces are that are fed. Under `blocks` may
 /// stand how many blocks of 65536 bytes come behind the answer.
-pub fn judge(alloc: Global, call: &Call, answer: &mut String) -> Result<(), Fault> {
+pub fn judge(alloc: Global, call: &Call, told: &mut Told) -> Result<(), Fault> {
     let blocks = if call.has("blocks") {
         call.number("blocks")?
     } else {
@@ -21,7 +21,7 @@ pub fn judge(alloc: Global, call: &Call, answer: &mut String) -> Result<(), Faul
     };
     let grid = grid(alloc, call)?;
     let steps = call.numbers(alloc, "steps")?;
-    judge_by(alloc, &grid, call.bytes("bytes")?, &steps, blocks, answer)
+    judge_by(alloc, &grid, call.bytes("bytes")?, &steps, blocks, told)
 }
 
 // The verdicts on bytes that are fed by steps of these sizes.
@@ -31,11 +31,12 @@ fn judge_by(
     bytes: &[u8],
     steps: &[u64],
     blocks: u64,
-    answer: &mut String,
+    told: &mut Told,
 ) -> Result<(), Fault> {
     for step in steps {
         let finished = finished(alloc, grid, bytes, *step as usize, blocks)?;
-        write_finished(&finished, answer)?;
+        told.debug_line("", &finished.verdict);
+        tell_edges(told, "edges", &finished.network);
     }
     Ok(())
 }
@@ -74,11 +75,4 @@ fn feed_blocks(alloc: Global, checker: &mut Checker<'_>, count: u64) -> Result<(
         checker.feed(&block);
     }
     Ok(())
-}
-
-// Writes a verdict, and the edges that were read before it.
-fn write_finished(finished: &Finished, answer: &mut String) -> Result<(), Fault> {
-    let Finished { verdict, network } = finished;
-    writeln!(answer, "{verdict:?}")?;
-    tell_edges(answer, "edges", network)
 }

@@ -10,7 +10,7 @@ use answer_text::{Answer, AnswerHead, ConcatNote, answer_len, write_answer};
 use cert_tree::CertTree;
 use graph_calls::described::edges;
 use hanan_grid::Grid;
-use row_tables::{Call, Fault, shown};
+use row_tables::{Call, Fault, Told, exactly, shown};
 use rst_outside::MemSink;
 use std::alloc::Global;
 
@@ -18,10 +18,10 @@ use std::alloc::Global;
 const ROOM: usize = 1 << 16;
 
 /// The text of an answer whose tree is a leaf, and its length.
-pub fn write(alloc: Global, call: &Call, answer: &mut String) -> Result<(), Fault> {
+pub fn write(alloc: Global, call: &Call, told: &mut Told) -> Result<(), Fault> {
     let grid = grid(alloc, call)?;
     let described = described_answer(alloc, call, &grid)?;
-    write_described(alloc, &grid, &described, answer)
+    write_described(alloc, &grid, &described, told)
 }
 
 // The text of an answer, and its length.
@@ -29,16 +29,18 @@ fn write_described(
     alloc: Global,
     grid: &Grid,
     described: &Answer,
-    answer: &mut String,
+    told: &mut Told,
 ) -> Result<(), Fault>
     requires { IsAnswerOn (hanan_grid_of grid.now) described.now }
 {
     let mut sink = MemSink::with_room(alloc, ROOM, 7, Vec::new(alloc))?;
     if write_answer(&mut sink, grid, described).is_err() {
-        writeln!(answer, "cut short")?;
+        told.word("cut short\n");
     }
-    let text = shown(sink.bytes())?;
-    Ok(writeln!(answer, "{text}{} bytes", answer_len(grid, described))?)
+    told.word(shown(sink.bytes())?);
+    told.show(&answer_len(grid, described));
+    told.word(" bytes\n");
+    Ok(())
 }
 
 // The answer whose head, edges and cuts stand under these words.
@@ -51,25 +53,26 @@ fn described_answer(alloc: Global, call: &Call, grid: &Grid) -> Result<Answer, F
         return Err(Fault::NotAllowed);
     }
     Ok(Answer {
-        head: head(alloc, call)?,
+        head: head(call)?,
         network: edges(alloc, call, g, "edges")?,
         tree: CertTree::leaf(alloc, cuts)?,
     })
 }
 
 // The head under `head`: length, bound, 1 for optimal or 0, openings, 1 for least or 0, and the total.
-fn head(alloc: Global, call: &Call) -> Result<AnswerHead, Fault> {
-    match call.numbers(alloc, "head")?.as_slice() {
-        [length, bound, optimal, openings, least, total] if *openings < 256 => Ok(AnswerHead {
-            length: *length,
-            bound: *bound,
-            optimal: *optimal == 1,
-            openings: *openings as u8,
-            concat: ConcatNote {
-                least: *least == 1,
-                total: u128::from(*total),
-            },
-        }),
-        _ => Err(Fault::BadNumber),
+fn head(call: &Call) -> Result<AnswerHead, Fault> {
+    let [length, bound, optimal, openings, least, total] = exactly::<6>(call.text("head")?)?;
+    if openings > 255 {
+        return Err(Fault::BadNumber);
     }
+    Ok(AnswerHead {
+        length,
+        bound,
+        optimal: optimal == 1,
+        openings: openings as u8,
+        concat: ConcatNote {
+            least: least == 1,
+            total: u128::from(total),
+        },
+    })
 }

@@ -23,18 +23,20 @@ pub fn grid(alloc: Global, call: &Call) -> Result<Grid, Fault> {
 }
 
 /// The point of a line.
-pub fn point(alloc: Global, line: &str) -> Result<Point, Fault> {
-    match coordinates(alloc, line)?.as_slice() {
-        [x, y] => Ok(Point { x: *x, y: *y }),
-        _ => Err(Fault::BadNumber),
-    }
+pub fn point(line: &str) -> Result<Point, Fault> {
+    let [x, y] = coordinates::<2>(line)?;
+    Ok(Point { x, y })
 }
 
-/// The coordinates of a line.
-pub fn coordinates(alloc: Global, line: &str) -> Result<Vec<i64>, Fault> {
-    let mut coordinates = Vec::new(alloc);
-    for word in line.split_whitespace() {
-        coordinates.push(signed(word)?)?;
+/// The coordinates of a line, which are `N`.
+pub fn coordinates<const N: usize>(line: &str) -> Result<[i64; N], Fault> {
+    let mut coordinates = [0; N];
+    let mut words = line.split_whitespace();
+    for place in 0..N {
+        coordinates[place] = signed(words.next().ok_or(Fault::BadNumber)?)?;
+    }
+    if words.next().is_some() {
+        return Err(Fault::BadNumber);
     }
     Ok(coordinates)
 }

@@ -5,141 +5,104 @@ ghost use Rattle.std.specs.Prelude.{◌≡◌};
 use crate::grid::described::{point, points};
 use crate::grid::ends::ends;
 use hanan_grid::{Grid, GridFault};
-use row_tables::{Call, Fault, numbers};
+use row_tables::{Call, Fault, Told, exactly};
 use spanning::{Table, bottlenecks};
 use std::alloc::Global;
 
 /// The fault of the grid of the points under `points`; or its columns, rows and total, and then the point of each
 /// vertex, the vertex of each terminal, and the ends of each edge.
-pub fn whole(alloc: Global, call: &Call, answer: &mut String) -> Result<(), Fault> {
+pub fn whole(alloc: Global, call: &Call, told: &mut Told) -> Result<(), Fault> {
     match Grid::new(alloc, &points(alloc, call)?) {
-        Ok(grid) => tell(&grid, answer),
-        Err(GridFault::Memory(error)) => Err(error.into()),
-        Err(fault) => Ok(writeln!(answer, "{fault}")?),
+        Ok(grid) => tell(&grid, told),
+        Err(GridFault::Memory(_)) => return Err(Fault::Memory),
+        Err(fault) => told.line("", &fault),
     }
+    Ok(())
 }
 
 // All of a grid.
-fn tell(grid: &Grid, answer: &mut String) -> Result<(), Fault> {
-    let total = grid.graph().total();
-    writeln!(
-        answer,
-        "columns {}, rows {}, total {total}",
-        grid.columns(),
-        grid.rows()
-    )?;
-    vertices(grid, answer)?;
-    terminals(grid, answer)?;
-    edges(grid, answer)
+fn tell(grid: &Grid, told: &mut Told) {
+    told.value("columns ", &grid.columns());
+    told.value(", rows ", &grid.rows());
+    told.line(", total ", &grid.graph().total());
+    vertices(grid, told);
+    terminals(grid, told);
+    edges(grid, told);
 }
 
 // The point of each vertex.
-fn vertices(grid: &Grid, answer: &mut String) -> Result<(), Fault> {
+fn vertices(grid: &Grid, told: &mut Told) {
     for vertex in 0..grid.graph().vertex_count() {
         let point = grid.vertex_point(vertex);
-        writeln!(answer, "vertex {} {}", point.x, point.y)?;
+        told.value("vertex ", &point.x);
+        told.line(" ", &point.y);
     }
-    Ok(())
 }
 
 // The vertex of each terminal.
-fn terminals(grid: &Grid, answer: &mut String) -> Result<(), Fault> {
+fn terminals(grid: &Grid, told: &mut Told) {
     for terminal in 0..grid.points().len() {
         let vertex = grid.vertex(grid.terminal_place(terminal));
-        writeln!(answer, "terminal {vertex}")?;
+        told.line("terminal ", &vertex);
     }
-    Ok(())
 }
 
 // The ends of each edge.
-fn edges(grid: &Grid, answer: &mut String) -> Result<(), Fault> {
+fn edges(grid: &Grid, told: &mut Told) {
     for edge in 0..grid.graph().edge_count() {
         let name = grid.edge_name(edge);
-        writeln!(
-            answer,
-            "edge {} {} {} {}",
-            name.x1, name.y1, name.x2, name.y2
-        )?;
+        told.value("edge ", &name.x1);
+        told.value(" ", &name.y1);
+        told.value(" ", &name.x2);
+        told.line(" ", &name.y2);
     }
-    Ok(())
 }
 
 /// For each name of the lines its edge, where there is one.
-pub fn edges_named(
-    alloc: Global,
-    grid: &Grid,
-    lines: &str,
-    answer: &mut String,
-) -> Result<(), Fault> {
+pub fn edges_named(grid: &Grid, lines: &str, told: &mut Told) -> Result<(), Fault> {
     for line in lines.lines() {
-        match grid.edge_named(&ends(alloc, line)?) {
-            Some(edge) => writeln!(answer, "edge {edge}")?,
-            None => writeln!(answer, "no edge")?,
+        match grid.edge_named(&ends(line)?) {
+            Some(edge) => told.line("edge ", &edge),
+            None => told.word("no edge\n"),
         }
     }
     Ok(())
 }
 
 /// For each point of the lines its vertex, with its column and its row, where there is one.
-pub fn vertices_at(
-    alloc: Global,
-    grid: &Grid,
-    lines: &str,
-    answer: &mut String,
-) -> Result<(), Fault> {
+pub fn vertices_at(grid: &Grid, lines: &str, told: &mut Told) -> Result<(), Fault> {
     for line in lines.lines() {
-        match grid.vertex_at(point(alloc, line)?) {
+        match grid.vertex_at(point(line)?) {
             Some(vertex) => {
                 let place = grid.place(vertex);
-                writeln!(
-                    answer,
-                    "vertex {vertex}, column {}, row {}",
-                    place.column, place.row
-                )?;
+                told.value("vertex ", &vertex);
+                told.value(", column ", &place.column);
+                told.line(", row ", &place.row);
             }
-            None => writeln!(answer, "no crossing")?,
+            None => told.word("no crossing\n"),
         }
     }
     Ok(())
 }
 
 /// For each two terminals of the lines, by their places in the list, their distance and their bottleneck.
-pub fn distances(
-    alloc: Global,
-    grid: &Grid,
-    lines: &str,
-    answer: &mut String,
-) -> Result<(), Fault> {
+pub fn distances(alloc: Global, grid: &Grid, lines: &str, told: &mut Told) -> Result<(), Fault> {
     let table = bottlenecks(alloc, grid)?;
     for line in lines.lines() {
-        let (i, j) = pair(alloc, line)?;
-        distance(grid, &table, i, j, answer)?;
+        let [i, j] = exactly::<2>(line)?;
+        distance(grid, &table, i as usize, j as usize, told)?;
     }
     Ok(())
 }
 
-// The two places of a line.
-fn pair(alloc: Global, line: &str) -> Result<(usize, usize), Fault> {
-    match numbers(alloc, line)?.as_slice() {
-        [i, j] => Ok((*i as usize, *j as usize)),
-        _ => Err(Fault::BadNumber),
-    }
-}
-
 // The distance and the bottleneck of two terminals.
-fn distance(
-    grid: &Grid,
-    table: &Table,
-    i: usize,
-    j: usize,
-    answer: &mut String,
-) -> Result<(), Fault>
+fn distance(grid: &Grid, table: &Table, i: usize, j: usize, told: &mut Told) -> Result<(), Fault>
     requires { table.now ≡ grid.now }
 {
     if i >= grid.points().len() || j >= grid.points().len() {
         return Err(Fault::NotAllowed);
     }
-    let distance = grid.distance(i, j);
-    let bottleneck = table.between(i, j);
-    Ok(writeln!(answer, "distance {distance}, bottleneck {bottleneck}")?)
+    told.value("distance ", &grid.distance(i, j));
+    told.line(", bottleneck ", &table.between(i, j));
+    Ok(())
 }

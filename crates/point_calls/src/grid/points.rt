@@ -2,45 +2,37 @@
 
 use crate::grid::described::point;
 use points_in::{Added, PointFault, Points, read_points};
-use row_tables::{Call, Fault};
+use row_tables::{Call, Fault, Told};
 use std::alloc::Global;
 
 /// The fault of the points under `points`; or, for each point under `add`, whether it is new, and then all points.
-pub fn points(alloc: Global, call: &Call, answer: &mut String) -> Result<(), Fault> {
+pub fn points(alloc: Global, call: &Call, told: &mut Told) -> Result<(), Fault> {
     match read_points(alloc, call.bytes("points")?) {
-        Ok(mut points) => added(alloc, &mut points, call.text("add")?, answer),
-        Err(PointFault::Memory(error)) => Err(error.into()),
-        Err(fault) => Ok(writeln!(answer, "{fault}")?),
+        Ok(mut points) => return added(&mut points, call.text("add")?, told),
+        Err(PointFault::Memory(_)) => return Err(Fault::Memory),
+        Err(fault) => told.line("", &fault),
     }
+    Ok(())
 }
 
 // For each point of the lines whether it is new, and then all points.
-fn added(
-    alloc: Global,
-    points: &mut Points,
-    lines: &str,
-    answer: &mut String,
-) -> Result<(), Fault> {
+fn added(points: &mut Points, lines: &str, told: &mut Told) -> Result<(), Fault> {
     for line in lines.lines() {
-        add(alloc, line, points, answer)?;
+        match points.add(point(line)?) {
+            Ok(Added::New) => told.word("new\n"),
+            Ok(Added::Repeat) => told.word("repeat\n"),
+            Err(fault) => told.line("", &fault),
+        }
     }
-    list(&points.copy()?, answer)
-}
-
-// Adds the point of a line, and tells whether it is new, or why it can't be added.
-fn add(alloc: Global, line: &str, points: &mut Points, answer: &mut String) -> Result<(), Fault> {
-    match points.add(point(alloc, line)?) {
-        Ok(Added::New) => Ok(writeln!(answer, "new")?),
-        Ok(Added::Repeat) => Ok(writeln!(answer, "repeat")?),
-        Err(fault) => Ok(writeln!(answer, "{fault}")?),
-    }
+    list(&points.copy()?, told);
+    Ok(())
 }
 
 // Tells all points.
-fn list(points: &Points, answer: &mut String) -> Result<(), Fault> {
+fn list(points: &Points, told: &mut Told) {
     for place in 0..points.len() {
         let point = points.get(place);
-        writeln!(answer, "{} {}", point.x, point.y)?;
+        told.show(&point.x);
+        told.line(" ", &point.y);
     }
-    Ok(())
 }

@@ -1,13 +1,13 @@
 //! Texts written piece by piece.
 
 use crate::text::given::sink as given_sink;
-use row_tables::{Call, Fault, number as number_of, shown, signed as signed_of};
+use row_tables::{Call, Fault, Told, number as number_of, shown, signed as signed_of};
 use rst_outside::{MemSink, PutFault};
 use std::alloc::Global;
 use text_out::{Block, finish, literal, number, signed};
 
 /// What a sink has of a text whose pieces stand under `literal`, `number` and `signed`, and whether it was cut short.
-pub(crate) fn pieces(alloc: Global, call: &Call, answer: &mut String) -> Result<(), Fault> {
+pub(crate) fn pieces(alloc: Global, call: &Call, told: &mut Told) -> Result<(), Fault> {
     let mut sink = given_sink(alloc, call)?;
     let mut block = Block::new();
     for piece in &call.arguments {
@@ -19,9 +19,9 @@ pub(crate) fn pieces(alloc: Global, call: &Call, answer: &mut String) -> Result<
         )?;
     }
     let written = finish(block, &mut sink);
-    write!(answer, "{}", shown(sink.bytes())?)?;
+    told.word(shown(sink.bytes())?);
     if written == Err(PutFault) {
-        writeln!(answer, " is cut short")?;
+        told.word(" is cut short\n");
     }
     Ok(())
 }

@@ -1,44 +1,45 @@
 //! STP files, read and written back.
 
 use crate::text::given::{said_of, sink as given_sink};
-use row_tables::{Call, Fault, shown};
+use row_tables::{Call, Fault, Told, shown};
 use std::alloc::Global;
 use stp_format::{StpFile, read_stp, write_stp};
 
 /// The fault of the STP file under `file`; or what it holds, and the file as it is written.
-pub(crate) fn stp(alloc: Global, call: &Call, answer: &mut String) -> Result<(), Fault> {
+pub(crate) fn stp(alloc: Global, call: &Call, told: &mut Told) -> Result<(), Fault> {
     let file = match read_stp(alloc, call.bytes("file")?) {
         Ok(file) => file,
-        Err(fault) => return Ok(writeln!(answer, "{}", said_of(alloc, fault)?)?),
+        Err(fault) => {
+            told.word(said_of(alloc, fault)?.as_str());
+            told.word("\n");
+            return Ok(());
+        }
     };
-    tell_file(&file, answer)?;
-    tell_written(alloc, call, &file, answer)
+    tell_file(&file, told);
+    tell_written(alloc, call, &file, told)
 }
 
 // Tells what a sink has of the file as it is written.
-fn tell_written(
-    alloc: Global,
-    call: &Call,
-    file: &StpFile,
-    answer: &mut String,
-) -> Result<(), Fault> {
+fn tell_written(alloc: Global, call: &Call, file: &StpFile, told: &mut Told) -> Result<(), Fault> {
     let mut sink = given_sink(alloc, call)?;
-    let written = write_stp(&mut sink, file);
-    writeln!(answer, "written {written:?}")?;
-    Ok(answer.push_str(shown(sink.bytes())?)?)
+    told.debug_line("written ", &write_stp(&mut sink, file));
+    told.word(shown(sink.bytes())?);
+    Ok(())
 }
 
 // Tells the nodes of a file with their points, its edges and its terminals.
-fn tell_file(file: &StpFile, answer: &mut String) -> Result<(), Fault> {
+fn tell_file(file: &StpFile, told: &mut Told) {
     for node in 1..=file.nodes() {
-        writeln!(answer, "node {node} {:?}", file.coordinates(node))?;
+        told.value("node ", &node);
+        told.debug_line(" ", &file.coordinates(node));
     }
     for n in 0..file.edge_count() {
         let edge = file.edge(n);
-        writeln!(answer, "edge {} {} {}", edge.i, edge.j, edge.length)?;
+        told.value("edge ", &edge.i);
+        told.value(" ", &edge.j);
+        told.line(" ", &edge.length);
     }
     for n in 0..file.terminal_count() {
-        writeln!(answer, "terminal {}", file.terminal(n))?;
+        told.line("terminal ", &file.terminal(n));
     }
-    Ok(())
 }

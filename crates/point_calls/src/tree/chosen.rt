@@ -8,16 +8,16 @@ use crate::tree::fitting::fitting;
 use fst_concat::{Chosen, ChosenKind, ConcatFault, concat};
 use full_tree::TreeList;
 use hanan_grid::Grid;
-use row_tables::{Call, Fault, narrow};
+use row_tables::{Call, Fault, Told, narrow};
 use std::alloc::Global;
 
 /// The concatenation of the trees that a search with so many `allowed` splits chooses, or the terminal that all of them
 /// leave apart.
-pub fn chosen(alloc: Global, call: &Call, answer: &mut String) -> Result<(), Fault> {
+pub fn chosen(alloc: Global, call: &Call, told: &mut Told) -> Result<(), Fault> {
     let allowed = narrow(call.number("allowed")?)?;
     let grid = grid(alloc, call)?;
     let trees = fitting(alloc, call, &grid)?;
-    choose(alloc, &grid, &trees, allowed, answer)
+    choose(alloc, &grid, &trees, allowed, told)
 }
 
 // The same of these trees.
@@ -26,7 +26,7 @@ fn choose(
     grid: &Grid,
     trees: &TreeList,
     allowed: u32,
-    answer: &mut String,
+    told: &mut Told,
 ) -> Result<(), Fault>
     requires { All (HasMembersBelow (length grid.now)) trees.now }
 {
@@ -36,23 +36,25 @@ fn choose(
     let points = grid.points().len();
     prove!(points <= 50);
     match concat(alloc, points as u8, trees, allowed) {
-        Ok(chosen) => tell(&chosen, answer),
-        Err(ConcatFault::Unspanned { place }) => Ok(writeln!(answer, "apart {place}")?),
-        Err(ConcatFault::Memory(_)) => Err(Fault::Memory),
+        Ok(chosen) => tell(&chosen, told),
+        Err(ConcatFault::Unspanned { place }) => told.line("apart ", &place),
+        Err(ConcatFault::Memory(_)) => return Err(Fault::Memory),
     }
+    Ok(())
 }
 
 // Tells the kind, the total and the places.
-fn tell(chosen: &Chosen, answer: &mut String) -> Result<(), Fault> {
+fn tell(chosen: &Chosen, told: &mut Told) {
     match &chosen.kind {
-        ChosenKind::Least => writeln!(answer, "least {}", chosen.total)?,
+        ChosenKind::Least => told.line("least ", &chosen.total),
         ChosenKind::Spent(trail) => {
-            writeln!(answer, "spent {} splits {}", chosen.total, trail.splits())?;
+            told.value("spent ", &chosen.total);
+            told.line(" splits ", &trail.splits());
         }
     }
-    write!(answer, "places")?;
+    told.word("places");
     for place in chosen.places.as_slice() {
-        write!(answer, " {place}")?;
+        told.value(" ", place);
     }
-    Ok(writeln!(answer)?)
+    told.word("\n");
 }

@@ -2,12 +2,12 @@
 
 use crate::tree::places::places;
 use partition_fit::{Fitter, Item, Level, Proposal};
-use row_tables::{Call, Fault, numbers};
+use row_tables::{Call, Fault, Told, exactly};
 use std::alloc::Global;
 
 /// What is proposed for parts and items, without a total to stay below: the length of what is chosen, and what the
 /// levels bound; or that the items leave parts apart.
-pub fn proposal(alloc: Global, call: &Call, answer: &mut String) -> Result<(), Fault> {
+pub fn proposal(alloc: Global, call: &Call, told: &mut Told) -> Result<(), Fault> {
     let parts = call.byte("parts")?;
     if parts == 0 {
         return Err(Fault::NotAllowed);
@@ -15,35 +15,26 @@ pub fn proposal(alloc: Global, call: &Call, answer: &mut String) -> Result<(), F
     let items = items(alloc, call)?;
     let guide = places(alloc, call, "guide", items.len())?;
     match Fitter::new(alloc).propose(parts, &items, &guide, u64::MAX)? {
-        Some(found) => tell(parts, &items, &found, answer),
-        None => Ok(writeln!(answer, "apart")?),
+        Some(found) => tell(parts, &items, &found, told),
+        None => told.word("apart\n"),
     }
+    Ok(())
 }
 
 // Tells the length of what is chosen, and what the levels bound.
-fn tell(parts: u8, items: &[Item], found: &Proposal, answer: &mut String) -> Result<(), Fault> {
-    writeln!(answer, "chosen {}", length_of(items, &found.chosen))?;
-    Ok(writeln!(answer, "bound {}", bound_of(parts, &found.levels))?)
+fn tell(parts: u8, items: &[Item], found: &Proposal, told: &mut Told) {
+    told.line("chosen ", &length_of(items, &found.chosen));
+    told.line("bound ", &bound_of(parts, &found.levels));
 }
 
 // The items under the key `items`, a line each: the parts that it touches, as a word, and its length.
 fn items(alloc: Global, call: &Call) -> Result<Vec<Item>, Fault> {
     let mut items = Vec::new(alloc);
     for line in call.text("items")?.lines() {
-        items.push(item(alloc, line)?)?;
+        let [touched, length] = exactly::<2>(line)?;
+        items.push(Item { touched, length })?;
     }
     Ok(items)
-}
-
-// The item of a line.
-fn item(alloc: Global, line: &str) -> Result<Item, Fault> {
-    match numbers(alloc, line)?.as_slice() {
-        [touched, length] => Ok(Item {
-            touched: *touched,
-            length: *length,
-        }),
-        _ => Err(Fault::BadNumber),
-    }
 }
 
 // The length of the items of some numbers.
