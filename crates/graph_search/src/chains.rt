@@ -75,8 +75,8 @@ fn closed_on_edges(
     }
 }
 
-// What a search by chains finds that closes, whose splits go along cuts, or else as the bounds of both children choose;
-// none where no one closes within the budget. An `Err` is want of memory.
+// What a search by chains finds that closes, whose splits go along cuts where any are allowed, or else as the bounds of
+// both children choose; none where no one closes within the budget. An `Err` is want of memory.
 fn found_closed(
     alloc: Global,
     graph: &NetGraph,
@@ -88,24 +88,15 @@ fn found_closed(
     ensures { IfOk result (λ found. IfSome found (λ s.
         IsFoundByChains graph.now (length_of graph.now network.now) openings s × (s.optimal ≡ true))) }
 {
-    match found_by(
-        alloc,
-        graph,
-        network,
-        first.copy()?,
-        openings,
-        Proposal::Cut,
-    )? {
-        Some(found) => Ok(Some(found)),
-        None => found_by(
-            alloc,
-            graph,
-            network,
-            first,
-            openings,
-            Proposal::BothChildren,
-        ),
+    if openings > 0 {
+        let begun = first.copy()?;
+        let found = found_by(alloc, graph, network, begun, openings, Proposal::Cut)?;
+        if found.is_some() {
+            return Ok(found);
+        }
     }
+    let other = Proposal::BothChildren;
+    found_by(alloc, graph, network, first, openings, other)
 }
 
 // What the first search by chains finds that closes, of some that each begin with a network and a packing like the
