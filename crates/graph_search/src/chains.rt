@@ -10,16 +10,14 @@ ghost use Rattle.graph_search.specs.Chains.{IsAhead, IsFoundByChains};
 ghost use Rattle.graph_search.specs.Kinds.{kind_of};
 ghost use Rattle.graph_search.specs.Searched.{IsTold};
 
+use crate::proposing::{Proposal, Proposing};
 use branch::{Search, Solved, SplitKind, Step};
 use dual_ascent::{Candidate, Chooser, Rule};
-use net_graph::{Decision, EdgeSet, NetGraph, Packing, feasible, length};
+use net_graph::{Decision, EdgeSet, NetGraph, Packing, feasible};
 use search_rules::SplitRule;
 use std::alloc::{AllocError, Global};
 use std::cell::Cell;
-use strong_branching::{Draws, choose, drawn_again, drawn_place, is_of, place_of};
-
-// So many arcs are looked at, which takes some seconds.
-const MOST_ARCS: u64 = 1_500_000;
+use strong_branching::{Draws, drawn_again, drawn_place, is_of, place_of};
 
 // So many searches are begun at most.
 const MOST_SEARCHES: u8 = 200;
@@ -77,8 +75,8 @@ fn closed_on_edges(
     }
 }
 
-// What the first search by chains finds that closes, of some that each begin with a network and a packing like the
-// given one; none where no one closes within the budget. An `Err` is want of memory.
+// What a search by chains finds that closes, whose splits go along cuts where any are allowed, or else as the bounds of
+// both children choose; none where no one closes within the budget. An `Err` is want of memory.
 fn found_closed(
     alloc: Global,
     graph: &NetGraph,
@@ -90,11 +88,45 @@ fn found_closed(
     ensures { IfOk result (λ found. IfSome found (λ s.
         IsFoundByChains graph.now (length_of graph.now network.now) openings s × (s.optimal ≡ true))) }
 {
-    let mut draws = Draws::new(SEED, MOST_ARCS);
+    if openings > 0 {
+        let begun = first.copy()?;
+        let found = found_by(alloc, graph, network, begun, openings, Proposal::Cut)?;
+        if found.is_some() {
+            return Ok(found);
+        }
+    }
+    let other = Proposal::BothChildren;
+    found_by(alloc, graph, network, first, openings, other)
+}
+
+// What the first search by chains finds that closes, of some that each begin with a network and a packing like the
+// given one; none where no one closes within the budget. An `Err` is want of memory.
+fn found_by(
+    alloc: Global,
+    graph: &NetGraph,
+    network: &EdgeSet,
+    first: Packing,
+    openings: u8,
+    proposal: Proposal,
+) -> Result<Option<Solved>, AllocError>
+    requires { IsNetworkOf graph.now network.now }
+    ensures { IfOk result (λ found. IfSome found (λ s.
+        IsFoundByChains graph.now (length_of graph.now network.now) openings s × (s.optimal ≡ true))) }
+{
+    let mut draws = Draws::new(SEED, proposal.most_arcs());
     let mut first = first;
     for _ in 0..MOST_SEARCHES {
         let begun = network.copy()?;
-        let found = search(alloc, graph, begun, first.copy()?, openings, &mut draws)?;
+        let mut proposing = proposal.begin(alloc, graph)?;
+        let found = search(
+            alloc,
+            graph,
+            begun,
+            first.copy()?,
+            openings,
+            &mut proposing,
+            &mut draws,
+        )?;
         if found.optimal {
             return Ok(Some(found));
         }
@@ -113,6 +145,7 @@ fn search(
     network: EdgeSet,
     first: Packing,
     openings: u8,
+    proposing: &mut Proposing,
     draws: &mut Draws,
 ) -> Result<Solved, AllocError>
     requires { IsNetworkOf graph.now network }
@@ -128,6 +161,7 @@ fn search(
         network,
         first,
         openings,
+        proposing,
         draws,
         &next,
         |list: &[Candidate]| -> usize
@@ -148,6 +182,7 @@ fn search_by<F: Rule, G: Rule>(
     network: EdgeSet,
     first: Packing,
     openings: u8,
+    proposing: &mut Proposing,
     draws: &mut Draws,
     next: &Next,
     ascent: F,
@@ -170,7 +205,7 @@ fn search_by<F: Rule, G: Rule>(
     )?;
     raise(alloc, graph, &mut search, first)?;
     let _made = search.splits();
-    split_in_turn(alloc, graph, &mut search, openings, draws, next)?;
+    split_in_turn(alloc, graph, &mut search, openings, proposing, draws, next)?;
     Ok(search.finish())
 }
 
@@ -198,13 +233,14 @@ fn raise<F: Rule, G: Rule>(
     Ok(())
 }
 
-// Makes splits as strong branching chooses, at most so many. An `Err` is want of memory.
+// Makes splits as is proposed, at most so many. An `Err` is want of memory.
 #[tactic(auto, using(crate::proofs::ChainLemmas::ahead_refl))]
 fn split_in_turn<F: Rule, G: Rule>(
     alloc: Global,
     graph: &NetGraph,
     search: &mut Search<'_, F, G>,
     openings: u8,
+    proposing: &mut Proposing,
     draws: &mut Draws,
     next: &Next,
 ) -> Result<(), AllocError>
@@ -213,20 +249,23 @@ fn split_in_turn<F: Rule, G: Rule>(
     ensures ahead { IsAhead search.old search.new }
     ensures few { split_count search.new.tree ≤ openings }
 {
-    for _made in 0..openings {
-        if !split_next(alloc, graph, search, draws, next)? {
+    for made in 0..openings {
+        let left = openings - made;
+        if !split_next(alloc, graph, search, left, proposing, draws, next)? {
             break;
         }
     }
     Ok(())
 }
 
-// Splits the leaf that is open next as strong branching chooses, as long as there is budget; whether it was. An `Err`
-// is want of memory.
+// Splits the leaf that is open next as is proposed where so many splits are left, as long as there is budget; whether
+// it was. An `Err` is want of memory.
 fn split_next<F: Rule, G: Rule>(
     alloc: Global,
     graph: &NetGraph,
     search: &mut Search<'_, F, G>,
+    left: u8,
+    proposing: &mut Proposing,
     draws: &mut Draws,
     next: &Next,
 ) -> Result<bool, AllocError>
@@ -241,14 +280,13 @@ fn split_next<F: Rule, G: Rule>(
     let Some(leaf) = search.next_open() else {
         return Ok(false);
     };
-    let network = search.network();
-    let chosen = choose(
+    let chosen = proposing.next(
         alloc,
         graph,
         search.decision(leaf),
         search.tree().packing(leaf),
-        network,
-        length(graph, network),
+        search.network(),
+        left,
         draws,
     )?;
     let Some(choice) = chosen else {

@@ -8,6 +8,7 @@ mod exchanging;
 mod guiding;
 mod in_plane;
 mod on_grid;
+mod proposing;
 mod raised_search;
 mod raising;
 mod shortening;

@@ -36,6 +36,8 @@ struct Best {
     worth: i64,
     is_good: bool,
     candidates: u32,
+    // How many of the leaf's saturated arcs are relevant.
+    relevant: u32,
 }
 
 /// The undecided edge of a leaf's own network, and the order of the ascents of both children, that leave least open:
@@ -69,13 +71,13 @@ pub fn choose(
         packing,
         costs,
         aim,
-        relevant,
     };
     let mut best = Best {
         choice: None,
         worth: 0,
         is_good: false,
         candidates: 0,
+        relevant,
     };
     best.look_at(alloc, &leaf, &own, known, true, draws)?;
     best.look_at(alloc, &leaf, &own, known, false, draws)?;
@@ -125,7 +127,7 @@ impl Best {
         self.candidates = self.candidates.wrapping_add(1);
         for _ in 0..ORDERS {
             let seed = draws.seed();
-            let (worth, is_good) = leaf.worth(alloc, edge, seed)?;
+            let (worth, is_good) = leaf.worth(alloc, edge, seed, self.relevant)?;
             draws.spend(leaf.graph.edge_count());
             if self.choice.is_none() || worth > self.worth {
                 self.choice = Some(Choice { edge, seed });

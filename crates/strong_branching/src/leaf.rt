@@ -24,8 +24,6 @@ pub(crate) struct Leaf<'a> {
     pub costs: ReducedCosts,
     /// The value that closes a child.
     pub aim: u64,
-    /// How many of its saturated arcs are relevant.
-    pub relevant: u32,
 }
 
 // What an ascent makes of a child.
@@ -40,9 +38,16 @@ struct Child {
 }
 
 impl Leaf<'_> {
-    /// What a split on an edge is worth by ascents in the order of a seed, and whether it closes a child and brings the
-    /// other one closer to its end. An `Err` is want of memory.
-    pub fn worth(&self, alloc: Global, edge: u32, seed: u64) -> Result<(i64, bool), AllocError>
+    /// What a split on an edge is worth by ascents in the order of a seed, where so many of the leaf's saturated arcs
+    /// are relevant, and whether it closes a child and brings the other one closer to its end. An `Err` is want of
+    /// memory.
+    pub fn worth(
+        &self,
+        alloc: Global,
+        edge: u32,
+        seed: u64,
+        relevant: u32,
+    ) -> Result<(i64, bool), AllocError>
         requires leaf { IsLeafOf self.now }
         requires edge { IsUndecided self.now.graph.now self.now.decision.now edge }
     {
@@ -50,7 +55,18 @@ impl Leaf<'_> {
         let outside = self.child(alloc, &outside, seed)?;
         let inside = self.decision.with_inside(self.graph, edge)?;
         let inside = self.child(alloc, &inside, seed)?;
-        Ok(self.worth_of(outside, inside))
+        Ok(self.worth_of(outside, inside, relevant))
+    }
+
+    /// What an ascent in the order of a seed makes of the inside child of an edge: its value, at most the one that
+    /// closes it. An `Err` is want of memory.
+    pub fn inside_value(&self, alloc: Global, edge: u32, seed: u64) -> Result<u64, AllocError>
+        requires leaf { IsLeafOf self.now }
+        requires edge { IsUndecided self.now.graph.now self.now.decision.now edge }
+    {
+        let inside = self.decision.with_inside(self.graph, edge)?;
+        let child = self.child(alloc, &inside, seed)?;
+        Ok(child.value)
     }
 
     // What an ascent in a drawn order makes of a child. An `Err` is want of memory.
@@ -104,7 +120,7 @@ impl Leaf<'_> {
     // What a split is worth, by both children: their values, and beside these of what stays open how much closer it is
     // to its end. Inside an edge, cuts that are dropped are packed anew; outside one, saturated arcs are to vanish that
     // lead from the root to required vertices.
-    fn worth_of(&self, outside: Child, inside: Child) -> (i64, bool) {
+    fn worth_of(&self, outside: Child, inside: Child, relevant: u32) -> (i64, bool) {
         let mut wish = 0i64;
         if inside.value < self.aim {
             let dropped = i64::from(inside.dropped.min(1000));
@@ -114,10 +130,10 @@ impl Leaf<'_> {
         }
         let mut helps = true;
         if outside.value < self.aim {
-            let vanished = self.relevant.saturating_sub(outside.relevant);
+            let vanished = relevant.saturating_sub(outside.relevant);
             helps = vanished > 0;
             let share = i64::from(vanished).wrapping_mul(500);
-            let share = share.checked_div(i64::from(self.relevant)).unwrap_or(0);
+            let share = share.checked_div(i64::from(relevant)).unwrap_or(0);
             wish = wish.wrapping_add(if helps { share } else { -600 });
         }
         let closes = outside.value >= self.aim || inside.value >= self.aim;

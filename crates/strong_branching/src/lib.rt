@@ -3,14 +3,17 @@
 #![tactic(auto)]
 
 mod choice;
+mod cut_plan;
 mod drawn_order;
 mod draws;
 mod first_packing;
+mod flow;
 mod leaf;
 mod relevant;
 mod sizes;
 
 pub use choice::{Choice, choose};
+pub use cut_plan::CutPlan;
 pub use drawn_order::{drawn_place, place_of};
 pub use draws::Draws;
 pub use first_packing::drawn_again;

@@ -81,8 +81,8 @@ fn take_in(
     Ok(())
 }
 
-// The terminals and the ends of inside edges. An `Err` is want of memory.
-fn required_ends(
+/// The terminals and the ends of inside edges. An `Err` is want of memory.
+pub(crate) fn required_ends(
     alloc: Global,
     graph: &NetGraph,
     decision: &Decision,

@@ -1,0 +1,71 @@
+//! What proposes the edges on which searches by chains split their leaves.
+
+ghost use Rattle.std.specs.Prelude.{◌≡◌, length};
+ghost use Rattle.net_graph.specs.Decision.{IsDecisionFor};
+
+use net_graph::{Decision, EdgeSet, NetGraph, Packing, length};
+use std::alloc::{AllocError, Global};
+use strong_branching::{Choice, CutPlan, Draws, choose};
+
+// So many arcs are looked at where splits go along cuts, which takes a second or two.
+const MOST_ARCS_OF_CUTS: u64 = 750_000;
+
+// So many arcs are looked at where both children are bounded, which takes some seconds.
+const MOST_ARCS: u64 = 1_500_000;
+
+/// What proposes the edges that are split on.
+#[derive(Clone, Copy)]
+pub(crate) enum Proposal {
+    /// A least cut of the saturated ways from the root to a required vertex.
+    Cut,
+    /// The bounds of both children of each candidate.
+    BothChildren,
+}
+
+impl Proposal {
+    /// How many arcs may be looked at.
+    pub fn most_arcs(self) -> u64 {
+        match self {
+            Proposal::Cut => MOST_ARCS_OF_CUTS,
+            Proposal::BothChildren => MOST_ARCS,
+        }
+    }
+
+    /// What a search in a graph begins with. An `Err` is want of memory.
+    pub fn begin(self, alloc: Global, graph: &NetGraph) -> Result<Proposing, AllocError> {
+        match self {
+            Proposal::Cut => Ok(Proposing::Cut(CutPlan::none(alloc, graph)?)),
+            Proposal::BothChildren => Ok(Proposing::BothChildren),
+        }
+    }
+}
+
+/// The same, with what is kept from leaf to leaf.
+#[derive(Drop)]
+pub(crate) enum Proposing {
+    Cut(CutPlan),
+    BothChildren,
+}
+
+impl Proposing {
+    /// The edge on which a leaf is split where so many splits are left, if there is one. An `Err` is want of memory.
+    pub fn next(
+        &mut self,
+        alloc: Global,
+        graph: &NetGraph,
+        decision: &Decision,
+        packing: &Packing,
+        network: &EdgeSet,
+        left: u8,
+        draws: &mut Draws,
+    ) -> Result<Option<Choice>, AllocError>
+        requires decision { IsDecisionFor graph.now decision.now }
+        requires network { length network.now ≡ length graph.now.edges }
+    {
+        let aim = length(graph, network);
+        match self {
+            Proposing::Cut(plan) => plan.next(alloc, graph, decision, packing, aim, left, draws),
+            Proposing::BothChildren => choose(alloc, graph, decision, packing, network, aim, draws),
+        }
+    }
+}
