@@ -1,18 +1,18 @@
 //! The tool `points`: nothing comes in, drawn points go out.
 
-ghost use Rattle.std.specs.Prelude.{◌<◌, ◌≤◌, IfOk};
+ghost use Rattle.std.specs.Prelude.{◌<◌, ◌≤◌};
 ghost use Rattle.rst_outside.specs.Source.{SourceState};
 ghost use Rattle.rst_outside.specs.Shelf.{ShelfState};
 ghost use Rattle.tool_frame.specs.Outside.{outside};
-ghost use Rattle.tool_frame.specs.Ends.{print_of};
-ghost use Rattle.point_tools.specs.DrawnList.{drawn_text, drawn_status};
+ghost use Rattle.tool_frame.specs.Stops.{FindsDue};
+ghost use Rattle.point_tools.specs.DrawnList.{drawn_text, drawn_status, IsAnything};
 ghost use Rattle.point_tools.specs.Points.{PrintsDrawn, EndsPoints};
 
 use crate::drawn_list::DrawnList;
 use drawn_points::draw_points;
 use rst_outside::Sink;
-use std::alloc::{AllocError, Global};
-use tool_frame::{InputFault, conclude};
+use std::alloc::Global;
+use tool_frame::{InputFault, Stop, end_found};
 
 /// Runs `points`: prints the `n` points, 1 to 50, that are drawn from a seed, one a line and repeats among them.
 /// Gives the status that the program ends with.
@@ -24,15 +24,15 @@ pub fn points<O: Sink, R: Sink>(alloc: Global, n: u8, seed: u64, out: &mut O, er
         (outside input (O.state out.new) (R.state err.new) shelf) result }
 {
     let found = draw(alloc, n, seed);
-    conclude(out, err, b"points", found)
+    end_found(out, err, b"points", found)
 }
 
-// The drawn points. An `Err` is want of memory. There is no fault, as nothing is read.
-fn draw(alloc: Global, n: u8, seed: u64) -> Result<Result<DrawnList, InputFault>, AllocError>
+// The drawn points. There is no fault, as nothing is read.
+fn draw(alloc: Global, n: u8, seed: u64) -> Result<DrawnList, Stop<InputFault>>
     requires some { 0 < n }
     requires few { n ≤ 50 }
-    ensures { IfOk result (λ found. PrintsDrawn n seed (print_of drawn_text drawn_status found)) }
+    ensures { FindsDue drawn_text drawn_status IsAnything (PrintsDrawn n seed) result }
 {
     let drawn = draw_points(alloc, n, seed)?;
-    Ok(Ok(DrawnList { drawn }))
+    Ok(DrawnList { drawn })
 }

@@ -1,13 +1,11 @@
 -- The steps of the tools that search, before they write, each with the cause of its refusals.
 use Rattle.std.specs.Prelude.{◌≡◌, ◌<◌, ◌≤◌, ◌^◌, ℕ, List, Bool, true, false, length, Result, Ok, Err, if◌then◌else◌}
 use Rattle.points_in.specs.declared.point.Point.{Point}
-use Rattle.points_in.specs.Terminals.{terminals_of}
 use Rattle.hanan_grid.specs.Grid.{hanan_grid_of}
 use Rattle.net_graph.specs.Graph.{Graph}
 use Rattle.net_graph.specs.Network.{length_of}
 use Rattle.full_tree.specs.declared.code.Tree.{Tree as FullTree}
 use Rattle.fst_file.specs.Value.{FstValue}
-use Rattle.fst_file.specs.Text.{SpellsFstFile}
 use Rattle.fst_gen.specs.Trees.{AreTreesOf, HasMoreSets}
 use Rattle.fst_prune.specs.Kept.{AreKeptTrees}
 use Rattle.concatenation.specs.Concatenation.{all_of}
@@ -21,17 +19,9 @@ use Rattle.answer_text.specs.Spelling.{SpellsAnswer}
 use Rattle.answer_text.specs.Answers.{IsAnswerOn, value_of}
 use Rattle.tool_frame.specs.declared.status.AnswerStatus.{AnswerStatus}
 use Rattle.tool_frame.specs.declared.status.AnswerStatus.TheVariants.{Done, Stopped}
-use Rattle.tool_frame.specs.Points.{ListsPoints}
-use Rattle.tool_frame.specs.declared.text_fault.TextFault.{TextFault}
-use Rattle.tool_frame.specs.declared.text_fault.TextFault.TheVariants.{Input, Text}
-use Rattle.fst_file.specs.declared.fault.FstFault.{FstFault}
 use Rattle.tree_inputs.specs.declared.generation_fault.GenerationFault.{GenerationFault}
 use Rattle.tree_inputs.specs.declared.generation_fault.GenerationFault.TheVariants.{List as InList, TooManyTrees}
-use Rattle.tree_inputs.specs.Files.{ReadsFst}
-use Rattle.tree_inputs.specs.Generation.{GeneratesFst}
 use Rattle.search_rules.specs.declared.options.SearchOptions.{SearchOptions}
-use Rattle.search_tools.specs.declared.build_fault.BuildFault.{BuildFault}
-use Rattle.search_tools.specs.declared.build_fault.BuildFault.TheVariants.{InFile, Apart}
 use Rattle.search_tools.specs.declared.network.Found.{Found}
 use Rattle.search_tools.specs.declared.solution.Solution.{Solution}
 use Rattle.graph_search.specs.Kinds.{kind_of}
@@ -111,25 +101,3 @@ SolvesPoints options k ps (Ok s) =
     × IsFor options ps trees s
 SolvesPoints options k ps (Err (InList fault)) = ⊥
 SolvesPoints options k ps (Err TooManyTrees) = HasMoreSets ps k 20000
-
--- What `solve` finds in a text: an answer for the points that it lists and for the kept trees of theirs.
-abbrev pub FindsSolution : SearchOptions → ℕ → List ℕ → Result Solution GenerationFault → Type 0
-FindsSolution options k bytes (Ok s) =
-    (ps : List Point) × (generated : List FullTree) × (trees : List FullTree) × ListsPoints bytes ps
-    × AreTreesOf (terminals_of ps) k generated × AreKeptTrees generated trees
-    × IsFor options (terminals_of ps) trees s
-FindsSolution options k bytes (Err fault) = GeneratesFst k bytes (Err fault)
-
--- What `bb` finds in a text: an answer for the file that it spells.
-abbrev pub FindsBuilt : SearchOptions → List ℕ → Result Solution BuildFault → Type 0
-FindsBuilt options bytes (Ok s) =
-    (file : FstValue) × SpellsFstFile bytes file × IsFor options file.points file.trees s
-FindsBuilt options bytes (Err (InFile fault)) = ReadsFst bytes (Err fault)
-FindsBuilt options bytes (Err (Apart place)) =
-    (file : FstValue) × SpellsFstFile bytes file
-    × IsFirstApart (length file.points) file.trees (all_of file.trees) place
-
--- why an input is no file of full trees, as a fault of `bb`
-abbrev pub fault_of_file : TextFault FstFault → TextFault BuildFault
-fault_of_file (Input fault) = Input fault
-fault_of_file (Text fault) = Text (InFile fault)

@@ -16,6 +16,7 @@ use full_tree::TreeList;
 use hanan_grid::Grid;
 use net_graph::{EdgeSet, NetGraph, length};
 use std::alloc::{AllocError, Global};
+use tool_frame::Stop;
 use tree_inputs::kept_trees;
 
 /// A network no longer than the one that was found of some trees, with what is told of these: it, or the union of a
@@ -63,9 +64,10 @@ pub fn joined(
     requires joins { (place : ℕ) → ¬ IsFirstApart (length grid.now) trees.now (all_of trees.now) place }
     ensures { IfOk result (IsMadeOf allowed grid.now trees.now) }
 {
-    match network_on(alloc, grid, trees, allowed)? {
+    match network_on(alloc, grid, trees, allowed) {
         Ok(found) => Ok(found),
-        Err(_) => unreachable!(),
+        Err(Stop::Fault(_)) => unreachable!(),
+        Err(Stop::Memory(error)) => Err(error),
     }
 }
 

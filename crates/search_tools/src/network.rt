@@ -4,6 +4,7 @@ ghost use Rattle.std.specs.Prelude.{◌≡◌, IfOk};
 ghost use Rattle.hanan_grid.specs.Grid.{hanan_grid_of};
 ghost use Rattle.branch.specs.States.{IsNetworkOf};
 ghost use Rattle.fst_file.specs.Value.{AreTreesOf};
+ghost use Rattle.tool_frame.specs.Stops.{IfFound};
 ghost use Rattle.search_tools.specs.Steps.{FindsNetwork, IsNoLonger, is_least};
 
 use answer_text::ConcatNote;
@@ -13,6 +14,7 @@ use hanan_grid::Grid;
 use net_graph::EdgeSet;
 use network_judge::shortened;
 use std::alloc::{AllocError, Global};
+use tool_frame::Stop;
 use tree_network::network_of;
 
 // How many descents the search for a shorter network may make: about what gains nearly all at 50 points.
@@ -27,30 +29,29 @@ pub struct Found {
 }
 
 /// The union of the trees of a concatenation, of a least one where the search for it comes to its end within the
-/// allowed splits; or the place of the first terminal that all trees together leave apart. An outer `Err` is want of
-/// memory.
+/// allowed splits. A fault is the place of the first terminal that all trees together leave apart.
 pub fn network_on(
     alloc: Global,
     grid: &Grid,
     trees: &TreeList,
     allowed: u32,
-) -> Result<Result<Found, u8>, AllocError>
+) -> Result<Found, Stop<u8>>
     requires { AreTreesOf grid.now trees.now }
-    ensures { IfOk result (FindsNetwork allowed grid.now trees.now) }
+    ensures { IfFound result (FindsNetwork allowed grid.now trees.now) }
 {
     trees_in_form_have_members();
     let points = grid.points().len() as u8;
     let chosen = match concat(alloc, points, trees, allowed) {
         Ok(chosen) => chosen,
-        Err(ConcatFault::Unspanned { place }) => return Ok(Err(place)),
-        Err(ConcatFault::Memory(error)) => return Err(error),
+        Err(ConcatFault::Unspanned { place }) => return Err(Stop::Fault(place)),
+        Err(ConcatFault::Memory(error)) => return Err(Stop::Memory(error)),
     };
     let network = network_of(alloc, grid, trees, chosen.places.as_slice())?;
     let note = ConcatNote {
         least: is_least(&chosen.kind),
         total: chosen.total,
     };
-    Ok(Ok(Found { network, note }))
+    Ok(Found { network, note })
 }
 
 /// The network without what no terminal needs, and made shorter where a local search finds how. An `Err` is want of

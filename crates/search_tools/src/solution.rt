@@ -4,6 +4,7 @@ ghost use Rattle.std.specs.Prelude.{List, IfOk};
 ghost use Rattle.hanan_grid.specs.Grid.{hanan_grid_of};
 ghost use Rattle.full_tree.specs.declared.code.Tree.{Tree};
 ghost use Rattle.branch.specs.States.{IsNetworkOf};
+ghost use Rattle.tool_frame.specs.Stops.{IfFound};
 ghost use Rattle.search_tools.specs.Steps.{IsFor, IsMadeOf, IsPrintable, IsSpelled, SolvesFile};
 ghost use Rattle.search_tools.specs.Steps.{solution_text, solution_status};
 
@@ -15,7 +16,7 @@ use hanan_grid::Grid;
 use rst_outside::{PutFault, Sink};
 use search_rules::SearchOptions;
 use std::alloc::{AllocError, Global};
-use tool_frame::{Answer, AnswerStatus};
+use tool_frame::{Answer, AnswerStatus, Stop};
 
 /// An answer, and the grid that it is for.
 #[derive(Debug, Drop)]
@@ -47,22 +48,18 @@ impl Answer for Solution {
 }
 
 /// The answer for the points of a file: what a search finds that begins with a network no longer than a concatenation
-/// of the file's trees; or the place of the first point that all trees together leave apart. An outer `Err` is want of
-/// memory.
+/// of the file's trees. A fault is the place of the first point that all trees together leave apart.
 pub fn solution_of(
     alloc: Global,
     file: FstFile,
     options: SearchOptions,
-) -> Result<Result<Solution, u8>, AllocError>
-    ensures { IfOk result (SolvesFile options file) }
+) -> Result<Solution, Stop<u8>>
+    ensures { IfFound result (SolvesFile options file) }
 {
     let FstFile { grid, trees } = file;
-    let found = match network_on(alloc, &grid, &trees, options.concat)? {
-        Ok(found) => found,
-        Err(place) => return Ok(Err(place)),
-    };
+    let found = network_on(alloc, &grid, &trees, options.concat)?;
     let found = improved(alloc, &grid, found)?;
-    Ok(Ok(answered(alloc, grid, found, options)?))
+    Ok(answered(alloc, grid, found, options)?)
 }
 
 /// What a search finds that begins with a network of a grid: an answer for all trees of a concatenation of which the

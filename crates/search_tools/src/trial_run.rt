@@ -5,7 +5,7 @@ ghost use Rattle.std.specs.Prelude.{◌≡◌, ◌<◌, ◌≤◌, IfOk};
 ghost use Rattle.rst_outside.specs.Source.{SourceState};
 ghost use Rattle.rst_outside.specs.Shelf.{ShelfState};
 ghost use Rattle.tool_frame.specs.Outside.{outside};
-ghost use Rattle.tool_frame.specs.Ends.{print_of};
+ghost use Rattle.tool_frame.specs.Stops.{FindsDue};
 ghost use Rattle.search_tools.specs.TrialLine.{trial_text, trial_status};
 ghost use Rattle.search_tools.specs.Trial.{EndsTrial, Tries, drawn_terminals};
 
@@ -17,7 +17,7 @@ use hanan_grid::{Grid, GridFault};
 use rst_outside::Sink;
 use search_rules::SearchOptions;
 use std::alloc::{AllocError, Global};
-use tool_frame::conclude;
+use tool_frame::{Stop, end_found};
 use tree_inputs::{GenerationFault, MOST_MEMBERS};
 
 /// Runs `trial`: draws `n` points, 1 to 50, from a seed, finds the answer for the distinct ones of them as `solve` does
@@ -31,23 +31,19 @@ pub fn trial<O: Sink, R: Sink>(alloc: Global, n: u8, seed: u64, out: &mut O, err
         (outside input (O.state out.new) (R.state err.new) shelf) result }
 {
     let found = find(alloc, n, seed);
-    conclude(out, err, b"trial", found)
+    end_found(out, err, b"trial", found)
 }
 
-// What is told of the answer for the drawn points, or that these have too many trees. An `Err` is want of memory.
-fn find(alloc: Global, n: u8, seed: u64) -> Result<Result<TrialLine, GenerationFault>, AllocError>
+// What is told of the answer for the drawn points, or that these have too many trees.
+fn find(alloc: Global, n: u8, seed: u64) -> Result<TrialLine, Stop<GenerationFault>>
     requires some { 0 < n }
     requires few { n ≤ 50 }
-    ensures { IfOk result (λ found. Tries n seed (print_of trial_text trial_status found)) }
+    ensures { FindsDue trial_text trial_status (λ _. Unit {0}) (Tries n seed) result }
 {
     let grid = drawn_grid(alloc, n, seed)?;
-    match solved_on(alloc, grid, SearchOptions::USUAL, MOST_MEMBERS)? {
-        Ok(solution) => {
-            judge(alloc, &solution)?;
-            Ok(Ok(TrialLine::of(n, seed, &solution)))
-        }
-        Err(fault) => Ok(Err(fault)),
-    }
+    let solution = solved_on(alloc, grid, SearchOptions::USUAL, MOST_MEMBERS)?;
+    judge(alloc, &solution)?;
+    Ok(TrialLine::of(n, seed, &solution))
 }
 
 // The grid of the distinct ones of the drawn points. An `Err` is want of memory.

@@ -10,6 +10,9 @@ use Rattle.tool_frame.specs.declared.status.TheConstants.{UNWRITTEN, NO_MEMORY}
 use Rattle.tool_frame.specs.Statuses.{answer_code, fault_code}
 use Rattle.tool_frame.specs.Outside.{Readable, Writable, Outside}
 use Rattle.tool_frame.specs.Ends.{Print, Printed, Concludes, Ends, print_of, prints_of}
+use Rattle.tool_frame.specs.declared.stop.Stop.{Stop}
+use Rattle.tool_frame.specs.declared.stop.Stop.TheVariants.{Fault, Memory}
+use Rattle.tool_frame.specs.Stops.{FindsDue, prints_found}
 
 -- What was found, and how the run then ended, are a run.
 pub ends_with : {A : Type 0} {F : Type 0} {E : Type 0} (text : A → List ℕ) (answer_status : A → AnswerStatus)
@@ -122,3 +125,28 @@ pub complete_ends : {F : Type 0} (fault_status : F → FaultStatus) (fault_text 
 complete_ends fault_status fault_text tool Finds Leaves before after status faultless writes ends =
     complete_by fault_status fault_text tool (Finds before.read after.read) before.written after.written status
     ends.found faultless writes ends.finds ends.concludes
+
+-- What was found, and how the run then ended, are a run.
+pub ends_found : {A : Type 0} {F : Type 0} (text : A → List ℕ) (answer_status : A → AnswerStatus) (Told : A → Type 0)
+    (fault_status : F → FaultStatus) (fault_text : F → List ℕ) (tool : List ℕ)
+    (Finds : Readable → Readable → Result Print F → Type 0) (Leaves : Readable → Readable → Type 0)
+    (before after : Outside) (status : ℕ) (found : Result A (Stop F)) →
+    FindsDue text answer_status Told (Finds before.read after.read) found → IfOk found Told →
+    Leaves before.read after.read →
+    Concludes fault_status fault_text tool (prints_found text answer_status found) before.written after.written
+    status →
+    Ends fault_status fault_text tool Finds Leaves before after status
+ends_found text answer_status Told fault_status fault_text tool Finds Leaves before after status (Ok answer) finds told
+    leaves concludes =
+    record {
+      found = Some (Ok (record { text = text answer; status = answer_status answer }));
+      finds = finds told;
+      leaves = leaves;
+      concludes = concludes;
+    }
+ends_found text answer_status Told fault_status fault_text tool Finds Leaves before after status (Err (Fault fault))
+    finds told leaves concludes =
+    record { found = Some (Err fault); finds = finds; leaves = leaves; concludes = concludes }
+ends_found text answer_status Told fault_status fault_text tool Finds Leaves before after status (Err (Memory error))
+    finds told leaves concludes =
+    record { found = None; finds = tt; leaves = leaves; concludes = concludes }

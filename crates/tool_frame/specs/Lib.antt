@@ -1,6 +1,7 @@
 pub mod Statuses
 pub mod Outside
 pub mod Ends
+pub mod Stops
 pub mod Taking
 pub mod Leaves
 pub mod Points

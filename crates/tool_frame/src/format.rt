@@ -2,9 +2,11 @@
 
 ghost use Rattle.std.specs.Prelude.{◌≡◌, IfOk, IfErr};
 ghost use Rattle.tool_frame.specs.FaultTexts.{format_fault_status};
+ghost use Rattle.tool_frame.specs.Stops.{IfFound};
 
 use crate::fault::Fault;
 use crate::status::FaultStatus;
+use crate::stop::Stop;
 use rst_outside::Sink;
 use std::alloc::AllocError;
 use text_in::FormatFault;
@@ -19,6 +21,18 @@ pub fn apart<T, F: FormatFault>(read: Result<T, F>) -> Result<Result<T, F>, Allo
     match read {
         Ok(value) => Ok(Ok(value)),
         Err(fault) => Ok(Err(fault.of_text()?)),
+    }
+}
+
+/// What a reader took of a text, or the text's fault, set apart from want of memory, which the reader tells among its
+/// faults.
+pub fn faults_apart<T, F: FormatFault>(read: Result<T, F>) -> Result<T, Stop<F>>
+    ensures same { IfFound result (λ found. found ≡ read) }
+    ensures fault { IfFound result (λ found. IfErr found (λ fault. F.IsMemory fault → ⊥)) }
+{
+    match read {
+        Ok(value) => Ok(value),
+        Err(fault) => Err(Stop::Fault(fault.of_text()?)),
     }
 }
 

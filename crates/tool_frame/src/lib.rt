@@ -8,15 +8,21 @@ mod format;
 mod points;
 mod reports;
 mod status;
+mod stop;
 mod take;
 mod text_fault;
+mod text_tool;
 
 pub use answer::Answer;
-pub use ending::{conclude, end_refused, end_starved, end_written};
+pub use ending::{conclude, end_found, end_refused, end_starved, end_written};
 pub use fault::Fault;
-pub use format::apart;
-pub use points::{ListFault, PointsFault, read_grid, read_points_file};
+pub use format::{apart, faults_apart};
+pub use points::{ListFault, PointsFault, grid_in, grid_in_file, read_grid, read_points_file};
 pub use reports::report;
 pub use status::{AnswerStatus, FaultStatus, MISUSED, NO_MEMORY, UNWRITTEN};
-pub use take::{FileFault, InputFault, TEXT_LIMIT, feed_input, take_file, take_input};
+pub use stop::{Stop, within};
+pub use take::{
+    FileFault, InputFault, TEXT_LIMIT, feed_input, take_file, take_input, whole_file, whole_input,
+};
 pub use text_fault::TextFault;
+pub use text_tool::{TextTool, run_on_text};

@@ -2,6 +2,7 @@
 
 ghost use Rattle.std.specs.Prelude.{◌≡◌, ◌++◌, ℕ, List, IfOk, decimal};
 ghost use Rattle.text_out.specs.Gathers.{Gathers};
+ghost use Rattle.tool_frame.specs.Stops.{IfFound, IfFault};
 ghost use Rattle.tool_frame.specs.Taking.{KeepsFiles};
 ghost use Rattle.points_in.specs.Text.{HasPointCause};
 ghost use Rattle.tool_frame.specs.Points.{IsListFault, ReadsGrid, ReadsPointsFile};
@@ -9,7 +10,8 @@ ghost use Rattle.tool_frame.specs.FaultTexts.{list_fault_text, list_fault_status
 
 use crate::fault::Fault;
 use crate::status::FaultStatus;
-use crate::take::{FileFault, take_file};
+use crate::stop::{Stop, within};
+use crate::take::{FileFault, take_file, whole_file};
 use hanan_grid::{Grid, GridFault};
 use points_in::{PointFault, read_points};
 use rst_outside::{Shelf, Sink};
@@ -90,6 +92,46 @@ pub fn read_points_file<S: Shelf>(
         Ok(grid) => Ok(Ok(grid)),
         Err(fault) => Ok(Err(PointsFault::List(fault))),
     }
+}
+
+// Why a text gives no grid, by why it lists no points.
+fn list_stop(fault: PointFault) -> Stop<ListFault>
+    ensures { (bytes : List ℕ) → HasPointCause fault bytes → IfFault result (IsListFault bytes) }
+{
+    Stop::Fault(match fault {
+        PointFault::BadNumber(at) => ListFault::BadNumber(at),
+        PointFault::NumberTooLarge(at) => ListFault::NumberTooLarge(at),
+        PointFault::TooManyPoints(at) => ListFault::TooManyPoints(at),
+        PointFault::OddCount => ListFault::OddCount,
+        PointFault::NoPoints => ListFault::NoPoints,
+        PointFault::Memory(error) => return Stop::Memory(error),
+    })
+}
+
+/// The grid of the points that a text lists.
+pub fn grid_in(alloc: Global, bytes: &[u8]) -> Result<Grid, Stop<ListFault>>
+    ensures { IfFound result (ReadsGrid bytes.now) }
+{
+    let points = read_points(alloc, bytes).map_err(list_stop)?;
+    match Grid::new(alloc, &points) {
+        Ok(grid) => Ok(grid),
+        Err(GridFault::TooLong { total }) => Err(Stop::Fault(ListFault::GridTooLong { total })),
+        Err(GridFault::Memory(error)) => Err(Stop::Memory(error)),
+    }
+}
+
+/// The grid of the points that the file of this name lists, which may have `limit` bytes.
+pub fn grid_in_file<S: Shelf>(
+    alloc: Global,
+    shelf: &mut S,
+    name: &str,
+    limit: u64,
+) -> Result<Grid, Stop<PointsFault>>
+    ensures reads { IfFound result (ReadsPointsFile limit (S.state shelf.old) (S.state shelf.new) name.now) }
+    ensures files { KeepsFiles (S.state shelf.old) (S.state shelf.new) }
+{
+    let bytes = within(whole_file(alloc, shelf, name, limit), PointsFault::File)?;
+    within(grid_in(alloc, bytes.as_slice()), PointsFault::List)
 }
 
 impl Fault for ListFault {

@@ -2,11 +2,13 @@
 
 ghost use Rattle.std.specs.Prelude.{◌≡◌, ◌<◌, length, IfOk};
 ghost use Rattle.text_out.specs.Gathers.{Gathers};
+ghost use Rattle.tool_frame.specs.Stops.{IfFound};
 ghost use Rattle.tool_frame.specs.Taking.{TakesInput, FeedsInput, TakesSome, TakesFile, KeepsFiles};
 ghost use Rattle.tool_frame.specs.FaultTexts.{input_fault_text, input_fault_status, file_fault_text, file_fault_status, too_long_text};
 
 use crate::fault::Fault;
 use crate::status::FaultStatus;
+use crate::stop::Stop;
 use rst_outside::{
     Consumer, FeedFault, Shelf, Sink, Source, TakeFault, feed_all, take_all, take_named,
 };
@@ -51,6 +53,22 @@ pub fn take_input<I: Source>(
     }
 }
 
+/// All bytes of the input, of which there may be `limit`.
+pub fn whole_input<I: Source>(
+    alloc: Global,
+    input: &mut I,
+    limit: u64,
+) -> Result<Vec<u8>, Stop<InputFault>>
+    ensures takes { IfFound result (TakesInput limit (I.state input.old) (I.state input.new)) }
+    ensures some { TakesSome (I.state input.old) (I.state input.new) }
+{
+    take_all(alloc, input, limit).map_err(|fault| match fault {
+        TakeFault::Failed => Stop::Fault(InputFault::Unread),
+        TakeFault::TooLong => Stop::Fault(InputFault::TooLong { limit }),
+        TakeFault::Memory(error) => Stop::Memory(error),
+    })
+}
+
 /// Feeds the consumer all bytes of the input, of which there may be `limit`, by way of the buffer. It takes no memory.
 pub fn feed_input<I: Source, C: Consumer>(
     input: &mut I,
@@ -84,6 +102,23 @@ pub fn take_file<S: Shelf>(
         Err(TakeFault::TooLong) => Ok(Err(FileFault::TooLong { limit })),
         Err(TakeFault::Memory(error)) => Err(error),
     }
+}
+
+/// All bytes of the file of this name, of which there may be `limit`.
+pub fn whole_file<S: Shelf>(
+    alloc: Global,
+    shelf: &mut S,
+    name: &str,
+    limit: u64,
+) -> Result<Vec<u8>, Stop<FileFault>>
+    ensures takes { IfFound result (TakesFile limit (S.state shelf.old) (S.state shelf.new) name.now) }
+    ensures files { KeepsFiles (S.state shelf.old) (S.state shelf.new) }
+{
+    take_named(alloc, shelf, name, limit).map_err(|fault| match fault {
+        TakeFault::Failed => Stop::Fault(FileFault::Unread),
+        TakeFault::TooLong => Stop::Fault(FileFault::TooLong { limit }),
+        TakeFault::Memory(error) => Stop::Memory(error),
+    })
 }
 
 impl Fault for InputFault {

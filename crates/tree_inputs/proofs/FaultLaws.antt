@@ -6,6 +6,9 @@ use Rattle.fst_file.specs.Value.{FstValue}
 use Rattle.fst_file.specs.Text.{SpellsFstFile}
 use Rattle.fst_file.specs.Judged.{IsOutcome, IsFirstFault}
 use Rattle.fst_file.specs.Said.{IsMemory}
+use Rattle.tool_frame.specs.declared.stop.Stop.{Stop}
+use Rattle.tool_frame.specs.declared.stop.Stop.TheVariants.{Fault, Memory as Stopped}
+use Rattle.tool_frame.specs.Stops.{IfFound}
 use Rattle.tree_inputs.specs.Files.{ReadsFst, SpelledHasNoFault}
 
 -- a first fault is what the bytes come to, but for want of memory
@@ -14,17 +17,13 @@ fault_of_bytes bytes (Memory error) is other = absurd (other tt)
 fault_of_bytes bytes fault is other = is
 
 -- an answer of the reader that is no want of memory
-read_apart : (bytes : List ℕ) (read found : Result FstValue FstFault) → IfOk read (SpellsFstFile bytes) →
-    IfErr read (IsFirstFault bytes) → found ≡ read → IfErr found (λ fault. IsMemory fault → ⊥) → ReadsFst bytes found
-read_apart bytes read (Ok file) spelled first same told = subst (λ r. IfOk r (SpellsFstFile bytes)) (sym same) spelled
-read_apart bytes read (Err fault) spelled first same told =
+pub reads_apart : (bytes : List ℕ) (read : Result FstValue FstFault) (found : Result FstValue (Stop FstFault)) →
+    IfOk read (SpellsFstFile bytes) → IfErr read (IsFirstFault bytes) → IfFound found (λ r. r ≡ read) →
+    IfFound found (λ r. IfErr r (λ fault. IsMemory fault → ⊥)) → IfFound found (ReadsFst bytes)
+reads_apart bytes read (Ok file) spelled first same told = subst (λ r. IfOk r (SpellsFstFile bytes)) (sym same) spelled
+reads_apart bytes read (Err (Fault fault)) spelled first same told =
     (subst (λ r. IfErr r (IsFirstFault bytes)) (sym same) first, told)
-
-pub reads_apart : {E : Type 0} (bytes : List ℕ) (read : Result FstValue FstFault) (result : Result (Result FstValue FstFault) E) →
-    IfOk read (SpellsFstFile bytes) → IfErr read (IsFirstFault bytes) → IfOk result (λ found. found ≡ read) →
-    IfOk result (λ found. IfErr found (λ fault. IsMemory fault → ⊥)) → IfOk result (ReadsFst bytes)
-reads_apart bytes read (Ok found) spelled first same told = read_apart bytes read found spelled first same told
-reads_apart bytes read (Err error) spelled first same told = tt
+reads_apart bytes read (Err (Stopped error)) spelled first same told = tt
 
 -- bytes that come to one outcome at most, and to the value that they spell, have no fault beside it
 pub no_fault_spelled :

@@ -8,8 +8,8 @@ mod laws;
 mod pruning;
 mod tree_lists;
 
-pub use fst_input::take_fst;
-pub use generation::{MOST_MEMBERS, take_generated, trees_of};
+pub use fst_input::fst_in;
+pub use generation::{MOST_MEMBERS, generated_in, trees_of};
 pub use generation_fault::GenerationFault;
 pub use laws::spelled_has_no_fault;
 pub use pruning::{kept_trees, pruned};

@@ -3,6 +3,7 @@
 ghost use Rattle.std.specs.Prelude.{◌≡◌, ◌≤◌, All, IfOk, Ok};
 ghost use Rattle.full_tree.specs.Code.{HasFewMembers};
 ghost use Rattle.fst_file.specs.Value.{AreTreesOf};
+ghost use Rattle.tool_frame.specs.Stops.{IfFound};
 ghost use Rattle.tree_inputs.specs.Generation.{GeneratesTrees, IsTreeList};
 ghost use Rattle.tree_inputs.specs.Lists.{GeneratesLists, IsLongerList, trees_up_to};
 
@@ -14,6 +15,7 @@ use fst_prune::copy;
 use full_tree::{TreeList, lengths_are_within_the_grid, member_count};
 use hanan_grid::Grid;
 use std::alloc::{AllocError, Global};
+use tool_frame::Stop;
 
 // How many members any tree has at most.
 const ALL_MEMBERS: u8 = 8;
@@ -28,28 +30,24 @@ pub struct TreeLists {
 }
 
 /// The terminals of a grid with their trees of up to `k` members and those of up to eight; or there are more than
-/// 20,000 of the former. An `Err` is want of memory.
-pub fn lists_of(
-    alloc: Global,
-    grid: Grid,
-    k: u8,
-) -> Result<Result<TreeLists, GenerationFault>, AllocError>
+/// 20,000 of the former.
+pub fn lists_of(alloc: Global, grid: Grid, k: u8) -> Result<TreeLists, Stop<GenerationFault>>
     requires least { 2 ≤ k }
     requires most { k ≤ 8 }
-    ensures { IfOk result (GeneratesLists k grid) }
+    ensures { IfFound result (GeneratesLists k grid) }
 {
     match longer_list(alloc, &grid, k)? {
         Some(longer) => {
             let file = shorter_list(alloc, grid, &longer, k)?;
-            Ok(Ok(TreeLists {
+            Ok(TreeLists {
                 file,
                 longer: Some(longer),
-            }))
+            })
         }
-        None => match trees_of(alloc, grid, k)? {
-            Ok(file) => Ok(Ok(TreeLists { file, longer: None })),
-            Err(fault) => Ok(Err(fault)),
-        },
+        None => {
+            let file = trees_of(alloc, grid, k)?;
+            Ok(TreeLists { file, longer: None })
+        }
     }
 }
 

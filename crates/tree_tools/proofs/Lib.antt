@@ -1,4 +1,0 @@
-mod DumpLaws
-mod GenerationLaws
-mod GraphLaws
-mod PruningLaws

@@ -10,11 +10,9 @@ use Rattle.tool_frame.specs.Ends.{Print, Ends}
 use Rattle.tool_frame.specs.FaultTexts.{text_fault_text, text_fault_status}
 use Rattle.tool_frame.specs.FromText.{FromText}
 use Rattle.tool_frame.specs.Leaves.{LeavesShelf}
-use Rattle.tree_tools.specs.declared.file_answer.FileAnswer.{FileAnswer}
 use Rattle.fst_file.specs.declared.fault.FstFault.{FstFault}
 use Rattle.fst_file.specs.Said.{fst_fault_text}
 use Rattle.tree_inputs.specs.Files.{ReadsFst, fst_fault_status}
-use Rattle.tree_inputs.specs.Pruning.{IsPruned}
 use Rattle.tree_tools.specs.Generation.{fst_print}
 
 -- What `prunefst` finds in a text: the file of the points and the kept trees of the file that it spells; or its first
@@ -24,11 +22,6 @@ PrunesFile bytes (Ok print) =
     (file : FstValue) × (kept : List Tree) × SpellsFstFile bytes file × AreKeptTrees file.trees kept
     × (print ≡ fst_print file.points kept)
 PrunesFile bytes (Err fault) = ReadsFst bytes (Err fault)
-
--- The file of the points and the kept trees of the file that the bytes spell; or their first fault.
-abbrev pub FindsPruned : List ℕ → Result FileAnswer FstFault → Type 0
-FindsPruned bytes (Ok answer) = (file : FstValue) × SpellsFstFile bytes file × IsPruned file answer.file
-FindsPruned bytes (Err fault) = ReadsFst bytes (Err fault)
 
 -- A run of `prunefst`.
 abbrev pub EndsPrunefst : Outside → Outside → ℕ → Type 0

@@ -1,18 +1,15 @@
 //! The tool `dumpfst`: a file of full trees comes in, the list of its trees goes out.
 
-ghost use Rattle.std.specs.Prelude.{IfOk};
 ghost use Rattle.rst_outside.specs.Shelf.{ShelfState};
-ghost use Rattle.tool_frame.specs.Outside.{outside, readable};
-ghost use Rattle.tool_frame.specs.Taking.{TakesSome};
-ghost use Rattle.tree_tools.specs.Dump.{EndsDumpfst};
-ghost use Rattle.tree_tools.specs.Listing.{FindsListing};
+ghost use Rattle.tool_frame.specs.Outside.{outside};
+ghost use Rattle.tree_tools.specs.Dump.{Dumps, EndsDumpfst};
 
 use crate::listing::Listing;
 use fst_file::FstFault;
 use rst_outside::{Sink, Source};
-use std::alloc::{AllocError, Global};
-use tool_frame::{TextFault, conclude};
-use tree_inputs::take_fst;
+use std::alloc::Global;
+use tool_frame::{Stop, TextTool, run_on_text};
+use tree_inputs::fst_in;
 
 /// Runs `dumpfst`: reads a file of full trees from the input and prints its trees, each with its members and its
 /// length, and with its straight pieces where `pieces` says so. Gives the status that the program ends with.
@@ -27,23 +24,27 @@ pub fn dumpfst<I: Source, O: Sink, R: Sink>(
         (outside (I.state input.old) (O.state out.old) (R.state err.old) shelf)
         (outside (I.state input.new) (O.state out.new) (R.state err.new) shelf) result }
 {
-    let found = find(alloc, pieces, input);
-    conclude(out, err, b"dumpfst", found)
+    run_on_text(alloc, b"dumpfst", &Dump { pieces }, input, out, err)
 }
 
-// The list of the trees of the file that the input spells. A fault has the cause that it names. An `Err` is want of
-// memory.
-fn find<I: Source>(
-    alloc: Global,
+// The list of the trees of the file that a text spells, with or without their pieces.
+#[derive(Drop)]
+struct Dump {
     pieces: bool,
-    input: &mut I,
-) -> Result<Result<Listing, TextFault<FstFault>>, AllocError>
-    ensures finds { (shelf : ShelfState) → IfOk result
-        (FindsListing pieces (readable (I.state input.old) shelf) (readable (I.state input.new) shelf)) }
-    ensures takes { TakesSome (I.state input.old) (I.state input.new) }
-{
-    match take_fst(alloc, input)? {
-        Ok(file) => Ok(Ok(Listing { file, pieces })),
-        Err(fault) => Ok(Err(fault)),
+}
+
+impl TextTool for Dump {
+    type Found = Listing;
+
+    type Wrong = FstFault;
+
+    ghost prints = { λ tool. Dumps tool.pieces };
+
+    fn find(&self, alloc: Global, bytes: &[u8]) -> Result<Listing, Stop<FstFault>> {
+        let file = fst_in(alloc, bytes)?;
+        Ok(Listing {
+            file,
+            pieces: self.pieces,
+        })
     }
 }

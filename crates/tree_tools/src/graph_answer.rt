@@ -1,6 +1,7 @@
 //! The grid of a file's points, as an answer of a tool.
 
-ghost use Rattle.tree_tools.specs.GraphAnswer.{graph_answer_text, graph_answer_status, HasGrid};
+ghost use Rattle.tool_frame.specs.declared.status.AnswerStatus.TheVariants as status_of;
+ghost use Rattle.tree_tools.specs.GraphAnswer.{graph_answer_text};
 
 use fst_file::FstFile;
 use printed_texts::grid_as_stp;
@@ -16,11 +17,11 @@ pub struct GraphAnswer {
 impl Answer for GraphAnswer {
     ghost text = { graph_answer_text };
 
-    ghost status = { graph_answer_status };
+    ghost status = { λ _. status_of.Done };
 
-    ghost fits = { HasGrid };
+    ghost fits = { λ _. Unit {0} };
 
-    ghost told = { HasGrid };
+    ghost told = { λ _. Unit {0} };
 
     fn status(&self) -> AnswerStatus {
         AnswerStatus::Done

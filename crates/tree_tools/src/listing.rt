@@ -1,6 +1,7 @@
 //! The list of a file's trees, as an answer of a tool.
 
-ghost use Rattle.tree_tools.specs.Listing.{listing_text, listing_status, IsAnything};
+ghost use Rattle.tool_frame.specs.declared.status.AnswerStatus.TheVariants as status_of;
+ghost use Rattle.tree_tools.specs.Listing.{listing_text};
 
 use fst_file::FstFile;
 use printed_texts::dump_trees;
@@ -17,11 +18,11 @@ pub struct Listing {
 impl Answer for Listing {
     ghost text = { listing_text };
 
-    ghost status = { listing_status };
+    ghost status = { λ _. status_of.Done };
 
-    ghost fits = { IsAnything };
+    ghost fits = { λ _. Unit {0} };
 
-    ghost told = { IsAnything };
+    ghost told = { λ _. Unit {0} };
 
     fn status(&self) -> AnswerStatus {
         AnswerStatus::Done

@@ -1,9 +1,7 @@
 -- The trees leave no terminal apart.
-use Rattle.std.proofs.Common.{subst}
-use Rattle.search_tools.specs.Steps.{FindsNetwork}
 use Rattle.search_tools.proofs.longer_trees.joined.Goals as goal
 
 pub unreachable-requires : goal.unreachable-requires
 unreachable-requires c =
-    c.requires.joins c.in-Err.field-0
-    (subst (FindsNetwork c.args.allowed c.args.grid.now c.args.trees.now) c.in-Err.is c.in_ok-found.ensures)
+    c.requires.joins c.in-Err-Fault.field-0-0
+    (rw (c.in-Err-Fault.is, c.in-Err-Fault.field-0-is) at c.network_on.ensures)

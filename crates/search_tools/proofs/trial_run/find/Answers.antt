@@ -10,10 +10,11 @@ use Rattle.search_tools.specs.Steps.{SolvesPoints}
 use Rattle.search_tools.proofs.AnswerLaws.{tried_answer}
 use Rattle.search_tools.proofs.trial_run.find.Goals as goal
 
-pub returns-in_ok-judge-in-Ok : goal.returns-in_ok-judge-in-Ok
-returns-in_ok-judge-in-Ok c =
-    let solves = subst (SolvesPoints usual_options most_members c.in_ok-grid.grid) c.in-Ok.is c.in_ok-solution.ensures in
+pub returns : goal.returns
+returns c = λ _.
+    let solution = c.in_ok-solution.solution in
     subst (λ (line : TrialLine). Tries c.args.n c.args.seed (Ok (trial_print line))) (sym c.of.ensures)
-    (tried_answer c.args.n c.args.seed c.in-Ok.solution
-    (subst (λ (ps : List Point). SolvesPoints usual_options most_members ps (Ok c.in-Ok.solution)) c.in_ok-grid.ensures solves)
-    c.in_ok-judge-in-Ok.ensures)
+    (tried_answer c.args.n c.args.seed solution
+    (subst (λ (ps : List Point). SolvesPoints usual_options most_members ps (Ok solution)) c.in_ok-grid.ensures
+    c.in_ok-solution.ensures)
+    c.in_ok-judge.ensures)

@@ -1,7 +1,7 @@
 -- What was found, and how the run then ended, are a run, whatever the input and the shelf are.
 use Rattle.std.proofs.Common.{refl, codes}
 use Rattle.tool_frame.specs.Outside.{outside}
-use Rattle.tool_frame.specs.EndLaws.{ends_with}
+use Rattle.tool_frame.specs.EndLaws.{ends_found}
 use Rattle.tool_frame.specs.Leaves.{LeavesAll}
 use Rattle.tree_inputs.specs.GenerationFaults.{generation_fault_text, generation_fault_status}
 use Rattle.search_tools.specs.TrialLine.{trial_text, trial_status}
@@ -10,9 +10,10 @@ use Rattle.search_tools.proofs.trial_run.trial.Goals as goal
 
 pub returns : goal.returns
 returns g c = λ input shelf.
-    ends_with trial_text trial_status generation_fault_status generation_fault_text (codes "trial")
+    ends_found trial_text trial_status (λ _. Unit {0}) generation_fault_status generation_fault_text (codes "trial")
     (λ _ _. Tries c.args.n c.args.seed) LeavesAll
     (outside input (g.O.Sink.state c.args.out.now) (g.R.Sink.state c.args.err.now) shelf)
-    (outside input (g.O.Sink.state c.conclude.new.out) (g.R.Sink.state c.conclude.new.err) shelf)
-    c.conclude.result c.find-found.result c.find-found.ensures (record { input = refl; shelf = refl })
-    c.conclude.ensures.concludes
+    (outside input (g.O.Sink.state c.end_found.new.out) (g.R.Sink.state c.end_found.new.err) shelf)
+    c.end_found.result c.find-found.result c.find-found.ensures c.end_found.ensures.told
+    (record { input = refl; shelf = refl })
+    c.end_found.ensures.concludes
