@@ -4,8 +4,8 @@ use cut_groups::{NONE, Tree};
 use net_graph::{NetGraph, VertexSet, partner};
 use std::alloc::AllocError;
 
-/// The group of a cut that a tree enters once, given by its vertices, and else `NONE`; `entered` is then the list of the
-/// other arcs that enter it, by number. An `Err` is want of memory.
+/// The group of a cut that a tree enters once, given by its vertices, and else `NONE`; `entered` is then the list of
+/// the other arcs that enter it, by number. An `Err` is want of memory.
 pub fn find_entered(
     graph: &NetGraph,
     tree: &Tree,

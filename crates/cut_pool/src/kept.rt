@@ -157,8 +157,8 @@ impl Kept {
         self.cuts.retain(|cut| cut.weight > 0);
     }
 
-    /// The cuts as sets of the vertices of a graph, along a tree of it, with their weights in a unit. An `Err` is want of
-    /// memory.
+    /// The cuts as sets of the vertices of a graph, along a tree of it, with their weights in a unit. An `Err` is want
+    /// of memory.
     pub fn packing(
         &self,
         alloc: Global,

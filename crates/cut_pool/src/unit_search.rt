@@ -56,7 +56,8 @@ impl UnitSearch {
     }
 
     /// Searches for whole units without overload, from the weights of the pool, which are whole units, and keeps the
-    /// best packing met; whether it is without overload. The pool may gain cuts of weight 0. An `Err` is want of memory.
+    /// best packing met; whether it is without overload. The pool may gain cuts of weight 0. An `Err` is want of
+    /// memory.
     pub fn search<F: CutFinder>(
         &mut self,
         tree: &Tree,
@@ -116,9 +117,9 @@ impl UnitSearch {
         self.units.moves()
     }
 
-    /// The best packing met along a tree of a graph, with weights in a unit: what has overload is taken back, and so are
-    /// the cuts in whose place an arc of slack stands, `NONE` for no such arc; the weights of each group are gathered in
-    /// fewer cuts. An `Err` is want of memory.
+    /// The best packing met along a tree of a graph, with weights in a unit: what has overload is taken back, and so
+    /// are the cuts in whose place an arc of slack stands, `NONE` for no such arc; the weights of each group are
+    /// gathered in fewer cuts. An `Err` is want of memory.
     pub fn into_packing(
         self,
         alloc: Global,

@@ -39,4 +39,3 @@ pub mod Stepping
 pub mod LeftLists
 pub mod LeftLaws
 pub mod Lifted
-pub mod Texts

@@ -14,4 +14,3 @@ pub mod NodeRules
 pub mod Due
 pub mod UpToDate
 pub mod Left
-pub mod Text

@@ -14,7 +14,7 @@ use std::collections::BTreeSet;
 /// For each rule at nodes, nodes among which are all where it applies. Where something changes at a node it gets due,
 /// and it is taken out where it is met and the rule does not apply at it. So the lowest node of a rule is found without
 /// a look at the others.
-#[derive(Debug, Drop)]
+#[derive(Drop)]
 pub(crate) struct Due {
     pub leaves: BTreeSet<u32>,
     pub passed: BTreeSet<u32>,

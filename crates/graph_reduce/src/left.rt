@@ -11,7 +11,7 @@ use net_graph::{Edge, EdgeList, VertexList, VertexSet};
 use std::alloc::{AllocError, Global};
 
 /// The new numbers of the nodes that are left.
-#[derive(Debug, Drop)]
+#[derive(Drop)]
 pub(crate) struct Numbering {
     /// For each new number the node, ascending.
     pub origins: Vec<u32>,

@@ -12,16 +12,13 @@ mod numbers;
 mod originals;
 mod places;
 mod reduction;
-mod set_lines;
 mod start;
 mod steps;
 mod survey;
 mod taken;
 mod tidy;
 mod work;
-mod write;
 
 pub use laws::{lifting_keeps_length, one_reduction, reductions_end, reductions_fit};
+pub use originals::Originals;
 pub use reduction::{Reduced, reduce};
-pub use set_lines::{write_count, write_set};
-pub use write::write_reduced;

@@ -1,7 +1,7 @@
 //! The edges of a node, as far as a rule wants them.
 
 /// The places of a node's edges, as far as a rule wants them.
-#[derive(Clone, Copy, Debug, PartialEq, Eq)]
+#[derive(Clone, Copy)]
 pub(crate) enum NodeEdges {
     /// The node has no edge.
     NoEdge,

@@ -14,7 +14,7 @@ use crate::work::Work;
 use std::collections::BTreeSet;
 
 /// The rules at nodes.
-#[derive(Clone, Copy, Debug, PartialEq, Eq)]
+#[derive(Clone, Copy)]
 pub(crate) enum NodeRule {
     /// A node that is no terminal has at most one edge: it is dropped with its edge.
     Leaf,

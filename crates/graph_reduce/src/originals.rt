@@ -10,15 +10,16 @@ use std::alloc::{AllocError, Global};
 use std::marker::Model;
 
 /// An edge, and the set of the graph's edges that it stands for.
-#[derive(Debug, Drop)]
+#[derive(Drop)]
 pub(crate) struct Bundle {
     pub edge: Edge,
     pub originals: Originals,
 }
 
-/// A set of edges of a graph, in a list: sets that have no edge in common take no more room than the graph's edges.
+/// What one edge stands for: a set of edges of a graph, in a list. Sets that have no edge in common take no more room
+/// than the graph's edges.
 #[derive(Debug, Drop)]
-pub(crate) struct Originals {
+pub struct Originals {
     numbers: Vec<u32>,
     // How many edges the graph has.
     size: u32,
@@ -37,7 +38,7 @@ impl Model for Originals {
 
 impl Originals {
     /// The set of one edge, of so many that the graph has. An `Err` is want of memory.
-    pub fn of_one(alloc: Global, size: u32, n: u32) -> Result<Originals, AllocError>
+    pub(crate) fn of_one(alloc: Global, size: u32, n: u32) -> Result<Originals, AllocError>
         requires { n < size }
         ensures { IfOk result (λ set. set ≡ slice_set (replicate size false) n true) }
     {
@@ -62,7 +63,7 @@ impl Originals {
     }
 
     /// Takes the edges of another set in. An `Err` is want of memory.
-    pub fn take_in(&mut self, other: Originals) -> Result<(), AllocError>
+    pub(crate) fn take_in(&mut self, other: Originals) -> Result<(), AllocError>
         requires { length other ≡ length self.old }
         ensures { OnOk result (self.new ≡ union self.old other) }
     {
@@ -75,7 +76,7 @@ impl Originals {
     }
 
     /// Adds the edges to a set.
-    pub fn add_to(&self, set: &mut EdgeSet)
+    pub(crate) fn add_to(&self, set: &mut EdgeSet)
         requires { length set.old ≡ length self.now }
         ensures { set.new ≡ union set.old self.now }
     {

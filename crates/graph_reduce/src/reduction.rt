@@ -117,7 +117,7 @@ impl Reduced {
     }
 
     /// The vertices of the original graph that the vertices of the reduced graph were, ascending.
-    pub(crate) fn origins(&self) -> &[u32]
+    pub fn origins(&self) -> &[u32]
         ensures origins { result.now ≡ self.now.origins }
         ensures below { All (λ v. v < 2500) result.now }
     {
@@ -125,7 +125,7 @@ impl Reduced {
     }
 
     /// The forced edges.
-    pub(crate) fn forced(&self) -> &EdgeSet
+    pub fn forced(&self) -> &EdgeSet
         ensures forced { result.now ≡ self.now.forced }
         ensures few { length result.now ≤ 4900 }
     {
@@ -133,7 +133,7 @@ impl Reduced {
     }
 
     /// What an edge of the reduced graph stands for.
-    pub(crate) fn originals(&self, n: u32) -> &Originals
+    pub fn originals(&self, n: u32) -> &Originals
         requires { n < length self.now.graph.edges }
         ensures set { slice_get self.now.originals n ≡ Some result.now }
         ensures few { length result.now ≤ 4900 }
@@ -143,7 +143,7 @@ impl Reduced {
 
     /// What a set of the reduced graph's edges stands for, and the forced edges: a set of the original graph's edges.
     /// An `Err` is want of memory.
-    pub fn lift(&self, set: &EdgeSet) -> Result<EdgeSet, AllocError>
+    pub fn lift(&self, _alloc: Global, set: &EdgeSet) -> Result<EdgeSet, AllocError>
         requires { length set.now ≡ length self.now.graph.edges }
         ensures { IfOk result (λ lifted. lifted ≡ lift_of self.now set.now) }
     {

@@ -12,7 +12,7 @@ use std::alloc::{AllocError, Global};
 use std::collections::BTreeSet;
 
 /// The nodes of a state: where their edges are, and marks of those that are terminals.
-#[derive(Debug, Drop)]
+#[derive(Drop)]
 pub(crate) struct Survey {
     /// For each node places among which are those of its edges. A place whose edge is dropped or gets other ends is
     /// taken out where it is met.

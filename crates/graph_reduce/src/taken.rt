@@ -45,7 +45,8 @@ pub(crate) fn join_edges(
     requires node { HasNode work.old v }
     requires free { ¬ IsTerminal work.old v }
     requires edges { HasTwoBelow work.old v (length work.old.edges) earlier later }
-    ensures { OnOk result ((joins : JoinsEdges v work.old work.new) × (joins.earlier ≡ earlier) × (joins.later ≡ later)) }
+    ensures { OnOk result
+        ((joins : JoinsEdges v work.old work.new) × (joins.earlier ≡ earlier) × (joins.later ≡ later)) }
 {
     let x = work.edge_at(earlier);
     let y = work.edge_at(later);

@@ -13,7 +13,7 @@ use std::alloc::{AllocError, Global};
 use std::marker::Model;
 
 /// The state of a reduction. Its nodes and edges keep their numbers and places.
-#[derive(Debug, Drop)]
+#[derive(Drop)]
 pub(crate) struct Work {
     nodes: VertexSet,
     edges: Vec<Option<Bundle>>,
@@ -152,8 +152,8 @@ impl Work {
         self.nodes.remove(v);
     }
 
-    /// Puts an edge into the earlier place that stands for what both places stand for, and none into the later. An `Err`
-    /// is want of memory.
+    /// Puts an edge into the earlier place that stands for what both places stand for, and none into the later. An
+    /// `Err` is want of memory.
     pub fn join_edges(&mut self, earlier: u32, later: u32, edge: Edge) -> Result<(), AllocError>
         requires order { earlier < later }
         requires earlier { (x : Bundle) × HasEdge self.old earlier x }

@@ -6,7 +6,7 @@ use Rattle.cert_tree.specs.declared.split.SplitOn.{SplitOn}
 use Rattle.cert_tree.specs.Tree.{Tree}
 use Rattle.answer_text.specs.Text.{status_word}
 use Rattle.graph_reduce.specs.Reduction.{Reduction, lift_of}
-use Rattle.graph_reduce.specs.Text.{count_line, set_text}
+use Rattle.reduced_text.specs.Text.{count_line, set_text}
 use Rattle.tool_frame.specs.declared.status.AnswerStatus.{AnswerStatus}
 use Rattle.tool_frame.specs.declared.status.AnswerStatus.TheVariants.{Done, Stopped}
 use Rattle.tool_frame.specs.declared.take.TheConstants.{TEXT_LIMIT}

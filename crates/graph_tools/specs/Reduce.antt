@@ -5,7 +5,7 @@ use Rattle.graph_reduce.specs.Fitness.{IsFitFor}
 use Rattle.graph_reduce.specs.Lifting.{KeepsNetworks}
 use Rattle.graph_reduce.specs.OneReduction.{IsOnlyReductionOf}
 use Rattle.graph_reduce.specs.Reduction.{Reduction, IsReductionOf}
-use Rattle.graph_reduce.specs.Text.{reduced_text}
+use Rattle.reduced_text.specs.Text.{reduced_text}
 use Rattle.tool_frame.specs.declared.status.AnswerStatus.TheVariants.{Done}
 use Rattle.tool_frame.specs.declared.take.TheConstants.{TEXT_LIMIT}
 use Rattle.tool_frame.specs.Outside.{Outside}

@@ -10,7 +10,7 @@ use Rattle.cert_tree.specs.Tree.{Tree}
 use Rattle.cert_tree.specs.Preorder.{split_count}
 use Rattle.branch.specs.Runs.{EndsOpenings}
 use Rattle.graph_reduce.specs.Reduction.{Reduction}
-use Rattle.graph_reduce.specs.Text.{reduced_text}
+use Rattle.reduced_text.specs.Text.{reduced_text}
 use Rattle.graph_solve.specs.Task.{graph_of_stp}
 use Rattle.tool_frame.specs.Outside.{Outside}
 use Rattle.graph_tools.specs.Reading.{IsTaskText}

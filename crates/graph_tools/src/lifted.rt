@@ -4,8 +4,8 @@ ghost use Rattle.text_out.specs.Gathers.{Gathers};
 ghost use Rattle.graph_tools.specs.Lifted.{edges_text, head_text, lifted_status, lifted_text};
 
 use answer_text::status_word;
-use graph_reduce::{write_count, write_set};
 use net_graph::EdgeSet;
+use reduced_text::{write_count, write_set};
 use rst_outside::{PutFault, Sink};
 use text_out::{Block, finish, literal};
 use tool_frame::{Answer, AnswerStatus};

@@ -27,18 +27,22 @@ pub(crate) fn lifted_in(alloc: Global, graph: &NetGraph) -> Result<Lifted, Alloc
     let answer = answer_in(alloc, reduced.graph(), GraphOptions::USUAL)?;
     // That the answer's text spells it is known once it is written.
     let _spelled = write_graph_answer(&mut SureSink::new(), reduced.graph(), &answer);
-    lifted_by(&reduced, &answer)
+    lifted_by(alloc, &reduced, &answer)
 }
 
 // What is told of an answer's network in the reduced graph, once it is lifted. An `Err` is want of memory.
-fn lifted_by(reduced: &Reduced, answer: &CutAnswer) -> Result<Lifted, AllocError>
+fn lifted_by(
+    alloc: Global,
+    reduced: &Reduced,
+    answer: &CutAnswer,
+) -> Result<Lifted, AllocError>
     requires answer { IsAnswerFor usual_in_graph reduced.now.graph answer.now }
     requires offset { reduced.now.offset < 2 ^ 63 }
     ensures { IfOk result (λ lifted. lifted ≡ lifted_by reduced.now answer.now.network answer.now.tree) }
 {
     let _total = reduced.graph().total();
     let offset = reduced.offset();
-    let network = reduced.lift(&answer.network)?;
+    let network = reduced.lift(alloc, &answer.network)?;
     Ok(Lifted {
         network,
         length: answer.head.length + offset,

@@ -4,8 +4,9 @@ ghost use Rattle.std.specs.Prelude.{IfOk};
 ghost use Rattle.tool_frame.specs.declared.status.AnswerStatus.TheVariants as status_of;
 ghost use Rattle.graph_tools.specs.Reduce.{IsReduced, reduction_text};
 
-use graph_reduce::{Reduced, reduce, write_reduced};
+use graph_reduce::{Reduced, reduce};
 use net_graph::NetGraph;
+use reduced_text::write_reduced;
 use rst_outside::{PutFault, Sink};
 use std::alloc::{AllocError, Global};
 use tool_frame::{Answer, AnswerStatus};

@@ -137,8 +137,8 @@ impl Phases {
             .min(groups)
     }
 
-    /// Whether the weights, all of which are whole, are searched for units without overload in this round, at an overload
-    /// in parts; it is noted.
+    /// Whether the weights, all of which are whole, are searched for units without overload in this round, at an
+    /// overload in parts; it is noted.
     pub fn searches_units(&mut self, excess: i64) -> bool {
         let wait = self.settings.rounding_rounds.saturating_add(UNIT_WAIT);
         let is_ripe = excess <= UNIT_EXCESS * PARTS || self.stay() >= wait;

@@ -8,7 +8,7 @@ use Rattle.net_graph.specs.declared.edge.Edge.{Edge}
 use Rattle.net_graph.specs.Flags.{has}
 use Rattle.net_graph.specs.Members.{members_of}
 use Rattle.net_graph.specs.MembersLaws.{members_of-more}
-use Rattle.graph_reduce.specs.Text.{left_line, left_lines, number_line}
+use Rattle.reduced_text.specs.Text.{left_line, left_lines, number_line}
 
 -- one flag more: the text of a number where it is set
 pub members_with : (f : ℕ → List ℕ) (set : List Bool) (n : ℕ) → n < length set → has set n ≡ true →

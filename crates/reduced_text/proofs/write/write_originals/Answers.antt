@@ -4,10 +4,10 @@ use Rattle.std.proofs.lemmas.List.{take_all}
 use Rattle.text_out.specs.GatherLaws.{gathers_two}
 use Rattle.text_out.specs.Gathers.{Gathers}
 use Rattle.net_graph.specs.Members.{members_of}
-use Rattle.graph_reduce.specs.Text.{next_number}
-use Rattle.graph_reduce.proofs.lemmas.Texts.{members_with, members_without}
-use Rattle.graph_reduce.proofs.write.write_originals.Goals as goal
-use Rattle.graph_reduce.proofs.write.write_originals.Goals.{then-has, else-has}
+use Rattle.reduced_text.specs.Text.{next_number}
+use Rattle.reduced_text.proofs.lemmas.Texts.{members_with, members_without}
+use Rattle.reduced_text.proofs.write.write_originals.Goals as goal
+use Rattle.reduced_text.proofs.write.write_originals.Goals.{then-has, else-has}
 
 pub loop-e-preserved : goal.loop-e-preserved
 loop-e-preserved g c =

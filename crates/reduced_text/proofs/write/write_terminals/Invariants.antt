@@ -1,7 +1,7 @@
 use Rattle.std.proofs.Common.{take, flat_map}
 use Rattle.text_out.specs.Gathers.{Gathers}
-use Rattle.graph_reduce.specs.Text.{number_line}
-use Rattle.graph_reduce.proofs.write.write_terminals.Given as goal
+use Rattle.reduced_text.specs.Text.{number_line}
+use Rattle.reduced_text.proofs.write.write_terminals.Given as goal
 
 abbrev pub invariant-loop-place : goal.invariant-loop-place
 invariant-loop-place g l = Gathers (g.S.Sink.state l.initial.sink) l.initial.block

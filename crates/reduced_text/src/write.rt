@@ -5,11 +5,10 @@ ghost use Rattle.rst_outside.specs.Sink.{Writes};
 ghost use Rattle.text_out.specs.Gathers.{Gathers};
 ghost use Rattle.net_graph.specs.Graph.{HasEndsBelow};
 ghost use Rattle.net_graph.specs.Members.{members_of};
-ghost use Rattle.graph_reduce.specs.Text.{number_line, next_number, left_line, left_lines, forced_text, nodes_text, edges_text, end_text, left_text, reduced_text};
+ghost use Rattle.reduced_text.specs.Text.{number_line, next_number, left_line, left_lines, forced_text, nodes_text, edges_text, end_text, left_text, reduced_text};
 
-use crate::originals::Originals;
-use crate::reduction::Reduced;
 use crate::set_lines::{write_count, write_number, write_set};
+use graph_reduce::{Originals, Reduced};
 use net_graph::{Edge, NetGraph};
 use rst_outside::{PutFault, Sink};
 use text_out::{Block, finish, literal, number};

@@ -3,7 +3,7 @@
 ghost use Rattle.std.specs.Prelude.{◌≡◌, ◌<◌, ◌-◌, ◌^◌, length, flat_map};
 ghost use Rattle.text_out.specs.Gathers.{Gathers};
 ghost use Rattle.net_graph.specs.Members.{members_of};
-ghost use Rattle.graph_reduce.specs.Text.{count_line, number_line, set_text};
+ghost use Rattle.reduced_text.specs.Text.{count_line, number_line, set_text};
 
 use net_graph::EdgeSet;
 use rst_outside::Sink;

@@ -3,10 +3,10 @@ use Rattle.std.proofs.Common.{sym, subst, ◌∙◌, arith}
 use Rattle.text_out.specs.GatherLaws.{gathers_two}
 use Rattle.text_out.specs.Gathers.{Gathers}
 use Rattle.net_graph.specs.Members.{members_of}
-use Rattle.graph_reduce.specs.Text.{number_line}
-use Rattle.graph_reduce.proofs.lemmas.Texts.{members_with, members_without}
-use Rattle.graph_reduce.proofs.set_lines.write_members.Goals as goal
-use Rattle.graph_reduce.proofs.set_lines.write_members.Goals.{then-has, else-has}
+use Rattle.reduced_text.specs.Text.{number_line}
+use Rattle.reduced_text.proofs.lemmas.Texts.{members_with, members_without}
+use Rattle.reduced_text.proofs.set_lines.write_members.Goals as goal
+use Rattle.reduced_text.proofs.set_lines.write_members.Goals.{then-has, else-has}
 
 pub loop-e-preserved : goal.loop-e-preserved
 loop-e-preserved g c =

@@ -3,9 +3,9 @@ use Rattle.std.proofs.Common.{ap, subst, arith}
 use Rattle.std.proofs.lemmas.List.{take_all}
 use Rattle.text_out.specs.GatherLaws.{gathers_two}
 use Rattle.text_out.specs.Gathers.{Gathers}
-use Rattle.graph_reduce.specs.Text.{left_lines}
-use Rattle.graph_reduce.proofs.lemmas.Texts.{left_lines-more}
-use Rattle.graph_reduce.proofs.write.write_edge_lines.Goals as goal
+use Rattle.reduced_text.specs.Text.{left_lines}
+use Rattle.reduced_text.proofs.lemmas.Texts.{left_lines-more}
+use Rattle.reduced_text.proofs.write.write_edge_lines.Goals as goal
 
 pub loop-n-preserved : goal.loop-n-preserved
 loop-n-preserved g c =

@@ -1,9 +1,9 @@
 use Rattle.std.specs.Prelude.{◌+◌, ◌<◌, length}
 use Rattle.std.proofs.Common.{ap, sym, ◌∙◌, arith}
 use Rattle.graph_reduce.proofs.lemmas.LeftLists.{number_is, number_least}
-use Rattle.graph_reduce.proofs.lemmas.Texts.{count_with, members_without}
-use Rattle.graph_reduce.proofs.set_lines.count_of.Goals as goal
-use Rattle.graph_reduce.proofs.set_lines.count_of.Goals.{then-has, else-has}
+use Rattle.reduced_text.proofs.lemmas.Texts.{count_with, members_without}
+use Rattle.reduced_text.proofs.set_lines.count_of.Goals as goal
+use Rattle.reduced_text.proofs.set_lines.count_of.Goals.{then-has, else-has}
 
 pub overflow_add-count : goal.overflow_add-count
 overflow_add-count c = omega (
