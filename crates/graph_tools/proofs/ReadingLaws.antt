@@ -16,6 +16,9 @@ use Rattle.graph_solve.specs.declared.fault.TaskFault.TheVariants as task
 use Rattle.graph_solve.specs.Task.{all_edges, graph_of_stp}
 use Rattle.graph_solve.specs.Fault.{IsTask, IsFirstFault}
 use Rattle.graph_solve.specs.Said.{IsMemory as IsMemoryOfTask}
+use Rattle.tool_frame.specs.declared.stop.Stop.{Stop}
+use Rattle.tool_frame.specs.declared.stop.Stop.TheVariants.{Fault, Memory}
+use Rattle.tool_frame.specs.Stops.{IfFound}
 use Rattle.graph_tools.specs.declared.text_fault.GraphTextFault.TheVariants.{InFile, InGraph}
 use Rattle.graph_tools.specs.Reading.{ReadsFile, TakesTask, TaskHasNoFault}
 
@@ -26,36 +29,25 @@ fault_due due (stp.Memory error) is other = absurd (other tt)
 fault_due due fault is other = is
 
 -- an answer of the reader that is no want of memory
-file_read : (bytes : List ℕ) (read found : Result StpValue StpFault) →
-    IfOk read (λ file. stp_of bytes ≡ Ok file) → IfErr read (λ f. IsFaultOf f (stp_of bytes)) → found ≡ read →
-    IfErr found (λ fault. IsMemoryOfFile fault → ⊥) → ReadsFile bytes found
-file_read bytes read (Ok file) found fault same told =
-    subst (λ r. IfOk r (λ v. stp_of bytes ≡ Ok v)) (sym same) found
-file_read bytes read (Err why) found fault same told =
+pub file_apart : (bytes : List ℕ) (read : Result StpValue StpFault) (found : Result StpValue (Stop StpFault)) →
+    IfOk read (λ file. stp_of bytes ≡ Ok file) → IfErr read (λ f. IsFaultOf f (stp_of bytes)) →
+    IfFound found (λ r. r ≡ read) → IfFound found (λ r. IfErr r (λ fault. IsMemoryOfFile fault → ⊥)) →
+    IfFound found (ReadsFile bytes)
+file_apart bytes read (Ok file) is fault same told = subst (λ r. IfOk r (λ v. stp_of bytes ≡ Ok v)) (sym same) is
+file_apart bytes read (Err (Fault why)) is fault same told =
     (fault_due (stp_of bytes) why (subst (λ r. IfErr r (λ f. IsFaultOf f (stp_of bytes))) (sym same) fault) told, told)
-
-pub file_apart : {E : Type 0} (bytes : List ℕ) (read : Result StpValue StpFault)
-    (result : Result (Result StpValue StpFault) E) → IfOk read (λ file. stp_of bytes ≡ Ok file) →
-    IfErr read (λ f. IsFaultOf f (stp_of bytes)) → IfOk result (λ found. found ≡ read) →
-    IfOk result (λ found. IfErr found (λ fault. IsMemoryOfFile fault → ⊥)) → IfOk result (ReadsFile bytes)
-file_apart bytes read (Ok answer) found fault same told = file_read bytes read answer found fault same told
-file_apart bytes read (Err error) found fault same told = tt
+file_apart bytes read (Err (Memory error)) is fault same told = tt
 
 -- the same of the graph of a file
-task_read : (file : StpValue) (read found : Result Graph TaskFault) → IfOk read (λ g. g ≡ graph_of_stp file) →
-    OnOk read (IsTask file) → IfErr read (IsFirstFault file) → found ≡ read →
-    IfErr found (λ fault. IsMemoryOfTask fault → ⊥) → TakesTask file found
-task_read file read (Ok g) graph is fault same told =
+pub task_apart : (file : StpValue) (read : Result Graph TaskFault) (found : Result Graph (Stop TaskFault)) →
+    IfOk read (λ g. g ≡ graph_of_stp file) → OnOk read (IsTask file) → IfErr read (IsFirstFault file) →
+    IfFound found (λ r. r ≡ read) → IfFound found (λ r. IfErr r (λ fault. IsMemoryOfTask fault → ⊥)) →
+    IfFound found (TakesTask file)
+task_apart file read (Ok g) graph is fault same told =
     (subst (λ r. OnOk r (IsTask file)) (sym same) is, subst (λ r. IfOk r (λ h. h ≡ graph_of_stp file)) (sym same) graph)
-task_read file read (Err why) graph is fault same told =
+task_apart file read (Err (Fault why)) graph is fault same told =
     (subst (λ r. IfErr r (IsFirstFault file)) (sym same) fault, told)
-
-pub task_apart : {E : Type 0} (file : StpValue) (read : Result Graph TaskFault)
-    (result : Result (Result Graph TaskFault) E) → IfOk read (λ g. g ≡ graph_of_stp file) → OnOk read (IsTask file) →
-    IfErr read (IsFirstFault file) → IfOk result (λ found. found ≡ read) →
-    IfOk result (λ found. IfErr found (λ fault. IsMemoryOfTask fault → ⊥)) → IfOk result (TakesTask file)
-task_apart file read (Ok answer) graph is fault same told = task_read file read answer graph is fault same told
-task_apart file read (Err error) graph is fault same told = tt
+task_apart file read (Err (Memory error)) graph is fault same told = tt
 
 -- what holds of each holds of the one at a place
 at_place : {X : Type 0} (P : X → Type 0) (xs : List X) (place : ℕ) (x : X) → All P xs → slice_get xs place ≡ Some x →

@@ -64,12 +64,8 @@ abbrev pub IsLiftedFor : Graph → Lifted → Type 0
 IsLiftedFor g l = (r : Reduction) × (network : List Bool) × (tree : Tree SplitOn) × IsReduced g r
     × IsPermittedGraphAnswer usual_in_graph r.graph network tree × (l ≡ lifted_by r network tree)
 
--- What `reduce --solve` finds in a text, before it writes.
-abbrev pub FindsLifted : List ℕ → Result Lifted GraphTextFault → Type 0
-FindsLifted = FindsIn ReadsGraph IsLiftedFor
-
--- What it prints of a text: the network of an answer that may be printed in the reduction of the graph of the STP file
--- that the text is, lifted.
+-- What `reduce --solve` prints of a text: the network of an answer that may be printed in the reduction of the graph of
+-- the STP file that the text is, lifted.
 abbrev pub PrintsLifted : Graph → Print → Type 0
 PrintsLifted g print = (r : Reduction) × (network : List Bool) × (tree : Tree SplitOn) × IsReduced g r
     × IsPermittedGraphAnswer usual_in_graph r.graph network tree × (print ≡ lifted_print r network tree)

@@ -33,14 +33,7 @@ reduction_text found = reduced_text found.reduced
 abbrev pub reduction_print : Reduction → Print
 reduction_print r = record { text = reduced_text r; status = Done }
 
--- What `reduce` finds in a text, before it writes.
-abbrev pub IsReductionFor : Graph → GraphReduction → Type 0
-IsReductionFor g found = IsReduced g found.reduced
-
-abbrev pub FindsReduction : List ℕ → Result GraphReduction GraphTextFault → Type 0
-FindsReduction = FindsIn ReadsGraph IsReductionFor
-
--- What it prints of a text: the reduction of the graph of the STP file that the text is.
+-- What `reduce` prints of a text: the reduction of the graph of the STP file that the text is.
 abbrev pub PrintsReduction : Graph → Print → Type 0
 PrintsReduction g print = (r : Reduction) × IsReduced g r × (print ≡ reduction_print r)
 

@@ -11,10 +11,9 @@ use Rattle.tool_frame.specs.FromText.{FromText}
 use Rattle.tool_frame.specs.Leaves.{LeavesShelf}
 use Rattle.search_rules.specs.declared.options.GraphOptions.{GraphOptions}
 use Rattle.graph_tools.specs.declared.text_fault.GraphTextFault.{GraphTextFault}
-use Rattle.graph_tools.specs.declared.solution.GraphSolution.{GraphSolution}
 use Rattle.graph_tools.specs.Reading.{ReadsGraph, graph_fault_text, graph_fault_status}
 use Rattle.graph_tools.specs.Found.{FindsIn}
-use Rattle.graph_tools.specs.Solution.{IsFor, IsPermittedGraphAnswer, graph_print}
+use Rattle.graph_tools.specs.Solution.{IsPermittedGraphAnswer, graph_print}
 
 -- What is printed of a network and a tree of cuts in a graph: an answer that may be printed there under these options.
 abbrev pub PrintsAnswer : GraphOptions → Graph → Print → Type 0
@@ -22,12 +21,7 @@ PrintsAnswer options g print =
     (network : List Bool) × (tree : Tree SplitOn) × IsPermittedGraphAnswer options g network tree
     × (print ≡ graph_print options.openings g network tree)
 
--- What `graph` finds in a text, before it writes: an answer in the graph of the STP file that it is; or why it gives
--- no Steiner problem.
-abbrev pub FindsAnswer : GraphOptions → List ℕ → Result GraphSolution GraphTextFault → Type 0
-FindsAnswer options = FindsIn ReadsGraph (IsFor options)
-
--- What it prints of a text.
+-- What `graph` prints of a text: an answer in the graph of the STP file that it is; or why it gives no Steiner problem.
 abbrev pub SolvesGraph : GraphOptions → List ℕ → Result Print GraphTextFault → Type 0
 SolvesGraph options = FindsIn ReadsGraph (PrintsAnswer options)
 

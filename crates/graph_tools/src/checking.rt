@@ -1,10 +1,10 @@
 //! The tool `checkgraph`: an STP file and an answer in its graph come in, the verdict on the answer goes out.
 
-ghost use Rattle.std.specs.Prelude.{◌≡◌, IfOk, OnErr};
+ghost use Rattle.std.specs.Prelude.{◌≡◌};
 ghost use Rattle.text_out.specs.Gathers.{Gathers};
 ghost use Rattle.tool_frame.specs.Outside.{readable, outside};
-ghost use Rattle.tool_frame.specs.Ends.{print_of};
 ghost use Rattle.tool_frame.specs.Leaves.{LeavesFiles};
+ghost use Rattle.tool_frame.specs.Stops.{FindsDue, IfFound, OnStarved};
 ghost use Rattle.tool_frame.specs.Taking.{KeepsFiles};
 ghost use Rattle.verdict_line.specs.Verdicts.{line_text, line_status};
 ghost use Rattle.graph_tools.specs.Check.{ChecksGraph, EndsCheckgraph, ReadsGraphFile};
@@ -15,10 +15,12 @@ use crate::text_fault::GraphTextFault;
 use cert_check::Subject;
 use net_graph::NetGraph;
 use rst_outside::{Shelf, Sink, Source};
-use std::alloc::{AllocError, Global};
+use std::alloc::Global;
 use std::marker::Brand;
 use text_out::{Block, literal};
-use tool_frame::{Fault, FaultStatus, FileFault, InputFault, TEXT_LIMIT, conclude, take_file};
+use tool_frame::{
+    Fault, FaultStatus, FileFault, InputFault, Stop, TEXT_LIMIT, end_found, whole_file, within,
+};
 use verdict_line::{Counting, VerdictLine, judge_input};
 
 /// The greatest number of bytes of an answer in a graph that is judged.
@@ -83,52 +85,43 @@ pub fn checkgraph<I: Source, O: Sink, R: Sink, S: Shelf>(
         (outside (I.state input.new) (O.state out.new) (R.state err.new) (S.state shelf.new)) result }
 {
     let found = verdict_on(alloc, graph_name, input, shelf);
-    conclude(out, err, b"checkgraph", found)
+    end_found(out, err, b"checkgraph", found)
 }
 
-// The line of the verdict on the input as an answer in the graph of a file. A fault has the cause that it names. An
-// `Err` is want of memory, before the input is touched.
+// The line of the verdict on the input as an answer in the graph of a file. Memory is wanting before the input is
+// touched alone.
 fn verdict_on<I: Source, S: Shelf>(
     alloc: Global,
     graph_name: &str,
     input: &mut I,
     shelf: &mut S,
-) -> Result<Result<VerdictLine, CheckgraphFault>, AllocError>
-    ensures finds { IfOk result (λ found. ChecksGraph graph_name.now
-        (readable (I.state input.old) (S.state shelf.old)) (readable (I.state input.new) (S.state shelf.new))
-        (print_of line_text line_status found)) }
-    ensures unread { OnErr result (I.state input.new ≡ I.state input.old) }
+) -> Result<VerdictLine, Stop<CheckgraphFault>>
+    ensures finds { FindsDue line_text line_status (λ _. Unit {0}) (ChecksGraph graph_name.now
+        (readable (I.state input.old) (S.state shelf.old)) (readable (I.state input.new) (S.state shelf.new))) result }
+    ensures unread { OnStarved result (I.state input.new ≡ I.state input.old) }
     ensures leaves { LeavesFiles
         (readable (I.state input.old) (S.state shelf.old)) (readable (I.state input.new) (S.state shelf.new)) }
 {
-    let graph = match read_graph_file(alloc, shelf, graph_name)? {
-        Ok(graph) => graph,
-        Err(fault) => return Ok(Err(fault)),
-    };
-    match judge_input::<Brand, I>(alloc, Subject::InGraph(&graph), input, GRAPH_ANSWER_LIMIT)? {
-        Ok(judged) => Ok(Ok(VerdictLine {
-            counting: Counting::FromOne,
-            ruling: judged.ruling,
-        })),
-        Err(fault) => Ok(Err(CheckgraphFault::Input(fault))),
-    }
+    let graph = read_graph_file(alloc, shelf, graph_name)?;
+    let subject = Subject::InGraph(&graph);
+    let judging = judge_input::<Brand, I>(alloc, subject, input, GRAPH_ANSWER_LIMIT);
+    let judged = within(judging, CheckgraphFault::Input)?;
+    Ok(VerdictLine {
+        counting: Counting::FromOne,
+        ruling: judged.ruling,
+    })
 }
 
-// The graph of the STP file of this name; or why there is none. An `Err` is want of memory.
+// The graph of the STP file of this name; or why there is none.
 fn read_graph_file<S: Shelf>(
     alloc: Global,
     shelf: &mut S,
     name: &str,
-) -> Result<Result<NetGraph, CheckgraphFault>, AllocError>
-    ensures reads { IfOk result (ReadsGraphFile (S.state shelf.old) (S.state shelf.new) name.now) }
+) -> Result<NetGraph, Stop<CheckgraphFault>>
+    ensures reads { IfFound result (ReadsGraphFile (S.state shelf.old) (S.state shelf.new) name.now) }
     ensures files { KeepsFiles (S.state shelf.old) (S.state shelf.new) }
 {
-    let bytes = match take_file(alloc, shelf, name, TEXT_LIMIT)? {
-        Ok(bytes) => bytes,
-        Err(fault) => return Ok(Err(CheckgraphFault::File(fault))),
-    };
-    match graph_in(alloc, bytes.as_slice())? {
-        Ok(graph) => Ok(Ok(graph)),
-        Err(fault) => Ok(Err(CheckgraphFault::Graph(fault))),
-    }
+    let read = whole_file(alloc, shelf, name, TEXT_LIMIT);
+    let bytes = within(read, CheckgraphFault::File)?;
+    within(graph_in(alloc, bytes.as_slice()), CheckgraphFault::Graph)
 }

@@ -10,7 +10,6 @@ mod reducing;
 mod reduction;
 mod solution;
 mod solving;
-mod taking;
 mod text_fault;
 
 pub use checking::{CheckgraphFault, GRAPH_ANSWER_LIMIT, checkgraph};
@@ -20,5 +19,4 @@ pub use reducing::reduce;
 pub use reduction::GraphReduction;
 pub use solution::{GraphSolution, solution_in};
 pub use solving::graph;
-pub use taking::take_graph;
 pub use text_fault::GraphTextFault;

@@ -31,11 +31,7 @@ pub(crate) fn lifted_in(alloc: Global, graph: &NetGraph) -> Result<Lifted, Alloc
 }
 
 // What is told of an answer's network in the reduced graph, once it is lifted. An `Err` is want of memory.
-fn lifted_by(
-    alloc: Global,
-    reduced: &Reduced,
-    answer: &CutAnswer,
-) -> Result<Lifted, AllocError>
+fn lifted_by(alloc: Global, reduced: &Reduced, answer: &CutAnswer) -> Result<Lifted, AllocError>
     requires answer { IsAnswerFor usual_in_graph reduced.now.graph answer.now }
     requires offset { reduced.now.offset < 2 ^ 63 }
     ensures { IfOk result (λ lifted. lifted ≡ lifted_by reduced.now answer.now.network answer.now.tree) }

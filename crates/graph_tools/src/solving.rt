@@ -1,19 +1,16 @@
 //! The tool `graph`: an STP file comes in, the answer of a network of its graph goes out.
 
-ghost use Rattle.std.specs.Prelude.{IfOk};
 ghost use Rattle.rst_outside.specs.Shelf.{ShelfState};
-ghost use Rattle.tool_frame.specs.Outside.{outside, readable};
-ghost use Rattle.tool_frame.specs.Taking.{TakesSome};
-ghost use Rattle.tool_frame.specs.FromText.{FromText};
-ghost use Rattle.graph_tools.specs.Solve.{EndsGraph, FindsAnswer};
+ghost use Rattle.tool_frame.specs.Outside.{outside};
+ghost use Rattle.graph_tools.specs.Solve.{EndsGraph, SolvesGraph};
 
+use crate::reading::graph_in;
 use crate::solution::{GraphSolution, solution_in};
-use crate::taking::take_graph;
 use crate::text_fault::GraphTextFault;
 use rst_outside::{Sink, Source};
 use search_rules::GraphOptions;
-use std::alloc::{AllocError, Global};
-use tool_frame::{TEXT_LIMIT, TextFault, conclude};
+use std::alloc::Global;
+use tool_frame::{Stop, TextTool, run_on_text};
 
 /// Runs `graph`: reads an STP file from the input and prints the answer of a network of its graph, with edges and
 /// vertices by their numbers in the file. Gives the status that the program ends with.
@@ -28,23 +25,25 @@ pub fn graph<I: Source, O: Sink, R: Sink>(
         (outside (I.state input.old) (O.state out.old) (R.state err.old) shelf)
         (outside (I.state input.new) (O.state out.new) (R.state err.new) shelf) result }
 {
-    let found = find(alloc, options, input);
-    conclude(out, err, b"graph", found)
+    run_on_text(alloc, b"graph", &Solving { options }, input, out, err)
 }
 
-// The answer in the graph of the file that the input is. A fault has the cause that it names. An `Err` is want of
-// memory.
-fn find<I: Source>(
-    alloc: Global,
+// The answer in the graph of the file that a text is.
+#[derive(Drop)]
+struct Solving {
     options: GraphOptions,
-    input: &mut I,
-) -> Result<Result<GraphSolution, TextFault<GraphTextFault>>, AllocError>
-    ensures finds { (shelf : ShelfState) → IfOk result (FromText TEXT_LIMIT (FindsAnswer options)
-        (readable (I.state input.old) shelf) (readable (I.state input.new) shelf)) }
-    ensures takes { TakesSome (I.state input.old) (I.state input.new) }
-{
-    match take_graph(alloc, input)? {
-        Ok(graph) => Ok(Ok(solution_in(alloc, graph, options)?)),
-        Err(fault) => Ok(Err(fault)),
+}
+
+impl TextTool for Solving {
+    type Found = GraphSolution;
+
+    type Wrong = GraphTextFault;
+
+    ghost prints = { λ tool. SolvesGraph tool.options };
+
+    #[tactic(auto, using(crate::specs::SolutionLaws::answer_printed, crate::specs::SolutionLaws::for_fits))]
+    fn find(&self, alloc: Global, bytes: &[u8]) -> Result<GraphSolution, Stop<GraphTextFault>> {
+        let graph = graph_in(alloc, bytes)?;
+        Ok(solution_in(alloc, graph, self.options)?)
     }
 }

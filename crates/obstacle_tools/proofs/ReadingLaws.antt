@@ -17,39 +17,32 @@ use Rattle.obstacle_grid.specs.Grid.{obstacle_graph_of}
 use Rattle.obstacle_grid.specs.Fault.{IsTask, IsFirstFault}
 use Rattle.obstacle_grid.specs.Said.{IsMemory as IsMemoryOfTask}
 use Rattle.graph_solve.specs.Task.{all_edges}
+use Rattle.tool_frame.specs.declared.stop.Stop.{Stop}
+use Rattle.tool_frame.specs.declared.stop.Stop.TheVariants.{Fault, Memory}
+use Rattle.tool_frame.specs.Stops.{IfFound}
 use Rattle.obstacle_tools.specs.declared.text_fault.ObstacleTextFault.TheVariants.{InText, InGraph}
 use Rattle.obstacle_tools.specs.Reading.{ReadsText, TakesTask, AroundHasNoFault}
 
 -- an answer of the reader that is no want of memory
-text_read : (bytes : List ℕ) (read found : Result ObstaclesValue ObstacleFault) →
-    IfOk read (SpellsObstacles bytes) → IfErr read (IsFirstFaultOfText bytes) → found ≡ read →
-    IfErr found (λ fault. IsMemoryOfText fault → ⊥) → ReadsText bytes found
-text_read bytes read (Ok o) spelled fault same told = subst (λ r. IfOk r (SpellsObstacles bytes)) (sym same) spelled
-text_read bytes read (Err why) spelled fault same told =
+pub text_apart : (bytes : List ℕ) (read : Result ObstaclesValue ObstacleFault)
+    (found : Result ObstaclesValue (Stop ObstacleFault)) → IfOk read (SpellsObstacles bytes) →
+    IfErr read (IsFirstFaultOfText bytes) → IfFound found (λ r. r ≡ read) →
+    IfFound found (λ r. IfErr r (λ fault. IsMemoryOfText fault → ⊥)) → IfFound found (ReadsText bytes)
+text_apart bytes read (Ok o) spelled fault same told = subst (λ r. IfOk r (SpellsObstacles bytes)) (sym same) spelled
+text_apart bytes read (Err (Fault why)) spelled fault same told =
     (subst (λ r. IfErr r (IsFirstFaultOfText bytes)) (sym same) fault, told)
-
-pub text_apart : {E : Type 0} (bytes : List ℕ) (read : Result ObstaclesValue ObstacleFault)
-    (result : Result (Result ObstaclesValue ObstacleFault) E) → IfOk read (SpellsObstacles bytes) →
-    IfErr read (IsFirstFaultOfText bytes) → IfOk result (λ found. found ≡ read) →
-    IfOk result (λ found. IfErr found (λ fault. IsMemoryOfText fault → ⊥)) → IfOk result (ReadsText bytes)
-text_apart bytes read (Ok answer) spelled fault same told = text_read bytes read answer spelled fault same told
-text_apart bytes read (Err error) spelled fault same told = tt
+text_apart bytes read (Err (Memory error)) spelled fault same told = tt
 
 -- the same of the graph of points and boxes
-task_read : (o : ObstaclesValue) (read found : Result Graph ObstacleTaskFault) →
-    IfOk read (λ g. g ≡ obstacle_graph_of o) → OnOk read (IsTask o) → IfErr read (IsFirstFault o) → found ≡ read →
-    IfErr found (λ fault. IsMemoryOfTask fault → ⊥) → TakesTask o found
-task_read o read (Ok g) graph is fault same told =
+pub task_apart : (o : ObstaclesValue) (read : Result Graph ObstacleTaskFault)
+    (found : Result Graph (Stop ObstacleTaskFault)) → IfOk read (λ g. g ≡ obstacle_graph_of o) →
+    OnOk read (IsTask o) → IfErr read (IsFirstFault o) → IfFound found (λ r. r ≡ read) →
+    IfFound found (λ r. IfErr r (λ fault. IsMemoryOfTask fault → ⊥)) → IfFound found (TakesTask o)
+task_apart o read (Ok g) graph is fault same told =
     (subst (λ r. OnOk r (IsTask o)) (sym same) is, subst (λ r. IfOk r (λ h. h ≡ obstacle_graph_of o)) (sym same) graph)
-task_read o read (Err why) graph is fault same told =
+task_apart o read (Err (Fault why)) graph is fault same told =
     (subst (λ r. IfErr r (IsFirstFault o)) (sym same) fault, told)
-
-pub task_apart : {E : Type 0} (o : ObstaclesValue) (read : Result Graph ObstacleTaskFault)
-    (result : Result (Result Graph ObstacleTaskFault) E) → IfOk read (λ g. g ≡ obstacle_graph_of o) →
-    OnOk read (IsTask o) → IfErr read (IsFirstFault o) → IfOk result (λ found. found ≡ read) →
-    IfOk result (λ found. IfErr found (λ fault. IsMemoryOfTask fault → ⊥)) → IfOk result (TakesTask o)
-task_apart o read (Ok answer) graph is fault same told = task_read o read answer graph is fault same told
-task_apart o read (Err error) graph is fault same told = tt
+task_apart o read (Err (Memory error)) graph is fault same told = tt
 
 -- what holds of each holds of the one at a place
 at_place : {X : Type 0} (P : X → Type 0) (xs : List X) (place : ℕ) (x : X) → All P xs → slice_get xs place ≡ Some x →

@@ -10,20 +10,14 @@ use Rattle.tool_frame.specs.FaultTexts.{text_fault_text, text_fault_status}
 use Rattle.tool_frame.specs.FromText.{FromText}
 use Rattle.tool_frame.specs.Leaves.{LeavesShelf}
 use Rattle.search_rules.specs.declared.options.GraphOptions.{GraphOptions}
-use Rattle.graph_tools.specs.declared.solution.GraphSolution.{GraphSolution}
 use Rattle.graph_tools.specs.Found.{FindsIn}
-use Rattle.graph_tools.specs.Solution.{IsFor}
 use Rattle.graph_tools.specs.Solve.{PrintsAnswer}
 use Rattle.obstacle_tools.specs.declared.graph_file.GraphFile.{GraphFile}
 use Rattle.obstacle_tools.specs.declared.text_fault.ObstacleTextFault.{ObstacleTextFault}
 use Rattle.obstacle_tools.specs.Reading.{ReadsAround, around_fault_text, around_fault_status}
 
--- What `obstacles` finds in a text, before it writes: an answer in the graph of the points and boxes that it spells; or
--- why it gives no Steiner problem.
-abbrev pub FindsAround : GraphOptions → List ℕ → Result GraphSolution ObstacleTextFault → Type 0
-FindsAround options = FindsIn ReadsAround (IsFor options)
-
--- What it prints of a text.
+-- What `obstacles` prints of a text: an answer in the graph of the points and boxes that it spells; or why it gives no
+-- Steiner problem.
 abbrev pub SolvesAround : GraphOptions → List ℕ → Result Print ObstacleTextFault → Type 0
 SolvesAround options = FindsIn ReadsAround (PrintsAnswer options)
 
@@ -37,15 +31,7 @@ EndsObstaclesSolve options before after status =
 abbrev pub graph_file_text : GraphFile → List ℕ
 graph_file_text file = graph_stp_text file.graph
 
--- the file is of this graph
-abbrev pub IsFileOf : Graph → GraphFile → Type 0
-IsFileOf g file = file.graph ≡ g
-
--- What `obstacles --stp` finds in a text, before it writes: the graph of the points and boxes that it spells.
-abbrev pub FindsFile : List ℕ → Result GraphFile ObstacleTextFault → Type 0
-FindsFile = FindsIn ReadsAround IsFileOf
-
--- What it prints of a graph: its text as an STP file.
+-- What `obstacles --stp` prints of the graph of the points and boxes that a text spells: its text as an STP file.
 abbrev pub PrintsFile : Graph → Print → Type 0
 PrintsFile g print = print ≡ record { text = graph_stp_text g; status = Done }
 

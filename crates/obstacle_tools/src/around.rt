@@ -1,20 +1,17 @@
 //! The tool `obstacles`: points and boxes come in, the answer of a network of their graph goes out, or the graph.
 
-ghost use Rattle.std.specs.Prelude.{IfOk};
 ghost use Rattle.rst_outside.specs.Shelf.{ShelfState};
-ghost use Rattle.tool_frame.specs.Outside.{outside, readable};
-ghost use Rattle.tool_frame.specs.Taking.{TakesSome};
-ghost use Rattle.tool_frame.specs.FromText.{FromText};
-ghost use Rattle.obstacle_tools.specs.Around.{EndsObstacles, EndsObstaclesSolve, EndsObstaclesStp, FindsAround, FindsFile};
+ghost use Rattle.tool_frame.specs.Outside.{outside};
+ghost use Rattle.obstacle_tools.specs.Around.{EndsObstacles, SolvesAround, WritesGraph};
 
 use crate::graph_file::GraphFile;
-use crate::taking::take_around;
+use crate::reading::graph_around;
 use crate::text_fault::ObstacleTextFault;
 use graph_tools::{GraphSolution, solution_in};
 use rst_outside::{Sink, Source};
 use search_rules::GraphOptions;
-use std::alloc::{AllocError, Global};
-use tool_frame::{TEXT_LIMIT, TextFault, conclude};
+use std::alloc::Global;
+use tool_frame::{Stop, TextTool, run_on_text};
 
 /// Runs `obstacles`: reads points and boxes from the input and prints the answer of a network of their graph, with
 /// edges and vertices by their numbers in it; or that graph as an STP file, where it is asked for. Gives the status
@@ -32,71 +29,46 @@ pub fn obstacles<I: Source, O: Sink, R: Sink>(
         (outside (I.state input.new) (O.state out.new) (R.state err.new) shelf) result }
 {
     if stp {
-        print_graph(alloc, input, out, err)
+        run_on_text(alloc, b"obstacles", &GraphAround, input, out, err)
     } else {
-        print_answer(alloc, options, input, out, err)
+        let tool = SolvingAround { options };
+        run_on_text(alloc, b"obstacles", &tool, input, out, err)
     }
 }
 
-// The run that prints an answer.
-fn print_answer<I: Source, O: Sink, R: Sink>(
-    alloc: Global,
+// The answer in the graph of the points and boxes that a text spells.
+#[derive(Drop)]
+struct SolvingAround {
     options: GraphOptions,
-    input: &mut I,
-    out: &mut O,
-    err: &mut R,
-) -> u8
-    ensures { (shelf : ShelfState) → EndsObstaclesSolve options
-        (outside (I.state input.old) (O.state out.old) (R.state err.old) shelf)
-        (outside (I.state input.new) (O.state out.new) (R.state err.new) shelf) result }
-{
-    let found = find_answer(alloc, options, input);
-    conclude(out, err, b"obstacles", found)
 }
 
-// The run that prints the graph.
-fn print_graph<I: Source, O: Sink, R: Sink>(
-    alloc: Global,
-    input: &mut I,
-    out: &mut O,
-    err: &mut R,
-) -> u8
-    ensures { (shelf : ShelfState) → EndsObstaclesStp
-        (outside (I.state input.old) (O.state out.old) (R.state err.old) shelf)
-        (outside (I.state input.new) (O.state out.new) (R.state err.new) shelf) result }
-{
-    let found = find_graph(alloc, input);
-    conclude(out, err, b"obstacles", found)
-}
+impl TextTool for SolvingAround {
+    type Found = GraphSolution;
 
-// The answer in the graph of the points and boxes that the input is. A fault has the cause that it names. An `Err` is
-// want of memory.
-fn find_answer<I: Source>(
-    alloc: Global,
-    options: GraphOptions,
-    input: &mut I,
-) -> Result<Result<GraphSolution, TextFault<ObstacleTextFault>>, AllocError>
-    ensures finds { (shelf : ShelfState) → IfOk result (FromText TEXT_LIMIT (FindsAround options)
-        (readable (I.state input.old) shelf) (readable (I.state input.new) shelf)) }
-    ensures takes { TakesSome (I.state input.old) (I.state input.new) }
-{
-    match take_around(alloc, input)? {
-        Ok(graph) => Ok(Ok(solution_in(alloc, graph, options)?)),
-        Err(fault) => Ok(Err(fault)),
+    type Wrong = ObstacleTextFault;
+
+    ghost prints = { λ tool. SolvesAround tool.options };
+
+    #[tactic(auto, using(graph_tools::specs::SolutionLaws::answer_printed, graph_tools::specs::SolutionLaws::for_fits))]
+    fn find(&self, alloc: Global, bytes: &[u8]) -> Result<GraphSolution, Stop<ObstacleTextFault>> {
+        let graph = graph_around(alloc, bytes)?;
+        Ok(solution_in(alloc, graph, self.options)?)
     }
 }
 
-// The graph of the points and boxes that the input is. A fault has the cause that it names. An `Err` is want of memory.
-fn find_graph<I: Source>(
-    alloc: Global,
-    input: &mut I,
-) -> Result<Result<GraphFile, TextFault<ObstacleTextFault>>, AllocError>
-    ensures finds { (shelf : ShelfState) → IfOk result (FromText TEXT_LIMIT FindsFile
-        (readable (I.state input.old) shelf) (readable (I.state input.new) shelf)) }
-    ensures takes { TakesSome (I.state input.old) (I.state input.new) }
-{
-    match take_around(alloc, input)? {
-        Ok(graph) => Ok(Ok(GraphFile { graph })),
-        Err(fault) => Ok(Err(fault)),
+// The graph of the points and boxes that a text spells.
+#[derive(Drop)]
+struct GraphAround;
+
+impl TextTool for GraphAround {
+    type Found = GraphFile;
+
+    type Wrong = ObstacleTextFault;
+
+    ghost prints = { λ _. WritesGraph };
+
+    fn find(&self, alloc: Global, bytes: &[u8]) -> Result<GraphFile, Stop<ObstacleTextFault>> {
+        let graph = graph_around(alloc, bytes)?;
+        Ok(GraphFile { graph })
     }
 }

@@ -5,7 +5,6 @@
 mod around;
 mod graph_file;
 mod reading;
-mod taking;
 mod text_fault;
 
 pub use around::obstacles;

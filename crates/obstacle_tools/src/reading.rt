@@ -1,6 +1,6 @@
 //! The graph of a text of points and boxes.
 
-ghost use Rattle.std.specs.Prelude.{◌≡◌, IfOk, IfErr};
+ghost use Rattle.tool_frame.specs.Stops.{IfFound};
 ghost use Rattle.obstacle_tools.specs.Reading.{ReadsText, ReadsAround, TakesTask, AroundHasNoFault};
 
 use crate::text_fault::ObstacleTextFault;
@@ -9,24 +9,15 @@ use obstacle_grid::{ObstacleTaskFault, obstacle_graph};
 use obstacles_in::{
     ObstacleFault, Obstacles, one_outcome, one_reading, read_obstacles, values_are_spelled,
 };
-use std::alloc::{AllocError, Global};
-use tool_frame::apart;
+use std::alloc::Global;
+use tool_frame::{Stop, faults_apart, within};
 
-/// The graph of the points and boxes that a text spells; or why it gives none. An `Err` is want of memory.
-pub(crate) fn graph_around(
-    alloc: Global,
-    bytes: &[u8],
-) -> Result<Result<NetGraph, ObstacleTextFault>, AllocError>
-    ensures { IfOk result (ReadsAround bytes.now) }
+/// The graph of the points and boxes that a text spells; or why it gives none.
+pub(crate) fn graph_around(alloc: Global, bytes: &[u8]) -> Result<NetGraph, Stop<ObstacleTextFault>>
+    ensures { IfFound result (ReadsAround bytes.now) }
 {
-    let obstacles = match text_in(alloc, bytes)? {
-        Ok(obstacles) => obstacles,
-        Err(fault) => return Ok(Err(ObstacleTextFault::InText(fault))),
-    };
-    match task_in(alloc, &obstacles)? {
-        Ok(graph) => Ok(Ok(graph)),
-        Err(fault) => Ok(Err(ObstacleTextFault::InGraph(fault))),
-    }
+    let obstacles = within(text_in(alloc, bytes), ObstacleTextFault::InText)?;
+    within(task_in(alloc, &obstacles), ObstacleTextFault::InGraph)
 }
 
 /// A text that is a Steiner problem around boxes has no fault.
@@ -38,19 +29,16 @@ pub fn around_has_no_fault()
     one_reading();
 }
 
-// The points and boxes that a text spells; or its first fault. An `Err` is want of memory.
-fn text_in(alloc: Global, bytes: &[u8]) -> Result<Result<Obstacles, ObstacleFault>, AllocError>
-    ensures { IfOk result (ReadsText bytes.now) }
+// The points and boxes that a text spells; or its first fault.
+fn text_in(alloc: Global, bytes: &[u8]) -> Result<Obstacles, Stop<ObstacleFault>>
+    ensures { IfFound result (ReadsText bytes.now) }
 {
-    apart(read_obstacles(alloc, bytes))
+    faults_apart(read_obstacles(alloc, bytes))
 }
 
-// The graph of points and boxes; or their first fault as a Steiner problem. An `Err` is want of memory.
-fn task_in(
-    alloc: Global,
-    obstacles: &Obstacles,
-) -> Result<Result<NetGraph, ObstacleTaskFault>, AllocError>
-    ensures { IfOk result (TakesTask obstacles.now) }
+// The graph of points and boxes; or their first fault as a Steiner problem.
+fn task_in(alloc: Global, obstacles: &Obstacles) -> Result<NetGraph, Stop<ObstacleTaskFault>>
+    ensures { IfFound result (TakesTask obstacles.now) }
 {
-    apart(obstacle_graph(alloc, obstacles))
+    faults_apart(obstacle_graph(alloc, obstacles))
 }

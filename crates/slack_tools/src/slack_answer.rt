@@ -1,6 +1,7 @@
 //! The bounds of a grid's edges, as an answer of a tool.
 
-ghost use Rattle.slack_tools.specs.SlackAnswer.{answer_text, answer_status, HasEachBound};
+ghost use Rattle.tool_frame.specs.declared.status.AnswerStatus.TheVariants as status_of;
+ghost use Rattle.slack_tools.specs.SlackAnswer.{answer_text, HasEachBound};
 
 use crate::write::write_slack;
 use hanan_grid::Grid;
@@ -18,7 +19,7 @@ pub(crate) struct SlackAnswer {
 impl Answer for SlackAnswer {
     ghost text = { answer_text };
 
-    ghost status = { answer_status };
+    ghost status = { λ _. status_of.Done };
 
     ghost fits = { HasEachBound };
 

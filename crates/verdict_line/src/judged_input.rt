@@ -1,9 +1,10 @@
 //! The judge of an answer as it comes in.
 
-ghost use Rattle.std.specs.Prelude.{◌≡◌, ◌≤◌, ℕ, List, [], IfOk, OnErr, length};
+ghost use Rattle.std.specs.Prelude.{◌≡◌, ◌≤◌, ℕ, List, [], IfOk, length};
 ghost use Rattle.cert_check.specs.Checking.{StandsForBytesIn};
 ghost use Rattle.cert_check.specs.Named.{named_of};
 ghost use Rattle.cert_check.specs.Verdicts.{byte_limit};
+ghost use Rattle.tool_frame.specs.Stops.{IfFound, OnStarved};
 ghost use Rattle.tool_frame.specs.Taking.{TakesSome};
 ghost use Rattle.verdict_line.specs.Judging.{JudgesInput, TellsVerdict};
 
@@ -12,7 +13,7 @@ use net_graph::EdgeSet;
 use rst_outside::{Consumer, Source};
 use std::alloc::{AllocError, Global};
 use std::marker::{Brand, PhantomData};
-use tool_frame::{InputFault, feed_input};
+use tool_frame::{InputFault, Stop, feed_input};
 
 /// How many bytes of an answer are asked for at once.
 const BLOCK: usize = 1 << 16;
@@ -59,11 +60,12 @@ impl<'a, K: About> Judging<'a, K> {
         })
     }
 
-    /// What is found of what was fed. A fault says that this is more than the limit.
-    fn finish(self, limit: u64) -> Result<Judged, InputFault>
+    /// What is found of what was fed. A fault says that this is more than the limit. It takes no memory.
+    fn finish(self, limit: u64) -> Result<Judged, Stop<InputFault>>
         requires { limit ≤ byte_limit }
-        ensures { (bytes : List ℕ) → StandsForBytesIn K.named bytes self.entry.checker
-            → TellsVerdict K.named limit bytes result }
+        ensures tells { (bytes : List ℕ) → StandsForBytesIn K.named bytes self.entry.checker
+            → IfFound result (TellsVerdict K.named limit bytes) }
+        ensures sure { OnStarved result ⊥ }
     {
         let finished = self.checker.finish();
         match finished.verdict.ruled() {
@@ -71,7 +73,7 @@ impl<'a, K: About> Judging<'a, K> {
                 ruling,
                 network: finished.network,
             }),
-            None => Err(InputFault::TooLong { limit }),
+            None => Err(Stop::Fault(InputFault::TooLong { limit })),
         }
     }
 }
@@ -87,24 +89,24 @@ impl<K: About> Consumer for Judging<'_, K> {
 }
 
 /// What is found of the input, of at most so many bytes, as an answer about the subject, which has at most 255
-/// terminals. A fault is one of the input. An `Err` is want of memory, before the input is touched.
+/// terminals. Memory is wanting before the input is touched alone.
 pub fn judge_input<K: About, I: Source>(
     alloc: Global,
     subject: Subject,
     input: &mut I,
     limit: u64,
-) -> Result<Result<Judged, InputFault>, AllocError>
+) -> Result<Judged, Stop<InputFault>>
     requires about { named_of subject ≡ K.named }
     requires terminals { length (named_of subject).graph.terminals ≤ 255 }
     requires limit { limit ≤ byte_limit }
-    ensures judges { IfOk result (JudgesInput (named_of subject.entry) limit (I.state input.old) (I.state input.new)) }
-    ensures unread { OnErr result (I.state input.new ≡ I.state input.old) }
+    ensures judges { IfFound result (JudgesInput (named_of subject.entry) limit (I.state input.old) (I.state input.new)) }
+    ensures unread { OnStarved result (I.state input.new ≡ I.state input.old) }
     ensures some { TakesSome (I.state input.old) (I.state input.new) }
 {
     let mut block = vec![in alloc; 0u8; BLOCK]?;
     let mut judging = Judging::<K>::begin(alloc, subject)?;
     match feed_input(input, &mut block, &mut judging, limit) {
-        Ok(()) => Ok(judging.finish(limit)),
-        Err(fault) => Ok(Err(fault)),
+        Ok(()) => judging.finish(limit),
+        Err(fault) => Err(Stop::Fault(fault)),
     }
 }
