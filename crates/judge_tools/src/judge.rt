@@ -1,18 +1,21 @@
 //! The judge of the tools: the points of a file and an answer come in, what is found of the answer goes on to a tool.
 
-ghost use Rattle.std.specs.Prelude.{◌≡◌, IfOk, OnErr};
+ghost use Rattle.std.specs.Prelude.{◌≡◌};
 ghost use Rattle.tool_frame.specs.Outside.{readable};
 ghost use Rattle.tool_frame.specs.Leaves.{LeavesFiles};
+ghost use Rattle.tool_frame.specs.Stops.{IfFound, OnStarved};
 ghost use Rattle.judge_tools.specs.Judging.{FindsJudgement};
 ghost use Rattle.judge_tools.specs.Check.{check_fault_text, check_fault_status};
 
 use cert_check::Subject;
 use hanan_grid::Grid;
 use rst_outside::{Shelf, Sink, Source};
-use std::alloc::{AllocError, Global};
+use std::alloc::Global;
 use std::marker::Brand;
 use text_out::Block;
-use tool_frame::{Fault, FaultStatus, InputFault, PointsFault, TEXT_LIMIT, read_points_file};
+use tool_frame::{
+    Fault, FaultStatus, InputFault, PointsFault, Stop, TEXT_LIMIT, grid_in_file, within,
+};
 use verdict_line::{Judged, judge_input};
 
 /// The greatest number of bytes of an answer that is judged.
@@ -54,28 +57,28 @@ pub struct Judgement {
     pub judged: Judged,
 }
 
-/// What is found of the input as an answer for the points of a file. A fault has the cause that it names. An `Err` is
-/// want of memory, before the input is touched. Memory is taken before the input is touched alone.
+/// What is found of the input as an answer for the points of a file. Memory is taken, and may be wanting, before the
+/// input is touched alone.
+#[tactic(auto, using(crate::proofs::Verdict::found_judgement, crate::proofs::Verdict::found_fault))]
 pub(crate) fn judge<I: Source, S: Shelf>(
     alloc: Global,
     points_name: &str,
     input: &mut I,
     shelf: &mut S,
-) -> Result<Result<Judgement, CheckFault>, AllocError>
-    ensures finds { IfOk result (FindsJudgement points_name.now
+) -> Result<Judgement, Stop<CheckFault>>
+    ensures finds { IfFound result (FindsJudgement points_name.now
         (readable (I.state input.old) (S.state shelf.old)) (readable (I.state input.new) (S.state shelf.new))) }
-    ensures unread { OnErr result (I.state input.new ≡ I.state input.old) }
+    ensures unread { OnStarved result (I.state input.new ≡ I.state input.old) }
     ensures leaves { LeavesFiles
         (readable (I.state input.old) (S.state shelf.old)) (readable (I.state input.new) (S.state shelf.new)) }
 {
-    let grid = match read_points_file(alloc, shelf, points_name, TEXT_LIMIT)? {
-        Ok(grid) => grid,
-        Err(fault) => return Ok(Err(CheckFault::Points(fault))),
-    };
+    let grid = within(
+        grid_in_file(alloc, shelf, points_name, TEXT_LIMIT),
+        CheckFault::Points,
+    )?;
     let terminals = grid.points().len();
     prove!(terminals <= 50);
-    match judge_input::<Brand, I>(alloc, Subject::OnGrid(&grid), input, ANSWER_LIMIT)? {
-        Ok(judged) => Ok(Ok(Judgement { grid, judged })),
-        Err(fault) => Ok(Err(CheckFault::Input(fault))),
-    }
+    let judging = judge_input::<Brand, I>(alloc, Subject::OnGrid(&grid), input, ANSWER_LIMIT);
+    let judged = within(judging, CheckFault::Input)?;
+    Ok(Judgement { grid, judged })
 }

@@ -1,11 +1,11 @@
 //! The tool `plot`: the points of a file and an answer come in, a plot of the network goes out where the answer is
 //! accepted.
 
-ghost use Rattle.std.specs.Prelude.{◌≡◌, IfOk, OnErr};
+ghost use Rattle.std.specs.Prelude.{◌≡◌};
 ghost use Rattle.std.specs.Result.{ForOk};
 ghost use Rattle.tool_frame.specs.Outside.{readable, outside};
-ghost use Rattle.tool_frame.specs.Ends.{print_of};
 ghost use Rattle.tool_frame.specs.Leaves.{LeavesFiles};
+ghost use Rattle.tool_frame.specs.Stops.{FindsDue, OnStarved};
 ghost use Rattle.judge_tools.specs.Pictures.{HasEdges, picture_text, picture_status};
 ghost use Rattle.judge_tools.specs.Plot.{Plots, EndsPlot, plot_fault_text, plot_fault_status};
 
@@ -13,9 +13,9 @@ use crate::judge::{CheckFault, judge};
 use crate::picture::Picture;
 use cert_check::{Cause, Ruling};
 use rst_outside::{Shelf, Sink, Source};
-use std::alloc::{AllocError, Global};
+use std::alloc::Global;
 use text_out::Block;
-use tool_frame::{Fault, FaultStatus, conclude};
+use tool_frame::{Fault, FaultStatus, Stop, end_found, within};
 use verdict_line::write_refusal;
 
 /// Why `plot` refuses.
@@ -63,34 +63,30 @@ pub fn plot<I: Source, O: Sink, R: Sink, S: Shelf>(
         (outside (I.state input.new) (O.state out.new) (R.state err.new) (S.state shelf.new)) result }
 {
     let found = picture_of(alloc, points_name, input, shelf);
-    conclude(out, err, b"plot", found)
+    end_found(out, err, b"plot", found)
 }
 
-// The picture of the network of the input, where it is accepted as an answer for the points of a file. A fault has the
-// cause that it names. An `Err` is want of memory, before the input is touched.
+// The picture of the network of the input, where it is accepted as an answer for the points of a file. Memory is
+// wanting before the input is touched alone.
 fn picture_of<I: Source, S: Shelf>(
     alloc: Global,
     points_name: &str,
     input: &mut I,
     shelf: &mut S,
-) -> Result<Result<Picture, PlotFault>, AllocError>
-    ensures fits { ForOk result (λ found. ForOk found HasEdges) }
-    ensures finds { IfOk result (λ found. Plots points_name.now
-        (readable (I.state input.old) (S.state shelf.old)) (readable (I.state input.new) (S.state shelf.new))
-        (print_of picture_text picture_status found)) }
-    ensures unread { OnErr result (I.state input.new ≡ I.state input.old) }
+) -> Result<Picture, Stop<PlotFault>>
+    ensures fits { ForOk result HasEdges }
+    ensures finds { FindsDue picture_text picture_status (λ _. Unit {0}) (Plots points_name.now
+        (readable (I.state input.old) (S.state shelf.old)) (readable (I.state input.new) (S.state shelf.new))) result }
+    ensures unread { OnStarved result (I.state input.new ≡ I.state input.old) }
     ensures leaves { LeavesFiles
         (readable (I.state input.old) (S.state shelf.old)) (readable (I.state input.new) (S.state shelf.new)) }
 {
-    let judgement = match judge(alloc, points_name, input, shelf)? {
-        Ok(judgement) => judgement,
-        Err(fault) => return Ok(Err(PlotFault::Unjudged(fault))),
-    };
+    let judgement = within(judge(alloc, points_name, input, shelf), PlotFault::Unjudged)?;
     match judgement.judged.ruling {
-        Ruling::Accepted { .. } => Ok(Ok(Picture {
+        Ruling::Accepted { .. } => Ok(Picture {
             grid: judgement.grid,
             network: judgement.judged.network,
-        })),
-        Ruling::Refused(cause) => Ok(Err(PlotFault::Refused(cause))),
+        }),
+        Ruling::Refused(cause) => Err(Stop::Fault(PlotFault::Refused(cause))),
     }
 }

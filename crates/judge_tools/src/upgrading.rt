@@ -1,18 +1,18 @@
 //! The tool `upgrade`: the points of a file and an answer come in, the same answer goes out in version 2.
 
-ghost use Rattle.std.specs.Prelude.{◌≡◌, IfOk};
 ghost use Rattle.tool_frame.specs.Outside.{readable, outside};
 ghost use Rattle.tool_frame.specs.Leaves.{LeavesFiles};
+ghost use Rattle.tool_frame.specs.Stops.{IfFound};
 ghost use Rattle.judge_tools.specs.Upgrade.{EndsUpgrade, TakesAnswer, upgrade_fault_text, upgrade_fault_status};
 
 use answer_upgrade::{Spelled, spelled, write_upgraded};
 use cert_check::{Cause, upgrading_keeps_verdict};
 use rst_outside::{Shelf, Sink, Source};
-use std::alloc::{AllocError, Global};
+use std::alloc::Global;
 use text_out::Block;
 use tool_frame::{
-    AnswerStatus, Fault, FaultStatus, InputFault, PointsFault, TEXT_LIMIT, end_refused,
-    end_starved, end_written, read_points_file, take_input,
+    AnswerStatus, Fault, FaultStatus, InputFault, PointsFault, Stop, TEXT_LIMIT, end_refused,
+    end_starved, end_written, grid_in_file, whole_input, within,
 };
 use verdict_line::write_refusal;
 
@@ -75,40 +75,39 @@ pub fn upgrade<I: Source, O: Sink, R: Sink, S: Shelf>(
         (outside (I.state input.new) (O.state out.new) (R.state err.new) (S.state shelf.new)) result }
 {
     match take_answer(alloc, points_name, input, shelf) {
-        Ok(Ok(taken)) => {
+        Ok(taken) => {
             upgrading_keeps_verdict();
             let written = write_upgraded(out, taken.vertices, taken.bytes.as_slice());
             end_written(err, b"upgrade", AnswerStatus::Done, written)
         }
-        Ok(Err(fault)) => end_refused(err, b"upgrade", &fault),
-        Err(_) => end_starved(err),
+        Err(Stop::Fault(fault)) => end_refused(err, b"upgrade", &fault),
+        Err(Stop::Memory(_)) => end_starved(err),
     }
 }
 
-// The bytes of the input, where they are an answer's text for the grid of a file's points. A fault has the cause that
-// it names. An `Err` is want of memory.
+// The bytes of the input, where they are an answer's text for the grid of a file's points.
 fn take_answer<I: Source, S: Shelf>(
     alloc: Global,
     points_name: &str,
     input: &mut I,
     shelf: &mut S,
-) -> Result<Result<TakenAnswer, UpgradeFault>, AllocError>
-    ensures takes { IfOk result (TakesAnswer points_name.now
+) -> Result<TakenAnswer, Stop<UpgradeFault>>
+    ensures takes { IfFound result (TakesAnswer points_name.now
         (readable (I.state input.old) (S.state shelf.old)) (readable (I.state input.new) (S.state shelf.new))) }
     ensures leaves { LeavesFiles
         (readable (I.state input.old) (S.state shelf.old)) (readable (I.state input.new) (S.state shelf.new)) }
 {
-    let grid = match read_points_file(alloc, shelf, points_name, TEXT_LIMIT)? {
-        Ok(grid) => grid,
-        Err(fault) => return Ok(Err(UpgradeFault::Points(fault))),
-    };
-    let bytes = match take_input(alloc, input, UPGRADE_LIMIT)? {
-        Ok(bytes) => bytes,
-        Err(fault) => return Ok(Err(UpgradeFault::Input(fault))),
-    };
+    let grid = within(
+        grid_in_file(alloc, shelf, points_name, TEXT_LIMIT),
+        UpgradeFault::Points,
+    )?;
+    let bytes = within(
+        whole_input(alloc, input, UPGRADE_LIMIT),
+        UpgradeFault::Input,
+    )?;
     let vertices = grid.graph().vertex_count();
     match spelled(alloc, vertices, bytes.as_slice())? {
-        Spelled::Whole { .. } => Ok(Ok(TakenAnswer { vertices, bytes })),
-        Spelled::Fault { line } => Ok(Err(UpgradeFault::Misspelled { line })),
+        Spelled::Whole { .. } => Ok(TakenAnswer { vertices, bytes }),
+        Spelled::Fault { line } => Err(Stop::Fault(UpgradeFault::Misspelled { line })),
     }
 }
