@@ -9,25 +9,10 @@ use Rattle.tool_frame.specs.declared.status.FaultStatus.TheVariants.{Malformed, 
 use Rattle.tool_frame.specs.declared.status.TheConstants.{UNWRITTEN, NO_MEMORY}
 use Rattle.tool_frame.specs.Statuses.{answer_code, fault_code}
 use Rattle.tool_frame.specs.Outside.{Readable, Writable, Outside}
-use Rattle.tool_frame.specs.Ends.{Print, Printed, Concludes, Ends, print_of, prints_of}
+use Rattle.tool_frame.specs.Ends.{Print, Printed, Concludes, Ends}
 use Rattle.tool_frame.specs.declared.stop.Stop.{Stop}
 use Rattle.tool_frame.specs.declared.stop.Stop.TheVariants.{Fault, Memory}
 use Rattle.tool_frame.specs.Stops.{FindsDue, prints_found}
-
--- What was found, and how the run then ended, are a run.
-pub ends_with : {A : Type 0} {F : Type 0} {E : Type 0} (text : A → List ℕ) (answer_status : A → AnswerStatus)
-    (fault_status : F → FaultStatus) (fault_text : F → List ℕ) (tool : List ℕ)
-    (Finds : Readable → Readable → Result Print F → Type 0) (Leaves : Readable → Readable → Type 0)
-    (before after : Outside) (status : ℕ) (found : Result (Result A F) E) →
-    IfOk found (λ r. Finds before.read after.read (print_of text answer_status r)) → Leaves before.read after.read →
-    Concludes fault_status fault_text tool (prints_of text answer_status found) before.written after.written status →
-    Ends fault_status fault_text tool Finds Leaves before after status
-ends_with text answer_status fault_status fault_text tool Finds Leaves before after status (Ok found) finds leaves
-    concludes =
-    record { found = Some (print_of text answer_status found); finds = finds; leaves = leaves; concludes = concludes }
-ends_with text answer_status fault_status fault_text tool Finds Leaves before after status (Err memory) finds leaves
-    concludes =
-    record { found = None; finds = tt; leaves = leaves; concludes = concludes }
 
 -- The statuses of faults, of want of memory and of a failed write are none of a text that was printed.
 fault_is_none : (f : FaultStatus) (s : AnswerStatus) → fault_code f ≡ answer_code s → ⊥

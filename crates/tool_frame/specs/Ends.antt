@@ -68,13 +68,3 @@ pub record Ends {F : Type 0} (fault_status : F → FaultStatus) (fault_text : F 
   pub finds : IfSome found (Finds before.read after.read)
   pub leaves : Leaves before.read after.read
   pub concludes : Concludes fault_status fault_text tool found before.written after.written status
-
--- what a tool found, as its text and its status
-abbrev pub print_of : {A : Type 0} → {F : Type 0} → (A → List ℕ) → (A → AnswerStatus) → Result A F → Result Print F
-print_of text status (Ok answer) = Ok (record { text = text answer; status = status answer })
-print_of text status (Err fault) = Err fault
-
-abbrev pub prints_of : {A : Type 0} → {F : Type 0} → {E : Type 0} → (A → List ℕ) → (A → AnswerStatus) →
-    Result (Result A F) E → Option (Result Print F)
-prints_of text status (Ok found) = Some (print_of text status found)
-prints_of text status (Err memory) = None

@@ -5,7 +5,7 @@ ghost use Rattle.std.specs.Result.{ForOk};
 ghost use Rattle.rst_outside.specs.Sink.{SinkState, Writes};
 ghost use Rattle.tool_frame.specs.Outside.{writable};
 ghost use Rattle.tool_frame.specs.Statuses.{fault_code};
-ghost use Rattle.tool_frame.specs.Ends.{Concludes, PrintsOrNot, Refuses, fault_line, no_memory_line, prints_of};
+ghost use Rattle.tool_frame.specs.Ends.{Concludes, PrintsOrNot, Refuses, fault_line, no_memory_line};
 ghost use Rattle.tool_frame.specs.Stops.{prints_found};
 
 use crate::answer::Answer;
@@ -14,27 +14,6 @@ use crate::reports::{report, report_fault, report_unwritten};
 use crate::status::{AnswerStatus, NO_MEMORY, UNWRITTEN};
 use crate::stop::Stop;
 use rst_outside::{PutFault, Sink};
-use std::alloc::AllocError;
-
-/// Ends a run of a tool by what it found: an answer, whose text is written to `out`; a fault, which is said on `err`;
-/// or want of memory. Gives the status that the program ends with. It takes no memory.
-pub fn conclude<O: Sink, R: Sink, A: Answer + Drop, F: Fault + Drop>(
-    out: &mut O,
-    err: &mut R,
-    tool: &[u8],
-    found: Result<Result<A, F>, AllocError>,
-) -> u8
-    requires { ForOk found (λ found. ForOk found A.fits) }
-    ensures concludes { Concludes F.status F.text tool.now (prints_of A.text A.status found)
-        (writable (O.state out.old) (R.state err.old)) (writable (O.state out.new) (R.state err.new)) result }
-    ensures told { IfOk found (λ found. IfOk found A.told) }
-{
-    match found {
-        Ok(Ok(answer)) => print(out, err, tool, &answer),
-        Ok(Err(fault)) => end_refused(err, tool, &fault),
-        Err(_) => end_starved(err),
-    }
-}
 
 /// Ends a run of a tool by what it found: an answer, whose text is written to `out`; a fault, which is said on `err`;
 /// or want of memory. Gives the status that the program ends with. It takes no memory.

@@ -1,6 +1,6 @@
 //! Faults of texts, as the crates of their formats say them.
 
-ghost use Rattle.std.specs.Prelude.{◌≡◌, IfOk, IfErr};
+ghost use Rattle.std.specs.Prelude.{◌≡◌, IfErr};
 ghost use Rattle.tool_frame.specs.FaultTexts.{format_fault_status};
 ghost use Rattle.tool_frame.specs.Stops.{IfFound};
 
@@ -8,21 +8,8 @@ use crate::fault::Fault;
 use crate::status::FaultStatus;
 use crate::stop::Stop;
 use rst_outside::Sink;
-use std::alloc::AllocError;
 use text_in::FormatFault;
 use text_out::Block;
-
-/// What a reader took of a text, or the text's fault. An `Err` is want of memory, which the reader tells among its
-/// faults.
-pub fn apart<T, F: FormatFault>(read: Result<T, F>) -> Result<Result<T, F>, AllocError>
-    ensures same { IfOk result (λ found. found ≡ read) }
-    ensures fault { IfOk result (λ found. IfErr found (λ fault. F.IsMemory fault → ⊥)) }
-{
-    match read {
-        Ok(value) => Ok(Ok(value)),
-        Err(fault) => Ok(Err(fault.of_text()?)),
-    }
-}
 
 /// What a reader took of a text, or the text's fault, set apart from want of memory, which the reader tells among its
 /// faults.

@@ -14,15 +14,13 @@ mod text_fault;
 mod text_tool;
 
 pub use answer::Answer;
-pub use ending::{conclude, end_found, end_refused, end_starved, end_written};
+pub use ending::{end_found, end_refused, end_starved, end_written};
 pub use fault::Fault;
-pub use format::{apart, faults_apart};
-pub use points::{ListFault, PointsFault, grid_in, grid_in_file, read_grid, read_points_file};
+pub use format::faults_apart;
+pub use points::{ListFault, PointsFault, grid_in, grid_in_file};
 pub use reports::report;
 pub use status::{AnswerStatus, FaultStatus, MISUSED, NO_MEMORY, UNWRITTEN};
 pub use stop::{Stop, within};
-pub use take::{
-    FileFault, InputFault, TEXT_LIMIT, feed_input, take_file, take_input, whole_file, whole_input,
-};
+pub use take::{FileFault, InputFault, TEXT_LIMIT, feed_input, whole_file, whole_input};
 pub use text_fault::TextFault;
 pub use text_tool::{TextTool, run_on_text};

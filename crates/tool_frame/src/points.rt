@@ -1,6 +1,6 @@
 //! Points and their grid, read from a text or from a file.
 
-ghost use Rattle.std.specs.Prelude.{◌≡◌, ◌++◌, ℕ, List, IfOk, decimal};
+ghost use Rattle.std.specs.Prelude.{◌≡◌, ◌++◌, ℕ, List, decimal};
 ghost use Rattle.text_out.specs.Gathers.{Gathers};
 ghost use Rattle.tool_frame.specs.Stops.{IfFound, IfFault};
 ghost use Rattle.tool_frame.specs.Taking.{KeepsFiles};
@@ -11,11 +11,11 @@ ghost use Rattle.tool_frame.specs.FaultTexts.{list_fault_text, list_fault_status
 use crate::fault::Fault;
 use crate::status::FaultStatus;
 use crate::stop::{Stop, within};
-use crate::take::{FileFault, take_file, whole_file};
+use crate::take::{FileFault, whole_file};
 use hanan_grid::{Grid, GridFault};
 use points_in::{PointFault, read_points};
 use rst_outside::{Shelf, Sink};
-use std::alloc::{AllocError, Global};
+use std::alloc::Global;
 use text_in::write_total;
 use text_out::{Block, literal, number};
 
@@ -43,55 +43,6 @@ pub enum PointsFault {
     File(FileFault),
     /// Its text gives none.
     List(ListFault),
-}
-
-// The same fault of a list. An `Err` is want of memory.
-fn list_fault_of(fault: PointFault) -> Result<ListFault, AllocError>
-    ensures { (bytes : List ℕ) → HasPointCause fault bytes → IfOk result (IsListFault bytes) }
-{
-    match fault {
-        PointFault::BadNumber(at) => Ok(ListFault::BadNumber(at)),
-        PointFault::NumberTooLarge(at) => Ok(ListFault::NumberTooLarge(at)),
-        PointFault::TooManyPoints(at) => Ok(ListFault::TooManyPoints(at)),
-        PointFault::OddCount => Ok(ListFault::OddCount),
-        PointFault::NoPoints => Ok(ListFault::NoPoints),
-        PointFault::Memory(error) => Err(error),
-    }
-}
-
-/// The grid of the points that a text lists. An `Err` is want of memory.
-pub fn read_grid(alloc: Global, bytes: &[u8]) -> Result<Result<Grid, ListFault>, AllocError>
-    ensures { IfOk result (ReadsGrid bytes.now) }
-{
-    let points = match read_points(alloc, bytes) {
-        Ok(points) => points,
-        Err(fault) => return Ok(Err(list_fault_of(fault)?)),
-    };
-    match Grid::new(alloc, &points) {
-        Ok(grid) => Ok(Ok(grid)),
-        Err(GridFault::TooLong { total }) => Ok(Err(ListFault::GridTooLong { total })),
-        Err(GridFault::Memory(error)) => Err(error),
-    }
-}
-
-/// The grid of the points that the file of this name lists, which may have `limit` bytes. An `Err` is want of memory.
-pub fn read_points_file<S: Shelf>(
-    alloc: Global,
-    shelf: &mut S,
-    name: &str,
-    limit: u64,
-) -> Result<Result<Grid, PointsFault>, AllocError>
-    ensures reads { IfOk result (ReadsPointsFile limit (S.state shelf.old) (S.state shelf.new) name.now) }
-    ensures files { KeepsFiles (S.state shelf.old) (S.state shelf.new) }
-{
-    let bytes = match take_file(alloc, shelf, name, limit)? {
-        Ok(bytes) => bytes,
-        Err(fault) => return Ok(Err(PointsFault::File(fault))),
-    };
-    match read_grid(alloc, bytes.as_slice())? {
-        Ok(grid) => Ok(Ok(grid)),
-        Err(fault) => Ok(Err(PointsFault::List(fault))),
-    }
 }
 
 // Why a text gives no grid, by why it lists no points.

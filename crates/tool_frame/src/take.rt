@@ -1,6 +1,6 @@
 //! Inputs and files that are read whole, within a limit.
 
-ghost use Rattle.std.specs.Prelude.{◌≡◌, ◌<◌, length, IfOk};
+ghost use Rattle.std.specs.Prelude.{◌≡◌, ◌<◌, length};
 ghost use Rattle.text_out.specs.Gathers.{Gathers};
 ghost use Rattle.tool_frame.specs.Stops.{IfFound};
 ghost use Rattle.tool_frame.specs.Taking.{TakesInput, FeedsInput, TakesSome, TakesFile, KeepsFiles};
@@ -12,7 +12,7 @@ use crate::stop::Stop;
 use rst_outside::{
     Consumer, FeedFault, Shelf, Sink, Source, TakeFault, feed_all, take_all, take_named,
 };
-use std::alloc::{AllocError, Global};
+use std::alloc::Global;
 use text_out::{Block, literal, number};
 
 /// The greatest number of bytes of a text that is taken whole.
@@ -34,23 +34,6 @@ pub enum FileFault {
     Unread,
     /// It has more than this number of bytes.
     TooLong { limit: u64 },
-}
-
-/// All bytes of the input, of which there may be `limit`. An `Err` is want of memory.
-pub fn take_input<I: Source>(
-    alloc: Global,
-    input: &mut I,
-    limit: u64,
-) -> Result<Result<Vec<u8>, InputFault>, AllocError>
-    ensures takes { IfOk result (TakesInput limit (I.state input.old) (I.state input.new)) }
-    ensures some { TakesSome (I.state input.old) (I.state input.new) }
-{
-    match take_all(alloc, input, limit) {
-        Ok(bytes) => Ok(Ok(bytes)),
-        Err(TakeFault::Failed) => Ok(Err(InputFault::Unread)),
-        Err(TakeFault::TooLong) => Ok(Err(InputFault::TooLong { limit })),
-        Err(TakeFault::Memory(error)) => Err(error),
-    }
 }
 
 /// All bytes of the input, of which there may be `limit`.
@@ -84,24 +67,6 @@ pub fn feed_input<I: Source, C: Consumer>(
         FeedFault::Failed => InputFault::Unread,
         FeedFault::TooLong => InputFault::TooLong { limit },
     })
-}
-
-/// All bytes of the file of this name, of which there may be `limit`. An `Err` is want of memory.
-pub fn take_file<S: Shelf>(
-    alloc: Global,
-    shelf: &mut S,
-    name: &str,
-    limit: u64,
-) -> Result<Result<Vec<u8>, FileFault>, AllocError>
-    ensures takes { IfOk result (TakesFile limit (S.state shelf.old) (S.state shelf.new) name.now) }
-    ensures files { KeepsFiles (S.state shelf.old) (S.state shelf.new) }
-{
-    match take_named(alloc, shelf, name, limit) {
-        Ok(bytes) => Ok(Ok(bytes)),
-        Err(TakeFault::Failed) => Ok(Err(FileFault::Unread)),
-        Err(TakeFault::TooLong) => Ok(Err(FileFault::TooLong { limit })),
-        Err(TakeFault::Memory(error)) => Err(error),
-    }
 }
 
 /// All bytes of the file of this name, of which there may be `limit`.

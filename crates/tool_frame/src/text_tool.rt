@@ -66,7 +66,8 @@ fn find_in_input<T: TextTool, I: Source>(
     input: &mut I,
 ) -> Result<T::Found, Stop<TextFault<T::Wrong>>>
     ensures finds { (shelf : ShelfState) → FindsDue T.Found.text T.Found.status T.Found.told
-        (FromText TEXT_LIMIT (T.prints tool.now) (readable (I.state input.old) shelf) (readable (I.state input.new) shelf))
+        (FromText TEXT_LIMIT (T.prints tool.now)
+            (readable (I.state input.old) shelf) (readable (I.state input.new) shelf))
         result }
     ensures fits { IfOk result T.Found.fits }
     ensures takes { TakesSome (I.state input.old) (I.state input.new) }

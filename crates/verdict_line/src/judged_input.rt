@@ -99,7 +99,8 @@ pub fn judge_input<K: About, I: Source>(
     requires about { named_of subject ≡ K.named }
     requires terminals { length (named_of subject).graph.terminals ≤ 255 }
     requires limit { limit ≤ byte_limit }
-    ensures judges { IfFound result (JudgesInput (named_of subject.entry) limit (I.state input.old) (I.state input.new)) }
+    ensures judges { IfFound result
+        (JudgesInput (named_of subject.entry) limit (I.state input.old) (I.state input.new)) }
     ensures unread { OnStarved result (I.state input.new ≡ I.state input.old) }
     ensures some { TakesSome (I.state input.old) (I.state input.new) }
 {
