@@ -67,7 +67,7 @@ fn find_in_input<T: TextTool, I: Source>(
 ) -> Result<T::Found, Stop<TextFault<T::Wrong>>>
     ensures finds { (shelf : ShelfState) → FindsDue T.Found.text T.Found.status T.Found.told
         (FromText TEXT_LIMIT (T.prints tool.now)
-            (readable (I.state input.old) shelf) (readable (I.state input.new) shelf))
+        (readable (I.state input.old) shelf) (readable (I.state input.new) shelf))
         result }
     ensures fits { IfOk result T.Found.fits }
     ensures takes { TakesSome (I.state input.old) (I.state input.new) }
