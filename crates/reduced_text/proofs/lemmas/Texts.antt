@@ -1,12 +1,12 @@
 -- Texts of lists and sets, item after item.
-use Rattle.std.specs.Prelude.{ℕ, zero, suc, ◌≡◌, ◌+◌, ◌<◌, Bool, true, false, List, [], ◌∷◌, ◌++◌, flat_map, length, take, slice_get, Some, if◌then◌else◌}
+use Rattle.std.specs.Prelude.{ℕ, zero, suc, ◌≡◌, ◌+◌, ◌<◌, ◌≤◌, Bool, true, false, List, [], ◌∷◌, ◌++◌, flat_map, length, take, slice_get, Some, if◌then◌else◌}
 use Rattle.std.proofs.Common.{sym, ap, ◌∙◌, append_assoc, arith, length-append}
 use Rattle.std.proofs.lemmas.Grind.{flat_map-append}
 use Rattle.std.proofs.lemmas.List.{append-nil, take_more}
 use Rattle.std.proofs.lemmas.Option.{get_or_from_slice_get, same_Some, slice_get_within}
 use Rattle.net_graph.specs.declared.edge.Edge.{Edge}
 use Rattle.net_graph.specs.Flags.{has}
-use Rattle.net_graph.specs.Members.{members_of}
+use Rattle.net_graph.specs.Members.{members_from, members_of}
 use Rattle.net_graph.specs.MembersLaws.{members_of-more}
 use Rattle.reduced_text.specs.Text.{left_line, left_lines, number_line}
 
@@ -54,6 +54,18 @@ count_with set n below is = omega (
   ap length (members_of-more set n below ∙ ap (λ b. members_of (take n set) ++ (if b then n ∷ [] else [])) is),
   length-append (members_of (take n set)) (n ∷ []),
 )
+
+-- .. at most as many as the numbers that were looked at
+few_members_from : (n : ℕ) (set : List Bool) (k : ℕ) → length (members_from n (take k set)) ≤ k
+few_members_from n [] zero = omega arith
+few_members_from n [] (suc k) = omega arith
+few_members_from n (true ∷ set) zero = omega arith
+few_members_from n (false ∷ set) zero = omega arith
+few_members_from n (true ∷ set) (suc k) = omega (arith, few_members_from (n + 1) set k)
+few_members_from n (false ∷ set) (suc k) = omega (arith, few_members_from (n + 1) set k)
+
+pub few_members : (set : List Bool) (k : ℕ) → length (members_of (take k set)) ≤ k
+few_members set k = few_members_from 0 set k
 
 -- one number more
 pub number_more : (ns : List ℕ) (k n : ℕ) → slice_get ns k ≡ Some n →

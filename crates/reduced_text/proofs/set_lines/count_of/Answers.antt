@@ -1,17 +1,11 @@
 use Rattle.std.specs.Prelude.{◌+◌, ◌<◌, length}
 use Rattle.std.proofs.Common.{ap, sym, ◌∙◌, arith}
-use Rattle.graph_reduce.proofs.lemmas.LeftLists.{number_is, number_least}
-use Rattle.reduced_text.proofs.lemmas.Texts.{count_with, members_without}
+use Rattle.reduced_text.proofs.lemmas.Texts.{count_with, few_members, members_without}
 use Rattle.reduced_text.proofs.set_lines.count_of.Goals as goal
 use Rattle.reduced_text.proofs.set_lines.count_of.Goals.{then-has, else-has}
 
 pub overflow_add-count : goal.overflow_add-count
-overflow_add-count c = omega (
-  arith,
-  c.loop-e.invariant,
-  number_is c.args.set.now c.loop-e.e,
-  number_least c.args.set.now c.loop-e.e,
-)
+overflow_add-count c = omega (arith, c.loop-e.invariant, few_members c.args.set.now c.loop-e.e)
 
 pub loop-e-preserved : goal.loop-e-preserved
 loop-e-preserved c =
