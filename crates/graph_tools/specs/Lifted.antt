@@ -1,5 +1,5 @@
 -- What `reduce` finds where it is to solve.
-use Rattle.std.specs.Prelude.{ℕ, ◌≡◌, ◌+◌, ◌==◌, Bool, true, false, List, ◌++◌, codes, Result, if◌then◌else◌}
+use Rattle.std.specs.Prelude.{ℕ, ◌≡◌, ◌+◌, ◌==◌, Bool, true, false, List, ◌++◌, codes, Result}
 use Rattle.net_graph.specs.Graph.{Graph}
 use Rattle.net_graph.specs.Network.{length_of}
 use Rattle.cert_tree.specs.declared.split.SplitOn.{SplitOn}
@@ -8,7 +8,7 @@ use Rattle.answer_text.specs.Text.{status_word}
 use Rattle.graph_reduce.specs.Reduction.{Reduction, lift_of}
 use Rattle.reduced_text.specs.Text.{count_line, set_text}
 use Rattle.tool_frame.specs.declared.status.AnswerStatus.{AnswerStatus}
-use Rattle.tool_frame.specs.declared.status.AnswerStatus.TheVariants.{Done, Stopped}
+use Rattle.tool_frame.specs.Statuses.{search_status}
 use Rattle.tool_frame.specs.declared.take.TheConstants.{TEXT_LIMIT}
 use Rattle.tool_frame.specs.Outside.{Outside}
 use Rattle.tool_frame.specs.Ends.{Print, Ends}
@@ -39,7 +39,7 @@ lifted_text l = head_text l ++ edges_text l.network
 
 -- the status that the tool ends with when it is printed
 abbrev pub lifted_status : Lifted → AnswerStatus
-lifted_status l = if l.optimal then Done else Stopped
+lifted_status l = search_status l.optimal
 
 -- What is told of a network of the reduced graph and a tree of cuts in it, once the network is lifted: length and
 -- bound are longer by the offset, and it is optimal where the bound of the reduced graph is the length there.

@@ -1,5 +1,5 @@
 -- The answer of the tool in a graph.
-use Rattle.std.specs.Prelude.{ℕ, ◌≡◌, ◌<◌, ◌^◌, Bool, List, length, if◌then◌else◌}
+use Rattle.std.specs.Prelude.{ℕ, ◌≡◌, ◌<◌, ◌^◌, Bool, List, length}
 use Rattle.net_graph.specs.Graph.{Graph, total_of}
 use Rattle.net_graph.specs.Members.{members_of}
 use Rattle.net_graph.specs.Network.{length_of}
@@ -14,7 +14,7 @@ use Rattle.answer_text.specs.Spelling.{SpellsAnswer}
 use Rattle.answer_text.specs.Value.{WrittenAnswer}
 use Rattle.answer_text.specs.Answers.{IsAnswerOn, edge_labels, graph_value_of, labelled, number_labels}
 use Rattle.tool_frame.specs.declared.status.AnswerStatus.{AnswerStatus}
-use Rattle.tool_frame.specs.declared.status.AnswerStatus.TheVariants.{Done, Stopped}
+use Rattle.tool_frame.specs.Statuses.{search_status}
 use Rattle.tool_frame.specs.Ends.{Print}
 use Rattle.graph_search.specs.Kinds.{kind_of}
 use Rattle.graph_search.specs.Searched.{IsSearched, bound_of, value_on}
@@ -62,7 +62,7 @@ solution_text s = answer_text (graph_value_of s.answer)
 
 -- the status that the tool ends with when it is printed
 abbrev pub solution_status : GraphSolution → AnswerStatus
-solution_status s = if s.answer.head.optimal then Done else Stopped
+solution_status s = search_status s.answer.head.optimal
 
 -- the answer can be written
 abbrev pub IsPrintable : GraphSolution → Type 0

@@ -1,5 +1,5 @@
 -- What a search found in a graph is an answer in it, and one that may be printed once its text is known to spell it.
-use Rattle.std.proofs.Common.{ℕ, ◌≡◌, ◌<◌, ◌≤◌, ◌^◌, Bool, List, length, All, cond, refl, subst, ap, sym}
+use Rattle.std.proofs.Common.{ℕ, ◌≡◌, ◌<◌, ◌≤◌, ◌^◌, Bool, List, length, All, refl, subst, ap, sym}
 use Rattle.net_graph.specs.Graph.{Graph, total_of}
 use Rattle.net_graph.specs.Members.{members_of}
 use Rattle.cert_tree.specs.declared.split.SplitOn.{SplitOn}
@@ -15,7 +15,7 @@ use Rattle.answer_text.specs.Text.{answer_text}
 use Rattle.answer_text.specs.Spelling.{SpellsAnswer}
 use Rattle.answer_text.specs.Value.{WrittenAnswer}
 use Rattle.answer_text.specs.Answers.{IsAnswerOn, IsNodeOn, edge_labels, graph_value_of, labelled, number_labels}
-use Rattle.tool_frame.specs.declared.status.AnswerStatus.TheVariants.{Done, Stopped}
+use Rattle.tool_frame.specs.Statuses.{search_status}
 use Rattle.tool_frame.specs.Ends.{Print}
 use Rattle.graph_search.specs.Kinds.{kind_of}
 use Rattle.graph_search.specs.Searched.{IsSearched, IsTold}
@@ -110,7 +110,7 @@ printed_answer : (options : GraphOptions) (g : Graph) (s : GraphSolution) → Is
     print ≡ graph_print options.openings g s.answer.network s.answer.tree
 printed_answer options g s is =
     let of_written : WrittenAnswer → Print =
-    λ w. record { text = answer_text w; status = cond w.head.optimal Done Stopped } in
+    λ w. record { text = answer_text w; status = search_status w.head.optimal } in
     ap of_written (told_value options g s is)
 
 -- An answer in a graph is printed as one that may be printed there, once its text is known to spell it.

@@ -25,16 +25,8 @@ impl Answer for Lifted {
 
     ghost status = { lifted_status };
 
-    ghost fits = { λ _. Unit {0} };
-
-    ghost told = { λ _. Unit {0} };
-
     fn status(&self) -> AnswerStatus {
-        if self.optimal {
-            AnswerStatus::Done
-        } else {
-            AnswerStatus::Stopped
-        }
+        AnswerStatus::of_search(self.optimal)
     }
 
     #[tactic(auto, using(text_out::specs::GatherLaws::pieces))]

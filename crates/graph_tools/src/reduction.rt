@@ -1,7 +1,6 @@
 //! The reduction of a graph, as the tool prints it.
 
 ghost use Rattle.std.specs.Prelude.{IfOk};
-ghost use Rattle.tool_frame.specs.declared.status.AnswerStatus.TheVariants as status_of;
 ghost use Rattle.graph_tools.specs.Reduce.{IsReduced, reduction_text};
 
 use graph_reduce::{Reduced, reduce};
@@ -19,12 +18,6 @@ pub struct GraphReduction {
 
 impl Answer for GraphReduction {
     ghost text = { reduction_text };
-
-    ghost status = { λ _. status_of.Done };
-
-    ghost fits = { λ _. Unit {0} };
-
-    ghost told = { λ _. Unit {0} };
 
     fn status(&self) -> AnswerStatus {
         AnswerStatus::Done

@@ -38,11 +38,7 @@ impl Answer for GraphSolution {
     ghost told = { IsSpelled };
 
     fn status(&self) -> AnswerStatus {
-        if self.answer.head.optimal {
-            AnswerStatus::Done
-        } else {
-            AnswerStatus::Stopped
-        }
+        AnswerStatus::of_search(self.answer.head.optimal)
     }
 
     fn write<O: Sink>(&self, out: &mut O) -> Result<(), PutFault> {

@@ -2,15 +2,10 @@
 use Rattle.std.specs.Prelude.{ℕ, ◌≡◌, List, length}
 use Rattle.hanan_grid.specs.Grid.{hanan_grid_of}
 use Rattle.printed_texts.specs.Plot.{plot_text}
-use Rattle.tool_frame.specs.declared.status.AnswerStatus.{AnswerStatus}
-use Rattle.tool_frame.specs.declared.status.AnswerStatus.TheVariants.{Done}
 use Rattle.judge_tools.specs.declared.picture.Picture.{Picture}
 
 abbrev pub picture_text : Picture → List ℕ
 picture_text picture = plot_text picture.grid picture.network
-
-abbrev pub picture_status : Picture → AnswerStatus
-picture_status picture = Done
 
 -- the network is one of the grid's edges
 abbrev pub HasEdges : Picture → Type 0

@@ -1,6 +1,6 @@
 //! A plot of a network, as an answer of a tool.
 
-ghost use Rattle.judge_tools.specs.Pictures.{HasEdges, picture_text, picture_status};
+ghost use Rattle.judge_tools.specs.Pictures.{HasEdges, picture_text};
 
 use hanan_grid::Grid;
 use net_graph::EdgeSet;
@@ -18,11 +18,7 @@ pub struct Picture {
 impl Answer for Picture {
     ghost text = { picture_text };
 
-    ghost status = { picture_status };
-
     ghost fits = { HasEdges };
-
-    ghost told = { λ _. Unit {0} };
 
     fn status(&self) -> AnswerStatus {
         AnswerStatus::Done

@@ -3,10 +3,11 @@
 
 ghost use Rattle.std.specs.Prelude.{◌≡◌};
 ghost use Rattle.std.specs.Result.{ForOk};
+ghost use Rattle.tool_frame.specs.declared.status.AnswerStatus.TheVariants.{Done};
 ghost use Rattle.tool_frame.specs.Outside.{readable, outside};
 ghost use Rattle.tool_frame.specs.Leaves.{LeavesFiles};
 ghost use Rattle.tool_frame.specs.Stops.{FindsDue, OnStarved};
-ghost use Rattle.judge_tools.specs.Pictures.{HasEdges, picture_text, picture_status};
+ghost use Rattle.judge_tools.specs.Pictures.{HasEdges, picture_text};
 ghost use Rattle.judge_tools.specs.Plot.{Plots, EndsPlot, plot_fault_text, plot_fault_status};
 
 use crate::judge::{CheckFault, judge};
@@ -75,7 +76,7 @@ fn picture_of<I: Source, S: Shelf>(
     shelf: &mut S,
 ) -> Result<Picture, Stop<PlotFault>>
     ensures fits { ForOk result HasEdges }
-    ensures finds { FindsDue picture_text picture_status (λ _. Unit {0}) (Plots points_name.now
+    ensures finds { FindsDue picture_text (λ _. Done) (λ _. Unit {0}) (Plots points_name.now
         (readable (I.state input.old) (S.state shelf.old)) (readable (I.state input.new) (S.state shelf.new))) result }
     ensures unread { OnStarved result (I.state input.new ≡ I.state input.old) }
     ensures leaves { LeavesFiles

@@ -1,6 +1,5 @@
 //! A graph, as the tool prints it.
 
-ghost use Rattle.tool_frame.specs.declared.status.AnswerStatus.TheVariants as status_of;
 ghost use Rattle.obstacle_tools.specs.Around.{graph_file_text};
 
 use net_graph::NetGraph;
@@ -16,12 +15,6 @@ pub struct GraphFile {
 
 impl Answer for GraphFile {
     ghost text = { graph_file_text };
-
-    ghost status = { λ _. status_of.Done };
-
-    ghost fits = { λ _. Unit {0} };
-
-    ghost told = { λ _. Unit {0} };
 
     fn status(&self) -> AnswerStatus {
         AnswerStatus::Done

@@ -1,6 +1,6 @@
 //! Distinct points, as an answer of a tool.
 
-ghost use Rattle.point_tools.specs.DistinctList.{distinct_text, distinct_status, IsWritable};
+ghost use Rattle.point_tools.specs.DistinctList.{distinct_text};
 
 use points_in::Points;
 use printed_texts::dump_distinct;
@@ -15,12 +15,6 @@ pub struct DistinctList {
 
 impl Answer for DistinctList {
     ghost text = { distinct_text };
-
-    ghost status = { distinct_status };
-
-    ghost fits = { IsWritable };
-
-    ghost told = { IsWritable };
 
     fn status(&self) -> AnswerStatus {
         AnswerStatus::Done

@@ -3,9 +3,10 @@
 ghost use Rattle.std.specs.Prelude.{◌<◌, ◌≤◌};
 ghost use Rattle.rst_outside.specs.Source.{SourceState};
 ghost use Rattle.rst_outside.specs.Shelf.{ShelfState};
+ghost use Rattle.tool_frame.specs.declared.status.AnswerStatus.TheVariants.{Done};
 ghost use Rattle.tool_frame.specs.Outside.{outside};
 ghost use Rattle.tool_frame.specs.Stops.{FindsDue};
-ghost use Rattle.point_tools.specs.DrawnList.{drawn_text, drawn_status, IsAnything};
+ghost use Rattle.point_tools.specs.DrawnList.{drawn_text};
 ghost use Rattle.point_tools.specs.Points.{PrintsDrawn, EndsPoints};
 
 use crate::drawn_list::DrawnList;
@@ -31,7 +32,7 @@ pub fn points<O: Sink, R: Sink>(alloc: Global, n: u8, seed: u64, out: &mut O, er
 fn draw(alloc: Global, n: u8, seed: u64) -> Result<DrawnList, Stop<InputFault>>
     requires some { 0 < n }
     requires few { n ≤ 50 }
-    ensures { FindsDue drawn_text drawn_status IsAnything (PrintsDrawn n seed) result }
+    ensures { FindsDue drawn_text (λ _. Done) (λ _. Unit {0}) (PrintsDrawn n seed) result }
 {
     let drawn = draw_points(alloc, n, seed)?;
     Ok(DrawnList { drawn })

@@ -1,6 +1,6 @@
 //! Drawn points, as an answer of a tool.
 
-ghost use Rattle.point_tools.specs.DrawnList.{drawn_text, drawn_status, IsAnything};
+ghost use Rattle.point_tools.specs.DrawnList.{drawn_text};
 
 use drawn_points::Drawn;
 use printed_texts::dump_points;
@@ -15,12 +15,6 @@ pub struct DrawnList {
 
 impl Answer for DrawnList {
     ghost text = { drawn_text };
-
-    ghost status = { drawn_status };
-
-    ghost fits = { IsAnything };
-
-    ghost told = { IsAnything };
 
     fn status(&self) -> AnswerStatus {
         AnswerStatus::Done

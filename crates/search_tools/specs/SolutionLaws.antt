@@ -1,5 +1,5 @@
 -- An answer for points and trees is one that may be printed, once its text is known to spell it.
-use Rattle.std.proofs.Common.{ℕ, ◌≡◌, ◌<◌, ◌^◌, Bool, List, length, All, ◌≤◌, cond, refl, subst, ap, ◌∙◌}
+use Rattle.std.proofs.Common.{ℕ, ◌≡◌, ◌<◌, ◌^◌, Bool, List, length, All, ◌≤◌, refl, subst, ap, ◌∙◌}
 use Rattle.points_in.specs.declared.point.Point.{Point}
 use Rattle.hanan_grid.specs.Grid.{hanan_grid_of}
 use Rattle.full_tree.specs.declared.code.Tree.{Tree as FullTree}
@@ -17,7 +17,7 @@ use Rattle.answer_text.specs.Text.{answer_text}
 use Rattle.answer_text.specs.declared.form.Form.TheVariants as form
 use Rattle.answer_text.specs.Spelling.{SpellsAnswer}
 use Rattle.cert_check.specs.Accepted.{IsAccepted}
-use Rattle.tool_frame.specs.declared.status.AnswerStatus.TheVariants.{Done, Stopped}
+use Rattle.tool_frame.specs.Statuses.{search_status}
 use Rattle.tool_frame.specs.Ends.{Print}
 use Rattle.search_rules.specs.declared.options.SearchOptions.{SearchOptions}
 use Rattle.search_tools.specs.declared.solution.Solution.{Solution}
@@ -97,5 +97,5 @@ pub printed_answer : (options : SearchOptions) (ps : List Point) (trees : List F
     print ≡ search_print options.openings ps s.answer.network s.answer.tree s.answer.head.concat
 printed_answer options ps trees s is =
     let of_written : WrittenAnswer → Print =
-    λ w. record { text = answer_text w; status = cond w.head.optimal Done Stopped } in
+    λ w. record { text = answer_text w; status = search_status w.head.optimal } in
     ap of_written (told_value options ps trees s is)

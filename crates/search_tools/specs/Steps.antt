@@ -1,5 +1,5 @@
 -- The steps of the tools that search, before they write, each with the cause of its refusals.
-use Rattle.std.specs.Prelude.{◌≡◌, ◌<◌, ◌≤◌, ◌^◌, ℕ, List, Bool, true, false, length, Result, Ok, Err, if◌then◌else◌}
+use Rattle.std.specs.Prelude.{◌≡◌, ◌<◌, ◌≤◌, ◌^◌, ℕ, List, Bool, true, false, length, Result, Ok, Err}
 use Rattle.points_in.specs.declared.point.Point.{Point}
 use Rattle.hanan_grid.specs.Grid.{hanan_grid_of}
 use Rattle.net_graph.specs.Graph.{Graph}
@@ -18,7 +18,7 @@ use Rattle.answer_text.specs.declared.form.Form.TheVariants as form
 use Rattle.answer_text.specs.Spelling.{SpellsAnswer}
 use Rattle.answer_text.specs.Answers.{IsAnswerOn, value_of}
 use Rattle.tool_frame.specs.declared.status.AnswerStatus.{AnswerStatus}
-use Rattle.tool_frame.specs.declared.status.AnswerStatus.TheVariants.{Done, Stopped}
+use Rattle.tool_frame.specs.Statuses.{search_status}
 use Rattle.tree_inputs.specs.declared.generation_fault.GenerationFault.{GenerationFault}
 use Rattle.tree_inputs.specs.declared.generation_fault.GenerationFault.TheVariants.{List as InList, TooManyTrees}
 use Rattle.search_rules.specs.declared.options.SearchOptions.{SearchOptions}
@@ -57,7 +57,7 @@ solution_text s = answer_text (value_of s.grid s.answer)
 
 -- the status that a tool ends with when it is printed
 abbrev pub solution_status : Solution → AnswerStatus
-solution_status s = if s.answer.head.optimal then Done else Stopped
+solution_status s = search_status s.answer.head.optimal
 
 -- the answer can be written
 abbrev pub IsPrintable : Solution → Type 0

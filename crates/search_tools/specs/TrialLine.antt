@@ -1,8 +1,8 @@
 -- The line of `trial`, and the status that the tool ends with.
-use Rattle.std.specs.Prelude.{ℕ, Bool, List, ◌++◌, codes, decimal, if◌then◌else◌}
+use Rattle.std.specs.Prelude.{ℕ, Bool, List, ◌++◌, codes, decimal}
 use Rattle.answer_text.specs.Text.{status_word}
 use Rattle.tool_frame.specs.declared.status.AnswerStatus.{AnswerStatus}
-use Rattle.tool_frame.specs.declared.status.AnswerStatus.TheVariants.{Done, Stopped}
+use Rattle.tool_frame.specs.Statuses.{search_status}
 use Rattle.tool_frame.specs.Ends.{Print}
 use Rattle.search_tools.specs.declared.trial_line.TrialLine.{TrialLine}
 
@@ -26,7 +26,7 @@ trial_text t = drawing_part t ++ answer_part t
 
 -- the status: done where the answer is optimal
 abbrev pub trial_status : TrialLine → AnswerStatus
-trial_status t = if t.optimal then Done else Stopped
+trial_status t = search_status t.optimal
 
 -- what is printed
 abbrev pub trial_print : TrialLine → Print

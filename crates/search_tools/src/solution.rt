@@ -35,11 +35,7 @@ impl Answer for Solution {
     ghost told = { IsSpelled };
 
     fn status(&self) -> AnswerStatus {
-        if self.answer.head.optimal {
-            AnswerStatus::Done
-        } else {
-            AnswerStatus::Stopped
-        }
+        AnswerStatus::of_search(self.answer.head.optimal)
     }
 
     fn write<O: Sink>(&self, out: &mut O) -> Result<(), PutFault> {

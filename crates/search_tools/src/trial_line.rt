@@ -54,16 +54,8 @@ impl Answer for TrialLine {
 
     ghost status = { trial_status };
 
-    ghost fits = { λ _. Unit {0} };
-
-    ghost told = { λ _. Unit {0} };
-
     fn status(&self) -> AnswerStatus {
-        if self.optimal {
-            AnswerStatus::Done
-        } else {
-            AnswerStatus::Stopped
-        }
+        AnswerStatus::of_search(self.optimal)
     }
 
     fn write<O: Sink>(&self, out: &mut O) -> Result<(), PutFault> {

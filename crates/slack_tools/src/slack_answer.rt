@@ -1,6 +1,5 @@
 //! The bounds of a grid's edges, as an answer of a tool.
 
-ghost use Rattle.tool_frame.specs.declared.status.AnswerStatus.TheVariants as status_of;
 ghost use Rattle.slack_tools.specs.SlackAnswer.{answer_text, HasEachBound};
 
 use crate::write::write_slack;
@@ -19,11 +18,7 @@ pub(crate) struct SlackAnswer {
 impl Answer for SlackAnswer {
     ghost text = { answer_text };
 
-    ghost status = { λ _. status_of.Done };
-
     ghost fits = { HasEachBound };
-
-    ghost told = { λ _. Unit {0} };
 
     fn status(&self) -> AnswerStatus {
         AnswerStatus::Done

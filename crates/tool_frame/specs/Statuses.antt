@@ -1,6 +1,6 @@
 -- The statuses that the program ends with, as numbers. Those of misuse, of a failed write and of want of memory stand
 -- in the code as constants.
-use Rattle.std.specs.Prelude.{ℕ}
+use Rattle.std.specs.Prelude.{ℕ, Bool, if◌then◌else◌}
 use Rattle.tool_frame.specs.declared.status.AnswerStatus.{AnswerStatus}
 use Rattle.tool_frame.specs.declared.status.AnswerStatus.TheVariants.{Done, Refused, Stopped}
 use Rattle.tool_frame.specs.declared.status.FaultStatus.{FaultStatus}
@@ -11,6 +11,10 @@ abbrev pub answer_code : AnswerStatus → ℕ
 answer_code Done = 0
 answer_code Refused = 1
 answer_code Stopped = 3
+
+-- how a search ends whose answer is optimal or isn't
+abbrev pub search_status : Bool → AnswerStatus
+search_status is_optimal = if is_optimal then Done else Stopped
 
 -- where what was read has a fault
 abbrev pub fault_code : FaultStatus → ℕ

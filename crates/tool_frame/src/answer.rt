@@ -3,6 +3,7 @@
 ghost use Rattle.std.specs.Prelude.{◌≡◌, List, ℕ};
 ghost use Rattle.rst_outside.specs.Sink.{Writes};
 ghost use Rattle.tool_frame.specs.declared.status.AnswerStatus.{AnswerStatus};
+ghost use Rattle.tool_frame.specs.declared.status.AnswerStatus.TheVariants.{Done};
 
 use crate::status::AnswerStatus;
 use rst_outside::{PutFault, Sink};
@@ -12,14 +13,14 @@ pub trait Answer {
     /// Its text.
     ghost text: { Self → List ℕ };
 
-    /// Its status.
-    ghost status: { Self → AnswerStatus };
+    /// Its status; done, where nothing is said.
+    ghost status: { Self → AnswerStatus } = { λ _. Done };
 
-    /// What an answer has to meet so that its text can be written.
-    ghost fits: { Self → Type 0 };
+    /// What an answer has to meet so that its text can be written; nothing, where nothing is said.
+    ghost fits: { Self → Type 0 } = { λ _. Unit {0} };
 
-    /// What its writer tells of it, whatever the sink does.
-    ghost told: { Self → Type 0 };
+    /// What its writer tells of it, whatever the sink does; nothing, where nothing is said.
+    ghost told: { Self → Type 0 } = { λ _. Unit {0} };
 
     /// The status that the tool ends with once the text is written.
     fn status(&self) -> AnswerStatus

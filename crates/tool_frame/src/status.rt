@@ -1,7 +1,7 @@
 //! The statuses that the program ends with.
 
 ghost use Rattle.std.specs.Prelude.{◌≡◌};
-ghost use Rattle.tool_frame.specs.Statuses.{answer_code, fault_code};
+ghost use Rattle.tool_frame.specs.Statuses.{answer_code, fault_code, search_status};
 
 /// The status where the words ask for no tool.
 pub const MISUSED: u8 = 2;
@@ -24,6 +24,17 @@ pub enum AnswerStatus {
 }
 
 impl AnswerStatus {
+    /// How a search ends whose answer is optimal or isn't.
+    pub fn of_search(is_optimal: bool) -> AnswerStatus
+        ensures { result ≡ search_status is_optimal }
+    {
+        if is_optimal {
+            AnswerStatus::Done
+        } else {
+            AnswerStatus::Stopped
+        }
+    }
+
     /// The status that the program ends with.
     pub fn code(self) -> u8
         ensures { result ≡ answer_code self }

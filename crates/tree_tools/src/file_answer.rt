@@ -1,6 +1,5 @@
 //! A file of full trees, as an answer of a tool.
 
-ghost use Rattle.tool_frame.specs.declared.status.AnswerStatus.TheVariants as status_of;
 ghost use Rattle.tree_tools.specs.FileAnswer.{file_text};
 
 use fst_file::{FstFile, write_file};
@@ -15,12 +14,6 @@ pub struct FileAnswer {
 
 impl Answer for FileAnswer {
     ghost text = { file_text };
-
-    ghost status = { λ _. status_of.Done };
-
-    ghost fits = { λ _. Unit {0} };
-
-    ghost told = { λ _. Unit {0} };
 
     fn status(&self) -> AnswerStatus {
         AnswerStatus::Done

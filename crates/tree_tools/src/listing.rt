@@ -1,6 +1,5 @@
 //! The list of a file's trees, as an answer of a tool.
 
-ghost use Rattle.tool_frame.specs.declared.status.AnswerStatus.TheVariants as status_of;
 ghost use Rattle.tree_tools.specs.Listing.{listing_text};
 
 use fst_file::FstFile;
@@ -17,12 +16,6 @@ pub struct Listing {
 
 impl Answer for Listing {
     ghost text = { listing_text };
-
-    ghost status = { λ _. status_of.Done };
-
-    ghost fits = { λ _. Unit {0} };
-
-    ghost told = { λ _. Unit {0} };
 
     fn status(&self) -> AnswerStatus {
         AnswerStatus::Done

@@ -27,10 +27,6 @@ impl Answer for VerdictLine {
 
     ghost status = { line_status };
 
-    ghost fits = { λ _. Unit {0} };
-
-    ghost told = { λ _. Unit {0} };
-
     fn status(&self) -> AnswerStatus {
         match self.ruling {
             Ruling::Accepted { .. } => AnswerStatus::Done,
