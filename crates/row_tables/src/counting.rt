@@ -13,18 +13,16 @@ pub fn number(word: &str) -> Result<u64, Fault> {
 
 /// The number of bytes or lines that a word spells.
 pub fn count(word: &str) -> Result<usize, Fault> {
-    match word.parse::<usize>() {
-        Ok(number) => Ok(number),
-        Err(_) => Err(Fault::BadNumber),
-    }
+    Ok(number(word)? as usize)
 }
 
 /// The number below 256 that a word spells.
 pub fn byte(word: &str) -> Result<u8, Fault> {
-    match word.parse::<u8>() {
-        Ok(number) => Ok(number),
-        Err(_) => Err(Fault::BadNumber),
+    let number = number(word)?;
+    if number >= 1 << 8 {
+        return Err(Fault::BadNumber);
     }
+    Ok(number as u8)
 }
 
 /// The number with a sign that a word spells.

@@ -73,7 +73,10 @@ impl CallReader {
         if self.call.is_some() {
             return Err(Fault::NoAnswer);
         }
-        let (subject, name) = names_of(section.argument)?;
+        let (subject, name) = named(section.argument)?;
+        if name.is_empty() {
+            return Err(Fault::NoName);
+        }
         self.texts.keep(name, Text::empty(self.alloc))?;
         self.call = Some(Call::new(self.alloc, name, subject)?);
         Ok(())
@@ -117,13 +120,4 @@ impl CallReader {
             None => self.texts.last(),
         }
     }
-}
-
-/// The name of a call's subject and its own.
-fn names_of(argument: &str) -> Result<(&str, &str), Fault> {
-    let (subject, name) = named(argument)?;
-    if name.is_empty() {
-        return Err(Fault::NoName);
-    }
-    Ok((subject, name))
 }

@@ -59,7 +59,7 @@ fn add_marker<'t>(
     line: usize,
     marker: &'t str,
 ) -> Result<(), Fault> {
-    let (key, argument) = first_word(without_feed(marker));
+    let (key, argument) = first_word(marker.strip_suffix('\n').unwrap_or(marker));
     if key.is_empty() {
         return Ok(());
     }
@@ -70,14 +70,6 @@ fn add_marker<'t>(
         text: Vec::new(alloc),
         empty_lines: 0,
     })?)
-}
-
-/// A line without its line feed.
-fn without_feed(line: &str) -> &str {
-    match line.split_once('\n') {
-        Some((text, _)) => text,
-        None => line,
-    }
 }
 
 /// Adds a line to the text of a section, an empty one only once another line follows it.
