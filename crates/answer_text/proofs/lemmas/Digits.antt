@@ -1,5 +1,5 @@
 -- A set of a known size is told by its digits.
-use Rattle.std.proofs.Common.{ℕ, ◌≡◌, ◌<◌, ◌≤◌, Bool, true, false, List, [], ◌∷◌, ◌++◌, length, refl, arith}
+use Rattle.std.proofs.Common.{ℕ, ◌≡◌, ◌<◌, ◌≤◌, Bool, false, List, [], ◌∷◌, ◌++◌, length, refl, arith}
 use Rattle.std.specs.Fmt.{digit_glyph}
 use Rattle.std.proofs.lemmas.Bool.Decides.{nat_tests}
 use Rattle.answer_text.specs.Words.{flag_value, four_value, four_digit, set_text}
@@ -10,15 +10,7 @@ digit_one m n p q e = grind (arith, nat_tests)
 
 -- a flag counts at most once
 flag_value-le : (a : Bool) → flag_value a ≤ 1
-flag_value-le true = omega arith
-flag_value-le false = omega arith
-
--- a flag is told by its value
-flag_one : (a b : Bool) → flag_value a ≡ flag_value b → a ≡ b
-flag_one true true e = refl
-flag_one true false e = absurd (omega arith)
-flag_one false true e = absurd (omega arith)
-flag_one false false e = refl
+flag_value-le a = grind arith
 
 -- four flags are worth less than 16
 pub four_value-below : (a b c d : Bool) → four_value a b c d < 16
@@ -26,21 +18,13 @@ four_value-below a b c d = omega (arith, flag_value-le a, flag_value-le b, flag_
 
 -- four flags are told by their digit
 four_one : (a b c d a' b' c' d' : Bool) → four_digit a b c d ≡ four_digit a' b' c' d' → (a ≡ a') × (b ≡ b') × (c ≡ c') × (d ≡ d')
-four_one a b c d a' b' c' d' e =
-    let same = digit_one (four_value a b c d) (four_value a' b' c' d') (four_value-below a b c d) (four_value-below a' b' c' d') e in
-    let ka = flag_value-le a in let kb = flag_value-le b in let kc = flag_value-le c in let kd = flag_value-le d in
-    let la = flag_value-le a' in let lb = flag_value-le b' in let lc = flag_value-le c' in let ld = flag_value-le d' in
-    (flag_one a a' (omega arith), flag_one b b' (omega arith), flag_one c c' (omega arith), flag_one d d' (omega arith))
+four_one a b c d a' b' c' d' e = grind (arith, digit_one, flag_value-le)
 
 -- a set is told by its digits, whatever follows them
 pub set_front : (s t : List Bool) (p q : List ℕ) → length s ≡ length t → set_text s ++ p ≡ set_text t ++ q → (s ≡ t) × (p ≡ q)
 set_front [] [] p q size e = (refl, e)
-set_front (a ∷ []) (a' ∷ []) p q size e =
-    let same = four_one a false false false a' false false false (cc) in
-    (cc, cc)
-set_front (a ∷ b ∷ []) (a' ∷ b' ∷ []) p q size e =
-    let same = four_one a b false false a' b' false false (cc) in
-    (cc, cc)
+set_front (a ∷ []) (a' ∷ []) p q size e = grind arith
+set_front (a ∷ b ∷ []) (a' ∷ b' ∷ []) p q size e = search (four_one, arith)
 set_front (a ∷ b ∷ c ∷ []) (a' ∷ b' ∷ c' ∷ []) p q size e =
     let same = four_one a b c false a' b' c' false (cc) in
     (cc, cc)

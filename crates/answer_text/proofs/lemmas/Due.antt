@@ -1,9 +1,9 @@
 -- The lines of an answer are due, and lines of which each was due can be gone on with to the end of an answer.
-use Rattle.std.proofs.Common.{ℕ, suc, zero, ◌≡◌, ◌≤◌, List, [], ◌∷◌, ◌++◌, length, map, refl, ap, subst, ◌∙◌, arith, append_assoc, Some, replicate, false, rules}
-use Rattle.std.specs.Prelude.{All, pos, FitsSigned, option_and_then}
+use Rattle.std.proofs.Common.{ℕ, suc, zero, ◌≡◌, ◌≤◌, List, [], ◌∷◌, ◌++◌, length, map, refl, subst, ◌∙◌, arith, append_assoc, Some, replicate, false, rules}
+use Rattle.std.specs.Prelude.{All, pos, FitsSigned}
 use Rattle.std.specs.Int.{w64}
 use Rattle.std.proofs.lemmas.List.{length-replicate}
-use Rattle.std.proofs.lemmas.List.Elements.{All-head, All-tail, All-cons, All-nil, All-append, All-map, All-replicate, All-from_recursion}
+use Rattle.std.proofs.lemmas.List.Elements.{All-head, All-tail, All-cons, All-nil, All-append, All-map, All-replicate}
 use Rattle.net_graph.specs.declared.packing.Cut.{Cut}
 use Rattle.answer_text.specs.declared.form.Form.{Form}
 use Rattle.answer_text.specs.declared.form.Form.TheVariants as form
@@ -19,7 +19,6 @@ use Rattle.answer_text.specs.Value.{WrittenAnswer}
 use Rattle.cert_tree.specs.Tree.{Tree}
 use Rattle.cert_tree.specs.Tree.Tree.{Leaf, Split}
 use Rattle.answer_text.specs.declared.split.SplitName.{SplitName}
-use Rattle.answer_text.specs.declared.split.SplitName.TheVariants as name
 use Rattle.answer_text.specs.declared.version.Version.{Version}
 use Rattle.answer_text.specs.declared.version.Version.TheVariants as version
 use Rattle.answer_text.specs.Forms.{IsVersionOf, most_edges, set_size}
@@ -41,8 +40,7 @@ run_cuts (c ∷ cuts) nodes ls = run_cuts cuts nodes ls
 run_tree : (v : Version) (t : Tree SplitName) (nodes : ℕ) (ls : List Line) → run (stage.Body 0 (suc nodes)) (tree_lines v t ++ ls) ≡ run (stage.Body 0 nodes) ls
 run_tree v (Leaf cuts) nodes ls = run_cuts cuts nodes ls
 run_tree v (Split on o i) nodes ls =
-    ap (option_and_then (λ s. run s ((tree_lines v o ++ tree_lines v i) ++ ls))) (step-split_line v on (stage.Body 0 (suc nodes)))
-    ∙ ap (run (stage.Body 0 (suc (suc nodes)))) (append_assoc (tree_lines v o) (tree_lines v i) ls) ∙ run_tree v o (suc nodes) (tree_lines v i ++ ls) ∙ run_tree v i nodes ls
+    search (step-split_line, append_assoc, run_tree v o (suc nodes) (tree_lines v i ++ ls), run_tree v i nodes ls)
 
 -- edges are due as they were counted
 run_edges : (edges : List EdgeLabel) (ls : List Line) → run (stage.Edges (length edges)) (map line.Edge edges ++ ls) ≡ run (stage.Edges 0) ls
@@ -51,9 +49,7 @@ run_edges (e ∷ edges) ls = run_edges edges ls
 
 -- a head leads to the count of edges
 run_head : (v : Version) (h : AnswerHead) (ls : List Line) → run stage.Title (head_lines v h ++ ls) ≡ run stage.Count ls
-run_head version.One h ls = refl
-run_head version.Two h ls = refl
-run_head version.Graph h ls = refl
+run_head v h ls = grind arith
 
 -- the lines of an answer lead from the title to the end
 pub run-answer : (a : WrittenAnswer) → run stage.Title (answer_lines a) ≡ Some stage.Done
@@ -82,28 +78,16 @@ version_from-append v (x ∷ xs) ys = version_from-append (version_with v x) xs 
 
 -- the line of a split that fits fits
 split_fits : (v : Version) (F : Form) (on : SplitName) → FitsSplit v F on → FitsLine v F (split_line v on)
-split_fits version.One F (name.Edge e) f = (refl, f)
-split_fits version.Two F (name.Edge e) f = (tt, f)
-split_fits version.Graph F (name.Edge e) f = (tt, f)
-split_fits v F (name.Vertex p) f = f
+split_fits v F on f = grind arith
 
 -- the lines of a tree that fits fit
 tree_fits : (v : Version) (F : Form) (t : Tree SplitName) → FitsTree v F t → All (FitsLine v F) (tree_lines v t)
 tree_fits v F (Leaf cuts) f = All-cons (FitsLine v F) (line.Leaf (length cuts)) (map line.Cut cuts) f.count (All-map (FitsLine v F) line.Cut cuts f.each)
-tree_fits v F (Split on o i) f =
-    All-cons (FitsLine v F) (split_line v on) (tree_lines v o ++ tree_lines v i) (split_fits v F on f.0) (All-append (FitsLine v F) (tree_lines v o) (tree_lines v i) (tree_fits v F o f.1) (tree_fits v F i f.2))
+tree_fits v F (Split on o i) f = search (All-cons, split_fits, All-append, tree_fits v F o f.1, tree_fits v F i f.2)
 
 -- the lines of a head that fits fit
 head_fits : (v : Version) (F : Form) (h : AnswerHead) → IsVersionOf F v → FitsHead h → All (FitsLine v F) (head_lines v h)
-head_fits version.One (form.OnGrid V) h of f =
-    All-from_recursion (FitsLine version.One (form.OnGrid V)) (head_lines version.One h) ((refl, tt), (f.length, (f.bound, (tt, ((tt, f.openings), (f.total, tt))))))
-head_fits version.Two (form.OnGrid V) h of f =
-    All-from_recursion (FitsLine version.Two (form.OnGrid V)) (head_lines version.Two h) ((refl, tt), (f.length, (f.bound, (tt, ((tt, f.openings), (f.total, tt))))))
-head_fits version.Graph (form.OfGraph E V) h of f =
-    All-from_recursion (FitsLine version.Graph (form.OfGraph E V)) (head_lines version.Graph h) ((refl, tt), (f.length, (f.bound, (tt, ((tt, f.openings), tt)))))
-head_fits version.Graph (form.OnGrid V) h of f = absurd of
-head_fits version.One (form.OfGraph E V) h of f = absurd of
-head_fits version.Two (form.OfGraph E V) h of f = absurd of
+head_fits v F h of f = grind arith
 
 -- the lines of an answer that fits fit
 version_fits : (F : Form) (a : WrittenAnswer) → FitsAnswer F a → All (FitsLine a.version F) (answer_lines a)
@@ -177,21 +161,11 @@ run_edges_end F (suc edges) = run_edges_end F edges
 
 -- the end of a head does
 run_openings_end : (F : Form) → run stage.Openings (openings_end F) ≡ Some stage.Done
-run_openings_end (form.OnGrid V) = refl
-run_openings_end (form.OfGraph E V) = refl
+run_openings_end F = grind arith
 
 -- from every stage the end is reached
 pub run-end_of : (v : Version) (F : Form) (s : Stage) → run s (end_of v F s) ≡ Some stage.Done
-run-end_of v F stage.Title = run_openings_end F
-run-end_of v F stage.Length = run_openings_end F
-run-end_of v F stage.Bound = run_openings_end F
-run-end_of v F stage.Status = run_openings_end F
-run-end_of v F stage.Openings = run_openings_end F
-run-end_of v F stage.Concat = refl
-run-end_of v F stage.Count = refl
-run-end_of v F (stage.Edges edges) = run_edges_end F edges
-run-end_of v F (stage.Body cuts nodes) = run_body_end F cuts nodes
-run-end_of v F stage.Done = refl
+run-end_of v F s = grind (arith, run_openings_end, run_edges_end, run_body_end)
 
 -- these lines fit
 body_end_fits : (v : Version) (F : Form) (cuts nodes : ℕ) → All (FitsLine v F) (body_end F cuts nodes)
@@ -206,18 +180,14 @@ zero_fits = search rules
 
 -- edges that there are, or none
 some_edges_fit : (v : Version) (F : Form) (edges : ℕ) → edges ≤ most_edges F → All (FitsLine v F) (replicate edges (line.Edge (some_edge F)))
-some_edges_fit v (form.OnGrid V) edges few =
-    All-replicate (FitsLine v (form.OnGrid V)) edges (line.Edge (edge.Ends some_name)) (record { x1 = zero_fits; y1 = zero_fits; x2 = zero_fits; y2 = zero_fits })
+some_edges_fit v (form.OnGrid V) edges few = search (All-replicate, zero_fits)
 some_edges_fit v (form.OfGraph (suc E) V) edges few =
     All-replicate (FitsLine v (form.OfGraph (suc E) V)) edges (line.Edge (edge.Number 1)) (record { first = omega arith; within = omega arith; width = omega arith })
 some_edges_fit v (form.OfGraph zero V) zero few = All-nil (FitsLine v (form.OfGraph zero V))
 some_edges_fit v (form.OfGraph zero V) (suc edges) few = absurd (omega arith)
 
 edges_end_fits : (v : Version) (F : Form) (edges : ℕ) → edges ≤ most_edges F → All (FitsLine v F) (edges_end F edges)
-edges_end_fits v F edges few =
-    All-append (FitsLine v F) (replicate edges (line.Edge (some_edge F))) (line.Tree ∷ body_end F 0 1)
-    (some_edges_fit v F edges few)
-    (All-cons (FitsLine v F) line.Tree (body_end F 0 1) tt (body_end_fits v F 0 1))
+edges_end_fits v F edges few = search (All-append, some_edges_fit, All-cons, body_end_fits)
 
 count_end_fits : (v : Version) (F : Form) → All (FitsLine v F) (end_of v F stage.Count)
 count_end_fits v F = All-cons (FitsLine v F) (line.Count 0) (edges_end F 0) (omega arith) (edges_end_fits v F 0 (omega arith))
@@ -226,9 +196,7 @@ concat_end_fits : (v : Version) (F : Form) → All (FitsLine v F) (concat_end F)
 concat_end_fits v F = All-cons (FitsLine v F) (line.Concat no_note) (end_of v F stage.Count) (omega arith) (count_end_fits v F)
 
 openings_end_fits : (v : Version) (F : Form) → All (FitsLine v F) (end_of v F stage.Openings)
-openings_end_fits v (form.OnGrid V) = All-cons (FitsLine v (form.OnGrid V)) (line.Openings 0) (concat_end (form.OnGrid V)) (tt, omega arith) (concat_end_fits v (form.OnGrid V))
-openings_end_fits v (form.OfGraph E V) =
-    All-cons (FitsLine v (form.OfGraph E V)) (line.LastOpenings 0) (end_of v (form.OfGraph E V) stage.Count) (tt, omega arith) (count_end_fits v (form.OfGraph E V))
+openings_end_fits v F = grind arith
 
 status_end_fits : (v : Version) (F : Form) → All (FitsLine v F) (end_of v F stage.Status)
 status_end_fits v F = All-cons (FitsLine v F) (line.Status false) (end_of v F stage.Openings) tt (openings_end_fits v F)

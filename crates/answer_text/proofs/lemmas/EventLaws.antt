@@ -1,5 +1,5 @@
 -- The events of lines, one after another.
-use Rattle.std.proofs.Common.{ℕ, suc, zero, ◌≡◌, ◌+◌, ◌-◌, List, [], ◌∷◌, ◌++◌, length, take, refl, sym, ap, ◌∙◌, arith, append_assoc, Some}
+use Rattle.std.proofs.Common.{ℕ, suc, zero, ◌≡◌, ◌+◌, ◌-◌, List, [], ◌∷◌, ◌++◌, length, take, refl, sym, ap, ◌∙◌, arith, Some}
 use Rattle.std.proofs.Math.Seq.{take-append_seam}
 use Rattle.answer_text.specs.declared.form.Form.{Form}
 use Rattle.answer_text.specs.declared.form.Form.TheVariants as form
@@ -11,7 +11,7 @@ use Rattle.answer_text.specs.declared.line.Stage.{Stage}
 use Rattle.answer_text.specs.declared.line.Stage.TheVariants as stage
 use Rattle.answer_text.specs.Value.{WrittenAnswer}
 use Rattle.answer_text.specs.Lines.{answer_lines, run}
-use Rattle.answer_text.specs.Events.{events_of, head_with, line_told, event_at, events_from, no_head, head_from}
+use Rattle.answer_text.specs.Events.{events_of, head_with, events_from, no_head, head_from}
 use Rattle.answer_text.specs.Forms.{HasNote, HasNoNote, silent_lines}
 use Rattle.answer_text.specs.LineFits.{FitsLines}
 use Rattle.answer_text.proofs.lemmas.Steps.{step-done}
@@ -21,10 +21,7 @@ use Rattle.answer_text.proofs.lemmas.Steps.{step-done}
 -- the events of two runs of lines
 pub events_from-append : (h : AnswerHead) (n : ℕ) (xs ys : List Line) → events_from h n (xs ++ ys) ≡ events_from h n xs ++ events_from (head_from h xs) (n + length xs) ys
 events_from-append h n [] ys = ap (λ m. events_from h m ys) (omega arith)
-events_from-append h n (x ∷ xs) ys =
-    ap (λ z. event_at n (line_told (head_with h x) x) ++ z) (events_from-append (head_with h x) (suc n) xs ys
-    ∙ ap (λ m. events_from (head_with h x) (suc n) xs ++ events_from (head_from (head_with h x) xs) m ys) (omega arith))
-    ∙ sym (append_assoc (event_at n (line_told (head_with h x) x)) (events_from (head_with h x) (suc n) xs) (events_from (head_from h (x ∷ xs)) (n + length (x ∷ xs)) ys))
+events_from-append h n (x ∷ xs) ys = grind (arith, events_from-append (head_with h x) (suc n) xs ys)
 
 -- the head that two runs of lines tell
 pub head_from-append : (h : AnswerHead) (xs ys : List Line) → head_from h (xs ++ ys) ≡ head_from (head_from h xs) ys
@@ -39,16 +36,13 @@ note_lines (form.OnGrid V) = 1
 note_lines (form.OfGraph E V) = 0
 
 noted_one : (F : Form) → HasNote F → note_lines F ≡ 1
-noted_one (form.OnGrid V) note = refl
-noted_one (form.OfGraph E V) note = absurd note
+noted_one F note = grind arith
 
 bare_none : (F : Form) → HasNoNote F → note_lines F ≡ 0
-bare_none (form.OnGrid V) none = absurd none
-bare_none (form.OfGraph E V) none = refl
+bare_none F none = grind arith
 
 all_silent : (F : Form) → 4 + note_lines F ≡ silent_lines F
-all_silent (form.OnGrid V) = refl
-all_silent (form.OfGraph E V) = refl
+all_silent F = grind arith
 
 -- how many lines of the head are due that are no event
 abbrev silent : Form → Stage → ℕ

@@ -1,5 +1,5 @@
 -- The parts of an answer fit its text.
-use Rattle.std.proofs.Common.{◌≡◌, ◌≤◌, List, [], ◌∷◌, ◌++◌, length, Some, arith, refl, sym, ap, ◌∙◌}
+use Rattle.std.proofs.Common.{◌≡◌, ◌≤◌, List, [], ◌∷◌, ◌++◌, length, Some, arith, refl, ap}
 use Rattle.std.specs.Prelude.{All}
 use Rattle.std.proofs.Math.Seq.{take-append_seam, drop-append_seam}
 use Rattle.std.proofs.lemmas.List.Elements.{All-head, All-tail, All-take, All-drop}
@@ -28,10 +28,7 @@ All-back P xs ys all = rw (drop-append_seam xs ys) at (All-drop P (length xs) (x
 
 -- the cuts of a leaf
 leaf-fits : (F : Form) (g : Graph) (cuts : List Cut) → set_size F ≡ g.vertices → length g.edges ≤ 4900 → IsPackingOn g cuts → All FitsWeight cuts → FitsLeaf (set_size F) cuts
-leaf-fits F g cuts size few packing weights = record {
-  count = omega arith;
-  each = λ i d inside. record { some = (packing.each i d inside).some; weight = weights i d inside; members = (packing.each i d inside).size ∙ sym size };
-}
+leaf-fits F g cuts size few packing weights = grind arith
 
 -- a tree of fit packings, whose splits have fit labels
 pub tree-fits : (F : Form) (L : Labels) (g : Graph) (t : Tree SplitOn) → set_size F ≡ g.vertices → length g.edges ≤ 4900 → All (IsPackingOn g) (packings_of t) → All (FitsNode F L) (nodes_of t)
@@ -47,8 +44,7 @@ tree-fits F L g (Split e o i) size few packings names weights =
 
 -- in a graph's text a tree has the lines that it has in version 2
 graph_split : (on : SplitName) → split_line version.Two on ≡ split_line version.Graph on
-graph_split (name.Edge e) = refl
-graph_split (name.Vertex p) = refl
+graph_split on = search
 
 pub graph_tree : (t : Tree SplitName) → tree_lines version.Two t ≡ tree_lines version.Graph t
 graph_tree (Leaf cuts) = refl

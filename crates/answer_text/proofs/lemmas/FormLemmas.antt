@@ -9,19 +9,15 @@ use Rattle.answer_text.specs.declared.line.Stage.{Stage}
 use Rattle.answer_text.specs.declared.line.Stage.TheVariants as stage
 use Rattle.answer_text.specs.declared.version.Version.{Version}
 use Rattle.answer_text.specs.AnswerLine.{Line}
-use Rattle.answer_text.specs.LineKinds as line
 use Rattle.answer_text.specs.Forms.{IsVersionOf, first_version, most_edges}
 use Rattle.answer_text.specs.Lines.{step, run}
 use Rattle.answer_text.specs.LineFits.{FitsLine, FitsLines, version_with, version_from}
 use Rattle.answer_text.specs.Spelling.{FitsEdge}
 use Rattle.std.proofs.lemmas.List.Elements.{All-head}
-use Rattle.answer_text.proofs.lemmas.Steps.{step-done}
 
 -- a text's count of edges is held by 32 bits
 pub most_edges-few : (F : Form) → most_edges F < 2 ^ 32
-most_edges-few (form.OnGrid V) = omega arith
-most_edges-few (form.OfGraph zero V) = omega arith
-most_edges-few (form.OfGraph (suc E) V) = omega arith
+most_edges-few F = grind arith
 
 -- as many edges as are named can be counted
 pub edges_counted : (F : Form) (edges : List EdgeLabel) → All (FitsEdge F) edges → length edges < 2 ^ 32 → length edges ≤ most_edges F
@@ -42,27 +38,7 @@ HasRoom F s = Unit {0}
 
 -- a line keeps to that
 pub room_step : (v : Version) (F : Form) (s s' : Stage) (l : Line) → step s l ≡ Some s' → FitsLine v F l → HasRoom F s → HasRoom F s'
-room_step v F stage.Title s' (line.Title w) e f room = let is : stage.Length ≡ s' = cc in subst (HasRoom F) is tt
-room_step v F stage.Length s' (line.Length n) e f room = let is : stage.Bound ≡ s' = cc in subst (HasRoom F) is tt
-room_step v F stage.Bound s' (line.Bound n) e f room = let is : stage.Status ≡ s' = cc in subst (HasRoom F) is tt
-room_step v F stage.Status s' (line.Status b) e f room = let is : stage.Openings ≡ s' = cc in subst (HasRoom F) is tt
-room_step v F stage.Openings s' (line.Openings n) e f room = let is : stage.Concat ≡ s' = cc in subst (HasRoom F) is tt
-room_step v F stage.Openings s' (line.LastOpenings n) e f room = let is : stage.Count ≡ s' = cc in subst (HasRoom F) is tt
-room_step v F stage.Concat s' (line.Concat c) e f room = let is : stage.Count ≡ s' = cc in subst (HasRoom F) is tt
-room_step v F stage.Count s' (line.Count n) e f room = let is : stage.Edges n ≡ s' = cc in subst (HasRoom F) is f
-room_step v F (stage.Edges zero) s' line.Tree e f room = let is : stage.Body 0 1 ≡ s' = cc in subst (HasRoom F) is tt
-room_step v F (stage.Edges (suc k)) s' (line.Edge d) e f room =
-    let is : stage.Edges k ≡ s' = cc in
-    let less : k ≤ most_edges F = omega arith in
-    subst (HasRoom F) is less
-room_step v F (stage.Body zero zero) s' line.End e f room = let is : stage.Done ≡ s' = cc in subst (HasRoom F) is tt
-room_step v F (stage.Body zero (suc p)) s' (line.Leaf n) e f room = let is : stage.Body n p ≡ s' = cc in subst (HasRoom F) is tt
-room_step v F (stage.Body zero (suc p)) s' (line.Split d) e f room = let is : stage.Body 0 (suc (suc p)) ≡ s' = cc in subst (HasRoom F) is tt
-room_step v F (stage.Body zero (suc p)) s' (line.SplitEdge d) e f room = let is : stage.Body 0 (suc (suc p)) ≡ s' = cc in subst (HasRoom F) is tt
-room_step v F (stage.Body zero (suc p)) s' (line.SplitVertex d) e f room = let is : stage.Body 0 (suc (suc p)) ≡ s' = cc in subst (HasRoom F) is tt
-room_step v F (stage.Body (suc c) p) s' (line.Cut d) e f room = let is : stage.Body c p ≡ s' = cc in subst (HasRoom F) is tt
-room_step v F stage.Done s' l e f room = let none = step-done l in absurd cc
-room_step v F s s' l e f room = absurd cc
+room_step v F s s' l e f room = grind arith
 
 -- and so do lines
 room_steps : (w : Version) (F : Form) (ls : List Line) (due : Option Stage) (s s' : Stage) (l : Line) → due ≡ step s l → option_and_then (λ u. run u ls) due ≡ Some s' → FitsLine (version_with w l) F l
@@ -76,13 +52,11 @@ room_behind w F s s' (l ∷ ls) e f room = room_steps w F ls (step s l) s s' l r
 
 -- the version that lines of a form tell is one of its versions
 version_kept : (w : Version) (F : Form) (l : Line) → FitsLine (version_with w l) F l → IsVersionOf F w → IsVersionOf F (version_with w l)
-version_kept w F (line.Title v) f of = f.1
-version_kept w F l f of = of
+version_kept w F l f of = grind arith
 
 pub version_behind : (w : Version) (F : Form) (ls : List Line) → FitsLines w F ls → IsVersionOf F w → IsVersionOf F (version_from w ls)
 version_behind w F [] f of = of
 version_behind w F (l ∷ ls) f of = version_behind (version_with w l) F ls f.1 (version_kept w F l f.0 of)
 
 pub first_of : (F : Form) → IsVersionOf F (first_version F)
-first_of (form.OnGrid V) = tt
-first_of (form.OfGraph E V) = tt
+first_of F = grind arith

@@ -14,22 +14,14 @@ last_cases : (ds front rest : List ℕ) (x : ℕ) → ds ++ x ∷ [] ≡ front +
 last_cases ds [] rest x e = inr (ds, refl, sym e)
 last_cases [] (f ∷ []) rest x e = let same : f ≡ x = cc in inl (ap (λ y. y ∷ []) same)
 last_cases [] (f ∷ g ∷ front) rest x e = absurd cc
-last_cases (d ∷ ds) (f ∷ front) rest x e =
-    let same : f ≡ d = cc in
-    ⊎_elim
-    (λ (whole : front ≡ ds ++ x ∷ []). inl (λ i. same i ∷ whole i))
-    (λ (before : (more : List ℕ) × (ds ≡ front ++ more) × (rest ≡ more ++ x ∷ [])). inr (before.0, (λ i. sym same i ∷ before.1 i), before.2))
-    (last_cases ds front rest x cc)
+last_cases (d ∷ ds) (f ∷ front) rest x e = grind (arith, last_cases ds front rest x cc)
 
 -- lists with one more each are the same with it
 last_same : (xs ys : List ℕ) (x y : ℕ) → xs ++ x ∷ [] ≡ ys ++ y ∷ [] → (xs ≡ ys) × (x ≡ y)
 last_same [] [] x y e = (refl, cc)
 last_same [] (b ∷ ys) x y e = let short = ap length e in absurd (omega (arith, length-append ys (y ∷ [])))
 last_same (a ∷ xs) [] x y e = let short = ap length e in absurd (omega (arith, length-append xs (x ∷ [])))
-last_same (a ∷ xs) (b ∷ ys) x y e =
-    let rest : (xs ≡ ys) × (x ≡ y) = last_same xs ys x y cc in
-    let same : a ≡ b = cc in
-    (λ i. same i ∷ rest.0 i, rest.1)
+last_same (a ∷ xs) (b ∷ ys) x y e = search (last_same xs ys x y cc)
 
 -- ---- fronts of digits
 

@@ -16,7 +16,7 @@ use Rattle.answer_text.specs.Value.{WrittenAnswer}
 use Rattle.answer_text.specs.AnswerLine.{Line}
 use Rattle.answer_text.specs.LineKinds as line
 use Rattle.answer_text.specs.Words.{set_text, status_word, concat_word, edge_words}
-use Rattle.answer_text.specs.Lines.{line_bytes, line_text, lines_text, head_lines, network_lines, proof_lines, tree_lines, answer_lines}
+use Rattle.answer_text.specs.Lines.{line_bytes, line_text, lines_text, head_lines, network_lines, tree_lines, answer_lines}
 
 -- the text of lines and of one more
 pub lines_text-push : (ls : List Line) (l : Line) → lines_text (ls ++ l ∷ []) ≡ lines_text ls ++ line_text l
@@ -36,53 +36,16 @@ length-line l ls = omega (arith, length-append (line_text l) (lines_text ls), le
 word_number : (word : List ℕ) (n : ℕ) → length (word ++ decimal n) ≡ length word + length (decimal n)
 word_number word n = length-append word (decimal n)
 
--- the note on the concatenation
-length-concat : (h : AnswerHead) → length (line_bytes (line.Concat h.concat)) ≡ 8 + length (concat_word h.concat.least) + length (decimal h.concat.total)
-length-concat h = simp length-append (omega arith)
-
 -- the first six lines
 pub length-head_lines : (h : AnswerHead) → length (lines_text (head_lines version.Two h))
     ≡ 55 + length (decimal h.length) + length (decimal h.bound) + length (decimal h.openings) + length (decimal h.concat.total) + length (status_word h.optimal) + length (concat_word h.concat.least)
-length-head_lines h =
-    let openings_on : List Line = line.Openings h.openings ∷ line.Concat h.concat ∷ [] in
-    let status_on : List Line = line.Status h.optimal ∷ openings_on in
-    let bound_on : List Line = line.Bound h.bound ∷ status_on in
-    let length_on : List Line = line.Length h.length ∷ bound_on in
-    omega (
-      arith,
-      length-line (line.Title version.Two) length_on,
-      length-line (line.Length h.length) bound_on,
-      length-line (line.Bound h.bound) status_on,
-      length-line (line.Status h.optimal) openings_on,
-      length-line (line.Openings h.openings) (line.Concat h.concat ∷ []),
-      length-line (line.Concat h.concat) [],
-      word_number (codes "length ") h.length,
-      word_number (codes "bound ") h.bound,
-      length-append (codes "status ") (status_word h.optimal),
-      word_number (codes "openings ") h.openings,
-      length-concat h,
-    )
+length-head_lines h = grind (arith, length-append)
 
 -- the first five lines in a graph
 pub length-graph_head_lines : (h : AnswerHead) → length (lines_text (head_lines version.Graph h))
     ≡ 45 + length (decimal h.length) + length (decimal h.bound) + length (decimal h.openings)
     + length (status_word h.optimal)
-length-graph_head_lines h =
-    let status_on : List Line = line.Status h.optimal ∷ line.LastOpenings h.openings ∷ [] in
-    let bound_on : List Line = line.Bound h.bound ∷ status_on in
-    let length_on : List Line = line.Length h.length ∷ bound_on in
-    omega (
-      arith,
-      length-line (line.Title version.Graph) length_on,
-      length-line (line.Length h.length) bound_on,
-      length-line (line.Bound h.bound) status_on,
-      length-line (line.Status h.optimal) (line.LastOpenings h.openings ∷ []),
-      length-line (line.LastOpenings h.openings) [],
-      word_number (codes "length ") h.length,
-      word_number (codes "bound ") h.bound,
-      length-append (codes "status ") (status_word h.optimal),
-      word_number (codes "openings ") h.openings,
-    )
+length-graph_head_lines h = grind (arith, length-append)
 
 -- the line of an edge's ends
 pub length-edge : (e : EdgeName) → length (line_text (line.Edge (edge.Ends e))) ≡ 4 + length (signed_decimal e.x1) + length (signed_decimal e.y1) + length (signed_decimal e.x2) + length (signed_decimal e.y2)
@@ -113,27 +76,9 @@ length-number word n l ls is = omega (arith, length-line l ls, ap length is, wor
 
 -- one more piece adds its length
 pub sum_more : (front piece whole : List ℕ) (sum more : ℕ) → sum ≡ length front → more ≡ length piece → front ++ piece ≡ whole → sum + more ≡ length whole
-sum_more front piece whole sum more so_far next parts =
-    let both : sum + more ≡ length (front ++ piece) = omega (arith, length-append front piece) in
-    both ∙ ap length parts
-
--- the tree between the lines before it and after it
-length-proof : (lines : List Line) → length (lines_text (line.Tree ∷ (lines ++ line.End ∷ []))) ≡ 9 + length (lines_text lines)
-length-proof lines =
-    omega (arith, length-line line.Tree (lines ++ line.End ∷ []), ap length (flat_map-append line_text lines (line.End ∷ [])), length-append (lines_text lines) (lines_text (line.End ∷ [])))
+sum_more front piece whole sum more so_far next parts = grind (arith, length-append)
 
 -- a whole answer
 pub length-answer_lines : (a : WrittenAnswer) → length (lines_text (answer_lines a))
     ≡ length (lines_text (head_lines a.version a.head)) + length (lines_text (network_lines a.edges)) + 9 + length (lines_text (tree_lines a.version a.tree))
-length-answer_lines a =
-    let head = head_lines a.version a.head in
-    let network = network_lines a.edges in
-    let proof = proof_lines a.version a.tree in
-    omega (
-      arith,
-      ap length (flat_map-append line_text head (network ++ proof)),
-      ap length (flat_map-append line_text network proof),
-      length-append (lines_text head) (lines_text (network ++ proof)),
-      length-append (lines_text network) (lines_text proof),
-      length-proof (tree_lines a.version a.tree),
-    )
+length-answer_lines a = grind (arith, flat_map-append, length-append)

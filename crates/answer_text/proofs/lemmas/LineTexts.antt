@@ -1,5 +1,5 @@
 -- The bytes of lines: none holds a line feed, and they tell the line.
-use Rattle.std.proofs.Common.{ℕ, suc, zero, ◌≡◌, ◌≢◌, ◌+◌, ◌<◌, ◌≤◌, Bool, true, false, List, [], ◌∷◌, ◌++◌, length, refl, sym, ap, ◌∙◌, arith, append_assoc, Some, cond, eqb}
+use Rattle.std.proofs.Common.{ℕ, suc, zero, ◌≡◌, ◌≢◌, ◌+◌, ◌<◌, ◌≤◌, Bool, true, false, List, [], ◌∷◌, ◌++◌, length, refl, sym, ap, arith, Some, cond, eqb}
 use Rattle.std.specs.Prelude.{codes, ◌^◌}
 use Rattle.std.specs.Fmt.{decimal, signed_decimal, digit_glyph}
 use Rattle.std.proofs.lemmas.Bool.Decides.{nat_tests}
@@ -29,7 +29,7 @@ use Rattle.answer_text.specs.Spelling.{FitsName, FitsPoint, FitsEdge, FitsVertex
 use Rattle.answer_text.specs.Lines.{line_bytes, line_text, lines_text, step}
 use Rattle.answer_text.specs.LineFits.{FitsLine, FitsLines, version_with}
 use Rattle.answer_text.specs.Reading.{line_feeds}
-use Rattle.answer_text.proofs.lemmas.Pieces.{number-lacks, number_one, status_front, concat_front, first_apart}
+use Rattle.answer_text.proofs.lemmas.Pieces.{number-lacks, number_one, status_front, first_apart}
 use Rattle.answer_text.proofs.lemmas.Steps.{step-done}
 use Rattle.answer_text.proofs.lemmas.FormLemmas.{most_edges-few}
 use Rattle.answer_text.proofs.lemmas.Lines.{cut_front, edge_front, point_front}
@@ -44,8 +44,7 @@ all_apart byte (b ∷ bytes) = cond (eqb b byte) false (all_apart byte bytes)
 -- a list that was tested lacks the byte
 lacks_by : (byte : ℕ) (bytes : List ℕ) → all_apart byte bytes ≡ true → Lacks bytes byte
 lacks_by byte [] e = All-nil (λ b. b ≢ byte)
-lacks_by byte (b ∷ bytes) e =
-    All-cons (λ b. b ≢ byte) b bytes (grind (arith, nat_tests)) (lacks_by byte bytes (grind (arith, nat_tests)))
+lacks_by byte (b ∷ bytes) e = grind (arith, lacks_by byte bytes (grind (arith, nat_tests)))
 
 -- a digit is no line feed
 digit_glyph-high : (n : ℕ) → 48 ≤ digit_glyph false n
@@ -133,15 +132,7 @@ same_number word m n p q e = number_one m n p q (append_cancel_left word (decima
 
 -- titles
 same_title : (a b : Version) → title_words a ≡ title_words b → a ≡ b
-same_title version.One version.One same = refl
-same_title version.One version.Two same = absurd (first_apart 49 50 (omega arith) (append_cancel_left (codes "rst answer ") (codes "1") (codes "2") same))
-same_title version.Two version.One same = absurd (first_apart 50 49 (omega arith) (append_cancel_left (codes "rst answer ") (codes "2") (codes "1") same))
-same_title version.Two version.Two same = refl
-same_title version.Graph version.Graph same = refl
-same_title version.Graph version.One same = absurd (first_apart 103 97 (omega arith) (append_cancel_left (codes "rst ") (codes "graph 1") (codes "answer 1") same))
-same_title version.Graph version.Two same = absurd (first_apart 103 97 (omega arith) (append_cancel_left (codes "rst ") (codes "graph 1") (codes "answer 2") same))
-same_title version.One version.Graph same = absurd (first_apart 97 103 (omega arith) (append_cancel_left (codes "rst ") (codes "answer 1") (codes "graph 1") same))
-same_title version.Two version.Graph same = absurd (first_apart 97 103 (omega arith) (append_cancel_left (codes "rst ") (codes "answer 2") (codes "graph 1") same))
+same_title a b same = grind arith
 
 -- names behind one word
 same_name_words : (d e : EdgeName) → FitsName d → FitsName e → name_words d ≡ name_words e → d ≡ e
@@ -152,8 +143,7 @@ same_edge_words : (F : Form) (d e : EdgeLabel) → FitsEdge F d → FitsEdge F e
 same_edge_words (form.OnGrid V) (edge.Ends d) (edge.Ends e) f g same = ap edge.Ends (same_name_words d e f g same)
 same_edge_words (form.OnGrid V) (edge.Ends d) (edge.Number n) f g same = absurd g
 same_edge_words (form.OnGrid V) (edge.Number n) e f g same = absurd f
-same_edge_words (form.OfGraph E V) (edge.Number m) (edge.Number n) f g same =
-    let few = f.width in let few_too = g.width in ap edge.Number (number_one m n (omega arith) (omega arith) same)
+same_edge_words (form.OfGraph E V) (edge.Number m) (edge.Number n) f g same = grind (arith, number_one)
 same_edge_words (form.OfGraph E V) (edge.Number m) (edge.Ends e) f g same = absurd g
 same_edge_words (form.OfGraph E V) (edge.Ends d) e f g same = absurd f
 
@@ -169,8 +159,7 @@ same_vertex_words : (F : Form) (p q : VertexLabel) → FitsVertex F p → FitsVe
 same_vertex_words (form.OnGrid V) (vertex.At p) (vertex.At q) f g same = ap vertex.At (same_point_words p q f g same)
 same_vertex_words (form.OnGrid V) (vertex.At p) (vertex.Number n) f g same = absurd g
 same_vertex_words (form.OnGrid V) (vertex.Number n) q f g same = absurd f
-same_vertex_words (form.OfGraph E V) (vertex.Number m) (vertex.Number n) f g same =
-    let few = f.width in let few_too = g.width in ap vertex.Number (number_one m n (omega arith) (omega arith) same)
+same_vertex_words (form.OfGraph E V) (vertex.Number m) (vertex.Number n) f g same = grind (arith, number_one)
 same_vertex_words (form.OfGraph E V) (vertex.Number m) (vertex.At q) f g same = absurd g
 same_vertex_words (form.OfGraph E V) (vertex.At p) q f g same = absurd f
 
@@ -189,27 +178,16 @@ same_cut_words V c d f g same = (cut_front V c d [] [] f g (ap (λ x. (x ++ code
 same_status : (a b : Bool) → codes "status " ++ status_word a ≡ codes "status " ++ status_word b → a ≡ b
 same_status a b same = (status_front a b [] [] (ap (λ x. x ++ []) (append_cancel_left (codes "status ") (status_word a) (status_word b) same))).0
 
--- the note on the concatenation
-concat_pieces : (c : ConcatNote) → line_bytes (line.Concat c) ≡ codes "concat " ++ (concat_word c.least ++ 32 ∷ decimal c.total)
-concat_pieces c = simp append_assoc
-
 same_concat : (c k : ConcatNote) → c.total < 2 ^ 128 → k.total < 2 ^ 128 → line_bytes (line.Concat c) ≡ line_bytes (line.Concat k) → c ≡ k
-same_concat c k f g same =
-    let words = append_cancel_left (codes "concat ") (concat_word c.least ++ 32 ∷ decimal c.total) (concat_word k.least ++ 32 ∷ decimal k.total) (sym (concat_pieces c) ∙ same ∙ concat_pieces k) in
-    let least = concat_front c.least k.least (32 ∷ decimal c.total) (32 ∷ decimal k.total) words in
-    let total = number_one c.total k.total f g (append_cancel_left (codes " ") (decimal c.total) (decimal k.total) least.1) in
-    λ i. record { least = least.0 i; total = total i }
+same_concat c k f g same = grind (arith, number_one)
 
 -- version 1 doesn't say what a split is on
 bare_says : (v : Version) → v ≡ version.One → SaysKind v → ⊥
-bare_says version.One one says = says
-bare_says version.Two one says = cc
-bare_says version.Graph one says = cc
+bare_says v one says = grind arith
 
 -- no form has both heads
 two_heads : (F : Form) → HasNote F → HasNoNote F → ⊥
-two_heads (form.OnGrid V) note none = none
-two_heads (form.OfGraph E V) note none = note
+two_heads F note none = grind arith
 
 -- two lines that are due at one stage of a text and have the same bytes are the same
 pub same_line : (v : Version) (F : Form) (s : Stage) (l m : Line) (s' s'' : Stage) → step s l ≡ Some s' → step s m ≡ Some s'' → FitsLine (version_with v l) F l

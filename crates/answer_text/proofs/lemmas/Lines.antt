@@ -1,5 +1,5 @@
 -- The line of a cut, of an edge's ends and of a point is determined by a list that begins with it.
-use Rattle.std.proofs.Common.{ℕ, ◌≡◌, List, [], ◌∷◌, ◌++◌, sym, ◌∙◌, arith, append_assoc}
+use Rattle.std.proofs.Common.{ℕ, ◌≡◌, List, [], ◌∷◌, ◌++◌, arith, append_assoc}
 use Rattle.std.specs.Prelude.{codes}
 use Rattle.std.specs.Fmt.{decimal, signed_decimal}
 use Rattle.std.proofs.lemmas.List.{append_cancel_left}
@@ -24,11 +24,7 @@ cut_pieces c p = simp append_assoc
 
 -- the line of a cut
 pub cut_front : (V : ℕ) → IsToldByFront (FitsCut V) (λ c. line_text (line.Cut c))
-cut_front V c d p q f g e =
-    let pieces = append_cancel_left (codes "cut ") (decimal c.weight ++ 32 ∷ (set_text c.members ++ 10 ∷ p)) (decimal d.weight ++ 32 ∷ (set_text d.members ++ 10 ∷ q)) (sym (cut_pieces c p) ∙ e ∙ cut_pieces d q) in
-    let weight = number_front 32 c.weight d.weight (set_text c.members ++ 10 ∷ p) (set_text d.members ++ 10 ∷ q) (omega arith) (omega arith) (omega arith) pieces in
-    let members = set_front c.members d.members (10 ∷ p) (10 ∷ q) (omega arith) weight.1 in
-    (same_cut c d weight.0 members.0, cc (members.1))
+cut_front V c d p q f g e = grind (arith, append_cancel_left, cut_pieces, number_front, set_front, same_cut)
 
 -- names with the same coordinates are the same
 same_name : (d e : EdgeName) → d.x1 ≡ e.x1 → d.y1 ≡ e.y1 → d.x2 ≡ e.x2 → d.y2 ≡ e.y2 → d ≡ e
@@ -50,16 +46,7 @@ edge_pieces e p = simp append_assoc
 
 -- the words of an edge's ends
 pub edge_front : IsToldByFront FitsName (λ e. name_words e ++ 10 ∷ [])
-edge_front d e p q f g h =
-    let x1 = signed_front_unique 32 d.x1 e.x1 (from_y1 d p) (from_y1 e q) (omega arith) f.x1 g.x1 (sym (edge_pieces d p) ∙ h ∙ edge_pieces e q) in
-    let y1 = signed_front_unique 32 d.y1 e.y1 (from_x2 d p) (from_x2 e q) (omega arith) f.y1 g.y1 x1.1 in
-    let x2 = signed_front_unique 32 d.x2 e.x2 (from_y2 d p) (from_y2 e q) (omega arith) f.x2 g.x2 y1.1 in
-    let y2 = signed_front_unique 10 d.y2 e.y2 p q (omega arith) f.y2 g.y2 x2.1 in
-    (same_name d e x1.0 y1.0 x2.0 y2.0, y2.1)
-
--- points with the same coordinates are the same
-same_point : (p q : Point) → p.x ≡ q.x → p.y ≡ q.y → p ≡ q
-same_point p q x y = λ i. record { x = x i; y = y i }
+edge_front d e p q f g h = grind (arith, signed_front_unique, edge_pieces, same_name)
 
 -- a point's words and what follows them, piece by piece
 point_pieces : (p : Point) (r : List ℕ) → (point_words p ++ 10 ∷ []) ++ r ≡ signed_decimal p.x ++ 32 ∷ (signed_decimal p.y ++ 10 ∷ r)
@@ -67,7 +54,4 @@ point_pieces p r = simp append_assoc
 
 -- the words of a point
 pub point_front : IsToldByFront FitsPoint (λ p. point_words p ++ 10 ∷ [])
-point_front d e p q f g h =
-    let x = signed_front_unique 32 d.x e.x (signed_decimal d.y ++ 10 ∷ p) (signed_decimal e.y ++ 10 ∷ q) (omega arith) f.x g.x (sym (point_pieces d p) ∙ h ∙ point_pieces e q) in
-    let y = signed_front_unique 10 d.y e.y p q (omega arith) f.y g.y x.1 in
-    (same_point d e x.0 y.0, y.1)
+point_front d e p q f g h = grind (arith, signed_front_unique, point_pieces)

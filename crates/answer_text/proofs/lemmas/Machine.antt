@@ -1,11 +1,10 @@
 -- Lines of which each was due, up to the end, are the lines of an answer; and lines of an answer are due.
-use Rattle.std.proofs.Common.{ℕ, suc, zero, ◌≡◌, ◌<◌, List, [], ◌∷◌, ◌++◌, length, map, refl, sym, ap, subst, ◌∙◌, arith, append_assoc, Option, Some, None}
+use Rattle.std.proofs.Common.{ℕ, suc, zero, ◌≡◌, ◌<◌, List, [], ◌∷◌, ◌++◌, length, map, refl, sym, ap, ◌∙◌, arith, append_assoc, Option, Some}
 use Rattle.std.specs.Prelude.{All, flat_map, option_and_then, ◌^◌}
 use Rattle.std.proofs.lemmas.List.{append-nil}
 use Rattle.std.proofs.lemmas.List.Elements.{All-head, All-tail, All-cons, All-nil}
 use Rattle.net_graph.specs.declared.packing.Cut.{Cut}
 use Rattle.answer_text.specs.declared.form.Form.{Form}
-use Rattle.answer_text.specs.declared.form.Form.TheVariants as form
 use Rattle.answer_text.specs.declared.label.EdgeLabel.{EdgeLabel}
 use Rattle.answer_text.specs.AnswerLine.{Line}
 use Rattle.answer_text.specs.LineKinds as line
@@ -32,8 +31,7 @@ use Rattle.answer_text.proofs.lemmas.FormLemmas.{most_edges-few}
 -- two stages one after another
 then_more : (first both next : Stage → Option Stage) → ((s : Stage) → both s ≡ option_and_then next (first s)) → (due : Option Stage)
     → option_and_then both due ≡ option_and_then next (option_and_then first due)
-then_more first both next same None = refl
-then_more first both next same (Some s) = same s
+then_more first both next same due = grind arith
 
 -- what is due behind two runs of lines
 pub run-append : (s : Stage) (xs ys : List Line) → run s (xs ++ ys) ≡ option_and_then (λ s'. run s' ys) (run s xs)
@@ -77,14 +75,11 @@ split_body v F p on ls [] (o ∷ i ∷ trees) name none two fit parts =
 
 -- the line of a split is that of its version
 split_as : (v : Version) (F : Form) (p : ℕ) (on : SplitName) (l : Line) (ls : List Line) → split_line v on ≡ l → FitsSplit v F on → Body v F 0 (suc (suc p)) ls → Body v F 0 (suc p) (l ∷ ls)
-split_as v F p on l ls is fits rest =
-    subst (λ x. Body v F 0 (suc p) (x ∷ ls)) is (split_body v F p on ls rest.cuts rest.trees fits rest.cuts_due rest.trees_due rest.trees_fit rest.parts)
+split_as v F p on l ls is fits rest = grind (arith, split_body)
 
 -- where a line says what a split is on, an edge's says so
 edge_said : (v : Version) (d : EdgeLabel) → SaysKind v → split_line v (name.Edge d) ≡ line.SplitEdge d
-edge_said version.One d says = absurd says
-edge_said version.Two d says = refl
-edge_said version.Graph d says = refl
+edge_said v d says = grind arith
 
 -- lines up to the end are those
 body_value : (v : Version) (F : Form) (cut_count tree_count : ℕ) (ls : List Line) → run (stage.Body cut_count tree_count) ls ≡ Some stage.Done → FitsLines v F ls → Body v F cut_count tree_count ls
@@ -181,26 +176,18 @@ pub record Told (F : Form) (ls : List Line) : Type 0 where
 -- a head with a note, in a text of a form that has one
 noted_head : (F : Form) (v : Version) (h : AnswerHead) (ls : List Line) → IsVersionOf F v → HasNote F
     → (result_lines v h ++ (line.Openings h.openings ∷ line.Concat h.concat ∷ [])) ++ ls ≡ head_lines v h ++ ls
-noted_head (form.OnGrid V) version.One h ls of note = refl
-noted_head (form.OnGrid V) version.Two h ls of note = refl
-noted_head (form.OnGrid V) version.Graph h ls of note = absurd of
-noted_head (form.OfGraph E V) v h ls of note = absurd note
+noted_head F v h ls of note = grind arith
 
 noted_fits : (F : Form) (h : AnswerHead) → HasNote F → FitsNote F h
-noted_fits (form.OnGrid V) h note = tt
-noted_fits (form.OfGraph E V) h note = absurd note
+noted_fits F h note = grind arith
 
 -- and one without, in a text of a form that has none
 bare_head : (F : Form) (v : Version) (h : AnswerHead) (ls : List Line) → IsVersionOf F v → HasNoNote F
     → (result_lines v h ++ (line.LastOpenings h.openings ∷ [])) ++ ls ≡ head_lines v h ++ ls
-bare_head (form.OnGrid V) v h ls of none = absurd none
-bare_head (form.OfGraph E V) version.One h ls of none = absurd of
-bare_head (form.OfGraph E V) version.Two h ls of none = absurd of
-bare_head (form.OfGraph E V) version.Graph h ls of none = refl
+bare_head F v h ls of none = grind arith
 
 bare_fits : (F : Form) (h : AnswerHead) → h.concat ≡ no_note → FitsNote F h
-bare_fits (form.OnGrid V) h is = tt
-bare_fits (form.OfGraph E V) h is = is
+bare_fits F h is = grind arith
 
 -- the lines of a network and of a tree, as they were counted
 body_parts : (m : ℕ) (edges : List EdgeLabel) (v : Version) (t : Tree SplitName) (ls : List Line) → length edges ≡ m → ls ≡ map line.Edge edges ++ proof_lines v t

@@ -1,5 +1,5 @@
 -- What the end of a line makes of the name of an edge or of a vertex.
-use Rattle.std.proofs.Common.{ℕ, suc, ◌≡◌, ◌+◌, ◌-◌, ℤ, Bool, List, [], refl, sym, ap, subst, ◌∙◌, arith, Option, Some}
+use Rattle.std.proofs.Common.{ℕ, ◌≡◌, ◌+◌, ◌-◌, ℤ, Bool, List, [], refl, sym, ap, subst, ◌∙◌, arith, Option, Some}
 use Rattle.std.specs.Prelude.{FitsSigned}
 use Rattle.std.specs.Int.{w64}
 use Rattle.answer_text.specs.declared.label.EdgeLabel.{EdgeLabel}
@@ -31,74 +31,37 @@ use Rattle.answer_text.specs.Events.{head_with, line_told, event_at}
 use Rattle.answer_text.specs.Given.{given}
 use Rattle.answer_text.specs.Scanning.{IsInField, signed, name_line, BehindNumber, BehindCoordinate, Left, IsNoLineLeft, Closes, MakesLine}
 use Rattle.answer_text.proofs.lemmas.ScanNumbers.{over_end}
-use Rattle.answer_text.proofs.lemmas.Steps.{step-edge, step-split, step-split_line}
+use Rattle.answer_text.proofs.lemmas.Steps.{step-split, step-split_line}
 use Rattle.answer_text.proofs.lemmas.ScanClose.{closes_number}
 
 -- what is kept with a line of an edge or a vertex makes the line
 pub closes_by : (k k' : Kept) (f : Field) (v : ℕ) (h : AnswerHead) (told : Option Event) (l : Line) (w : EdgeName) → IsInField f v → BehindNumber k f v [] l → FitsName w
     → MakesLine (record k { name = w }) l k' told → Closes k (scan.Number f v) h k' h told
-closes_by k k' f v h told l w inside behind fits makes =
-    closes_number k k' f v h h told l inside behind makes.stage makes.version (makes.head h) (makes.event h) makes.members (subst FitsName (sym makes.name) fits)
+closes_by k k' f v h told l w inside behind fits makes = grind (arith, closes_number)
 
 -- the line of an edge of the network
 pub makes-edge : (k : Kept) (e : EdgeLabel) (edges left : ℕ) → k.stage ≡ stage.Edges edges → left ≡ edges - 1
     → MakesLine k (name_line k.version k.stage e) (record k { stage = stage.Edges left }) (Some (event.Edge e))
-makes-edge k e edges left is less =
-    let k' : Kept = record k { stage = stage.Edges left } in
-    subst (λ l. MakesLine k l k' (Some (event.Edge e))) (ap (λ s. name_line k.version s e) (sym is)) (record {
-      stage = λ s' d.
-          let due = step-edge k.stage s' e d in
-          let both : stage.Edges edges ≡ stage.Edges (suc due.0) = sym is ∙ due.1 in
-          let count : edges ≡ suc due.0 = cc in
-          let here : left ≡ due.0 = omega arith in
-          ap stage.Edges here ∙ due.2;
-      version = refl;
-      head = λ h. refl;
-      event = λ h n. refl;
-      members = refl;
-      name = refl;
-    })
+makes-edge k e edges left is less = grind arith
 
 -- the line of a split: two parts are due behind it
 split_due : (k : Kept) (v : Version) (on : SplitName) (cuts nodes : ℕ) (s' : Stage) → k.stage ≡ stage.Body cuts nodes → step k.stage (split_line v on) ≡ Some s' → stage.Body cuts (nodes + 1) ≡ s'
-split_due k v on cuts nodes s' is e =
-    let due = step-split k.stage s' (sym (step-split_line v on k.stage) ∙ e) in
-    let both : stage.Body cuts nodes ≡ stage.Body 0 (suc due.0) = sym is ∙ due.1 in
-    let none : cuts ≡ 0 = cc in
-    let count : nodes ≡ suc due.0 = cc in
-    let more : nodes + 1 ≡ suc (suc due.0) = omega arith in
-    (λ i. stage.Body (none i) (more i)) ∙ due.2
+split_due k v on cuts nodes s' is e = grind (arith, step-split, step-split_line)
 
 -- it tells nothing of the head or the version, and its event is the split
 split_event : (v : Version) (on : SplitName) (h : AnswerHead) (n : ℕ) (members : List Bool) → event_at n (line_told h (split_line v on)) ≡ given n (Some (event.Split on)) members
-split_event version.One (name.Edge e) h n members = refl
-split_event version.Two (name.Edge e) h n members = refl
-split_event version.Graph (name.Edge e) h n members = refl
-split_event v (name.Vertex p) h n members = refl
+split_event v on h n members = grind arith
 
 split_head : (v : Version) (on : SplitName) (h : AnswerHead) → h ≡ head_with h (split_line v on)
-split_head version.One (name.Edge e) h = refl
-split_head version.Two (name.Edge e) h = refl
-split_head version.Graph (name.Edge e) h = refl
-split_head v (name.Vertex p) h = refl
+split_head v on h = grind arith
 
 split_version : (w v : Version) (on : SplitName) → w ≡ version_with w (split_line v on)
-split_version w version.One (name.Edge e) = refl
-split_version w version.Two (name.Edge e) = refl
-split_version w version.Graph (name.Edge e) = refl
-split_version w v (name.Vertex p) = refl
+split_version w v on = grind arith
 
 -- the line of a split on an edge or on a vertex
 makes_split : (k : Kept) (on : SplitName) (cuts nodes : ℕ) → k.stage ≡ stage.Body cuts nodes
     → MakesLine k (split_line k.version on) (record k { stage = stage.Body cuts (nodes + 1) }) (Some (event.Split on))
-makes_split k on cuts nodes is = record {
-  stage = λ s' d. split_due k k.version on cuts nodes s' is d;
-  version = split_version k.version k.version on;
-  head = λ h. split_head k.version on h;
-  event = λ h n. split_event k.version on h n k.members;
-  members = refl;
-  name = refl;
-}
+makes_split k on cuts nodes is = search (split_due, split_version, split_head, split_event)
 
 pub makes-split : (k : Kept) (e : EdgeLabel) (cuts nodes : ℕ) → k.stage ≡ stage.Body cuts nodes
     → MakesLine k (name_line k.version k.stage e) (record k { stage = stage.Body cuts (nodes + 1) }) (Some (event.Split (name.Edge e)))
@@ -108,14 +71,7 @@ makes-split k e cuts nodes is =
 
 pub makes-vertex : (k : Kept) (p : VertexLabel) (cuts nodes : ℕ) → k.stage ≡ stage.Body cuts nodes
     → MakesLine k (line.SplitVertex p) (record k { stage = stage.Body cuts (nodes + 1) }) (Some (event.Split (name.Vertex p)))
-makes-vertex k p cuts nodes is = record {
-  stage = λ s' d. split_due k version.Two (name.Vertex p) cuts nodes s' is d;
-  version = refl;
-  head = λ h. refl;
-  event = λ h n. refl;
-  members = refl;
-  name = refl;
-}
+makes-vertex k p cuts nodes is = grind arith
 
 -- nor a vertex
 pub no_line-number : (k : Kept) (f : Field) (last v : ℕ) → f ≡ field.VertexNumber last → ((p : VertexLabel) (s' : Stage) → step k.stage (line.SplitVertex p) ≡ Some s' → ⊥) → IsInField f v
@@ -153,26 +109,14 @@ closes-point k k' h minus v x z z' told x_is cast value fits makes inside name =
     (record { name = e; fits = e_fits; same = (refl, cast ∙ value); text = refl; line = λ i. line.SplitVertex (vertex.At (record { x = x_is i; y = z' })) }) e_fits makes
 
 inner_corner : (k : Kept) (c : Corner) (z : ℤ) (l : Line) → (c ≡ corner.Y2 → ⊥) → (c ≡ corner.Y → ⊥) → BehindCoordinate k c z [] l → ⊥
-inner_corner k corner.X1 z l inner inner_too h = let text = h.text in cc
-inner_corner k corner.Y1 z l inner inner_too h = let text = h.text in cc
-inner_corner k corner.X2 z l inner inner_too h = let text = h.text in cc
-inner_corner k corner.Y2 z l inner inner_too h = inner refl
-inner_corner k corner.X z l inner inner_too h = let text = h.text in cc
-inner_corner k corner.Y z l inner inner_too h = inner_too refl
+inner_corner k c z l inner inner_too h = grind arith
 
 pub no_line-corner : (k : Kept) (c : Corner) (minus : Bool) (v : ℕ) → (c ≡ corner.Y2 → ⊥) → (c ≡ corner.Y → ⊥) → IsInField (field.Coordinate c minus) v → IsNoLineLeft k (scan.Number (field.Coordinate c minus) v)
 no_line-corner k c minus v inner inner_too inside l s' left due = inner_corner k c (signed minus v) l inner inner_too (over_end k (field.Coordinate c minus) v l inside left)
 
--- an edge's ends where no line of an edge is due
-ends_line : (k : Kept) (z : ℤ) (l : Line) → BehindCoordinate k corner.Y2 z [] l → (e : EdgeLabel) × (l ≡ name_line k.version k.stage e)
-ends_line k z l h = (edge.Ends h.name, h.line)
-
 pub no_line-ends : (k : Kept) (c : Corner) (minus : Bool) (v : ℕ) → c ≡ corner.Y2 → ((e : EdgeLabel) (s' : Stage) → step k.stage (name_line k.version k.stage e) ≡ Some s' → ⊥)
     → IsInField (field.Coordinate c minus) v → IsNoLineLeft k (scan.Number (field.Coordinate c minus) v)
-no_line-ends k c minus v is none inside l s' left due =
-    let behind = over_end k (field.Coordinate c minus) v l inside left in
-    let ends = ends_line k (signed minus v) l (subst (λ d. BehindCoordinate k d (signed minus v) [] l) is behind) in
-    none ends.0 s' (ap (step k.stage) (sym ends.1) ∙ due)
+no_line-ends k c minus v is none inside l s' left due = grind arith
 
 -- a vertex where no node is due
 vertex_line : (k : Kept) (z : ℤ) (l : Line) → BehindCoordinate k corner.Y z [] l → (p : VertexLabel) × (l ≡ line.SplitVertex p)

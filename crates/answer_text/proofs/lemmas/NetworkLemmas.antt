@@ -1,5 +1,5 @@
 -- The lines of a network's edges, one flag after another.
-use Rattle.std.proofs.Common.{ℕ, ◌≡◌, ◌+◌, ◌<◌, Bool, true, false, cond, List, [], ◌∷◌, ◌++◌, length, take, refl, ap, sym, ◌∙◌, length-append}
+use Rattle.std.proofs.Common.{ℕ, ◌≡◌, ◌+◌, ◌<◌, Bool, true, false, cond, List, [], ◌∷◌, ◌++◌, length, take, ap, sym, ◌∙◌, length-append, arith}
 use Rattle.std.specs.Prelude.{All, map}
 use Rattle.std.proofs.lemmas.List.{append-nil, map-append, length-map}
 use Rattle.std.proofs.lemmas.List.Elements.{All-push, All-same}
@@ -19,16 +19,12 @@ members-member set e inside is = members_of-more set e inside ∙ ap (λ flag. m
 
 -- another number is none
 pub members-other : (set : List Bool) (e : ℕ) → e < length set → has set e ≡ false → members_of (take (e + 1) set) ≡ members_of (take e set)
-members-other set e inside is =
-    members_of-more set e inside ∙ ap (λ flag. members_of (take e set) ++ cond flag (e ∷ []) []) is ∙ append-nil (members_of (take e set))
+members-other set e inside is = grind (arith, members_of-more, append-nil)
 
 -- the lines of some edges and of one more
 edge_lines-more : (L : Labels) (numbers : List ℕ) (e : ℕ)
     → lines_text (map line.Edge (edge_labels L (numbers ++ e ∷ []))) ≡ lines_text (map line.Edge (edge_labels L numbers)) ++ line_text (line.Edge (L.edge e))
-edge_lines-more L numbers e =
-    ap (λ names. lines_text (map line.Edge names)) (map-append L.edge numbers (e ∷ []))
-    ∙ ap lines_text (map-append line.Edge (edge_labels L numbers) (L.edge e ∷ []))
-    ∙ lines_text-push (map line.Edge (edge_labels L numbers)) (line.Edge (L.edge e))
+edge_lines-more L numbers e = search (map-append, lines_text-push)
 
 -- the name of a member is one more name
 pub names-member : (F : Form) (L : Labels) (set : List Bool) (e : ℕ) → e < length set → has set e ≡ true → All (FitsEdge F) (edge_labels L (members_of (take e set))) → FitsEdge F (L.edge e)
@@ -41,14 +37,12 @@ names-member F L set e inside is names name =
 -- another number has none
 pub names-other : (F : Form) (L : Labels) (set : List Bool) (e : ℕ) → e < length set → has set e ≡ false → All (FitsEdge F) (edge_labels L (members_of (take e set)))
     → All (FitsEdge F) (edge_labels L (members_of (take (e + 1) set)))
-names-other F L set e inside is names =
-    All-same (FitsEdge F) (edge_labels L (members_of (take (e + 1) set))) (edge_labels L (members_of (take e set))) (ap (edge_labels L) (members-other set e inside is)) names
+names-other F L set e inside is names = search (All-same, members-other)
 
 -- a member has a line
 pub lines-member : (L : Labels) (set : List Bool) (e : ℕ) → e < length set → has set e ≡ true
     → lines_text (map line.Edge (edge_labels L (members_of (take e set)))) ++ line_text (line.Edge (L.edge e)) ≡ lines_text (map line.Edge (edge_labels L (members_of (take (e + 1) set))))
-lines-member L set e inside is =
-    sym (edge_lines-more L (members_of (take e set)) e) ∙ ap (λ numbers. lines_text (map line.Edge (edge_labels L numbers))) (sym (members-member set e inside is))
+lines-member L set e inside is = search (edge_lines-more, members-member)
 
 -- another number has none
 pub lines-other : (L : Labels) (set : List Bool) (e : ℕ) → e < length set → has set e ≡ false
@@ -57,9 +51,7 @@ lines-other L set e inside is = ap (λ numbers. lines_text (map line.Edge (edge_
 
 -- a member counts as one
 pub count-member : (set : List Bool) (e count : ℕ) → e < length set → has set e ≡ true → count ≡ length (members_of (take e set)) → count + 1 ≡ length (members_of (take (e + 1) set))
-count-member set e count inside is so_far =
-    let more = ap length (members-member set e inside is) ∙ length-append (members_of (take e set)) (e ∷ []) in
-    ap (λ n. n + 1) so_far ∙ sym more
+count-member set e count inside is so_far = grind (arith, members-member, length-append)
 
 -- another number as none
 pub count-other : (set : List Bool) (e count : ℕ) → e < length set → has set e ≡ false → count ≡ length (members_of (take e set)) → count ≡ length (members_of (take (e + 1) set))
@@ -72,6 +64,4 @@ count-names L numbers count is = is ∙ sym (length-map numbers L.edge)
 -- a member's line adds its length
 pub lines_length-member : (L : Labels) (set : List Bool) (e sum : ℕ) → e < length set → has set e ≡ true → sum ≡ length (lines_text (map line.Edge (edge_labels L (members_of (take e set)))))
     → sum + length (line_text (line.Edge (L.edge e))) ≡ length (lines_text (map line.Edge (edge_labels L (members_of (take (e + 1) set)))))
-lines_length-member L set e sum inside is so_far =
-    sum_more (lines_text (map line.Edge (edge_labels L (members_of (take e set))))) (line_text (line.Edge (L.edge e))) _ sum (length (line_text (line.Edge (L.edge e)))) so_far refl
-    (lines-member L set e inside is)
+lines_length-member L set e sum inside is so_far = grind (arith, sum_more, lines-member)

@@ -47,8 +47,7 @@ split_more : (L : Labels) (nodes : List (Option SplitOn)) (on : SplitOn) (packin
     → nodes_lines L (nodes ++ Some on ∷ []) packings ≡ nodes_lines L nodes packings ++ split_line version.Two (split_label L on) ∷ []
 split_more L [] on packings = refl
 split_more L (None ∷ nodes) on [] = split_more L nodes on []
-split_more L (None ∷ nodes) on (cuts ∷ packings) =
-    ap (λ x. leaf_lines cuts ++ x) (split_more L nodes on packings) ∙ sym (append_assoc (leaf_lines cuts) (nodes_lines L nodes packings) (split_line version.Two (split_label L on) ∷ []))
+split_more L (None ∷ nodes) on (cuts ∷ packings) = search (append_assoc, split_more L nodes on packings)
 split_more L (Some d ∷ nodes) on packings = ap (λ x. split_line version.Two (split_label L d) ∷ x) (split_more L nodes on packings)
 
 -- one more leaf
@@ -59,8 +58,7 @@ leaf_more L [] (cuts ∷ packings) d inside = append-nil (leaf_lines cuts)
 leaf_more L (None ∷ nodes) [] d inside = absurd (omega arith)
 leaf_more L (None ∷ nodes) (cuts ∷ packings) d inside =
     ap (λ x. leaf_lines cuts ++ x) (leaf_more L nodes packings d (omega arith)) ∙ sym (append_assoc (leaf_lines cuts) (nodes_lines L nodes packings) (leaf_lines (get_or packings (leaves_in nodes) d)))
-leaf_more L (Some on ∷ nodes) packings d inside =
-    ap (λ x. split_line version.Two (split_label L on) ∷ x) (leaf_more L nodes packings d inside)
+leaf_more L (Some on ∷ nodes) packings d inside = search (leaf_more L nodes packings d inside)
 
 -- the nodes up to a place and the one there
 take_push : (nodes : List (Option SplitOn)) (i : ℕ) (here : Option SplitOn) → i < length nodes → get_or nodes i None ≡ here → take (i + 1) nodes ≡ take i nodes ++ here ∷ []
@@ -101,15 +99,11 @@ leaves_in-take nodes i = omega (arith, leaves_in-append (take i nodes) (drop i n
 -- fewer leaves stand before a leaf than there are packings
 pub leaf_below : (t : Tree SplitOn) (nodes : List (Option SplitOn)) (i leaf : ℕ) → nodes ≡ nodes_of t → i < length nodes → get_or nodes i None ≡ None
     → leaf ≡ leaves_in (take i nodes) → leaf < length (packings_of t)
-leaf_below t nodes i leaf same inside is count =
-    let all : leaves_in nodes ≡ length (packings_of t) = ap leaves_in same ∙ leaves_in-nodes_of t in
-    omega (arith, leaf_leaves nodes i inside is, leaves_in-take nodes (i + 1))
+leaf_below t nodes i leaf same inside is count = grind (arith, leaves_in-nodes_of, leaf_leaves, leaves_in-take)
 
 -- no more leaves were passed than there are
 pub leaf_within : (t : Tree SplitOn) (nodes : List (Option SplitOn)) (i leaf : ℕ) → nodes ≡ nodes_of t → leaf ≡ leaves_in (take i nodes) → leaf ≤ length (packings_of t)
-leaf_within t nodes i leaf same count =
-    let all : leaves_in nodes ≡ length (packings_of t) = ap leaves_in same ∙ leaves_in-nodes_of t in
-    omega (arith, leaves_in-take nodes i)
+leaf_within t nodes i leaf same count = grind (arith, leaves_in-nodes_of, leaves_in-take)
 
 -- behind the last node all packings were passed
 pub leaf_last : (t : Tree SplitOn) (nodes : List (Option SplitOn)) (i leaf : ℕ) → nodes ≡ nodes_of t → length nodes ≤ i → leaf ≡ leaves_in (take i nodes) → length (packings_of t) ≤ leaf

@@ -1,5 +1,5 @@
 -- Pieces of a text that are determined by a list that begins with them.
-use Rattle.std.proofs.Common.{ℕ, ◌≡◌, ◌≢◌, ◌^◌, ◌<◌, Bool, true, false, List, ◌∷◌, ◌++◌, get_or, refl, sym, ap, ◌∙◌, arith}
+use Rattle.std.proofs.Common.{ℕ, ◌≡◌, ◌≢◌, ◌^◌, ◌<◌, Bool, List, ◌∷◌, ◌++◌, get_or, sym, ap, ◌∙◌, arith}
 use Rattle.std.specs.Fmt.{decimal}
 use Rattle.std.specs.Str.Parse.{digits_value}
 use Rattle.std.proofs.lemmas.Fmt.{decimal_is_IsNumeral_wide}
@@ -7,7 +7,7 @@ use Rattle.std.proofs.lemmas.Str.Parse.{digit_at}
 use Rattle.std.proofs.lemmas.List.Elements.{All-from_get_or}
 use Rattle.text_in.specs.Words.{Lacks}
 use Rattle.text_in.specs.Fronts.{front_unique}
-use Rattle.answer_text.specs.Words.{status_word, concat_word}
+use Rattle.answer_text.specs.Words.{status_word}
 
 -- No digit is a byte below the digits.
 pub number-lacks : (n byte : ℕ) → n < 2 ^ 128 → byte < 48 → Lacks (decimal n) byte
@@ -32,17 +32,7 @@ first_apart a b apart e = apart (ap (λ s. get_or s 0 0) e)
 
 -- A status is told by a list that begins with its word.
 pub status_front : (a b : Bool) (p q : List ℕ) → status_word a ++ p ≡ status_word b ++ q → (a ≡ b) × (p ≡ q)
-status_front true true p q e = (refl, cc)
-status_front true false p q e = absurd (first_apart 111 115 (omega arith) e)
-status_front false true p q e = absurd (first_apart 115 111 (omega arith) e)
-status_front false false p q e = (refl, cc)
-
--- So is what a total is.
-pub concat_front : (a b : Bool) (p q : List ℕ) → concat_word a ++ p ≡ concat_word b ++ q → (a ≡ b) × (p ≡ q)
-concat_front true true p q e = (refl, cc)
-concat_front true false p q e = absurd (first_apart 108 115 (omega arith) e)
-concat_front false true p q e = absurd (first_apart 115 108 (omega arith) e)
-concat_front false false p q e = (refl, cc)
+status_front a b p q e = grind arith
 
 -- Texts of which each is determined by a list that begins with it.
 abbrev pub IsToldByFront : {A : Type 0} → (A → Type 0) → (A → List ℕ) → Type 0

@@ -1,5 +1,5 @@
 -- What lines that were read one after another say of the bytes that they stand at the front of.
-use Rattle.std.proofs.Common.{ℕ, suc, ◌≡◌, ◌+◌, ◌-◌, ◌<◌, List, [], ◌∷◌, ◌++◌, length, take, refl, sym, ap, subst, ◌∙◌, arith, append_assoc, length-append, Option, Some, None, inl, inr, ⊎_elim}
+use Rattle.std.proofs.Common.{ℕ, suc, ◌≡◌, ◌+◌, ◌-◌, ◌<◌, List, [], ◌∷◌, ◌++◌, length, take, refl, sym, ap, subst, ◌∙◌, arith, append_assoc, length-append, Option, Some, inl, inr, ⊎_elim}
 use Rattle.std.specs.Prelude.{option_and_then, ◌⊎◌}
 use Rattle.std.proofs.lemmas.List.Concat.{flat_map-append}
 use Rattle.text_in.specs.Words.{Lacks}
@@ -26,8 +26,7 @@ use Rattle.answer_text.proofs.lemmas.EventLaws.{events_from-front}
 
 -- where something is due behind a line, the line was due
 pub first_step : (more : Stage → Option Stage) (due : Option Stage) (s : Stage) → option_and_then more due ≡ Some s → (s' : Stage) × (due ≡ Some s') × (more s' ≡ Some s)
-first_step more None s e = absurd cc
-first_step more (Some s') s e = (s', refl, e)
+first_step more due s e = grind arith
 
 -- lines behind others, and their text
 pub record Behind (ls ms : List Line) (bytes : List ℕ) : Type 0 where
@@ -92,8 +91,7 @@ answer_front F s ls bytes behind a due fits spells parts =
 
 -- what is due behind lines that begin others up to the end
 pub due_behind : (s : Stage) (ls rest ms : List Line) → run stage.Title ls ≡ Some s → run stage.Title ms ≡ Some stage.Done → ms ≡ ls ++ rest → run s rest ≡ Some stage.Done
-due_behind s ls rest ms due whole parts =
-    sym (ap (option_and_then (λ s'. run s' rest)) due) ∙ sym (run-append stage.Title ls rest) ∙ sym (ap (run stage.Title) parts) ∙ whole
+due_behind s ls rest ms due whole parts = grind (arith, run-append)
 
 -- ---- lines that begin an answer
 
@@ -123,13 +121,7 @@ begun_events F s ls rest a due fits spells =
 -- up to the end they spell one
 pub read_whole : (F : Form) (ls : List Line) (bytes : List ℕ) → run stage.Title ls ≡ Some stage.Done → FitsLines (first_version F) F ls → bytes ≡ lines_text ls
     → IsReadWhole F bytes (events_from no_head 1 ls)
-read_whole F ls bytes due fits text =
-    let told = answer_value F (first_version F) ls due fits in
-    record {
-      answer = told.answer;
-      spells = record { fits = told.fits; spelled = text ∙ ap lines_text told.lines };
-      told = ap (events_from no_head 1) told.lines;
-    }
+read_whole F ls bytes due fits text = grind (arith, answer_value)
 
 -- bytes that stop behind lines of an answer
 pub stops : (F : Form) (s : Stage) (ls : List Line) (bytes rest : List ℕ) → run stage.Title ls ≡ Some s → FitsLines (first_version F) F ls → bytes ≡ lines_text ls ++ rest
@@ -179,12 +171,7 @@ pub front_cases : (mark : ℕ) (front back before after : List ℕ) → front ++
     → ((more : List ℕ) × (before ≡ front ++ more)) ⊎ ((more : List ℕ) × (front ≡ before ++ mark ∷ more))
 front_cases mark [] back before after e = inl (before, refl)
 front_cases mark (f ∷ front) back [] after e = let same : f ≡ mark = cc in inr (front, ap (λ x. x ∷ front) same)
-front_cases mark (f ∷ front) back (b ∷ before) after e =
-    let same : f ≡ b = cc in
-    ⊎_elim
-    (λ (sooner : (more : List ℕ) × (before ≡ front ++ more)). inl (sooner.0, λ i. sym same i ∷ sooner.1 i))
-    (λ (later : (more : List ℕ) × (front ≡ before ++ mark ∷ more)). inr (later.0, λ i. same i ∷ later.1 i))
-    (front_cases mark front back before after cc)
+front_cases mark (f ∷ front) back (b ∷ before) after e = grind (arith, front_cases mark front back before after cc)
 
 -- a line behind others fits the version that they tell
 pub fits_behind : (v : Version) (F : Form) (xs : List Line) (y : Line) (zs : List Line) → FitsLines v F (xs ++ y ∷ zs) → FitsLine (version_with (version_from v xs) y) F y

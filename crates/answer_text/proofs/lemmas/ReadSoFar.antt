@@ -1,5 +1,5 @@
 -- What a reader knows of the bytes behind which it stands.
-use Rattle.std.proofs.Common.{ℕ, ◌≡◌, ◌+◌, List, [], ◌∷◌, ◌++◌, length, refl, sym, ap, subst, ◌∙◌, arith, append_assoc, length-append, Some}
+use Rattle.std.proofs.Common.{ℕ, ◌≡◌, ◌+◌, List, [], ◌∷◌, ◌++◌, length, refl, sym, ap, ◌∙◌, arith, append_assoc, length-append, Some}
 use Rattle.std.specs.Prelude.{option_and_then}
 use Rattle.std.proofs.lemmas.List.{append-nil}
 use Rattle.std.proofs.lemmas.List.Concat.{flat_map-append}
@@ -26,8 +26,7 @@ read_none F bytes = record { lines = []; fits = tt; due = refl; text = refl; tol
 -- lines and one more that is due behind them
 pub fits_more : (v : Version) (F : Form) (ls : List Line) (l : Line) → v ≡ version_from (first_version F) ls → FitsLines (first_version F) F ls → FitsLine (version_with v l) F l
     → FitsLines (first_version F) F (ls ++ l ∷ [])
-fits_more v F ls l is f g =
-    fits_append (first_version F) F ls (l ∷ []) f (subst (λ w. FitsLines w F (l ∷ [])) is (g, tt))
+fits_more v F ls l is f g = grind (arith, fits_append)
 
 -- behind one more line
 pub read_more : (F : Form) (bytes rest after bytes_read : List ℕ) (s s' : Stage) (v : Version) (head : AnswerHead) (number : ℕ) (events : List AnswerEvent) (l : Line)

@@ -1,14 +1,12 @@
 -- The bytes of an answer tell the answer, and where it ends.
-use Rattle.std.proofs.Common.{ℕ, ◌≡◌, Bool, true, false, List, [], ◌∷◌, ◌++◌, length, map, refl, sym, ap, subst, ◌∙◌, arith, append_assoc, Some}
+use Rattle.std.proofs.Common.{ℕ, ◌≡◌, Bool, true, false, List, [], ◌∷◌, ◌++◌, length, map, refl, sym, ap, ◌∙◌, arith, append_assoc, Some}
 use Rattle.std.proofs.lemmas.Bool.{false≢true}
 use Rattle.net_graph.specs.declared.packing.Cut.{Cut}
 use Rattle.answer_text.specs.declared.form.Form.{Form}
-use Rattle.answer_text.specs.declared.form.Form.TheVariants as form
 use Rattle.answer_text.specs.declared.label.EdgeLabel.{EdgeLabel}
 use Rattle.answer_text.specs.declared.split.SplitName.{SplitName}
 use Rattle.answer_text.specs.declared.split.SplitName.TheVariants as name
 use Rattle.answer_text.specs.declared.version.Version.{Version}
-use Rattle.answer_text.specs.declared.version.Version.TheVariants as version
 use Rattle.answer_text.specs.AnswerLine.{Line}
 use Rattle.answer_text.specs.LineKinds as line
 use Rattle.answer_text.specs.declared.line.Stage.{Stage}
@@ -16,23 +14,18 @@ use Rattle.answer_text.specs.declared.line.Stage.TheVariants as stage
 use Rattle.answer_text.specs.Value.{WrittenAnswer}
 use Rattle.cert_tree.specs.Tree.{Tree}
 use Rattle.cert_tree.specs.Tree.Tree.{Leaf, Split}
-use Rattle.answer_text.specs.declared.head.AnswerHead.{AnswerHead}
-use Rattle.answer_text.specs.Forms.{IsVersionOf, first_version}
-use Rattle.answer_text.specs.Spelling.{FitsAnswer, FitsNote, OneReading}
-use Rattle.answer_text.specs.Lines.{lines_text, split_line, search_lines, tree_lines, body_lines, answer_lines, run}
+use Rattle.answer_text.specs.Forms.{first_version}
+use Rattle.answer_text.specs.Spelling.{FitsAnswer, OneReading}
+use Rattle.answer_text.specs.Lines.{lines_text, split_line, tree_lines, answer_lines, run}
 use Rattle.answer_text.specs.LineFits.{FitsLines, version_with}
 use Rattle.answer_text.proofs.lemmas.Due.{run-answer, answer_fits}
-use Rattle.answer_text.proofs.lemmas.Machine.{run-done}
 use Rattle.answer_text.proofs.lemmas.ReadLaws.{first_line, line_split}
 
 -- ---- the text tells the lines
 
 -- nothing is due behind the last line
 none_behind : (s : Stage) (l : Line) (ls : List Line) → run s [] ≡ Some stage.Done → run s (l ∷ ls) ≡ Some stage.Done → ⊥
-none_behind s l ls none some =
-    let done : s ≡ stage.Done = cc in
-    let empty : l ∷ ls ≡ [] = run-done (l ∷ ls) (subst (λ x. run x (l ∷ ls) ≡ Some stage.Done) done some) in
-    absurd cc
+none_behind s l ls none some = grind arith
 
 -- lines up to the end, at the front of bytes that begin with such lines too
 lines_one : (v : Version) (F : Form) (s : Stage) (ls ms : List Line) (p q : List ℕ) → run s ls ≡ Some stage.Done → run s ms ≡ Some stage.Done → FitsLines v F ls → FitsLines v F ms
@@ -62,10 +55,7 @@ is_split l = false
 
 -- the line of a split tells what it is on
 split_told : (v : Version) (other on : SplitName) → (split_of other (split_line v on) ≡ on) × (is_split (split_line v on) ≡ true)
-split_told version.One other (name.Edge e) = (refl, refl)
-split_told version.Two other (name.Edge e) = (refl, refl)
-split_told version.Graph other (name.Edge e) = (refl, refl)
-split_told v other (name.Vertex p) = (refl, refl)
+split_told v other on = grind arith
 
 same_on : (v : Version) (on other : SplitName) → split_line v on ≡ split_line v other → on ≡ other
 same_on v on other same = sym (split_told v on on).0 ∙ ap (split_of on) same ∙ (split_told v on other).0
@@ -79,17 +69,11 @@ cuts_one : (cs ds : List Cut) (p q : List Line) → length cs ≡ length ds → 
 cuts_one [] [] p q size same = (refl, same)
 cuts_one [] (d ∷ ds) p q size same = absurd (omega arith)
 cuts_one (c ∷ cs) [] p q size same = absurd (omega arith)
-cuts_one (c ∷ cs) (d ∷ ds) p q size same =
-    let here : c ≡ d = cc in
-    let rest = cuts_one cs ds p q (omega arith) cc in
-    (λ i. here i ∷ rest.0 i, rest.1)
+cuts_one (c ∷ cs) (d ∷ ds) p q size same = search (cuts_one cs ds p q (omega arith) cc)
 
 -- a tree before other lines
 tree_one : (v : Version) (t u : Tree SplitName) (p q : List Line) → tree_lines v t ++ p ≡ tree_lines v u ++ q → (t ≡ u) × (p ≡ q)
-tree_one v (Leaf cs) (Leaf ds) p q same =
-    let count : length cs ≡ length ds = cc in
-    let rest = cuts_one cs ds p q count cc in
-    (ap Leaf rest.0, rest.1)
+tree_one v (Leaf cs) (Leaf ds) p q same = grind (arith, cuts_one)
 tree_one v (Leaf cs) (Split on o i) p q same = absurd (leaf_apart v (length cs) on cc)
 tree_one v (Split on o i) (Leaf ds) p q same = absurd (leaf_apart v (length ds) on cc)
 tree_one v (Split on o i) (Split other o' i') p q same =
@@ -105,37 +89,11 @@ edges_one : (ds es : List EdgeLabel) (p q : List Line) → map line.Edge ds ++ l
 edges_one [] [] p q same = (refl, cc)
 edges_one [] (e ∷ es) p q same = absurd cc
 edges_one (d ∷ ds) [] p q same = absurd cc
-edges_one (d ∷ ds) (e ∷ es) p q same =
-    let here : d ≡ e = cc in
-    let rest = edges_one ds es p q cc in
-    (λ i. here i ∷ rest.0 i, rest.1)
-
--- what a head says of the search
-search_one : (F : Form) (v : Version) (h k : AnswerHead) (p q : List Line) → IsVersionOf F v → FitsNote F h → FitsNote F k → search_lines v h ++ p ≡ search_lines v k ++ q
-    → (h.openings ≡ k.openings) × (h.concat ≡ k.concat) × (p ≡ q)
-search_one F version.One h k p q of f g same = (cc, cc, cc)
-search_one F version.Two h k p q of f g same = (cc, cc, cc)
-search_one (form.OnGrid V) version.Graph h k p q of f g same = absurd of
-search_one (form.OfGraph E V) version.Graph h k p q of f g same = (cc, f ∙ sym g, cc)
+edges_one (d ∷ ds) (e ∷ es) p q same = search (edges_one ds es p q cc)
 
 -- an answer
 answer_one : (F : Form) (a b : WrittenAnswer) → FitsAnswer F a → FitsAnswer F b → answer_lines a ≡ answer_lines b → a ≡ b
-answer_one F a b f g same =
-    let version_is : a.version ≡ b.version = cc in
-    let length_is : a.head.length ≡ b.head.length = cc in
-    let bound_is : a.head.bound ≡ b.head.bound = cc in
-    let optimal_is : a.head.optimal ≡ b.head.optimal = cc in
-    let behind : search_lines a.version a.head ++ body_lines a ≡ search_lines b.version b.head ++ body_lines b = cc in
-    let search = search_one F a.version a.head b.head (body_lines a) (body_lines b) f.version f.note g.note (behind ∙ ap (λ v. search_lines v b.head ++ body_lines b) (sym version_is)) in
-    let body = search.2 in
-    let edges = edges_one a.edges b.edges (tree_lines a.version a.tree ++ line.End ∷ []) (tree_lines b.version b.tree ++ line.End ∷ []) cc in
-    let tree = tree_one a.version a.tree b.tree (line.End ∷ []) (line.End ∷ []) (edges.1 ∙ ap (λ v. tree_lines v b.tree ++ line.End ∷ []) (sym version_is)) in
-    λ i. record {
-      version = version_is i;
-      head = record { length = length_is i; bound = bound_is i; optimal = optimal_is i; openings = search.0 i; concat = search.1 i };
-      edges = edges.0 i;
-      tree = tree.0 i;
-    }
+answer_one F a b f g same = grind (arith, edges_one, tree_one)
 
 -- No spelling is a proper front of another, and bytes spell one answer at most.
 pub one_reading_lem : OneReading

@@ -34,68 +34,23 @@ next-weight k f v x members is same cleared inside name =
 
 pub next-x1 : (k : Kept) (c : Corner) (minus : Bool) (v : ℕ) (z z' : ℤ) → c ≡ corner.X1 → z' ≡ z → z ≡ signed minus v → FitsSigned w64 z → IsInField (field.Coordinate c minus) v → FitsName k.name
     → IsNext k (scan.Number (field.Coordinate c minus) v) 32 (record k { name = record k.name { x1 = z' } }) (scan.Coordinate corner.Y1)
-next-x1 k c minus v z z' is cast value fits inside name =
-    let there : IsInField (field.Coordinate corner.X1 minus) v = subst (λ d. IsInField (field.Coordinate d minus) v) is inside in
-    let k' : Kept = record k { name = record k.name { x1 = z' } } in
-    record {
-      leads = subst (λ d. LeadsTo k (scan.Number (field.Coordinate d minus) v) 32 k' (scan.Coordinate corner.Y1)) (sym is) (leads-x1 k k' minus v there refl refl (cast ∙ value));
-      sound = tt;
-      name = record { x1 = subst (FitsSigned w64) (sym cast) fits; y1 = name.y1; x2 = name.x2; y2 = name.y2 };
-      stage = refl;
-      version = refl;
-      size = refl;
-    }
+next-x1 k c minus v z z' is cast value fits inside name = grind (arith, leads-x1)
 
 pub next-y1 : (k : Kept) (c : Corner) (minus : Bool) (v : ℕ) (z z' : ℤ) → c ≡ corner.Y1 → z' ≡ z → z ≡ signed minus v → FitsSigned w64 z → IsInField (field.Coordinate c minus) v → FitsName k.name
     → IsNext k (scan.Number (field.Coordinate c minus) v) 32 (record k { name = record k.name { y1 = z' } }) (scan.Coordinate corner.X2)
-next-y1 k c minus v z z' is cast value fits inside name =
-    let there : IsInField (field.Coordinate corner.Y1 minus) v = subst (λ d. IsInField (field.Coordinate d minus) v) is inside in
-    let k' : Kept = record k { name = record k.name { y1 = z' } } in
-    record {
-      leads = subst (λ d. LeadsTo k (scan.Number (field.Coordinate d minus) v) 32 k' (scan.Coordinate corner.X2)) (sym is) (leads-y1 k k' minus v there refl refl refl (cast ∙ value));
-      sound = tt;
-      name = record { x1 = name.x1; y1 = subst (FitsSigned w64) (sym cast) fits; x2 = name.x2; y2 = name.y2 };
-      stage = refl;
-      version = refl;
-      size = refl;
-    }
+next-y1 k c minus v z z' is cast value fits inside name = grind (arith, leads-y1)
 
 pub next-x2 : (k : Kept) (c : Corner) (minus : Bool) (v : ℕ) (z z' : ℤ) → c ≡ corner.X2 → z' ≡ z → z ≡ signed minus v → FitsSigned w64 z → IsInField (field.Coordinate c minus) v → FitsName k.name
     → IsNext k (scan.Number (field.Coordinate c minus) v) 32 (record k { name = record k.name { x2 = z' } }) (scan.Coordinate corner.Y2)
-next-x2 k c minus v z z' is cast value fits inside name =
-    let there : IsInField (field.Coordinate corner.X2 minus) v = subst (λ d. IsInField (field.Coordinate d minus) v) is inside in
-    let k' : Kept = record k { name = record k.name { x2 = z' } } in
-    record {
-      leads = subst (λ d. LeadsTo k (scan.Number (field.Coordinate d minus) v) 32 k' (scan.Coordinate corner.Y2)) (sym is) (leads-x2 k k' minus v there refl refl refl refl (cast ∙ value));
-      sound = tt;
-      name = record { x1 = name.x1; y1 = name.y1; x2 = subst (FitsSigned w64) (sym cast) fits; y2 = name.y2 };
-      stage = refl;
-      version = refl;
-      size = refl;
-    }
+next-x2 k c minus v z z' is cast value fits inside name = grind (arith, leads-x2)
 
 pub next-x : (k : Kept) (c : Corner) (minus : Bool) (v : ℕ) (z z' : ℤ) → c ≡ corner.X → z' ≡ z → z ≡ signed minus v → FitsSigned w64 z → IsInField (field.Coordinate c minus) v → FitsName k.name
     → IsNext k (scan.Number (field.Coordinate c minus) v) 32 (record k { name = record k.name { x1 = z' } }) (scan.Coordinate corner.Y)
-next-x k c minus v z z' is cast value fits inside name =
-    let there : IsInField (field.Coordinate corner.X minus) v = subst (λ d. IsInField (field.Coordinate d minus) v) is inside in
-    let k' : Kept = record k { name = record k.name { x1 = z' } } in
-    record {
-      leads = subst (λ d. LeadsTo k (scan.Number (field.Coordinate d minus) v) 32 k' (scan.Coordinate corner.Y)) (sym is) (leads-x k k' minus v there (cast ∙ value));
-      sound = tt;
-      name = record { x1 = subst (FitsSigned w64) (sym cast) fits; y1 = name.y1; x2 = name.x2; y2 = name.y2 };
-      stage = refl;
-      version = refl;
-      size = refl;
-    }
+next-x k c minus v z z' is cast value fits inside name = grind (arith, leads-x)
 
 -- no blank may stand behind a last coordinate
 last_over : (k : Kept) (c : Corner) (z : ℤ) (rest : List ℕ) (l : Line) → IsLast c → BehindCoordinate k c z (32 ∷ rest) l → ⊥
-last_over k corner.X1 z rest l last h = last
-last_over k corner.Y1 z rest l last h = last
-last_over k corner.X2 z rest l last h = last
-last_over k corner.Y2 z rest l last h = let text = h.text in cc
-last_over k corner.X z rest l last h = last
-last_over k corner.Y z rest l last h = let text = h.text in cc
+last_over k c z rest l last h = grind arith
 
 pub dead-last : (k : Kept) (f : Field) (c : Corner) (minus : Bool) (v : ℕ) → f ≡ field.Coordinate c minus → IsLast c → IsInField f v → IsDead k (scan.Number f v) 32
 dead-last k f c minus v is last inside =

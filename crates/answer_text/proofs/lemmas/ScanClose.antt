@@ -1,5 +1,5 @@
 -- What the end of a line makes of a number or a set that was read.
-use Rattle.std.proofs.Common.{ℕ, suc, ◌≡◌, ◌+◌, ◌-◌, ◌/◌, ◌<◌, ◌≤◌, ◌^◌, Bool, List, [], ◌∷◌, length, refl, sym, ap, subst, ◌∙◌, arith, Result, Ok, Err, Option, Some, None, true, false, drop, length-append, ⊎_elim}
+use Rattle.std.proofs.Common.{ℕ, suc, ◌≡◌, ◌+◌, ◌-◌, ◌/◌, ◌<◌, ◌≤◌, ◌^◌, Bool, List, [], ◌∷◌, length, refl, sym, ap, subst, ◌∙◌, arith, Result, Option, Some, None, true, false, drop, length-append, ⊎_elim}
 use Rattle.std.specs.Prelude.{codes}
 use Rattle.std.specs.Result.{OkIff, result_ok}
 use Rattle.std.proofs.lemmas.List.{length-drop}
@@ -30,15 +30,13 @@ use Rattle.answer_text.proofs.lemmas.ScanMore.{set_whole, set_left}
 
 -- a number that was made smaller is the same
 pub same_small : {E : Type 0} (fit : Result ℕ E) (bound m x : ℕ) (r : Option ℕ) → OkIff fit (m < bound) m → r ≡ result_ok fit → r ≡ Some x → x ≡ m
-same_small (Ok y) bound m x r fits is was = let both : Some y ≡ Some x = sym is ∙ was in let same : y ≡ x = cc in sym same ∙ fits.1
-same_small (Err d) bound m x r fits is was = let none : None ≡ Some x = sym is ∙ was in absurd cc
+same_small fit bound m x r fits is was = grind arith
 
 -- ---- numbers
 
 pub closes_number : (k k' : Kept) (f : Field) (v : ℕ) (h h' : AnswerHead) (told : Option Event) (l : Line) → IsInField f v → BehindNumber k f v [] l → ((s' : Stage) → step k.stage l ≡ Some s' → k'.stage ≡ s')
     → k'.version ≡ version_with k.version l → h' ≡ head_with h l → ((n : ℕ) → event_at n (line_told h' l) ≡ given n told k'.members) → k'.members ≡ k.members → FitsName k'.name → Closes k (scan.Number f v) h k' h' told
-closes_number k k' f v h h' told l inside behind stage version head event members name =
-    record { line = l; left = left_over k f v [] l inside behind; stage = stage; version = version; head = head; event = event; members = members; name = name }
+closes_number k k' f v h h' told l inside behind stage version head event members name = search left_over
 
 pub closes-length : (k : Kept) (h : AnswerHead) (f : Field) (v x : ℕ) → f ≡ field.Length → x ≡ v → IsInField f v → FitsName k.name
     → Closes k (scan.Number f v) h (record k { stage = stage.Bound }) (record h { length = x }) None

@@ -1,5 +1,5 @@
 -- What is due at a line's beginning are the lines that are due.
-use Rattle.std.proofs.Common.{ℕ, suc, zero, ◌≡◌, ◌<◌, ◌≤◌, ◌^◌, Bool, true, false, List, [], ◌∷◌, ◌++◌, length, refl, sym, ap, ◌∙◌, arith, append_assoc, Some, inl, inr, ⊎_elim}
+use Rattle.std.proofs.Common.{ℕ, suc, zero, ◌≡◌, ◌<◌, ◌^◌, Bool, true, false, List, [], ◌++◌, length, refl, sym, ap, ◌∙◌, arith, append_assoc, Some, inl, inr, ⊎_elim}
 use Rattle.std.specs.Prelude.{codes}
 use Rattle.std.specs.Fmt.{decimal}
 use Rattle.std.proofs.lemmas.List.{append-nil}
@@ -16,11 +16,11 @@ use Rattle.answer_text.specs.declared.scan.Field.TheVariants as field
 use Rattle.answer_text.specs.declared.scan.Scan.TheVariants as scan
 use Rattle.answer_text.specs.declared.version.Version.{Version}
 use Rattle.answer_text.specs.declared.version.Version.TheVariants as version
-use Rattle.answer_text.specs.Words.{concat_word, edge_words, vertex_words, set_text}
+use Rattle.answer_text.specs.Words.{concat_word, edge_words, vertex_words}
 use Rattle.answer_text.specs.Forms.{HasVertices, IsVersionOf, SaysKind, most_edges, set_size}
 use Rattle.answer_text.specs.Lines.{line_bytes, step}
 use Rattle.answer_text.specs.LineFits.{FitsLine, IsLineRead, version_with}
-use Rattle.answer_text.specs.Scanning.{name_line, WordLeft, ForkLeft, WordsLeft, Left, edge_scan, first_scan, IsSound}
+use Rattle.answer_text.specs.Scanning.{name_line, WordLeft, ForkLeft, WordsLeft, Left, first_scan, IsSound}
 use Rattle.answer_text.proofs.lemmas.Steps.{step-done}
 use Rattle.answer_text.proofs.lemmas.FormLemmas.{HasRoom}
 use Rattle.answer_text.proofs.lemmas.ValuesDue.{read_as, number_text, number_due, edge_text, edge_due, vertex_text, vertex_due, count_fits, count_inside, cut_text, edge_value, edge_fork, value_edge, fork_edge}
@@ -36,9 +36,7 @@ leaf_due v F k nodes rest l h =
 
 -- where a text says what a split is on, an edge's line says so
 split_said : (v : Version) (s : Stage) (nodes : ℕ) (e : EdgeLabel) → SaysKind v → s ≡ stage.Body 0 (suc nodes) → name_line v s e ≡ line.SplitEdge e
-split_said version.One s nodes e says is = absurd says
-split_said version.Two s nodes e says is = ap (λ t. name_line version.Two t e) is
-split_said version.Graph s nodes e says is = ap (λ t. name_line version.Graph t e) is
+split_said v s nodes e says is = grind arith
 
 -- so is that of a split on an edge or a vertex, where the text says which
 split_due : (v : Version) (F : Form) (k : Kept) (nodes : ℕ) (rest : List ℕ) (l : Line) → SaysKind v → k.version ≡ v → k.stage ≡ stage.Body 0 (suc nodes)
@@ -178,10 +176,7 @@ start_due F k v stage.Done rest l size told is h = absurd h
 -- the words of a note are due
 note_due : (k : Kept) (least : Bool) (total : ℕ) (rest : List ℕ) → total < 2 ^ 128 → rest ≡ codes "concat " ++ concat_word least ++ codes " " ++ decimal total
     → Left k (scan.Word word.Concat 0) rest (line.Concat (record { least = least; total = total }))
-note_due k true total rest fits told =
-    (codes "least " ++ decimal total, told, inl (decimal total, refl, number_due k (field.Total true) total (line.Concat (record { least = true; total = total })) (record { least = omega arith; limit = fits }) (refl, refl)))
-note_due k false total rest fits told =
-    (codes "spent " ++ decimal total, told, inr (decimal total, refl, number_due k (field.Total false) total (line.Concat (record { least = false; total = total })) (record { least = omega arith; limit = fits }) (refl, refl)))
+note_due k least total rest fits told = grind (arith, number_due)
 
 -- a line that is due is due at the beginning
 line_start : (F : Form) (k : Kept) (v : Version) (s s' : Stage) (rest : List ℕ) (l : Line) → length k.members ≡ set_size F → k.version ≡ v → k.stage ≡ s → rest ≡ line_bytes l → FitsLine (version_with v l) F l
@@ -221,70 +216,18 @@ line_start F k version.Graph (stage.Body zero (suc nodes)) s' rest (line.SplitVe
     inl (codes "vertex " ++ vertex_words p, told, inr (vertex_words p, refl, vertex_due F k p fits.1))
 line_start F k v (stage.Body zero (suc nodes)) s' rest (line.Leaf n) size version_is is told fits due =
     inr (decimal n, told, number_due k field.Leaf n (line.Leaf n) (record { least = omega arith; limit = fits }) (refl, refl))
-line_start F k v (stage.Body (suc cuts) nodes) s' rest (line.Cut c) size version_is is told fits due = (
-  decimal c.weight ++ codes " " ++ set_text c.members,
-  told,
-  record {
-    number = c.weight;
-    more = decimal c.weight;
-    behind = 32 ∷ set_text c.members;
-    parts = append_assoc (decimal c.weight) (codes " ") (set_text c.members);
-    spelled = refl;
-    inside = record { least = fits.some; limit = fits.weight };
-    follows = record { set = c.members; size = fits.members ∙ sym size; text = refl; line = refl };
-  },
-)
+line_start F k v (stage.Body (suc cuts) nodes) s' rest (line.Cut c) size version_is is told fits due =
+    grind (arith, append_assoc)
 line_start F k v stage.Done s' rest l size version_is is told fits due = let none = step-done l in absurd cc
 line_start F k v s s' rest l size version_is is told fits due = absurd cc
 
 pub start_left : (F : Form) (k : Kept) (v : Version) (s s' : Stage) (rest : List ℕ) (l : Line) → length k.members ≡ set_size F → k.version ≡ v → k.stage ≡ s → IsLineRead v F s rest l s' → Left k (first_scan F v s) rest l
 start_left F k v s s' rest l size version_is is read = line_start F k v s s' rest l size version_is is read.told read.fits read.due
 
--- where edges are due, one can be named
-edge_sound : (F : Form) (k : Kept) (edges : ℕ) → suc edges ≤ most_edges F → IsSound k (edge_scan F)
-edge_sound (form.OnGrid V) k edges room = tt
-edge_sound (form.OfGraph zero V) k edges room = absurd (omega arith)
-edge_sound (form.OfGraph (suc E) V) k edges room = omega arith
-
-title_sound : (F : Form) (k : Kept) (v : Version) → IsSound k (first_scan F v stage.Title)
-title_sound (form.OnGrid V) k v = (omega arith, tt)
-title_sound (form.OfGraph E V) k v = (omega arith, tt)
-
-openings_sound : (F : Form) (k : Kept) (v : Version) → IsSound k (first_scan F v stage.Openings)
-openings_sound (form.OnGrid V) k v = (omega arith, omega arith)
-openings_sound (form.OfGraph E V) k v = (omega arith, omega arith)
-
 -- the beginning is kept to
 pub start_sound : (F : Form) (k : Kept) (v : Version) (s : Stage) → IsVersionOf F v → HasVertices F → HasRoom F s → IsSound k (first_scan F v s)
-start_sound F k v stage.Title of some room = title_sound F k v
-start_sound F k v stage.Length of some room = (omega arith, omega arith)
-start_sound F k v stage.Bound of some room = (omega arith, omega arith)
-start_sound F k v stage.Status of some room = (omega arith, tt)
-start_sound F k v stage.Openings of some room = openings_sound F k v
-start_sound F k v stage.Concat of some room = (omega arith, tt)
-start_sound F k v stage.Count of some room = (omega arith, omega arith)
-start_sound F k v (stage.Edges zero) of some room = (omega arith, tt)
-start_sound F k v (stage.Edges (suc edges)) of some room = edge_sound F k edges room
-start_sound F k v (stage.Body zero zero) of some room = (omega arith, tt)
-start_sound F k v (stage.Body zero (suc nodes)) of some room = (of, some)
-start_sound F k v (stage.Body (suc cuts) nodes) of some room = (omega arith, omega arith)
-start_sound F k v stage.Done of some room = tt
+start_sound F k v s of some room = grind arith
 
 -- only behind the end nothing is due
 pub start_ended : (F : Form) (v : Version) (s : Stage) → first_scan F v s ≡ scan.Ended → s ≡ stage.Done
-start_ended (form.OnGrid V) v stage.Title e = absurd cc
-start_ended (form.OfGraph E V) v stage.Title e = absurd cc
-start_ended F v stage.Length e = absurd cc
-start_ended F v stage.Bound e = absurd cc
-start_ended F v stage.Status e = absurd cc
-start_ended (form.OnGrid V) v stage.Openings e = absurd cc
-start_ended (form.OfGraph E V) v stage.Openings e = absurd cc
-start_ended F v stage.Concat e = absurd cc
-start_ended F v stage.Count e = absurd cc
-start_ended F v (stage.Edges zero) e = absurd cc
-start_ended (form.OnGrid V) v (stage.Edges (suc edges)) e = absurd cc
-start_ended (form.OfGraph E V) v (stage.Edges (suc edges)) e = absurd cc
-start_ended F v (stage.Body zero zero) e = absurd cc
-start_ended F v (stage.Body zero (suc nodes)) e = absurd cc
-start_ended F v (stage.Body (suc cuts) nodes) e = absurd cc
-start_ended F v stage.Done e = refl
+start_ended F v s e = grind arith

@@ -1,5 +1,5 @@
 -- What is due can always be gone on with, up to the end of its line.
-use Rattle.std.proofs.Common.{ℕ, suc, zero, ◌≡◌, ◌+◌, ◌/◌, ◌<◌, ◌≤◌, ◌^◌, ℤ, Bool, true, false, List, [], ◌∷◌, ◌++◌, length, drop, refl, sym, ap, subst, arith, inl, inr}
+use Rattle.std.proofs.Common.{ℕ, ◌≡◌, ◌+◌, ◌/◌, ◌<◌, ◌≤◌, ◌^◌, ℤ, Bool, true, false, List, [], ◌∷◌, ◌++◌, length, drop, refl, sym, ap, subst, arith, inl, inr}
 use Rattle.std.specs.Prelude.{◌⊎◌, codes, FitsSigned}
 use Rattle.std.specs.Int.{w64}
 use Rattle.std.specs.Fmt.{decimal, signed_decimal}
@@ -32,9 +32,7 @@ use Rattle.answer_text.proofs.lemmas.ValuesDue.{fork_edge}
 
 -- a coordinate within its limits
 pub signed_fits : (c : Corner) (minus : Bool) (n : ℕ) → IsInField (field.Coordinate c minus) n → FitsSigned w64 (signed minus n)
-signed_fits c false n inside = let limit = inside.limit in record { sfits = omega arith }
-signed_fits c true zero inside = record { sfits = omega arith }
-signed_fits c true (suc n) inside = let limit = inside.limit in record { sfits = omega arith }
+signed_fits c minus n inside = grind arith
 
 -- some bytes that make it a line
 behind_corner_some : (k : Kept) (c : Corner) (z : ℤ) → FitsName k.name → FitsSigned w64 z → (rest : List ℕ) × (l : Line) × BehindCoordinate k c z rest l
@@ -102,8 +100,7 @@ fork_some : (F : Form) (k : Kept) → (rest : List ℕ) × (l : Line) × ValueLe
 fork_some F k d = (d.0, d.1, fork_edge F k d.0 d.1 d.2)
 
 fork_vertex : (F : Form) (k : Kept) → (rest : List ℕ) × (l : Line) × ValueLeft k (vertex_scan F) rest l → (rest : List ℕ) × (l : Line) × ForkLeft k (vertex_scan F) rest l
-fork_vertex (form.OnGrid V) k d = d
-fork_vertex (form.OfGraph E V) k d = d
+fork_vertex F k d = grind arith
 
 word_some : (k : Kept) (w : Word) → IsOpen (behind_word w) → FitsName k.name → (rest : List ℕ) × (l : Line) × ForkLeft k (behind_word w) rest l
 word_some k word.Title can name = (codes "1", line.Title version.One, inl (refl, refl))
@@ -131,34 +128,10 @@ word_some k word.End can name = ([], line.End, (refl, refl))
 
 -- more of a line is due, or the text is at its end
 pub underway : (k : Kept) (s : Scan) → IsSound k s → (s ≡ scan.Ended) ⊎ IsUnderway k s
-underway k (scan.Word w place) sound = inr sound
-underway k scan.Version sound = inr sound
-underway k scan.Status sound = inr sound
-underway k scan.Kind sound = inr sound
-underway k (scan.Node v F) sound = inr sound
-underway k (scan.On F) sound = inr sound
-underway k (scan.Due f) sound = inr sound
-underway k (scan.Coordinate c) sound = inr sound
-underway k (scan.Number f n) sound = inr sound
-underway k (scan.Set place) sound = inr sound
-underway k (scan.LineEnd c) sound = inr sound
-underway k scan.Ended sound = inl refl
-underway k scan.Refused sound = absurd sound
+underway k s sound = grind arith
 
 pub underway-sound : (k : Kept) (s : Scan) → IsUnderway k s → IsSound k s
-underway-sound k (scan.Word w place) sound = sound
-underway-sound k scan.Version sound = sound
-underway-sound k scan.Status sound = sound
-underway-sound k scan.Kind sound = sound
-underway-sound k (scan.Node v F) sound = sound
-underway-sound k (scan.On F) sound = sound
-underway-sound k (scan.Due f) sound = sound
-underway-sound k (scan.Coordinate c) sound = sound
-underway-sound k (scan.Number f n) sound = sound
-underway-sound k (scan.Set place) sound = sound
-underway-sound k (scan.LineEnd c) sound = sound
-underway-sound k scan.Ended sound = absurd sound
-underway-sound k scan.Refused sound = absurd sound
+underway-sound k s sound = grind arith
 
 pub underway-open : (k : Kept) (s : Scan) → s ≡ scan.Ended → IsUnderway k s → ⊥
 underway-open k s is sound = subst (IsUnderway k) is sound
@@ -193,11 +166,4 @@ set_whole k place l h =
     omega (arith, length-drop place (set_text h.set), length-set_text h.set)
 
 pub set_left : (k : Kept) (place : ℕ) → (0 < k.weight) → k.weight < 2 ^ 64 → (length k.members + 3) / 4 ≤ place → SetLeft k place [] (line.Cut (record { weight = k.weight; members = k.members }))
-set_left k place some fits whole = record {
-  set = k.members;
-  size = refl;
-  same = λ v below. refl;
-  text = sym (drop_all place (set_text k.members) (omega (arith, length-set_text k.members)));
-  line = refl;
-  weight = (some, fits);
-}
+set_left k place some fits whole = grind (arith, drop_all, length-set_text)

@@ -1,5 +1,5 @@
 -- What is due of a number behind one more byte of it.
-use Rattle.std.proofs.Common.{ℕ, suc, zero, ◌≡◌, ◌+◌, ◌-◌, ◌*◌, ◌<◌, ◌≤◌, ◌^◌, ℤ, pos, negsuc, Bool, true, false, List, [], ◌∷◌, ◌++◌, length, refl, sym, ap, ◌∙◌, arith, append_assoc, inl, inr, ⊎_elim, subst, length-append}
+use Rattle.std.proofs.Common.{ℕ, ◌≡◌, ◌+◌, ◌-◌, ◌*◌, ◌<◌, ◌≤◌, ◌^◌, ℤ, pos, negsuc, Bool, true, false, List, [], ◌∷◌, ◌++◌, length, refl, sym, ap, ◌∙◌, arith, append_assoc, inl, inr, ⊎_elim, subst, length-append}
 use Rattle.std.specs.Prelude.{FitsSigned}
 use Rattle.std.specs.Int.{w64}
 use Rattle.std.specs.Fmt.{decimal, signed_decimal}
@@ -20,43 +20,10 @@ use Rattle.answer_text.proofs.lemmas.FrontNumbers.{IsFirstDigit, digits_some, di
 
 -- every field's numbers have at most 128 bits
 pub limit-wide : (f : Field) → limit_of f ≤ 2 ^ 128
-limit-wide field.Length = omega arith
-limit-wide field.Bound = omega arith
-limit-wide field.Openings = omega arith
-limit-wide (field.Total least) = omega arith
-limit-wide field.LastOpenings = omega arith
-limit-wide (field.Count most) = omega arith
-limit-wide (field.EdgeNumber last) = omega arith
-limit-wide (field.VertexNumber last) = omega arith
-limit-wide field.Leaf = omega arith
-limit-wide field.Weight = omega arith
-limit-wide (field.Coordinate c false) = omega arith
-limit-wide (field.Coordinate c true) = omega arith
+limit-wide f = grind arith
 
 in_field-wide : (f : Field) (n : ℕ) → IsInField f n → n < 2 ^ 128
 in_field-wide f n inside = let below = inside.limit in omega (arith, limit-wide f)
-
--- only a blank may stand behind a number
-corner_blank : (k : Kept) (c : Corner) (z : ℤ) (b : ℕ) (rest : List ℕ) (l : Line) → BehindCoordinate k c z (b ∷ rest) l → b ≡ 32
-corner_blank k corner.X1 z b rest l h = let text = h.text in cc
-corner_blank k corner.Y1 z b rest l h = let text = h.text in cc
-corner_blank k corner.X2 z b rest l h = let text = h.text in cc
-corner_blank k corner.Y2 z b rest l h = let text = h.text in absurd cc
-corner_blank k corner.X z b rest l h = let text = h.text in cc
-corner_blank k corner.Y z b rest l h = let text = h.text in absurd cc
-
-behind_blank : (k : Kept) (f : Field) (n b : ℕ) (rest : List ℕ) (l : Line) → BehindNumber k f n (b ∷ rest) l → b ≡ 32
-behind_blank k field.Length n b rest l h = let text = h.0 in absurd cc
-behind_blank k field.Bound n b rest l h = let text = h.0 in absurd cc
-behind_blank k field.Openings n b rest l h = let text = h.0 in absurd cc
-behind_blank k (field.Total least) n b rest l h = let text = h.0 in absurd cc
-behind_blank k field.LastOpenings n b rest l h = let text = h.0 in absurd cc
-behind_blank k (field.Count most) n b rest l h = let text = h.0 in absurd cc
-behind_blank k (field.EdgeNumber last) n b rest l h = let text = h.0 in absurd cc
-behind_blank k (field.VertexNumber last) n b rest l h = let text = h.0 in absurd cc
-behind_blank k field.Leaf n b rest l h = let text = h.0 in absurd cc
-behind_blank k field.Weight n b rest l h = let text = h.text in cc
-behind_blank k (field.Coordinate c minus) n b rest l h = corner_blank k c (signed minus n) b rest l h
 
 -- ---- one byte more
 
@@ -72,11 +39,8 @@ record Digit (k : Kept) (f : Field) (digits : List ℕ) (b : ℕ) (rest : List �
 
 digit_parts : (k : Kept) (f : Field) (digits : List ℕ) (b : ℕ) (rest : List ℕ) (l : Line) (n : ℕ) (more behind : List ℕ) → (b ≡ 32 → ⊥) → b ∷ rest ≡ more ++ behind
     → decimal n ≡ digits ++ more → IsInField f n → BehindNumber k f n behind l → Digit k f digits b rest l
-digit_parts k f digits b rest l n [] behind other parts spelled inside follows =
-    absurd (other (behind_blank k f n b rest l (let P : List ℕ → Type 0 = λ x. BehindNumber k f n x l in rw parts follows)))
-digit_parts k f digits b rest l n (m ∷ more) behind other parts spelled inside follows =
-    let same : m ≡ b = cc in
-    record { number = n; more = more; behind = behind; parts = cc; spelled = spelled ∙ ap (λ x. digits ++ x ∷ more) same; inside = inside; follows = follows }
+digit_parts k f digits b rest l n [] behind other parts spelled inside follows = grind arith
+digit_parts k f digits b rest l n (m ∷ more) behind other parts spelled inside follows = grind arith
 
 digit_of_left : (k : Kept) (f : Field) (digits : List ℕ) (b : ℕ) (rest : List ℕ) (l : Line) → (b ≡ 32 → ⊥) → NumberLeft k f digits (b ∷ rest) l → Digit k f digits b rest l
 digit_of_left k f digits b rest l other h = digit_parts k f digits b rest l h.number h.more h.behind other h.parts h.spelled h.inside h.follows
@@ -108,9 +72,7 @@ record First (f : Field) (b : ℕ) : Type 0 where
 
 first_of : (f : Field) (b : ℕ) (rest : List ℕ) (n : ℕ) (more behind : List ℕ) → b ∷ rest ≡ more ++ behind → decimal n ≡ [] ++ more → IsInField f n → First f b
 first_of f b rest n [] behind parts spelled inside = let none = ap length spelled in let some = digits_some n (in_field-wide f n inside) in absurd (omega arith)
-first_of f b rest n (m ∷ more) behind parts spelled inside =
-    let same : m ≡ b = cc in
-    record { number = n; is = first_digit n b more (in_field-wide f n inside) (spelled ∙ ap (λ x. x ∷ more) same); inside = inside }
+first_of f b rest n (m ∷ more) behind parts spelled inside = grind (arith, first_digit)
 
 -- some digit is due
 pub no_first : (k : Kept) (f : Field) (rest : List ℕ) (l : Line) → NumberLeft k f [] rest l → rest ≡ [] → ⊥
@@ -150,9 +112,7 @@ dead-next k f v b inside other none rest l h =
 -- what stands behind a number and begins with no digit
 number_over : (k : Kept) (f : Field) (v : ℕ) (bytes : List ℕ) (l : Line) (n : ℕ) (more behind : List ℕ) → IsInField f v → ((m : ℕ) (rest : List ℕ) → bytes ≡ m ∷ rest → m < 48)
     → bytes ≡ more ++ behind → decimal n ≡ decimal v ++ more → IsInField f n → BehindNumber k f n behind l → BehindNumber k f v bytes l
-number_over k f v bytes l n [] behind here low parts spelled inside follows =
-    let same : n ≡ v = number_one n v (in_field-wide f n inside) (in_field-wide f v here) (spelled ∙ append-nil (decimal v)) in
-    subst (λ m. BehindNumber k f m bytes l) same (subst (λ x. BehindNumber k f n x l) (sym parts) follows)
+number_over k f v bytes l n [] behind here low parts spelled inside follows = grind (arith, number_one, append-nil)
 number_over k f v bytes l n (m ∷ more) behind here low parts spelled inside follows =
     let is = next_digit v n m more (in_field-wide f v here) (in_field-wide f n inside) spelled in
     let digit = is.low in
@@ -160,8 +120,7 @@ number_over k f v bytes l n (m ∷ more) behind here low parts spelled inside fo
     absurd (omega arith)
 
 pub over_blank : (k : Kept) (f : Field) (v : ℕ) (rest : List ℕ) (l : Line) → IsInField f v → NumberLeft k f (decimal v) (32 ∷ rest) l → BehindNumber k f v (32 ∷ rest) l
-over_blank k f v rest l here h =
-    number_over k f v (32 ∷ rest) l h.number h.more h.behind here (λ m more e. let same : m ≡ 32 = cc in omega arith) h.parts h.spelled h.inside h.follows
+over_blank k f v rest l here h = grind (arith, number_over)
 
 pub over_end : (k : Kept) (f : Field) (v : ℕ) (l : Line) → IsInField f v → NumberLeft k f (decimal v) [] l → BehindNumber k f v [] l
 over_end k f v l here h = number_over k f v [] l h.number h.more h.behind here (λ m more e. absurd cc) h.parts h.spelled h.inside h.follows
@@ -218,11 +177,7 @@ leads-minus k c = record {
 
 -- without a minus it is a number
 pub plain_left : (k : Kept) (c : Corner) (b : ℕ) (rest : List ℕ) (l : Line) → (b ≡ 45 → ⊥) → ValueLeft k (scan.Coordinate c) (b ∷ rest) l → NumberLeft k (field.Coordinate c false) [] (b ∷ rest) l
-plain_left k c b rest l other h = ⊎_elim
-    (λ (plain : NumberLeft k (field.Coordinate c false) [] (b ∷ rest) l). plain)
-    (λ (minus : (digits : List ℕ) × (b ∷ rest ≡ 45 ∷ digits) × NumberLeft k (field.Coordinate c true) [] digits l).
-    let same : b ≡ 45 = (let e = minus.1 in cc) in absurd (other same))
-    h
+plain_left k c b rest l other h = grind arith
 
 pub leads-plain : (k : Kept) (c : Corner) (b : ℕ) (next : Scan) → (b ≡ 45 → ⊥) → LeadsTo k (scan.Due (field.Coordinate c false)) b k next → LeadsTo k (scan.Coordinate c) b k next
 leads-plain k c b next other leads = record {
@@ -242,16 +197,11 @@ pub record Spelled (k : Kept) (c : Corner) (rest : List ℕ) (l : Line) : Type 0
   pub follows : BehindCoordinate k c coordinate behind l
 
 plain_spelled : (k : Kept) (c : Corner) (rest : List ℕ) (l : Line) → NumberLeft k (field.Coordinate c false) [] rest l → Spelled k c rest l
-plain_spelled k c rest l h =
-    let limit = h.inside.limit in
-    record { coordinate = pos h.number; behind = h.behind; text = h.parts ∙ ap (λ x. x ++ h.behind) (sym h.spelled); fits = record { sfits = omega arith }; follows = h.follows }
+plain_spelled k c rest l h = grind arith
 
 minus_spelled : (k : Kept) (c : Corner) (rest digits : List ℕ) (l : Line) (n : ℕ) (more behind : List ℕ) → rest ≡ 45 ∷ digits → digits ≡ more ++ behind → decimal n ≡ [] ++ more
     → IsInField (field.Coordinate c true) n → BehindCoordinate k c (signed true n) behind l → Spelled k c rest l
-minus_spelled k c rest digits l zero more behind is parts spelled inside follows = let least = inside.least in absurd (omega arith)
-minus_spelled k c rest digits l (suc n) more behind is parts spelled inside follows =
-    let limit = inside.limit in
-    record { coordinate = negsuc n; behind = behind; text = is ∙ ap (λ x. 45 ∷ x) (parts ∙ ap (λ x. x ++ behind) (sym spelled)); fits = record { sfits = omega arith }; follows = follows }
+minus_spelled k c rest digits l n more behind is parts spelled inside follows = grind arith
 
 pub spelled_of : (k : Kept) (c : Corner) (rest : List ℕ) (l : Line) → ValueLeft k (scan.Coordinate c) rest l → Spelled k c rest l
 spelled_of k c rest l h = ⊎_elim
@@ -263,12 +213,8 @@ spelled_of k c rest l h = ⊎_elim
 -- a coordinate that is spelled is due
 pub coordinate_left : (k : Kept) (c : Corner) (z : ℤ) (rest behind : List ℕ) (l : Line) → rest ≡ signed_decimal z ++ behind → FitsSigned w64 z → BehindCoordinate k c z behind l
     → ValueLeft k (scan.Coordinate c) rest l
-coordinate_left k c (pos n) rest behind l text fits follows =
-    let below = fits.sfits in
-    inl (record { number = n; more = decimal n; behind = behind; parts = text; spelled = refl; inside = record { least = omega arith; limit = omega arith }; follows = follows })
-coordinate_left k c (negsuc n) rest behind l text fits follows =
-    let below = fits.sfits in
-    inr (decimal (suc n) ++ behind, text, record { number = suc n; more = decimal (suc n); behind = behind; parts = refl; spelled = refl; inside = record { least = omega arith; limit = omega arith }; follows = follows })
+coordinate_left k c (pos n) rest behind l text fits follows = grind arith
+coordinate_left k c (negsuc n) rest behind l text fits follows = search arith
 
 -- the blank behind a coordinate
 pub leads-x1 : (k k' : Kept) (minus : Bool) (v : ℕ) → IsInField (field.Coordinate corner.X1 minus) v → k'.stage ≡ k.stage → k'.version ≡ k.version → k'.name.x1 ≡ signed minus v

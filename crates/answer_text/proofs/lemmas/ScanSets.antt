@@ -58,11 +58,6 @@ hex_value-glyph (suc (suc (suc (suc (suc (suc (suc (suc (suc (suc (suc (suc (suc
 hex_value-glyph (suc (suc (suc (suc (suc (suc (suc (suc (suc (suc (suc (suc (suc (suc (suc zero))))))))))))))) few = refl
 hex_value-glyph (suc (suc (suc (suc (suc (suc (suc (suc (suc (suc (suc (suc (suc (suc (suc (suc value)))))))))))))))) few = absurd (omega arith)
 
--- nothing more
-or_false : (b : Bool) → (b || false) ≡ b
-or_false true = refl
-or_false false = refl
-
 -- ---- one digit more
 
 -- what a digit makes of the set
@@ -77,9 +72,7 @@ pub record TakesDigit (k k' : Kept) (place value byte : ℕ) : Type 0 where
 
 -- the flags before its four
 flag_apart : (k k' : Kept) (place value byte v : ℕ) → TakesDigit k k' place value byte → (v / 4 ≡ place → ⊥) → has k'.members v ≡ has k.members v
-flag_apart k k' place value byte v takes apart =
-    let other : (v / 4 == place) ≡ false = grind (arith, nat_tests) in
-    takes.flags v ∙ (λ i. has k.members v || (other i && flag_of_four value (v % 4))) ∙ or_false (has k.members v)
+flag_apart k k' place value byte v takes apart = grind arith
 
 -- and these four
 flag_here : (k k' : Kept) (place value byte v r : ℕ) → TakesDigit k k' place value byte → r < 4 → v ≡ 4 * place + r → has k'.members v ≡ flag_of_four value r
@@ -151,16 +144,7 @@ set-sound k k' place value byte takes sound =
 
 -- the digit that is due is the set's
 pub due_digit : (k : Kept) (place byte : ℕ) (rest : List ℕ) (l : Line) → (h : SetLeft k place (byte ∷ rest) l) → (4 * place < length k.members) × (byte ≡ digit_at_place h.set place)
-due_digit k place byte rest l h = ⊎_elim
-    (λ (inside : 4 * place < length k.members).
-    let size = h.size in
-    let split : byte ∷ rest ≡ digit_at_place h.set place ∷ drop (place + 1) (set_text h.set) = h.text ∙ digits_split h.set place (omega arith) in
-    (inside, cc))
-    (λ (past : length k.members ≤ 4 * place).
-    let size = h.size in
-    let none : byte ∷ rest ≡ [] = h.text ∙ drop_all place (set_text h.set) (omega (arith, length-set_text h.set)) in
-    absurd cc)
-    (cases_lt (4 * place) (length k.members))
+due_digit k place byte rest l h = grind (arith, digits_split, drop_all, length-set_text)
 
 pub dead-glyph : (k : Kept) (place byte : ℕ) → ((value : ℕ) → value < 16 → byte ≡ digit_glyph false value → ⊥) → IsDead k (scan.Set place) byte
 dead-glyph k place byte none rest l h =

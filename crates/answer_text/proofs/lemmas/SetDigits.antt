@@ -4,7 +4,7 @@ use Rattle.std.specs.Int.{bit_at}
 use Rattle.std.specs.List.{range_with_len}
 use Rattle.std.proofs.Math.Nat.{div-div-eq-div-mul}
 use Rattle.std.proofs.lemmas.Nat.{pow-add, one_shl, and_mask}
-use Rattle.std.proofs.lemmas.Nat.Bits.{bit_at-lt, bit_at_and, bit_at_ones, bit_at_ones_above}
+use Rattle.std.proofs.lemmas.Nat.Bits.{bit_at_and, bit_at_ones, bit_at_ones_above}
 use Rattle.std.proofs.lemmas.Bool.{cases_lt}
 use Rattle.std.proofs.lemmas.List.{get_or_past}
 use Rattle.std.proofs.lemmas.List.FromFn.{get_or-map-range_with_len}
@@ -16,17 +16,11 @@ use Rattle.answer_text.specs.SetLaws.{digit_in_word, digit_at_place, take_set_te
 
 -- the lowest bits of a word are kept by a mask of so many ones
 bit_in_mask : (word k r : ℕ) → r < k → bit_at (bit_and word (2 ^ k - 1)) r ≡ bit_at word r
-bit_in_mask word k r below =
-    let both = bit_at_and word (2 ^ k - 1) r in
-    let one = bit_at_ones k r below in
-    omega (arith, both, one, bit_at-lt word r)
+bit_in_mask word k r below = grind (arith, bit_at_and, bit_at_ones)
 
 -- the others are cleared
 bit_past_mask : (word k r : ℕ) → k ≤ r → bit_at (bit_and word (2 ^ k - 1)) r ≡ 0
-bit_past_mask word k r above =
-    let both = bit_at_and word (2 ^ k - 1) r in
-    let none = bit_at_ones_above k r above in
-    omega (arith, both, none)
+bit_past_mask word k r above = grind (arith, bit_at_and, bit_at_ones_above)
 
 -- a word of a set without what stands past the set's end
 pub flag_within : (set : List Bool) (word place r : ℕ) → 64 * place < length set → length set - 64 * place < 64
@@ -79,13 +73,7 @@ word_digit word n =
 pub digit_in_set : (set : List Bool) (word place n : ℕ) → n < 16
     → ((r : ℕ) → r < 64 → has set (64 * place + r) ≡ eqb (bit_at word r) 1)
     → digit_in_word word n ≡ digit_at_place set (16 * place + n)
-digit_in_set set word place n few told =
-    let flag : (r at : ℕ) → r < 64 → at ≡ 64 * place + r → eqb (bit_at word r) 1 ≡ has set at =
-    (λ r at below is. rw is (sym (told r below))) in
-    (λ i. four_digit (flag (4 * n) (4 * (16 * place + n)) (omega arith) (omega arith) i)
-    (flag (4 * n + 1) (4 * (16 * place + n) + 1) (omega arith) (omega arith) i)
-    (flag (4 * n + 2) (4 * (16 * place + n) + 2) (omega arith) (omega arith) i)
-    (flag (4 * n + 3) (4 * (16 * place + n) + 3) (omega arith) (omega arith) i))
+digit_in_set set word place n few told = grind arith
 
 -- ---- the digits of all words
 
@@ -94,12 +82,4 @@ pub take_set_text-word : (set : List Bool) (digits : List ℕ) (place count : �
     → count ≡ min ((length set + 3) / 4 - 16 * place) 16 → 15 < length digits
     → ((n : ℕ) → n < 16 → get_or digits n 0 ≡ digit_at_place set (16 * place + n))
     → take (16 * place) (set_text set) ++ take count digits ≡ take (16 * (place + 1)) (set_text set)
-take_set_text-word set digits place count inside is enough are =
-    let front : take (16 * place) (set_text set) ++ take count digits ≡ take (16 * place + count) (set_text set) =
-    take_set_text-run set digits (16 * place) count (omega (arith, is)) (omega (arith, is)) (λ n below. are n (omega (arith, is))) in
-    front ∙ ⊎_elim
-    (λ (whole : 16 * place + 15 < (length set + 3) / 4). let next : 16 * place + count ≡ 16 * (place + 1) = omega (arith, is) in
-    ap (λ n. take n (set_text set)) next)
-    (λ (last : (length set + 3) / 4 ≤ 16 * place + 15).
-    take_set_text-all set (16 * place + count) (omega (arith, is)) ∙ sym (take_set_text-all set (16 * (place + 1)) (omega arith)))
-    (cases_lt (16 * place + 15) ((length set + 3) / 4))
+take_set_text-word set digits place count inside is enough are = grind (arith, take_set_text-run, take_set_text-all)

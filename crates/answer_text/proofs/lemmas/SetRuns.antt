@@ -1,8 +1,8 @@
 -- Runs of a set's digits.
-use Rattle.std.proofs.Common.{ℕ, ◌≡◌, ◌≢◌, ◌+◌, ◌<◌, ◌≤◌, List, [], ◌∷◌, ◌++◌, false, refl, sym, subst, ◌∙◌, arith, append_assoc}
+use Rattle.std.proofs.Common.{ℕ, ◌≡◌, ◌≢◌, ◌+◌, ◌<◌, ◌≤◌, List, [], ◌∷◌, ◌++◌, false, sym, subst, ◌∙◌, arith, append_assoc}
 use Rattle.std.specs.Fmt.{digit_glyph}
 use Rattle.std.proofs.lemmas.Bool.Decides.{nat_tests}
-use Rattle.std.proofs.lemmas.List.Elements.{All-nil, All-push}
+use Rattle.std.proofs.lemmas.List.Elements.{All-push}
 use Rattle.answer_text.specs.declared.scan.Kept.{Kept}
 use Rattle.answer_text.specs.declared.scan.Scan.{Scan}
 use Rattle.answer_text.specs.declared.scan.Scan.TheVariants as scan
@@ -17,15 +17,7 @@ glyph_apart value byte few is e = let high : 48 ≤ digit_glyph false value = gr
 -- no byte is a run
 pub run_none : (k : Kept) (place next : ℕ) → next ≡ place → IsSound k (scan.Set place) → FitsName k.name
     → IsRun k (scan.Set place) [] k (scan.Set next)
-run_none k place next is sound name = subst (λ n. IsRun k (scan.Set place) [] k (scan.Set n)) (sym is) (record {
-  leads = record { on = λ rest l h. h; back = λ rest l h. h };
-  within = All-nil (λ b. b ≢ 10);
-  sound = sound;
-  name = name;
-  stage = refl;
-  version = refl;
-  size = refl;
-})
+run_none k place next is sound name = grind arith
 
 -- one digit more
 pub run_more : (k k' k'' : Kept) (s : Scan) (bytes : List ℕ) (place next value byte : ℕ)

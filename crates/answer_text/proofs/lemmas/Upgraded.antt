@@ -1,5 +1,5 @@
 -- The same answer in version 2 has a text, and tells the same events in the same lines.
-use Rattle.std.proofs.Common.{ℕ, suc, ◌≡◌, List, [], ◌∷◌, ◌++◌, length, map, refl, sym, ap, ◌∙◌, append_assoc, Some, None}
+use Rattle.std.proofs.Common.{ℕ, suc, ◌≡◌, List, [], ◌∷◌, ◌++◌, length, map, sym, ap, ◌∙◌, append_assoc, Some, None, arith}
 use Rattle.net_graph.specs.declared.packing.Cut.{Cut}
 use Rattle.answer_text.specs.declared.form.Form.{Form}
 use Rattle.answer_text.specs.declared.form.Form.TheVariants as form
@@ -15,7 +15,7 @@ use Rattle.answer_text.specs.declared.version.Version.TheVariants as version
 use Rattle.answer_text.specs.AnswerLine.{Line}
 use Rattle.answer_text.specs.LineKinds as line
 use Rattle.answer_text.specs.Forms.{IsVersionOf}
-use Rattle.answer_text.specs.Lines.{split_line, tree_lines, proof_lines, head_lines, body_lines}
+use Rattle.answer_text.specs.Lines.{split_line, tree_lines, proof_lines, head_lines}
 use Rattle.answer_text.specs.Events.{events_from, events_of, no_head}
 use Rattle.answer_text.specs.Spelling.{FitsTree, SpellsAnswer}
 use Rattle.answer_text.specs.Text.{answer_text}
@@ -30,21 +30,14 @@ fits_two v F (Split (name.Edge e) o i) f = (f.0, fits_two v F o f.1, fits_two v 
 fits_two v F (Split (name.Vertex p) o i) f = ((tt, f.0.1), fits_two v F o f.1, fits_two v F i f.2)
 
 pub upgraded_spells : (V : ℕ) (bytes : List ℕ) (a : WrittenAnswer) → SpellsAnswer (form.OnGrid V) bytes a → SpellsAnswer (form.OnGrid V) (answer_text (upgraded a)) (upgraded a)
-upgraded_spells V bytes a spells =
-    let f = spells.fits in record {
-      fits = record { version = tt; head = f.head; note = tt; count = f.count; edges = f.edges; tree = fits_two a.version (form.OnGrid V) a.tree f.tree };
-      spelled = refl;
-    }
+upgraded_spells V bytes a spells = search fits_two
 
 -- ---- it tells the same
 
 -- the line of a split in both versions
 split_alike : (v : Version) (on : SplitName) (h : AnswerHead) (n : ℕ) (xs ys : List Line) → events_from h (suc n) xs ≡ events_from h (suc n) ys
     → events_from h n (split_line version.Two on ∷ xs) ≡ events_from h n (split_line v on ∷ ys)
-split_alike version.One (name.Edge e) h n xs ys same = ap (λ x. record { line = n; event = event.Split (name.Edge e); members = None } ∷ x) same
-split_alike version.Two (name.Edge e) h n xs ys same = ap (λ x. record { line = n; event = event.Split (name.Edge e); members = None } ∷ x) same
-split_alike version.Graph (name.Edge e) h n xs ys same = ap (λ x. record { line = n; event = event.Split (name.Edge e); members = None } ∷ x) same
-split_alike v (name.Vertex p) h n xs ys same = ap (λ x. record { line = n; event = event.Split (name.Vertex p); members = None } ∷ x) same
+split_alike v on h n xs ys same = grind arith
 
 -- cuts and edges before lines that tell the same
 cuts_alike : (cuts : List Cut) (h : AnswerHead) (n : ℕ) (xs ys : List Line) → ((m : ℕ) → events_from h m xs ≡ events_from h m ys)
@@ -70,18 +63,12 @@ tree_alike v (Split on o i) h n xs ys same =
     ∙ sym (ap (events_from h (suc n)) (append_assoc (one o) (one i) ys)))
 
 proof_alike : (v : Version) (t : Tree SplitName) (h : AnswerHead) (n : ℕ) → events_from h n (proof_lines version.Two t) ≡ events_from h n (proof_lines v t)
-proof_alike v t h n =
-    ap (λ x. record { line = n; event = event.Tree; members = None } ∷ x) (tree_alike v t h (suc n) (line.End ∷ []) (line.End ∷ []) (λ m. refl))
+proof_alike v t h n = search tree_alike
 
 -- a head in both versions, before such lines
 head_alike : (V : ℕ) (v : Version) (h : AnswerHead) (xs ys : List Line) → IsVersionOf (form.OnGrid V) v → events_from h 7 xs ≡ events_from h 7 ys
     → events_from no_head 1 (head_lines version.Two h ++ xs) ≡ events_from no_head 1 (head_lines v h ++ ys)
-head_alike V version.One h xs ys of same = ap (λ x. record { line = 6; event = event.Head h; members = None } ∷ x) same
-head_alike V version.Two h xs ys of same = ap (λ x. record { line = 6; event = event.Head h; members = None } ∷ x) same
-head_alike V version.Graph h xs ys of same = absurd of
+head_alike V v h xs ys of same = grind arith
 
 pub upgraded_told : (V : ℕ) (bytes : List ℕ) (a : WrittenAnswer) → SpellsAnswer (form.OnGrid V) bytes a → events_of (upgraded a) ≡ events_of a
-upgraded_told V bytes a spells =
-    head_alike V a.version a.head (body_lines (upgraded a)) (body_lines a) spells.fits.version
-    (ap (λ x. record { line = 7; event = event.EdgeCount (length a.edges); members = None } ∷ x)
-    (edges_alike a.edges a.head 8 (proof_lines version.Two a.tree) (proof_lines a.version a.tree) (λ m. proof_alike a.version a.tree a.head m)))
+upgraded_told V bytes a spells = search (head_alike, edges_alike, proof_alike)

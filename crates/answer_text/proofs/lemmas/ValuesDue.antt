@@ -25,7 +25,7 @@ use Rattle.answer_text.specs.Words.{name_words, point_words, edge_words, vertex_
 use Rattle.answer_text.specs.Forms.{most_edges}
 use Rattle.answer_text.specs.Spelling.{FitsName, FitsPoint, FitsEdge, FitsVertex, FitsCut}
 use Rattle.answer_text.specs.LineFits.{IsLineRead}
-use Rattle.answer_text.specs.Scanning.{IsInField, name_line, behind_x1, BehindNumber, NumberLeft, ValueLeft, ForkLeft, Left, edge_scan, vertex_scan}
+use Rattle.answer_text.specs.Scanning.{IsInField, name_line, BehindNumber, NumberLeft, ValueLeft, ForkLeft, Left, edge_scan, vertex_scan}
 use Rattle.answer_text.proofs.lemmas.WordLemmas.{name_pieces, point_pieces}
 use Rattle.answer_text.proofs.lemmas.Due.{zero_fits}
 use Rattle.answer_text.proofs.lemmas.FormLemmas.{most_edges-few}
@@ -45,14 +45,10 @@ number_due k f n l inside follows = record { number = n; more = decimal n; behin
 
 -- the words of a name are due
 name_text : (k : Kept) (rest : List ℕ) (l : Line) → ValueLeft k (scan.Coordinate corner.X1) rest l → (e : EdgeName) × FitsName e × (rest ≡ name_words e) × (l ≡ name_line k.version k.stage (edge.Ends e))
-name_text k rest l h =
-    let s = spelled_of k corner.X1 rest l h in
-    let b = s.follows in
-    (b.name, b.fits, s.text ∙ (λ i. signed_decimal (sym b.same i) ++ b.text i) ∙ sym (name_pieces b.name), b.line)
+name_text k rest l h = grind (arith, name_pieces)
 
 name_due : (k : Kept) (e : EdgeName) (rest : List ℕ) (l : Line) → FitsName e → rest ≡ name_words e → l ≡ name_line k.version k.stage (edge.Ends e) → ValueLeft k (scan.Coordinate corner.X1) rest l
-name_due k e rest l fits text is =
-    coordinate_left k corner.X1 e.x1 rest (32 ∷ behind_x1 e) l (text ∙ name_pieces e) fits.x1 (record { name = e; fits = fits; same = refl; text = refl; line = is })
+name_due k e rest l fits text is = grind (arith, coordinate_left, name_pieces)
 
 -- the words of a point are due
 point_text : (k : Kept) (rest : List ℕ) (l : Line) → ValueLeft k (scan.Coordinate corner.X) rest l → (p : Point) × FitsPoint p × (rest ≡ point_words p) × (l ≡ line.SplitVertex (vertex.At p))
@@ -80,10 +76,7 @@ pub edge_due : (F : Form) (k : Kept) (e : EdgeLabel) (rest : List ℕ) (l : Line
 edge_due (form.OnGrid V) k (edge.Ends e) rest l fits text is = name_due k e rest l fits text is
 edge_due (form.OnGrid V) k (edge.Number n) rest l fits text is = absurd fits
 edge_due (form.OfGraph E V) k (edge.Ends e) rest l fits text is = absurd fits
-edge_due (form.OfGraph E V) k (edge.Number n) rest l fits text is =
-    let last = fits.within in
-    let width = fits.width in
-    subst (λ x. NumberLeft k (field.EdgeNumber E) [] x l) (sym text) (number_due k (field.EdgeNumber E) n l (record { least = fits.first; limit = omega arith }) (refl, is))
+edge_due (form.OfGraph E V) k (edge.Number n) rest l fits text is = grind (arith, number_due)
 
 -- the words of a vertex's label are due
 pub vertex_text : (F : Form) (k : Kept) (rest : List ℕ) (l : Line) → ValueLeft k (vertex_scan F) rest l → (p : VertexLabel) × FitsVertex F p × (rest ≡ vertex_words p) × (l ≡ line.SplitVertex p)
@@ -97,10 +90,7 @@ pub vertex_due : (F : Form) (k : Kept) (p : VertexLabel) → FitsVertex F p → 
 vertex_due (form.OnGrid V) k (vertex.At p) fits = point_due k p fits
 vertex_due (form.OnGrid V) k (vertex.Number n) fits = absurd fits
 vertex_due (form.OfGraph E V) k (vertex.At p) fits = absurd fits
-vertex_due (form.OfGraph E V) k (vertex.Number n) fits =
-    let last = fits.within in
-    let width = fits.width in
-    number_due k (field.VertexNumber V) n (line.SplitVertex (vertex.Number n)) (record { least = fits.first; limit = omega arith }) (refl, refl)
+vertex_due (form.OfGraph E V) k (vertex.Number n) fits = grind (arith, number_due)
 
 -- a count of edges within its field is one that fits
 pub count_fits : (F : Form) (n : ℕ) → IsInField (field.Count (most_edges F)) n → n ≤ most_edges F
@@ -112,29 +102,17 @@ count_inside F n few = record { least = omega arith; limit = omega (arith, most_
 -- a cut's words are due
 pub cut_text : (V : ℕ) (k : Kept) (rest : List ℕ) (l : Line) → length k.members ≡ V → NumberLeft k field.Weight [] rest l
     → (c : Cut) × (rest ≡ decimal c.weight ++ codes " " ++ set_text c.members) × FitsCut V c × (l ≡ line.Cut c)
-cut_text V k rest l vertices h =
-    let b = h.follows in
-    let least = h.inside.least in
-    let limit = h.inside.limit in (
-      record { weight = h.number; members = b.set },
-      h.parts ∙ (λ i. sym h.spelled i ++ b.text i) ∙ sym (append_assoc (decimal h.number) (codes " ") (set_text b.set)),
-      record { some = omega arith; weight = omega arith; members = b.size ∙ vertices },
-      b.line,
-    )
+cut_text V k rest l vertices h = grind (arith, append_assoc)
 
 -- where an edge is named, neither a word nor one of two is due
 pub edge_value : (F : Form) (k : Kept) (rest : List ℕ) (l : Line) → Left k (edge_scan F) rest l → ValueLeft k (edge_scan F) rest l
-edge_value (form.OnGrid V) k rest l h = h
-edge_value (form.OfGraph E V) k rest l h = h
+edge_value F k rest l h = grind arith
 
 pub edge_fork : (F : Form) (k : Kept) (rest : List ℕ) (l : Line) → ForkLeft k (edge_scan F) rest l → ValueLeft k (edge_scan F) rest l
-edge_fork (form.OnGrid V) k rest l h = h
-edge_fork (form.OfGraph E V) k rest l h = h
+edge_fork F k rest l h = grind arith
 
 pub value_edge : (F : Form) (k : Kept) (rest : List ℕ) (l : Line) → ValueLeft k (edge_scan F) rest l → Left k (edge_scan F) rest l
-value_edge (form.OnGrid V) k rest l h = h
-value_edge (form.OfGraph E V) k rest l h = h
+value_edge F k rest l h = grind arith
 
 pub fork_edge : (F : Form) (k : Kept) (rest : List ℕ) (l : Line) → ValueLeft k (edge_scan F) rest l → ForkLeft k (edge_scan F) rest l
-fork_edge (form.OnGrid V) k rest l h = h
-fork_edge (form.OfGraph E V) k rest l h = h
+fork_edge F k rest l h = grind arith

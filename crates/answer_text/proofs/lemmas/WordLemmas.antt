@@ -1,5 +1,5 @@
 -- What was read at the front of a line, and what could not be read.
-use Rattle.std.proofs.Common.{◌≡◌, ◌∷◌, ◌++◌, append_assoc, Option, Some, None}
+use Rattle.std.proofs.Common.{◌≡◌, ◌∷◌, ◌++◌, append_assoc, Option, arith}
 use Rattle.std.specs.Prelude.{IfSome, IfNone}
 use Rattle.std.specs.Fmt.{signed_decimal}
 use Rattle.hanan_grid.specs.declared.name.EdgeName.{EdgeName}
@@ -8,8 +8,7 @@ use Rattle.answer_text.specs.Words.{name_words, point_words}
 
 -- what follows from a fact for None holds for None
 pub none_then : {X P Q : Type 0} (r : Option X) → IfNone r P → (P → Q) → IfNone r Q
-none_then None p f = f p
-none_then (Some x) p f = tt
+none_then r p f = grind arith
 
 -- the words of a name, one after another
 pub name_pieces : (e : EdgeName) → name_words e ≡ signed_decimal e.x1 ++ 32 ∷ (signed_decimal e.y1 ++ 32 ∷ (signed_decimal e.x2 ++ 32 ∷ signed_decimal e.y2))
@@ -21,5 +20,4 @@ point_pieces p = simp append_assoc
 
 -- what follows from a fact for Some holds for Some
 pub some_then : {X : Type 0} {P Q : X → Type 0} (r : Option X) → IfSome r P → ((x : X) → P x → Q x) → IfSome r Q
-some_then None p f = tt
-some_then (Some x) p f = f x p
+some_then r p f = grind arith
