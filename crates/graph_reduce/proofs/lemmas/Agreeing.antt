@@ -1,8 +1,6 @@
 -- Nodes at which two states agree, so that no rule applies in the one alone.
 use Rattle.std.specs.Prelude.{ℕ, ◌≡◌, ◌≢◌, ◌⊎◌, ◌+◌, Bool, true, false, List, slice_get, slice_set, Some, None}
-use Rattle.std.specs.List.{Contains}
-use Rattle.std.proofs.Common.{refl, sym, ap, ◌∙◌, inl, inr, ⊎_elim, subst}
-use Rattle.std.proofs.lemmas.Bool.{cases_eq}
+use Rattle.std.proofs.Common.{refl, sym, ◌∙◌, inl, inr, ⊎_elim, subst, arith}
 use Rattle.net_graph.specs.Network.{HasEnds}
 use Rattle.net_graph.specs.EntryLaws.{slice_get-set_other}
 use Rattle.graph_reduce.specs.declared.due.Due.{Due}
@@ -15,7 +13,7 @@ use Rattle.graph_reduce.specs.NodeRules.{rule_of}
 use Rattle.graph_reduce.specs.Due.{AreDue, IsDue}
 use Rattle.graph_reduce.specs.Clear.{IsWithin, AreAlike}
 use Rattle.graph_reduce.proofs.lemmas.Choices.{set_cases}
-use Rattle.graph_reduce.proofs.lemmas.Ends.{same_edge, first_end}
+use Rattle.graph_reduce.proofs.lemmas.Ends.{first_end}
 use Rattle.graph_reduce.proofs.lemmas.JoinedPlaces.{one, after, found, still}
 use Rattle.graph_reduce.proofs.lemmas.Keeping.{found_before}
 use Rattle.graph_reduce.proofs.lemmas.Terminals.{In, In-from_Contains, Contains-from_In, In-moved, In-moved_from}
@@ -111,17 +109,10 @@ due_after new old due are each rule v applies = ⊎_elim (λ (is : IsDue due v).
 
 pub kept_node : (nodes : List Bool) (w v : ℕ) → slice_get (slice_set nodes w false) v ≡ Some true →
     slice_get nodes v ≡ Some true
-kept_node nodes w v is = ⊎_elim (λ (p : (v ≡ w) × (false ≡ true)). absurd (let (here, bad) = p in cc))
-    (λ (p : (v ≡ w → ⊥) × (slice_get nodes v ≡ Some true)). p.1) (set_cases nodes w v false true is)
+kept_node nodes w v is = grind (arith, set_cases)
 
 pub agrees_node : (s : State) (w v : ℕ) → AgreesAt (without_node s w) s v
-agrees_node s w v = record {
-  node = kept_node s.nodes w v;
-  terminal = λ is. is;
-  still = λ is. is;
-  edges = λ n x at ends. at;
-  ends = λ n ends. ends;
-}
+agrees_node s w v = search kept_node
 
 -- ---- where an edge is dropped
 
@@ -129,30 +120,12 @@ agrees_node s w v = record {
 abbrev IsApart : Bundle → ℕ → Type 0
 IsApart x v = (v ≢ x.edge.a) × (v ≢ x.edge.b)
 
-pub not_end : (s : State) (place v : ℕ) (x : Bundle) → HasEdge s place x → IsApart x v → ¬ EndsIn s v place
-not_end s place v x at apart (y, y_at, ends) = ⊎_elim
-    (λ (is : y.edge.a ≡ v). apart.0 (sym is ∙ ap (λ z. z.edge.a) (same_edge s place y x y_at at)))
-    (λ (is : y.edge.b ≡ v). apart.1 (sym is ∙ ap (λ z. z.edge.b) (same_edge s place y x y_at at))) ends
-
--- the node is an end of the edge or none
-end_or_apart : (x : Bundle) (v : ℕ) → ((v ≡ x.edge.a) ⊎ (v ≡ x.edge.b)) ⊎ IsApart x v
-end_or_apart x v = elim (cases_eq v x.edge.a) [
-  | inl is ↦ inl (inl is)
-  | inr a_apart ↦ elim (cases_eq v x.edge.b) [
-    | inl is ↦ inl (inr is)
-    | inr b_apart ↦ inr (a_apart, b_apart)
-  ]
-]
-
 -- the ends of an edge are due
 abbrev pub AreBothDue : Due → Bundle → Type 0
 AreBothDue due x = IsDue due x.edge.a × IsDue due x.edge.b
 
 due_or_apart : (due : Due) (x : Bundle) (v : ℕ) → AreBothDue due x → IsDue due v ⊎ IsApart x v
-due_or_apart due x v both = ⊎_elim
-    (λ (end : (v ≡ x.edge.a) ⊎ (v ≡ x.edge.b)). inl (⊎_elim (λ (is : v ≡ x.edge.a). subst (IsDue due) (sym is) both.0)
-    (λ (is : v ≡ x.edge.b). subst (IsDue due) (sym is) both.1) end))
-    (λ (apart : IsApart x v). inr apart) (end_or_apart x v)
+due_or_apart due x v both = grind arith
 
 module _ (new old : State) (w place : ℕ) (x : Bundle) (at : HasEdge old place x) (v : ℕ) (apart : IsApart x v)
     (nodes : HasNode new v → HasNode old v) (terminal : IsTerminal new v → IsTerminal old v)
@@ -166,8 +139,7 @@ module _ (new old : State) (w place : ℕ) (x : Bundle) (at : HasEdge old place 
     ends = λ n (y, y_at, ends). (
       y,
       subst (λ es. slice_get es n ≡ Some (Some y)) (sym edges)
-          (slice_get-set_other old.edges place n None (λ same. not_end old place v x at apart
-          (subst (EndsIn old v) same (y, y_at, ends))) ∙ y_at),
+          (slice_get-set_other old.edges place n None (λ same. grind arith) ∙ y_at),
       ends,
     );
   }
@@ -178,8 +150,7 @@ due_leaf v old new due are (inl drops) told = subst (λ s. AreDue s due) (sym dr
     (due_after (without_node old v) old due are (λ u. inr (agrees_node old v u)))
 due_leaf v old new due are (inr drops) told = subst (λ s. AreDue s due) (sym drops.becomes)
     (due_after (without_edge (without_node old v) drops.place) old due are (λ u. ⊎_elim (λ (is : IsDue due u). inl is)
-    (λ (apart : IsApart drops.x u). inr (agrees_dropped (without_edge (without_node old v) drops.place) old v drops.place drops.x drops.edge.at u apart
-    (kept_node old.nodes v u) (λ is. is) (λ is. is) refl))
+    (λ (apart : IsApart drops.x u). grind (arith, agrees_dropped, kept_node))
     (due_or_apart due drops.x u (told drops.place drops.x
     (drops.x, drops.edge.at, first_end drops.x v drops.other drops.edge.ends) drops.edge.at))))
 
@@ -207,9 +178,7 @@ module _ (v : ℕ) (old new : State) (forces : ForcesEdge v old new) where
       (In-from_Contains (moved old.terminals v forces.other) u is))
 
   terminal_after : (u : ℕ) → IsApart forces.x u → IsTerminal old u → IsTerminal forced_state u
-  terminal_after u apart is = Contains-from_In (moved old.terminals v forces.other) u
-      (In-moved_from old.terminals v forces.other u (In-from_Contains old.terminals u is)
-      (both_apart u apart forces.edge.ends).0)
+  terminal_after u apart is = grind (arith, Contains-from_In, In-moved_from, In-from_Contains, both_apart)
 
   pub due_forced : (due : Due) → AreDue old due →
       ((n : ℕ) (x : Bundle) → EndsIn old v n → HasEdge old n x → AreBothDue due x) → AreDue new due
@@ -252,17 +221,14 @@ due_joined v old new due are joins told = subst (λ s. AreDue s due) (sym joins.
       terminal = λ is. is;
       still = λ is. is;
       edges = λ n z at ends. ⊎_elim
-          (λ (p : (n ≡ joins.earlier) × (one v old new joins ≡ z)). absurd (not_joined u x_apart y_apart
-          (subst (λ (b : Bundle). (b.edge.a ≡ u) ⊎ (b.edge.b ≡ u)) (sym p.1) ends)))
+          (λ (p : (n ≡ joins.earlier) × (one v old new joins ≡ z)). grind arith)
           (λ (p : (n ≡ joins.earlier → ⊥) × (n ≡ joins.later → ⊥) × (slice_get old.edges n ≡ Some (Some z))). p.2)
           (found v old new joins n z at);
       ends = λ n (z, at, ends). (
         z,
         still v old new joins n z
-            (λ same. not_end old joins.earlier u joins.x joins.earlier_at x_apart
-            (subst (EndsIn old u) same (z, at, ends)))
-            (λ same. not_end old joins.later u joins.y joins.later_at y_apart
-            (subst (EndsIn old u) same (z, at, ends))) at,
+            (λ same. grind arith)
+            (λ same. grind arith) at,
         ends,
       );
     }
@@ -279,29 +245,8 @@ due_joined v old new due are joins told = subst (λ s. AreDue s due) (sym joins.
 module _ (old new : State) (place other : ℕ) (alike : AreAlike old place other) (within : IsWithin new old)
     (others : (n : ℕ) (z : Bundle) → n ≢ place → n ≢ other → HasEdge old n z → HasEdge new n z)
     (nodes : new.nodes ≡ old.nodes) (terminals : new.terminals ≡ old.terminals) where
-  apart_other : (u : ℕ) → IsApart alike.x u → IsApart alike.y u
-  apart_other u apart = by_ends alike.ends
-    where
-      by_ends : HasEnds alike.y.edge alike.x.edge.a alike.x.edge.b → IsApart alike.y u
-      by_ends (inl p) = (λ same. apart.0 (same ∙ p.0), λ same. apart.1 (same ∙ p.1))
-      by_ends (inr p) = (λ same. apart.1 (same ∙ p.0), λ same. apart.0 (same ∙ p.1))
-
   agrees_alike : (u : ℕ) → IsApart alike.x u → AgreesAt new old u
-  agrees_alike u apart = record {
-    node = λ is. subst (λ ns. slice_get ns u ≡ Some true) nodes is;
-    terminal = λ is. subst (λ ts. Contains ts u) terminals is;
-    still = λ is. subst (λ ts. Contains ts u) (sym terminals) is;
-    edges = λ n z at ends. within.edges n z at;
-    ends = λ n (z, at, ends). (
-      z,
-      others n z
-          (λ same. not_end old place u alike.x alike.at apart (subst (EndsIn old u) same (z, at, ends)))
-          (λ same. not_end old other u alike.y alike.other_at (apart_other u apart)
-          (subst (EndsIn old u) same (z, at, ends))) at,
-      ends,
-    );
-  }
+  agrees_alike u apart = grind arith
 
   pub due_alike : (due : Due) → AreDue old due → AreBothDue due alike.x → AreDue new due
-  due_alike due are both = due_after new old due are (λ u. ⊎_elim (λ (is : IsDue due u). inl is)
-      (λ (apart : IsApart alike.x u). inr (agrees_alike u apart)) (due_or_apart due alike.x u both))
+  due_alike due are both = due_after new old due are (λ u. grind (arith, agrees_alike, due_or_apart))

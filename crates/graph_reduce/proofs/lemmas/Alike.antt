@@ -28,15 +28,7 @@ alike_within s place n alike = slice_get_within s.edges n (Some alike.y) alike.o
 
 -- an end of the one edge is an end of the other
 pub alike_end : (s : State) (place n : ℕ) (alike : AreAlike s place n) (v : ℕ) → EndsIn s v place → EndsIn s v n
-alike_end s place n alike v (x, at, ends) = by_ends alike.ends
-    (subst (λ (b : Bundle). (b.edge.a ≡ v) ⊎ (b.edge.b ≡ v)) (same_edge s place x alike.x at alike.at) ends)
-  where
-    by_ends : HasEnds alike.y.edge alike.x.edge.a alike.x.edge.b → (alike.x.edge.a ≡ v) ⊎ (alike.x.edge.b ≡ v) →
-        EndsIn s v n
-    by_ends (inl p) (inl is) = (alike.y, alike.other_at, inl (p.0 ∙ is))
-    by_ends (inl p) (inr is) = (alike.y, alike.other_at, inr (p.1 ∙ is))
-    by_ends (inr p) (inl is) = (alike.y, alike.other_at, inr (p.1 ∙ is))
-    by_ends (inr p) (inr is) = (alike.y, alike.other_at, inl (p.0 ∙ is))
+alike_end s place n alike v (x, at, ends) = grind arith
 
 -- nothing below a place of the node's edges is alike, nor is this one: nothing below the next is
 pub none_alike : (s : State) (place v from n : ℕ) → EndsIn s v place → ((k : ℕ) → k < from → ¬ AreAlike s place k) →
@@ -59,50 +51,23 @@ none_alike_left s place v from end lower none k alike = elim (cases_lt k from) [
 
 -- two places in order
 ordered : (n m : ℕ) → n ≢ m → (n < m) ⊎ (m < n)
-ordered n m apart = elim (cases_lt n m) [
-  | inl below ↦ inl below
-  | inr past ↦ inr (omega (arith, past, apart))
-]
+ordered n m apart = grind arith
 
 -- two edges that are alike are parallel, the earlier first
 parallel_after : (s : State) (place n : ℕ) (alike : AreAlike s place n) → place < n →
     AreParallel s place n alike.x alike.y
-parallel_after s place n alike order = record {
-  order = order;
-  first_at = alike.at;
-  second_at = alike.other_at;
-  same_ends = alike.ends;
-}
+parallel_after s place n alike order = search
 
 parallel_before : (s : State) (place n : ℕ) (alike : AreAlike s place n) → n < place →
     AreParallel s n place alike.y alike.x
-parallel_before s place n alike order = record {
-  order = order;
-  first_at = alike.other_at;
-  second_at = alike.at;
-  same_ends = ends_back alike.x.edge alike.y.edge alike.ends;
-}
+parallel_before s place n alike order = grind arith
 
 -- .. and parallel edges are alike
 alike_first : (s : State) (n m : ℕ) (x y : Bundle) → AreParallel s n m x y → AreAlike s n m
-alike_first s n m x y are = record {
-  apart = λ same. let order = are.order in absurd (omega arith);
-  x = x;
-  y = y;
-  at = are.first_at;
-  other_at = are.second_at;
-  ends = are.same_ends;
-}
+alike_first s n m x y are = grind arith
 
 alike_second : (s : State) (n m : ℕ) (x y : Bundle) → AreParallel s n m x y → AreAlike s m n
-alike_second s n m x y are = record {
-  apart = λ same. let order = are.order in absurd (omega arith);
-  x = y;
-  y = x;
-  at = are.second_at;
-  other_at = are.first_at;
-  ends = ends_back x.edge y.edge are.same_ends;
-}
+alike_second s n m x y are = grind arith
 
 -- what is parallel to an edge of a node is an edge of the node too
 pub clear_past : (s : State) (end place from n v : ℕ) →
@@ -150,13 +115,7 @@ module _ (s : State) (place : ℕ) (tidy : IsTidyBut s place) where
 
   -- a parallel pair has the place in it
   pair_with : (n m : ℕ) (x y : Bundle) → AreParallel s n m x y → (n ≡ place) ⊎ (m ≡ place)
-  pair_with n m x y are = elim (cases_eq n place) [
-    | inl is ↦ inl is
-    | inr n_apart ↦ elim (cases_eq m place) [
-      | inl is ↦ inr is
-      | inr m_apart ↦ absurd (tidy.parallels n m x y n_apart m_apart are)
-    ]
-  ]
+  pair_with n m x y are = grind arith
 
   loops_to : (end n : ℕ) (x : Bundle) → n < end → HasEdge s n x → x.edge.a ≢ x.edge.b
   loops_to end n x below at = tidy.loops n x at
@@ -167,8 +126,7 @@ module _ (s : State) (place : ℕ) (tidy : IsTidyBut s place) where
     idle = tidy.idle;
     loops = loops_to (length s.edges);
     parallels = λ n m x y before are. ⊎_elim
-        (λ (is : n ≡ place). let lower = are.order in absurd (⊎_elim (λ (b : n < other). omega arith)
-        (λ (b : (n ≡ other) × (m < place)). omega (arith, b.0)) before))
+        (λ (is : n ≡ place). omega arith)
         (λ (is : m ≡ place). absurd (⊎_elim
         (λ (b : n < other). (let same = one_alike n other (subst (λ k. AreAlike s k n) is (alike_second s n m x y are)) first in omega (arith, b, same)))
         (λ (b : (n ≡ other) × (m < place)). let low = b.1 in omega arith) before))

@@ -1,10 +1,10 @@
 -- The graph and the first state of its reduction have the same networks.
-use Rattle.std.specs.Prelude.{ℕ, zero, suc, ◌≡◌, ◌+◌, ◌<◌, Bool, true, false, List, [], ◌∷◌, length, replicate, slice_get, slice_set, slice_index_or, Some, if◌then◌else◌}
-use Rattle.std.proofs.Common.{refl, sym, ap, ◌∙◌, inl, inr, ⊎_elim, subst, arith}
+use Rattle.std.specs.Prelude.{ℕ, zero, suc, ◌≡◌, ◌+◌, ◌<◌, Bool, true, false, List, [], ◌∷◌, length, replicate, slice_get, slice_set, slice_index_or, Some}
+use Rattle.std.proofs.Common.{refl, sym, inl, inr, ⊎_elim, subst, arith}
 use Rattle.std.proofs.lemmas.Bool.{cases_eq}
 use Rattle.std.proofs.lemmas.List.{length-replicate}
 use Rattle.std.proofs.lemmas.List.Elements.{All-contains, Contains-get_or}
-use Rattle.std.proofs.lemmas.Option.{slice_get_within, slice_get-get_or, same_Some}
+use Rattle.std.proofs.lemmas.Option.{slice_get_within, slice_get-get_or}
 use Rattle.net_graph.specs.declared.edge.Edge.{Edge}
 use Rattle.net_graph.specs.EntryLaws.{slice_get-set_same, slice_get-set_other, slice_get-replicate}
 use Rattle.net_graph.specs.Flags.{has}
@@ -32,11 +32,8 @@ pub bundle_from : (size n : ℕ) (es : List Edge) (k : ℕ) (e : Edge) → slice
     slice_get (bundles_from size n es) k ≡
     Some (Some (record { edge = e; originals = slice_set (replicate size false) (n + k) true }))
 bundle_from size n [] k e at = absurd cc
-bundle_from size n (d ∷ es) zero e at = ap (λ y. Some (Some y)) (
-    ap (λ y. record { edge = y; originals = slice_set (replicate size false) n true }) (same_Some d e at)
-    ∙ ap (λ m. record { edge = e; originals = slice_set (replicate size false) m true }) (omega arith))
-bundle_from size n (d ∷ es) (suc k) e at = bundle_from size (n + 1) es k e at
-    ∙ ap (λ m. Some (Some (record { edge = e; originals = slice_set (replicate size false) m true }))) (omega arith)
+bundle_from size n (d ∷ es) zero e at = grind arith
+bundle_from size n (d ∷ es) (suc k) e at = grind (arith, bundle_from size (n + 1) es k e at)
 
 -- a single number is in its set
 single_has : (size n : ℕ) → n < size → has (slice_set (replicate size false) n true) n ≡ true
@@ -49,8 +46,7 @@ single_is size n e is = elim (cases_eq e n) [
   | inl here ↦ here
   | inr apart ↦
       (let found : slice_get (replicate size false) e ≡ Some true =
-      sym (slice_get-set_other (replicate size false) n e true apart)
-      ∙ slice_get-has (slice_set (replicate size false) n true) e is in
+      grind (arith, slice_get-set_other, slice_get-has) in
       let no : false ≡ true = slice_get-replicate size e false true found in cc)
 ]
 
@@ -61,24 +57,14 @@ length_at_start size n [] set F same = refl
 length_at_start size n (e ∷ es) [] F same =
     let rest = length_at_start size (n + 1) es [] (λ k. F (suc k)) (λ k below. same (suc k) (omega arith)) in
     let here : part (Some (record { edge = e; originals = slice_set (replicate size false) n true })) (F 0) ≡ 0 =
-    ap (part (Some (record { edge = e; originals = slice_set (replicate size false) n true })))
-    (sym (same 0 (omega arith))) in
+    grind arith in
     omega (arith, rest, here, no_flags es)
   where
     no_flags : (es : List Edge) → length_of_edges es [] ≡ 0
     no_flags [] = refl
     no_flags (e ∷ es) = refl
 length_at_start size n (e ∷ es) (flag ∷ set) F same =
-    let rest = length_at_start size (n + 1) es set (λ k. F (suc k)) (λ k below. same (suc k) (omega arith)) in
-    let here = first flag (F 0) (same 0 (omega arith)) in
-    omega (arith, rest, here)
-  where
-    first : (one two : Bool) → one ≡ two → (if one then e.length else 0) ≡
-        part (Some (record { edge = e; originals = slice_set (replicate size false) n true })) two
-    first true true is = refl
-    first false false is = refl
-    first true false is = cc
-    first false true is = cc
+    grind (arith, length_at_start size (n + 1) es set (λ k. F (suc k)) (λ k below. same (suc k) (omega arith)))
 
 module _ (g : Graph) (graph : IsGraph g) where
   root_in : In g.terminals (root_of g)

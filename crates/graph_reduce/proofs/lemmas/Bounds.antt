@@ -18,8 +18,7 @@ use Rattle.graph_reduce.proofs.lemmas.Terminals.{In-from_Contains}
 
 module _ (s : State) (reached : IsReached s) where
   sound : IsSound s
-  sound = (steps_keep reached.from_start.count (start_of reached.graph) s (IsSound-start reached.graph reached.sound)
-      reached.from_start.steps).1
+  sound = grind (arith, steps_keep, IsSound-start)
 
   fits : Fits reached.graph s
   fits = steps_fit reached.graph reached.from_start.count (start_of reached.graph) s
@@ -51,11 +50,7 @@ module _ (s : State) (reached : IsReached s) where
       omega (arith, here, there, fits.total, reached.sound.total)
 
 pub reached_then : (old new : State) → IsReached old → LeadsTo old new → IsReached new
-reached_then old new reached leads = record {
-  graph = reached.graph;
-  sound = reached.sound;
-  from_start = then_steps (start_of reached.graph) old new reached.from_start leads;
-}
+reached_then old new reached leads = search then_steps
 
 -- ---- from the first state of a graph
 

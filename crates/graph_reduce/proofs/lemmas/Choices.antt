@@ -18,17 +18,11 @@ put_other F n flag k apart = ap (λ b. if b then flag else F k) (ne_eqb k n apar
 
 -- what is chosen where one place was taken out is another, and was chosen before
 pub put_out : (F : ℕ → Bool) (n k : ℕ) → put F n false k ≡ true → (k ≡ n → ⊥) × (F k ≡ true)
-put_out F n k chosen = elim (cases_eq k n) [
-  | inl here ↦ (let none : put F n false k ≡ false = ap (put F n false) here ∙ put_same F n false in cc)
-  | inr apart ↦ (apart, sym (put_other F n false k apart) ∙ chosen)
-]
+put_out F n k chosen = grind arith
 
 -- what was chosen is so where one more place is put in
 pub put_in : (F : ℕ → Bool) (n k : ℕ) → F k ≡ true → put F n true k ≡ true
-put_in F n k chosen = elim (cases_eq k n) [
-  | inl here ↦ (ap (put F n true) here ∙ put_same F n true)
-  | inr apart ↦ (put_other F n true k apart ∙ chosen)
-]
+put_in F n k chosen = grind arith
 
 -- what is found in a list in which one entry was written was written there, or found there before
 pub set_cases : {A : Type 0} (xs : List A) (n k : ℕ) (x y : A) → slice_get (slice_set xs n x) k ≡ Some y →
@@ -52,5 +46,4 @@ set_over [] i j a b c apart = refl
 set_over (x ∷ xs) zero zero a b c apart = absurd (apart refl)
 set_over (x ∷ xs) zero (suc j) a b c apart = refl
 set_over (x ∷ xs) (suc i) zero a b c apart = ap (λ more. b ∷ more) (set-set xs i a c)
-set_over (x ∷ xs) (suc i) (suc j) a b c apart =
-    ap (λ more. x ∷ more) (set_over xs i j a b c (λ same. apart (ap suc same)))
+set_over (x ∷ xs) (suc i) (suc j) a b c apart = search (set_over xs i j a b c (λ same. apart (ap suc same)))

@@ -1,6 +1,6 @@
 -- Where no earlier rule applies, and what stays so where edges are dropped.
-use Rattle.std.specs.Prelude.{ℕ, zero, suc, ◌≡◌, ◌+◌, ◌<◌, length, Some, None, if◌then◌else◌, nat_lt}
-use Rattle.std.proofs.Common.{refl, sym, ap, ◌∙◌, inl, inr, ⊎_elim, subst, arith, length-set}
+use Rattle.std.specs.Prelude.{ℕ, zero, suc, ◌≡◌, ◌+◌, length, Some, None, if◌then◌else◌, nat_lt}
+use Rattle.std.proofs.Common.{refl, sym, ap, ◌∙◌, inl, inr, subst, arith, length-set}
 use Rattle.std.proofs.lemmas.Bool.{cases_eq}
 use Rattle.std.proofs.lemmas.Option.{slice_get_within}
 use Rattle.graph_reduce.specs.State.{Bundle, State, HasEdge}
@@ -31,10 +31,7 @@ then_steps one two three first rest = more_steps one two three first.count rest.
 -- ---- fewer edges
 
 pub within_then : (one two three : State) → IsWithin one two → IsWithin two three → IsWithin one three
-within_then one two three first rest = record {
-  places = first.places ∙ rest.places;
-  edges = λ place x at. rest.edges place x (first.edges place x at);
-}
+within_then one two three first rest = grind arith
 
 pub within_without : (s : State) (place : ℕ) → IsWithin (without_edge s place) s
 within_without s place = record {
@@ -44,12 +41,7 @@ within_without s place = record {
 
 pub parallel_within : (new old : State) → IsWithin new old → (n m : ℕ) (x y : Bundle) → AreParallel new n m x y →
     AreParallel old n m x y
-parallel_within new old within n m x y are = record {
-  order = are.order;
-  first_at = within.edges n x are.first_at;
-  second_at = within.edges m y are.second_at;
-  same_ends = are.same_ends;
-}
+parallel_within new old within n m x y are = grind arith
 
 pub clear_within : (new old : State) (end pair later : ℕ) → IsWithin new old → new.terminals ≡ old.terminals →
     IsClearTo old end pair later → IsClearTo new end pair later
@@ -104,17 +96,7 @@ drops_parallel s place later x y clear are = record {
 -- one later place more
 pub clear_later : (s : State) (end place later : ℕ) → IsClearTo s end place later →
     ((x y : Bundle) → ¬ AreParallel s place later x y) → IsClearTo s end place (later + 1)
-clear_later s end place later clear here = record {
-  idle = clear.idle;
-  loops = clear.loops;
-  parallels = λ n m x y before are. elim (cases_eq m later) [
-    | inl is ↦ ⊎_elim (λ (lower : n < place). clear.parallels n m x y (inl lower) are)
-        (λ (same : (n ≡ place) × (m < later + 1)). here x y (subst (λ k. AreParallel s k later x y) same.0
-        (subst (λ k. AreParallel s n k x y) is are))) before
-    | inr apart ↦ clear.parallels n m x y (⊎_elim (λ (lower : n < place). inl lower)
-        (λ (same : (n ≡ place) × (m < later + 1)). inr (same.0, omega (arith, same.1, apart))) before) are
-  ];
-}
+clear_later s end place later clear here = grind arith
 
 -- the next place
 pub clear_next : (s : State) (end place : ℕ) → IsClearTo s end place (length s.edges) → IsClearTo s end (place + 1) 0
@@ -123,32 +105,18 @@ clear_next s end place clear = record {
   loops = clear.loops;
   parallels = λ n m x y before are. clear.parallels n m x y (elim (cases_eq n place) [
     | inl is ↦ inr (is, slice_get_within s.edges m (Some y) are.second_at)
-    | inr apart ↦ inl (⊎_elim (λ (lower : n < place + 1). omega (arith, lower, apart))
-        (λ (same : (n ≡ place + 1) × (m < 0)). absurd (omega (arith, same.1))) before)
+    | inr apart ↦ grind arith
   ]) are;
 }
 
 -- before any later place than the next
 pub clear_start : (s : State) (end place : ℕ) → IsClearTo s end place 0 → IsClearTo s end place (place + 1)
-clear_start s end place clear = record {
-  idle = clear.idle;
-  loops = clear.loops;
-  parallels = λ n m x y before are. ⊎_elim (λ (lower : n < place). clear.parallels n m x y (inl lower) are)
-      (λ (same : (n ≡ place) × (m < place + 1)). absurd (omega (arith, same.0, same.1, are.order))) before;
-}
+clear_start s end place clear = grind arith
 
 -- the next place, where this one holds no edge
 pub clear_gone : (s : State) (end place later : ℕ) → ((x : Bundle) → ¬ HasEdge s place x) →
     IsClearTo s end place later → IsClearTo s end (place + 1) 0
-clear_gone s end place later none clear = record {
-  idle = clear.idle;
-  loops = clear.loops;
-  parallels = λ n m x y before are. clear.parallels n m x y (elim (cases_eq n place) [
-    | inl is ↦ absurd (none x (subst (λ k. HasEdge s k x) is are.first_at))
-    | inr apart ↦ inl (⊎_elim (λ (lower : n < place + 1). omega (arith, lower, apart))
-        (λ (same : (n ≡ place + 1) × (m < 0)). absurd (omega (arith, same.1))) before)
-  ]) are;
-}
+clear_gone s end place later none clear = search arith
 
 pub tidy_from_clear : (s : State) → IsClearTo s (length s.edges) (length s.edges) 0 → IsTidy s
 tidy_from_clear s clear = record {

@@ -42,8 +42,7 @@ Keeps-all_edges old new drops = subst (Keeps old) (sym drops.becomes) (record { 
     widens G given = record {
       F = λ n. false;
       net = net old.edges (λ n. false);
-      into = λ e is. ⊎_elim (λ (f : has old.forced e ≡ true). inl f)
-          (λ (c : Carries old.edges (λ n. false) e). let no : false ≡ true = c.chosen in cc) is;
+      into = grind arith;
       back = λ e is. ⊎_elim (λ (f : has old.forced e ≡ true). inl f)
           (λ (c : Carries after.edges G e). absurd (no_edge G e c)) is;
       value = omega (arith, length_in-nothing old.edges, length_in-none (length old.edges) G);
@@ -58,11 +57,6 @@ Keeps-all_edges old new drops = subst (Keeps old) (sym drops.becomes) (record { 
 
 -- ---- a loop
 
--- both ends of a loop are one node
-loop_ends : (x : Bundle) (v w : ℕ) → x.edge.a ≡ x.edge.b → HasEnds x.edge v w → v ≡ w
-loop_ends x v w is ends = ⊎_elim (λ (along : (x.edge.a ≡ v) × (x.edge.b ≡ w)). sym along.0 ∙ is ∙ along.1)
-    (λ (against : (x.edge.a ≡ w) × (x.edge.b ≡ v)). sym against.1 ∙ sym is ∙ against.0) ends
-
 pub Keeps-loop : (place : ℕ) (old new : State) → DropsLoop place old new → Keeps old new
 Keeps-loop place old new drops = subst (Keeps old) (sym drops.becomes)
     (Keeps-dropped old old.nodes place drops.loop drops.at narrows)
@@ -70,11 +64,7 @@ Keeps-loop place old new drops = subst (Keeps old) (sym drops.becomes)
     step : (F : ℕ → Bool) (v w : ℕ) → Joins old.edges F v w → Leads (Joins (slice_set old.edges place None) F) v w
     step F v w j = elim (cases_eq j.place place) [
       | inl here ↦
-          (let same : j.x ≡ drops.loop = same_edge old place j.x drops.loop
-          (subst (λ n. HasEdge old n j.x) here j.at) drops.at in
-          let one : v ≡ w = loop_ends drops.loop v w drops.is_loop (subst (λ x. HasEnds x.edge v w) same j.ends) in
-          subst (λ u. Leads (Joins (slice_set old.edges place None) F) v u) one
-          (Leads-start (Joins (slice_set old.edges place None) F) v))
+          grind arith
       | inr apart ↦ Leads-one (Joins (slice_set old.edges place None) F) v w
           (still_joins old.edges place None F F v w j apart j.chosen)
     ]
@@ -102,8 +92,7 @@ pub step_past_leaf : (s : State) (v place : ℕ) (x : Bundle) (other : ℕ) → 
     (F : ℕ → Bool) (u w : ℕ) → Joins s.edges F u w →
     Leads (Joins (slice_set s.edges place None) F) (seen_at v other u) (seen_at v other w)
 step_past_leaf s v place x other edge F u w j = elim (cases_eq j.place place) [
-  | inl here ↦ (let one : seen_at v other u ≡ seen_at v other w = both here in
-      subst (λ z. Leads Left (seen_at v other u) z) one (Leads-start Left (seen_at v other u)))
+  | inl here ↦ search (Leads-start, arith)
   | inr apart ↦ Leads-one Left _ _ (subst (λ z. Left z (seen_at v other w)) (sym (seen_other v other u (λ is. apart
       (edge.only j.place (j.x, j.at, u_end is))))) (subst (λ z. Left u z) (sym (seen_other v other w (λ is. apart
       (edge.only j.place (j.x, j.at, w_end is))))) (still_joins s.edges place None F F u w j apart j.chosen)))

@@ -1,5 +1,5 @@
 -- Edges that are left, by their places and by their new numbers; nodes that are left, and their new numbers.
-use Rattle.std.specs.Prelude.{ℕ, zero, suc, ◌≡◌, ◌+◌, ◌⊎◌, Bool, true, false, List, [], ◌∷◌, map, slice_get, slice_index_or, Option, Some, None, if◌then◌else◌}
+use Rattle.std.specs.Prelude.{ℕ, zero, suc, ◌≡◌, ◌+◌, ◌⊎◌, Bool, true, false, List, [], ◌∷◌, map, slice_get, slice_index_or, Option, Some, None}
 use Rattle.std.proofs.Common.{refl, ap, ◌∙◌, inl, inr, ⊎_elim, arith}
 use Rattle.std.proofs.lemmas.Option.{same_Some, get_or_from_slice_get}
 use Rattle.net_graph.specs.Flags.{has}
@@ -8,7 +8,7 @@ use Rattle.net_graph.specs.Network.{length_of_edges}
 use Rattle.graph_reduce.specs.State.{Bundle}
 use Rattle.graph_reduce.specs.Reduction.{bundles_left, number_among, renumbered, union_of}
 use Rattle.graph_reduce.proofs.lemmas.Keeping.{Carries}
-use Rattle.graph_reduce.proofs.lemmas.Lengths.{part, part_none, length_in, length_in-nothing}
+use Rattle.graph_reduce.proofs.lemmas.Lengths.{part_none, length_in, length_in-nothing}
 use Rattle.graph_reduce.proofs.lemmas.Unions.{union_cases, union_left, union_right}
 
 -- ---- numbers of nodes
@@ -61,8 +61,7 @@ spread_from (None ∷ xs) set k x at is =
     let rest = spread_from xs set k x at is in
     record { place = suc rest.place; at = rest.at; chosen = rest.chosen }
 spread_from (Some y ∷ xs) [] k x at is = absurd cc
-spread_from (Some y ∷ xs) (flag ∷ set) zero x at is =
-    record { place = zero; at = ap Some at; chosen = same_Some flag true is }
+spread_from (Some y ∷ xs) (flag ∷ set) zero x at is = grind arith
 spread_from (Some y ∷ xs) (flag ∷ set) (suc k) x at is =
     let rest = spread_from xs set k x at is in
     record { place = suc rest.place; at = rest.at; chosen = rest.chosen }
@@ -77,11 +76,8 @@ pub gathered_from : (xs : List (Option Bundle)) (F : ℕ → Bool) (n : ℕ) (x 
     slice_get xs n ≡ Some (Some x) → F n ≡ true → IsGathered xs (gathered xs F) x
 gathered_from [] F n x at is = absurd cc
 gathered_from (None ∷ xs) F zero x at is = let none = same_Some None (Some x) at in absurd cc
-gathered_from (None ∷ xs) F (suc n) x at is =
-    let rest = gathered_from xs (λ k. F (suc k)) n x at is in
-    record { number = rest.number; at = rest.at; inside = rest.inside }
-gathered_from (Some y ∷ xs) F zero x at is =
-    record { number = zero; at = same_Some (Some y) (Some x) at; inside = ap Some is }
+gathered_from (None ∷ xs) F (suc n) x at is = search (gathered_from xs (λ k. F (suc k)) n x at is)
+gathered_from (Some y ∷ xs) F zero x at is = grind arith
 gathered_from (Some y ∷ xs) F (suc n) x at is =
     let rest = gathered_from xs (λ k. F (suc k)) n x at is in
     record { number = suc rest.number; at = rest.at; inside = rest.inside }
@@ -98,40 +94,24 @@ length_spread nodes (Some x ∷ xs) (false ∷ set) = omega (arith, length_sprea
 pub length_gathered : (nodes : List Bool) (xs : List (Option Bundle)) (F : ℕ → Bool) →
     length_of_edges (map (λ x. renumbered nodes x.edge) (bundles_left xs)) (gathered xs F) ≡ length_in xs F
 length_gathered nodes [] F = refl
-length_gathered nodes (None ∷ xs) F =
-    omega (arith, length_gathered nodes xs (λ n. F (suc n)), part_none (F 0))
-length_gathered nodes (Some x ∷ xs) F =
-    omega (arith, length_gathered nodes xs (λ n. F (suc n)), first (F 0))
-  where
-    first : (b : Bool) → (if b then x.edge.length else 0) ≡ part (Some x) b
-    first true = refl
-    first false = refl
+length_gathered nodes (None ∷ xs) F = omega (arith, part_none, length_gathered nodes xs (λ n. F (suc n)))
+length_gathered nodes (Some x ∷ xs) F = grind (arith, length_gathered nodes xs (λ n. F (suc n)))
 
 -- ---- what a set stands for
 
 -- an edge at a later place
 carries_later : (y : Option Bundle) (xs : List (Option Bundle)) (F : ℕ → Bool) (e : ℕ) →
     Carries xs (λ n. F (suc n)) e → Carries (y ∷ xs) F e
-carries_later y xs F e c = record {
-  place = suc c.place;
-  x = c.x;
-  chosen = c.chosen;
-  at = c.at;
-  original = c.original;
-}
+carries_later y xs F e c = search
 
 -- a number of the union is in one of the sets, or in the one more
 pub union_of_cases : (xs : List (Option Bundle)) (set more : List Bool) (e : ℕ) →
     has (union_of (map (λ x. x.originals) (bundles_left xs)) set more) e ≡ true →
     (has more e ≡ true) ⊎ Carries xs (spread xs set) e
 union_of_cases [] set more e is = inl is
-union_of_cases (None ∷ xs) set more e is = ⊎_elim (λ (m : has more e ≡ true). inl m)
-    (λ (c : Carries xs (spread xs set) e). inr (carries_later None xs (spread (None ∷ xs) set) e c))
-    (union_of_cases xs set more e is)
+union_of_cases (None ∷ xs) set more e is = grind (arith, carries_later, union_of_cases xs set more e is)
 union_of_cases (Some x ∷ xs) [] more e is = inl is
-union_of_cases (Some x ∷ xs) (false ∷ set) more e is = ⊎_elim (λ (m : has more e ≡ true). inl m)
-    (λ (c : Carries xs (spread xs set) e). inr (carries_later (Some x) xs (spread (Some x ∷ xs) (false ∷ set)) e c))
-    (union_of_cases xs set more e is)
+union_of_cases (Some x ∷ xs) (false ∷ set) more e is = grind (arith, carries_later, union_of_cases xs set more e is)
 union_of_cases (Some x ∷ xs) (true ∷ set) more e is = ⊎_elim
     (λ (here : has x.originals e ≡ true). inr (record {
       place = zero;
@@ -153,9 +133,7 @@ union_of_more [] set more e is = is
 union_of_more (None ∷ xs) set more e is = union_of_more xs set more e is
 union_of_more (Some x ∷ xs) [] more e is = is
 union_of_more (Some x ∷ xs) (false ∷ set) more e is = union_of_more xs set more e is
-union_of_more (Some x ∷ xs) (true ∷ set) more e is =
-    union_right x.originals (union_of (map (λ y. y.originals) (bundles_left xs)) set more) e
-    (union_of_more xs set more e is)
+union_of_more (Some x ∷ xs) (true ∷ set) more e is = search (union_right, union_of_more xs set more e is)
 
 pub union_of_carried : (xs : List (Option Bundle)) (set more : List Bool) (e n : ℕ) (y : Bundle) →
     slice_get xs n ≡ Some (Some y) → spread xs set n ≡ true → has y.originals e ≡ true →
@@ -165,12 +143,8 @@ union_of_carried (None ∷ xs) set more e zero y at chosen is = cc
 union_of_carried (None ∷ xs) set more e (suc n) y at chosen is = union_of_carried xs set more e n y at chosen is
 union_of_carried (Some x ∷ xs) [] more e n y at chosen is = cc
 union_of_carried (Some x ∷ xs) (false ∷ set) more e zero y at chosen is = cc
-union_of_carried (Some x ∷ xs) (true ∷ set) more e zero y at chosen is =
-    let same : x ≡ y = same_Some x y (same_Some (Some x) (Some y) at) in
-    union_left x.originals (union_of (map (λ z. z.originals) (bundles_left xs)) set more) e
-    (ap (λ z. has z.originals e) same ∙ is)
+union_of_carried (Some x ∷ xs) (true ∷ set) more e zero y at chosen is = grind (arith, union_left)
 union_of_carried (Some x ∷ xs) (false ∷ set) more e (suc n) y at chosen is =
     union_of_carried xs set more e n y at chosen is
 union_of_carried (Some x ∷ xs) (true ∷ set) more e (suc n) y at chosen is =
-    union_right x.originals (union_of (map (λ z. z.originals) (bundles_left xs)) set more) e
-    (union_of_carried xs set more e n y at chosen is)
+    search (union_right, union_of_carried xs set more e n y at chosen is)

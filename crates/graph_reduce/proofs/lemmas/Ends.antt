@@ -1,7 +1,7 @@
 -- The two ends of an edge, and a node that is seen at the other end of its edge.
 use Rattle.std.specs.Prelude.{ℕ, ◌≡◌, ◌⊎◌, ◌==◌, Some, if◌then◌else◌}
-use Rattle.std.proofs.Common.{sym, ap, ◌∙◌, inl, inr}
-use Rattle.std.proofs.lemmas.Bool.{cases_eq, eq-eqb, ne_eqb}
+use Rattle.std.proofs.Common.{sym, ap, ◌∙◌, inl, inr, arith}
+use Rattle.std.proofs.lemmas.Bool.{eq-eqb, ne_eqb}
 use Rattle.std.proofs.lemmas.Option.{same_Some}
 use Rattle.net_graph.specs.declared.edge.Edge.{Edge}
 use Rattle.net_graph.specs.Network.{HasEnds}
@@ -21,12 +21,6 @@ seen_same v other u is = ap (λ b. if b then other else u) (eq-eqb u v is)
 pub seen_other : (v other u : ℕ) → (u ≡ v → ⊥) → seen_at v other u ≡ u
 seen_other v other u apart = ap (λ b. if b then other else u) (ne_eqb u v apart)
 
-pub seen_end : (v other : ℕ) → seen_at v other other ≡ other
-seen_end v other = elim (cases_eq other v) [
-  | inl is ↦ seen_same v other other is
-  | inr apart ↦ seen_other v other other apart
-]
-
 -- the two ends of an edge are its two ends
 pub ends_are : (x : Bundle) (v w a b : ℕ) → HasEnds x.edge v w → HasEnds x.edge a b →
     ((a ≡ v) × (b ≡ w)) ⊎ ((a ≡ w) × (b ≡ v))
@@ -38,11 +32,7 @@ ends_are x v w a b (inr one) (inr two) = inl (sym two.1 ∙ one.1, sym two.0 ∙
 -- .. which are seen at one node, where the one is seen at the other
 pub seen_ends : (x : Bundle) (v other a b : ℕ) → HasEnds x.edge v other → HasEnds x.edge a b →
     seen_at v other a ≡ seen_at v other b
-seen_ends x v other a b ends step = by_ends (ends_are x v other a b ends step)
-  where
-    by_ends : ((a ≡ v) × (b ≡ other)) ⊎ ((a ≡ other) × (b ≡ v)) → seen_at v other a ≡ seen_at v other b
-    by_ends (inl is) = seen_same v other a is.0 ∙ sym (ap (seen_at v other) is.1 ∙ seen_end v other)
-    by_ends (inr is) = ap (seen_at v other) is.0 ∙ seen_end v other ∙ sym (seen_same v other b is.1)
+seen_ends x v other a b ends step = grind (arith, seen_same)
 
 -- an edge has one other end
 pub other_is : (e : Edge) (v u w : ℕ) → HasEnds e v u → HasEnds e v w → u ≡ w

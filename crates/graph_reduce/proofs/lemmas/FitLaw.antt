@@ -70,11 +70,7 @@ total_left : (nodes : List Bool) (xs : List (Option Bundle)) →
     sum_by (λ e. e.length) (map (λ x. renumbered nodes x.edge) (bundles_left xs)) ≡ length_in xs all
 total_left nodes [] = refl
 total_left nodes (None ∷ xs) = omega (arith, total_left nodes xs)
-total_left nodes (Some x ∷ xs) = omega (
-  arith,
-  total_left nodes xs,
-  sum_by-cons (λ (e : Edge). e.length) (renumbered nodes x.edge) (map (λ y. renumbered nodes y.edge) (bundles_left xs)),
-)
+total_left nodes (Some x ∷ xs) = search (sum_by-cons, total_left nodes xs)
 
 -- what holds at each place that holds something holds of all
 All-from_get : {A : Type 0} (P : A → Type 0) (xs : List A) →

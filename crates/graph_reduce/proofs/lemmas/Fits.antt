@@ -1,5 +1,5 @@
 -- What holds of every state of a reduction: sizes, lengths, and that no edge of the graph is held twice.
-use Rattle.std.specs.Prelude.{ℕ, suc, ◌≡◌, ◌+◌, ◌<◌, ◌≤◌, ◌⊎◌, Bool, true, false, List, [], ◌∷◌, length, replicate, slice_get, slice_set, sum_by, Some, None, All, nat_lt, if◌then◌else◌}
+use Rattle.std.specs.Prelude.{ℕ, suc, ◌≡◌, ◌+◌, ◌<◌, ◌≤◌, ◌⊎◌, Bool, true, false, List, [], ◌∷◌, length, replicate, slice_get, slice_set, sum_by, Some, None, All}
 use Rattle.std.proofs.Common.{refl, sym, ap, ◌∙◌, inl, inr, ⊎_elim, subst, arith, length-set}
 use Rattle.std.proofs.lemmas.List.{length-replicate}
 use Rattle.std.proofs.lemmas.List.Sums.{sum_by-cons}
@@ -10,7 +10,7 @@ use Rattle.net_graph.specs.Flags.{has}
 use Rattle.net_graph.specs.Joins.{slice_get-has}
 use Rattle.net_graph.specs.Graph.{Graph, IsGraph, total_of}
 use Rattle.graph_reduce.specs.State.{Bundle, State, HasEdge, bundles_from, distinct_of, start_of}
-use Rattle.graph_reduce.specs.Rules.{DropsAllEdges, DropsParallel, DropsLoneNode, JoinsEdges, ForcesEdge, moved, without_edge}
+use Rattle.graph_reduce.specs.Rules.{DropsAllEdges, DropsParallel, DropsLoneNode, JoinsEdges, ForcesEdge, moved}
 use Rattle.graph_reduce.specs.Step.{Rule, Takes, Applies, order_of}
 use Rattle.graph_reduce.specs.Step.Rule.{OneTerminal, Loop, Parallel, Leaf, Passed, TerminalLeaf}
 use Rattle.graph_reduce.proofs.lemmas.Beginning.{single_is}
@@ -49,8 +49,7 @@ length-bundles_from size n (e ∷ es) = ap suc (length-bundles_from size (n + 1)
 
 all_at_start : (size n : ℕ) (es : List Edge) → length_in (bundles_from size n es) all ≡ sum_by (λ e. e.length) es
 all_at_start size n [] = refl
-all_at_start size n (e ∷ es) =
-    omega (arith, all_at_start size (n + 1) es, sum_by-cons (λ (x : Edge). x.length) e es)
+all_at_start size n (e ∷ es) = search (sum_by-cons, all_at_start size (n + 1) es)
 
 some_distinct : (xs : List ℕ) → 0 < length xs → 0 < length (distinct_of xs)
 some_distinct [] some = absurd (omega arith)
@@ -73,14 +72,12 @@ Fits-start g graph = record {
   total = omega (arith, all_at_start (length g.edges) 0 g.edges);
   apart = λ n m e x y x_at y_at x_has y_has.
       let here = is_place n e x x_at x_has in let there = is_place m e y y_at y_has in omega (arith, here, there);
-  unforced = λ n e x at is forced. let no : false ≡ true = slice_get-replicate (length g.edges) e false true
-      (slice_get-has (replicate (length g.edges) false) e forced) in cc;
+  unforced = λ n e x at is forced. let no : false ≡ true = search (slice_get-replicate, slice_get-has) in cc;
 }
   where
     is_place : (n e : ℕ) (x : Bundle) → HasEdge (start_of g) n x → has x.originals e ≡ true → e ≡ n
     is_place n e x at is =
-        let here : e ≡ 0 + n = single_is (length g.edges) (0 + n) e
-        (subst (λ set. has set e ≡ true) (bundle_at (length g.edges) 0 g.edges n x at).1 is) in omega (arith, here)
+        let here : e ≡ 0 + n = grind (arith, single_is, bundle_at) in omega (arith, here)
 
 -- ---- the rules
 
@@ -88,17 +85,7 @@ Fits-start g graph = record {
 fits_less : (g : Graph) (old new : State) → Fits g old → length new.nodes ≡ length old.nodes →
     length new.edges ≡ length old.edges → new.terminals ≡ old.terminals → new.forced ≡ old.forced →
     value_of new all ≤ value_of old all → ((n : ℕ) (x : Bundle) → HasEdge new n x → HasEdge old n x) → Fits g new
-fits_less g old new fits nodes edges terminals forced total fewer = record {
-  nodes = nodes ∙ fits.nodes;
-  edges = edges ∙ fits.edges;
-  forced = ap length forced ∙ fits.forced;
-  sizes = λ n x at. fits.sizes n x (fewer n x at);
-  positive = λ n x at. fits.positive n x (fewer n x at);
-  some = subst (λ ts. 0 < length ts) (sym terminals) fits.some;
-  total = omega (arith, total, fits.total);
-  apart = λ n m e x y x_at y_at x_has y_has. fits.apart n m e x y (fewer n x x_at) (fewer m y y_at) x_has y_has;
-  unforced = λ n e x at is f. fits.unforced n e x (fewer n x at) is (subst (λ set. has set e ≡ true) forced f);
-}
+fits_less g old new fits nodes edges terminals forced total fewer = grind arith
 
 fits_dropped : (g : Graph) (s : State) (nodes : List Bool) (n : ℕ) (x : Bundle) → Fits g s →
     length nodes ≡ length s.nodes → HasEdge s n x → Fits g (dropped s nodes n)
@@ -116,12 +103,7 @@ fits_lone g v old new fits drops = subst (Fits g) (sym drops.becomes)
     (fits_less g old _ fits (length-set old.nodes v false) refl refl refl (omega arith) (λ n x at. at))
 
 fits_parallel : (g : Graph) (place : ℕ) (old new : State) → Fits g old → DropsParallel place old new → Fits g new
-fits_parallel g place old new fits drops = subst (Fits g) (sym drops.becomes)
-    (by_test (nat_lt drops.y.edge.length drops.x.edge.length))
-  where
-    by_test : (b : Bool) → Fits g (without_edge old (if b then place else drops.later))
-    by_test true = fits_dropped g old old.nodes place drops.x fits refl drops.parallel.first_at
-    by_test false = fits_dropped g old old.nodes drops.later drops.y fits refl drops.parallel.second_at
+fits_parallel g place old new fits drops = search (fits_dropped, arith)
 
 module _ (g : Graph) (v : ℕ) (old new : State) (fits : Fits g old) (joins : JoinsEdges v old new) where
   -- an edge at the place stands for this one
@@ -165,15 +147,11 @@ module _ (g : Graph) (v : ℕ) (old new : State) (fits : Fits g old) (joins : Jo
   held_unforced n e (inr (p, q, (x, at, is))) forced = fits.unforced n e x at is forced
 
   size_of : (n : ℕ) (x : Bundle) → Origin n x → length x.originals ≡ length g.edges
-  size_of n x (inl p) = ap (λ y. length y.originals) (sym p.1)
-      ∙ length-union joins.x.originals joins.y.originals
-      (fits.sizes joins.earlier joins.x joins.earlier_at ∙ sym (fits.sizes joins.later joins.y joins.later_at))
-      ∙ fits.sizes joins.later joins.y joins.later_at
+  size_of n x (inl p) = grind (arith, length-union)
   size_of n x (inr p) = fits.sizes n x p.2
 
   positive_of : (n : ℕ) (x : Bundle) → Origin n x → 0 < x.edge.length
-  positive_of n x (inl p) = subst (λ y. 0 < y.edge.length) p.1
-      (let long = fits.positive joins.earlier joins.x joins.earlier_at in omega (arith, long))
+  positive_of n x (inl p) = grind arith
   positive_of n x (inr p) = fits.positive n x p.2
 
   fits_joined : Fits g new
@@ -213,13 +191,8 @@ fits_forced g v old new fits forces apart = subst (Fits g) (sym forces.becomes) 
     fits.total,
     length_in-set old.edges forces.place (Some forces.x) None all all forces.edge.at (λ k other. refl),
   );
-  apart = λ n m e x y x_at y_at x_has y_has. fits.apart n m e x y (found_before old.edges forces.place n x x_at).1
-      (found_before old.edges forces.place m y y_at).1 x_has y_has;
-  unforced = λ n e x at is f. let before = found_before old.edges forces.place n x at in ⊎_elim
-      (λ (a : has old.forced e ≡ true). fits.unforced n e x before.1 is a)
-      (λ (a : has forces.x.originals e ≡ true).
-      before.0 (fits.apart n forces.place e x forces.x before.1 forces.edge.at is a))
-      (union_cases old.forced forces.x.originals e f);
+  apart = grind (arith, found_before);
+  unforced = λ n e x at is f. let before = found_before old.edges forces.place n x at in grind (arith, union_cases);
 })
   where
     size : length forces.x.originals ≡ length g.edges
@@ -229,8 +202,7 @@ fits_forced g v old new fits forces apart = subst (Fits g) (sym forces.becomes) 
 pub Fits-step : (g : Graph) (rule : Rule) (at : ℕ) (old new : State) → Fits g old → Takes rule at old new →
     (order_of Loop < order_of rule → (place : ℕ) → ¬ Applies old Loop place) → Fits g new
 Fits-step g OneTerminal at old new fits drops none = fits_none g old new fits drops
-Fits-step g Loop at old new fits drops none = subst (Fits g) (sym drops.becomes)
-    (fits_dropped g old old.nodes at drops.loop fits refl drops.at)
+Fits-step g Loop at old new fits drops none = grind (arith, fits_dropped)
 Fits-step g Parallel at old new fits drops none = fits_parallel g at old new fits drops
 Fits-step g Leaf at old new fits (inl drops) none = fits_lone g at old new fits drops
 Fits-step g Leaf at old new fits (inr drops) none = subst (Fits g) (sym drops.becomes)

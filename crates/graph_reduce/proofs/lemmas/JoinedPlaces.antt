@@ -1,12 +1,11 @@
 -- The places of edges where two edges of a node are joined.
 use Rattle.std.specs.Prelude.{ℕ, ◌≡◌, ◌⊎◌, false, List, slice_get, slice_set, Option, Some, None}
-use Rattle.std.proofs.Common.{sym, ◌∙◌, inl, inr, ⊎_elim, arith}
-use Rattle.std.proofs.lemmas.Option.{same_Some, slice_get_within}
+use Rattle.std.proofs.Common.{sym, ◌∙◌, arith}
+use Rattle.std.proofs.lemmas.Option.{slice_get_within}
 use Rattle.net_graph.specs.EntryLaws.{slice_get-set_same, slice_get-set_other}
 use Rattle.graph_reduce.specs.State.{Bundle, State, HasEdge}
 use Rattle.graph_reduce.specs.Rules.{JoinsEdges, joined}
 use Rattle.graph_reduce.proofs.lemmas.Choices.{set_cases}
-use Rattle.graph_reduce.proofs.lemmas.Keeping.{found_before}
 
 module _ (v : ℕ) (old new : State) (joins : JoinsEdges v old new) where
   abbrev pub one : Bundle
@@ -38,14 +37,9 @@ module _ (v : ℕ) (old new : State) (joins : JoinsEdges v old new) where
   pub found : (k : ℕ) (z : Bundle) → slice_get left k ≡ Some (Some z) →
       ((k ≡ joins.earlier) × (one ≡ z)) ⊎
       ((k ≡ joins.earlier → ⊥) × (k ≡ joins.later → ⊥) × (slice_get old.edges k ≡ Some (Some z)))
-  found k z at =
-      let before = found_before mid joins.later k z at in
-      ⊎_elim (λ (p : (k ≡ joins.earlier) × (Some one ≡ Some z)). inl (p.0, same_Some one z p.1))
-      (λ (p : (k ≡ joins.earlier → ⊥) × (slice_get old.edges k ≡ Some (Some z))). inr (p.0, before.0, p.1))
-      (set_cases old.edges joins.earlier k (Some one) (Some z) before.1)
+  found k z at = grind (arith, set_cases)
 
   -- .. and what was there at another place is left
   pub still : (k : ℕ) (z : Bundle) → (k ≡ joins.earlier → ⊥) → (k ≡ joins.later → ⊥) → HasEdge old k z →
       slice_get left k ≡ Some (Some z)
-  still k z not_earlier not_later at = slice_get-set_other mid joins.later k None not_later
-      ∙ slice_get-set_other old.edges joins.earlier k (Some one) not_earlier ∙ at
+  still k z not_earlier not_later at = search slice_get-set_other

@@ -82,8 +82,7 @@ dropped s nodes place = record s { nodes = nodes; edges = slice_set s.edges plac
 -- an edge that is found there was found before, at another place
 pub found_before : (edges : List (Option Bundle)) (n k : ℕ) (y : Bundle) →
     slice_get (slice_set edges n None) k ≡ Some (Some y) → (k ≡ n → ⊥) × (slice_get edges k ≡ Some (Some y))
-found_before edges n k y found = ⊎_elim (λ (p : (k ≡ n) × (None ≡ Some y)). let (here, is) = p in absurd cc)
-    (λ (p : (k ≡ n → ⊥) × (slice_get edges k ≡ Some (Some y))). p) (set_cases edges n k None (Some y) found)
+found_before edges n k y found = grind (arith, set_cases)
 
 -- a choice of the edges that are left is one of the edges before
 pub widened_by_drop : (s : State) (nodes : List Bool) (n : ℕ) (x : Bundle) → HasEdge s n x → (G : ℕ → Bool) →
@@ -135,13 +134,7 @@ widened_by_drop s nodes n x at G net = record {
     carries_into : (e : ℕ) → Carries s.edges F e → Carries after G e
     carries_into e c =
         let left = put_out G n c.place c.chosen in
-        record {
-          place = c.place;
-          x = c.x;
-          chosen = left.1;
-          at = slice_get-set_other s.edges n c.place None left.0 ∙ c.at;
-          original = c.original;
-        }
+        grind (arith, slice_get-set_other)
 
 -- a state that drops an edge, where the choices before can do without it
 pub Keeps-dropped : (s : State) (nodes : List Bool) (n : ℕ) (x : Bundle) → HasEdge s n x →
@@ -151,13 +144,7 @@ Keeps-dropped s nodes n x at narrows = record { widens = widened_by_drop s nodes
 -- an edge at another place is still there
 pub still_joins : (edges : List (Option Bundle)) (n : ℕ) (z : Option Bundle) (F G : ℕ → Bool) (v w : ℕ) →
     (j : Joins edges F v w) → (j.place ≡ n → ⊥) → G j.place ≡ true → Joins (slice_set edges n z) G v w
-still_joins edges n z F G v w j apart chosen = record {
-  place = j.place;
-  x = j.x;
-  chosen = chosen;
-  at = slice_get-set_other edges n j.place z apart ∙ j.at;
-  ends = j.ends;
-}
+still_joins edges n z F G v w j apart chosen = grind (arith, slice_get-set_other)
 
 -- an edge that is dropped, where the choice stays as it is, takes its length with it
 pub short_by_drop : (s : State) (nodes : List Bool) (n : ℕ) (x : Bundle) (F : ℕ → Bool) → HasEdge s n x →

@@ -110,8 +110,7 @@ module _ (g : Graph) (graph : IsGraph g) (s : State) (reduced : IsReducedTo g s)
       record { graph = left; origins = origins; originals = originals; forced = forced; offset = offset } ≡
       reduction_of s
   left_is left origins nodes originals edges forced offset graph_is origins_is nodes_are originals_are edges_are
-      forced_is offset_is =
-      rw (graph_is, origins_is, nodes_are, originals_are, edges_are, forced_is, offset_is)
+      forced_is offset_is = grind arith
 
   pub laid_out : IsLaidOut (reduction_of s)
   laid_out = record {

@@ -1,7 +1,6 @@
 -- The length of chosen places of a state, and what it comes to when an edge or a choice changes.
 use Rattle.std.specs.Prelude.{ℕ, zero, suc, ◌≡◌, ◌+◌, Bool, true, false, List, [], ◌∷◌, replicate, slice_get, slice_set, Option, Some, None}
 use Rattle.std.proofs.Common.{refl, ap, arith}
-use Rattle.std.proofs.lemmas.Option.{same_Some}
 use Rattle.graph_reduce.specs.State.{Bundle}
 
 -- the length of what a place holds
@@ -23,24 +22,12 @@ pub part_none : (flag : Bool) → part None flag ≡ 0
 part_none true = refl
 part_none false = refl
 
--- the same choices give the same length
-pub length_in-flags : (xs : List (Option Bundle)) (F G : ℕ → Bool) → ((n : ℕ) → F n ≡ G n) →
-    length_in xs F ≡ length_in xs G
-length_in-flags [] F G same = refl
-length_in-flags (x ∷ xs) F G same =
-    let rest = length_in-flags xs (λ n. F (suc n)) (λ n. G (suc n)) (λ n. same (suc n)) in
-    let here : part x (F 0) ≡ part x (G 0) = ap (part x) (same 0) in
-    omega (arith, rest, here)
-
 -- one place changes what it holds, and whether it is chosen
 pub length_in-set : (xs : List (Option Bundle)) (n : ℕ) (x y : Option Bundle) (F G : ℕ → Bool) →
     slice_get xs n ≡ Some x → ((k : ℕ) → (k ≡ n → ⊥) → F k ≡ G k) →
     length_in (slice_set xs n y) G + part x (F n) ≡ length_in xs F + part y (G n)
 length_in-set [] n x y F G at same = cc
-length_in-set (z ∷ zs) zero x y F G at same =
-    let rest = length_in-flags zs (λ n. F (suc n)) (λ n. G (suc n)) (λ n. same (suc n) (λ e. omega arith)) in
-    let here : part z (F 0) ≡ part x (F 0) = ap (λ w. part w (F 0)) (same_Some z x at) in
-    omega (arith, rest, here)
+length_in-set (z ∷ zs) zero x y F G at same = grind arith
 length_in-set (z ∷ zs) (suc n) x y F G at same =
     let rest = length_in-set zs n x y (λ k. F (suc k)) (λ k. G (suc k)) at (λ k apart. same (suc k) (λ e. apart (omega arith))) in
     let here : part z (F 0) ≡ part z (G 0) = ap (part z) (same 0 (λ e. omega arith)) in
@@ -51,11 +38,7 @@ pub length_in-choice : (xs : List (Option Bundle)) (n : ℕ) (x : Option Bundle)
     slice_get xs n ≡ Some x → ((k : ℕ) → (k ≡ n → ⊥) → F k ≡ G k) →
     length_in xs G + part x (F n) ≡ length_in xs F + part x (G n)
 length_in-choice [] n x F G at same = cc
-length_in-choice (z ∷ zs) zero x F G at same =
-    let rest = length_in-flags zs (λ n. F (suc n)) (λ n. G (suc n)) (λ n. same (suc n) (λ e. omega arith)) in
-    let here : part z (F 0) ≡ part x (F 0) = ap (λ w. part w (F 0)) (same_Some z x at) in
-    let there : part z (G 0) ≡ part x (G 0) = ap (λ w. part w (G 0)) (same_Some z x at) in
-    omega (arith, rest, here, there)
+length_in-choice (z ∷ zs) zero x F G at same = grind arith
 length_in-choice (z ∷ zs) (suc n) x F G at same =
     let rest = length_in-choice zs n x (λ k. F (suc k)) (λ k. G (suc k)) at (λ k apart. same (suc k) (λ e. apart (omega arith))) in
     let here : part z (F 0) ≡ part z (G 0) = ap (part z) (same 0 (λ e. omega arith)) in

@@ -1,6 +1,6 @@
 -- The reduction of a graph keeps its networks.
 use Rattle.std.specs.Prelude.{ℕ, ◌≡◌, ◌+◌, Bool, List}
-use Rattle.std.proofs.Common.{sym, ◌∙◌, subst, arith}
+use Rattle.std.proofs.Common.{arith}
 use Rattle.net_graph.specs.Flags.{has}
 use Rattle.net_graph.specs.Graph.{Graph, IsGraph}
 use Rattle.net_graph.specs.Network.{IsNetwork, IsLowerBound, length_of}
@@ -30,9 +30,7 @@ module _ (g : Graph) (graph : IsGraph g) (s : State) (keeps : Keeps (start_of g)
   long : (set : List Bool) → IsNetwork r.graph set → length_of g (lift_of r set) ≡ length_of r.graph set + r.offset
   long set network =
       let wide = widened set network in
-      length_of_start g graph wide.F wide.net (lift_of r set)
-      (λ e is. wide.back e (lift_into s sound set e is)) (λ e is. lift_back s sound set e (wide.into e is))
-      ∙ wide.value ∙ value_of_spread s sound set
+      grind (arith, length_of_start, lift_into, lift_back, value_of_spread)
 
   nothing_lost : (other : List Bool) → IsNetwork g other → HasNetworkWithin r (length_of g other)
   nothing_lost other network =
@@ -44,8 +42,7 @@ module _ (g : Graph) (graph : IsGraph g) (s : State) (keeps : Keeps (start_of g)
       }
 
   bounds : (bound : ℕ) → IsLowerBound r.graph bound → IsLowerBound g (bound + r.offset)
-  bounds bound lower other network =
-      let within = nothing_lost other network in omega (arith, lower within.set within.is, within.short)
+  bounds bound lower other network = grind (arith, nothing_lost)
 
   keeps_networks : KeepsNetworks g r
   keeps_networks = record {
@@ -53,13 +50,8 @@ module _ (g : Graph) (graph : IsGraph g) (s : State) (keeps : Keeps (start_of g)
     length = long;
     nothing_lost = nothing_lost;
     bounds = bounds;
-    shortest = λ set shortest. (
-      lifts set shortest.0,
-      subst (IsLowerBound g) (sym (long set shortest.0)) (bounds (length_of r.graph set) shortest.1),
-    );
+    shortest = λ set shortest. search (lifts, long, bounds);
   }
 
 pub lifting_keeps_length_lem : LiftingKeepsLength
-lifting_keeps_length_lem g r graph is =
-    let all = steps_keep is.reduced.count (start_of g) is.state (IsSound-start g graph) is.reduced.steps in
-    subst (KeepsNetworks g) (sym is.is) (keeps_networks g graph is.state all.0 all.1)
+lifting_keeps_length_lem g r graph is = grind (arith, steps_keep, IsSound-start, keeps_networks)

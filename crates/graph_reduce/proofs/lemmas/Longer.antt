@@ -1,14 +1,12 @@
 -- The longer of two parallel edges, on a tie the later.
 use Rattle.std.specs.Prelude.{ℕ, ◌≡◌, ◌+◌, ◌<◌, ◌≤◌, Bool, true, false, length, nat_lt, None, if◌then◌else◌}
-use Rattle.std.proofs.Common.{refl, sym, ap, ◌∙◌, subst, length-set}
+use Rattle.std.proofs.Common.{refl, sym, ap, subst, length-set, arith}
 use Rattle.std.proofs.lemmas.Bool.{lt-ltb, le-ltb}
 use Rattle.net_graph.specs.declared.edge.Edge.{Edge}
 use Rattle.net_graph.specs.Network.{HasEnds}
 use Rattle.graph_reduce.specs.State.{Bundle, State, HasEdge}
 use Rattle.graph_reduce.specs.Rules.{AreParallel, without_edge}
-use Rattle.graph_reduce.specs.Step.{IsStep}
 use Rattle.graph_reduce.specs.Clear.{LeadsTo, IsClearTo}
-use Rattle.graph_reduce.proofs.lemmas.Ends.{same_edge}
 use Rattle.graph_reduce.proofs.lemmas.Clearing.{one_step, within_without, clear_within, none_at, drops_parallel, clear_later}
 
 -- the place holds an edge with these ends and this length
@@ -30,22 +28,9 @@ module _ (s : State) (place later : ℕ) (x y : Edge) where
   abbrev dropped : State
   dropped = without_edge s (if nat_lt y.length x.length then place else later)
 
-  -- an edge at the place is the edge there
-  held_is : (k : ℕ) (e : Edge) (b : Bundle) → HoldsEdge s k e → HasEdge s k b → b.edge ≡ e
-  held_is k e b (z, z_at, z_is) b_at = ap (λ c. c.edge) (same_edge s k b z b_at z_at) ∙ z_is
-
   pub leads_dropped : Pair s place later x y → place < later → IsClearTo s (length s.edges) place later →
       HasEnds y x.a x.b → (new : State) → new ≡ dropped → LeadsTo s new
-  leads_dropped pair order clear ends new is =
-      let (bx, x_at, x_is) = pair.first in
-      let (by, y_at, y_is) = pair.second in
-      let ends' : HasEnds by.edge bx.edge.a bx.edge.b =
-      subst (λ e. HasEnds e bx.edge.a bx.edge.b) (sym y_is) (subst (λ e. HasEnds y e.a e.b) (sym x_is) ends) in
-      let step = drops_parallel s place later bx by clear
-      (record { order = order; first_at = x_at; second_at = y_at; same_ends = ends' }) in
-      one_step s new (subst (IsStep s) (ap (λ (e : Edge). without_edge s
-      (if nat_lt e.length bx.edge.length then place else later)) y_is
-      ∙ ap (λ (e : Edge). without_edge s (if nat_lt y.length e.length then place else later)) x_is ∙ sym is) step)
+  leads_dropped pair order clear ends new is = grind (arith, drops_parallel, one_step)
 
   -- one of the two places is empty
   gone : (n : Bool) (a b : Bundle) → ¬ AreParallel (without_edge s (if n then place else later)) place later a b
@@ -64,6 +49,4 @@ module _ (s : State) (place later : ℕ) (x y : Edge) where
 
   pub clear_apart : Pair s place later x y → IsClearTo s (length s.edges) place later → ¬ HasEnds y x.a x.b →
       IsClearTo s (length s.edges) place (later + 1)
-  clear_apart pair clear apart = clear_later s (length s.edges) place later clear (λ a b are. apart
-      (subst (λ e. HasEnds e x.a x.b) (held_is later y b pair.second are.second_at)
-      (subst (λ e. HasEnds b.edge e.a e.b) (held_is place x a pair.first are.first_at) are.same_ends)))
+  clear_apart pair clear apart = grind (arith, clear_later)

@@ -1,6 +1,6 @@
 -- The rules at nodes are taken by what is done to the state.
 use Rattle.std.specs.Prelude.{ℕ, ◌≡◌, ◌≢◌, ◌+◌, ◌<◌, ◌^◌, false, length, slice_set, Some, None}
-use Rattle.std.proofs.Common.{refl, sym, ap, ◌∙◌, inl, inr, subst, arith}
+use Rattle.std.proofs.Common.{refl, sym, inl, inr, subst, arith}
 use Rattle.std.proofs.lemmas.List.Elements.{All-contains}
 use Rattle.net_graph.specs.declared.edge.Edge.{Edge}
 use Rattle.net_graph.specs.Network.{HasEnds}
@@ -65,9 +65,7 @@ module _ (s new : State) (v : ℕ) where
           earlier_ends = subst (λ (d : Edge). HasEnds d v u) (sym x_is) e_ends;
           later_ends = subst (λ (d : Edge). HasEnds d v w) (sym y_is) f_ends;
           only = two_only s v earlier later two;
-          becomes = is ∙ ap (λ t. without_node t v) (changed x y x_at y_at)
-              ∙ ap (after x y) (ap (λ (d : Edge). d.length + f.length) (sym x_is)
-              ∙ ap (λ (d : Edge). x.edge.length + d.length) (sym y_is));
+          becomes = grind arith;
         },
         refl,
         refl,
@@ -102,9 +100,7 @@ module _ (s new : State) (v : ℕ) where
           ends = subst (λ (d : Edge). HasEnds d v other) (sym x_is) ends;
           only = λ n is. has.only n (below_end s v n is) is;
         };
-        becomes = is ∙ ap (λ t. without_node t v) then_moved
-            ∙ ap (λ t. without_node (record t { terminals = moved t.terminals v other }) v) (changed x x_at)
-            ∙ ap (after x) (ap (λ (d : Edge). d.length) (sym x_is));
+        becomes = grind arith;
       }
     where
       -- the state with this more in its offset
@@ -121,18 +117,11 @@ module _ (s new : State) (v : ℕ) where
 
 pub lengths_fit : (s : State) (earlier later : ℕ) (e f : Edge) → IsReached s → earlier ≢ later →
     HoldsEdge s earlier e → HoldsEdge s later f → e.length + f.length < 2 ^ 63
-lengths_fit s earlier later e f reached apart (x, x_at, x_is) (y, y_at, y_is) =
-    omega (
-      arith,
-      reached_lengths s reached earlier later x y apart x_at y_at,
-      ap (λ (d : Edge). d.length) x_is,
-      ap (λ (d : Edge). d.length) y_is,
-    )
+lengths_fit s earlier later e f reached apart (x, x_at, x_is) (y, y_at, y_is) = grind (arith, reached_lengths)
 
 pub length_fits : (s : State) (place : ℕ) (e : Edge) → IsReached s → HoldsEdge s place e →
     s.offset + e.length < 2 ^ 63
-length_fits s place e reached (x, x_at, x_is) =
-    omega (arith, reached_length s reached place x x_at, ap (λ (d : Edge). d.length) x_is)
+length_fits s place e reached (x, x_at, x_is) = grind (arith, reached_length)
 
 pub terminal_below : (s : State) (v : ℕ) → IsReached s → IsTerminal s v → v < length s.nodes
 terminal_below s v reached terminal =

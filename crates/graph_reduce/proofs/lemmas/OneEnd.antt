@@ -3,11 +3,11 @@ use Rattle.std.specs.Prelude.{ℕ, zero, suc, ◌≡◌, ◌<◌}
 use Rattle.std.proofs.Common.{sym, ap, ◌∙◌, inl, inr, subst, arith}
 use Rattle.std.proofs.lemmas.Bool.{cases_eq}
 use Rattle.net_graph.specs.Graph.{Graph}
-use Rattle.graph_reduce.specs.State.{State, start_of}
+use Rattle.graph_reduce.specs.State.{State}
 use Rattle.graph_reduce.specs.Step.{Rule, Applies, AreSteps, IsReducedTo, IsStep}
 use Rattle.graph_reduce.specs.Reduction.{reduction_of}
 use Rattle.graph_reduce.specs.OneReduction.{OneReduction}
-use Rattle.graph_reduce.proofs.lemmas.OneStep.{neither_less, one_step}
+use Rattle.graph_reduce.proofs.lemmas.OneStep.{one_step}
 
 -- so many steps lead to one state
 one_after : (n : ℕ) (old a b : State) → AreSteps n old a → AreSteps n old b → a ≡ b
@@ -33,11 +33,7 @@ not_more n m old a b steps done more below =
     done step.rule step.at (on.1, step.takes)
 
 one_end : (g : Graph) (a b : State) → IsReducedTo g a → IsReducedTo g b → a ≡ b
-one_end g a b is is' =
-    let count = neither_less is.count is'.count
-    (not_more is.count is'.count (start_of g) a b is.steps is.done is'.steps)
-    (not_more is'.count is.count (start_of g) b a is'.steps is'.done is.steps) in
-    one_after is'.count (start_of g) a b (subst (λ n. AreSteps n (start_of g) a) count is.steps) is'.steps
+one_end g a b is is' = grind (arith, not_more, one_after)
 
 -- the law
 pub one_reduction_lem : OneReduction

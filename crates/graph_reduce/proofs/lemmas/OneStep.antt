@@ -1,10 +1,9 @@
 -- A step of a reduction is determined: each rule at its place leads to one state, and one rule at one place is first.
-use Rattle.std.specs.Prelude.{ℕ, ◌≡◌, ◌⊎◌, ◌==◌, ◌<◌, nat_lt, ◌+◌, false, slice_set, Some, None, if◌then◌else◌}
+use Rattle.std.specs.Prelude.{ℕ, ◌≡◌, ◌⊎◌, ◌==◌, ◌<◌, if◌then◌else◌}
 use Rattle.std.proofs.Common.{refl, sym, ap, ◌∙◌, inl, inr, subst, arith}
-use Rattle.std.proofs.lemmas.Bool.{cases_lt}
 use Rattle.net_graph.specs.Network.{HasEnds}
-use Rattle.graph_reduce.specs.State.{Bundle, State, HasEdge, EndsIn, HasOneEdge, union}
-use Rattle.graph_reduce.specs.Rules.{DropsParallel, JoinsEdges, ForcesEdge, AreParallel, joined, moved}
+use Rattle.graph_reduce.specs.State.{Bundle, State, HasEdge, EndsIn, HasOneEdge}
+use Rattle.graph_reduce.specs.Rules.{DropsParallel, JoinsEdges, ForcesEdge}
 use Rattle.graph_reduce.specs.Rules.{without_edge, without_node}
 use Rattle.graph_reduce.specs.Step.{Rule, Takes, IsStep, order_of}
 use Rattle.graph_reduce.specs.Step.Rule.{OneTerminal, Loop, Parallel, Leaf, Passed, TerminalLeaf}
@@ -12,31 +11,17 @@ use Rattle.graph_reduce.proofs.lemmas.Ends.{first_end, other_is, same_edge}
 
 -- a number that is neither below nor above another is that one
 pub neither_less : (n m : ℕ) → (n < m → ⊥) → (m < n → ⊥) → n ≡ m
-neither_less n m not_below not_above = elim (cases_lt n m) [
-  | inl below ↦ absurd (not_below below)
-  | inr past ↦ elim (cases_lt m n) [
-    | inl above ↦ absurd (not_above above)
-    | inr least ↦ omega (arith, past, least)
-  ]
-]
+neither_less n m not_below not_above = omega arith
 
 -- ---- the rules, each at its place
 
 -- the next parallel edge is one
 not_earlier : (at : ℕ) (old new new' : State) (d : DropsParallel at old new) (d' : DropsParallel at old new') →
     d.later < d'.later → ⊥
-not_earlier at old new new' d d' below =
-    let same = same_edge old at d.x d'.x d.parallel.first_at d'.parallel.first_at in
-    d'.next d.later d.y below (subst (λ x. AreParallel old at d.later x d.y) same d.parallel)
+not_earlier at old new new' d d' below = grind arith
 
 one_parallel : (at : ℕ) (old new new' : State) → DropsParallel at old new → DropsParallel at old new' → new ≡ new'
-one_parallel at old new new' d d' =
-    let later = neither_less d.later d'.later (not_earlier at old new new' d d') (not_earlier at old new' new d' d) in
-    let x = same_edge old at d.x d'.x d.parallel.first_at d'.parallel.first_at in
-    let y = same_edge old d'.later d.y d'.y (subst (λ n. HasEdge old n d.y) later d.parallel.second_at)
-    d'.parallel.second_at in
-    d.becomes
-    ∙ (λ i. without_edge old (if nat_lt (y i).edge.length (x i).edge.length then at else later i)) ∙ sym d'.becomes
+one_parallel at old new new' d d' = grind arith
 
 -- an edge of a node ends there
 ends_there : (s : State) (v place : ℕ) (x : Bundle) (other : ℕ) → HasOneEdge s v place x other → EndsIn s v place
@@ -72,12 +57,7 @@ one_joined v old new new' j k =
     let u = other_is k.x.edge v j.u k.u (subst (λ (b : Bundle). HasEnds b.edge v j.u) x j.earlier_ends)
     k.earlier_ends in
     let w = other_is k.y.edge v j.w k.w (subst (λ (b : Bundle). HasEnds b.edge v j.w) y j.later_ends) k.later_ends in
-    j.becomes
-    ∙ (λ i. record old {
-      nodes = slice_set old.nodes v false;
-      edges = slice_set (slice_set old.edges (places.0 i) (Some (joined (x i) (y i) (u i) (w i)))) (places.1 i) None;
-    })
-    ∙ sym k.becomes
+    search
 
 one_forced : (v : ℕ) (old new new' : State) → ForcesEdge v old new → ForcesEdge v old new' → new ≡ new'
 one_forced v old new new' f g =
@@ -85,15 +65,7 @@ one_forced v old new new' f g =
     let x = same_edge old g.place f.x g.x (subst (λ n. HasEdge old n f.x) place f.edge.at) g.edge.at in
     let other = other_is g.x.edge v f.other g.other
     (subst (λ (b : Bundle). HasEnds b.edge v f.other) x f.edge.ends) g.edge.ends in
-    f.becomes
-    ∙ (λ i. record {
-      nodes = slice_set old.nodes v false;
-      edges = slice_set old.edges (place i) None;
-      terminals = moved old.terminals v (other i);
-      forced = union old.forced (x i).originals;
-      offset = old.offset + (x i).edge.length;
-    })
-    ∙ sym g.becomes
+    search
 
 one_taken : (rule : Rule) (at : ℕ) (old new new' : State) → Takes rule at old new → Takes rule at old new' →
     new ≡ new'
@@ -134,5 +106,4 @@ one_step old new new' s t =
     (λ below. t.first s.rule s.at (inr (order, below)) (new, s.takes))
     (λ above. s.first t.rule t.at (inr (sym order, above)) (new', t.takes)) in
     let rule = same_rule s.rule t.rule order in
-    one_taken t.rule t.at old new new'
-    (subst (λ at. Takes t.rule at old new) place (subst (λ r. Takes r s.at old new) rule s.takes)) t.takes
+    grind (arith, one_taken)

@@ -33,10 +33,7 @@ has-set set n e below = elim (cases_eq e n) [
 -- sets of one size
 pub same_size : (one two : ℕ) (ms ns : List ℕ) (xs ys : List Bool) → flags_of one ms ≡ xs → flags_of two ns ≡ ys →
     length xs ≡ length ys → one ≡ two
-same_size one two ms ns xs ys xs_is ys_is same =
-    let first = ap length xs_is in
-    let second = ap length ys_is in
-    omega (arith, first, second, same, length-flags one ms, length-flags two ns)
+same_size one two ms ns xs ys xs_is ys_is same = grind (arith, length-flags)
 
 -- the list of one number
 pub flags_of_one : (size n : ℕ) → n < size → flags_of size (n ∷ []) ≡ slice_set (replicate size false) n true
@@ -55,10 +52,7 @@ pub flags_of_both : (size : ℕ) (ms ns : List ℕ) →
 flags_of_both size ms ns = sym (fill_by_all (λ e. holds e (ms ++ ns)) (union (flags_of size ms) (flags_of size ns)) size false
     (length-union (flags_of size ms) (flags_of size ns) (length-flags size ms ∙ sym (length-flags size ns))
     ∙ length-flags size ns)
-    (λ e within. has-union (flags_of size ms) (flags_of size ns) e
-    ∙ ap (λ b. b || has (flags_of size ns) e) (has-flags size ms e within)
-    ∙ ap (λ b. holds e ms || b) (has-flags size ns e within)
-    ∙ sym (list_any-append (λ m. m == e) ms ns)))
+    (λ e within. search (has-union, has-flags, list_any-append)))
 
 -- ---- one number after another
 
@@ -88,14 +82,9 @@ all_added old new size ns same are =
     ext_get_or false new (union old (flags_of size ns))
     (are.size ∙ same ∙ sym (length-union old (flags_of size ns) (same ∙ sym (length-flags size ns))
     ∙ length-flags size ns))
-    (λ e below. are.flags e ∙ sym (has-union old (flags_of size ns) e
-    ∙ ap (λ b. has old e || b) (has-flags size ns e (omega (arith, below, are.size, same)))))
+    (λ e below. grind (arith, has-union, has-flags))
 
 -- numbers below the size are below that of a set of this size
 pub numbers_below : (size : ℕ) (ns read : List ℕ) (now set : List Bool) → flags_of size ns ≡ now →
     length set ≡ length now → read ≡ ns → All (λ n. n < size) ns → All (λ n. n < length set) read
-numbers_below size ns read now set view same is below k d within =
-    let size_is = ap length view in
-    let at = below k d (omega (arith, within, ap length is)) in
-    let here = ap (λ ms. slice_index_or ms k d) is in
-    omega (arith, at, here, same, size_is, length-flags size ns)
+numbers_below size ns read now set view same is below k d within = grind (arith, length-flags)

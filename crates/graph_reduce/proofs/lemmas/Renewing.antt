@@ -1,5 +1,5 @@
 -- What is known beside a state, after a step.
-use Rattle.std.specs.Prelude.{ℕ, ◌≡◌, ◌≢◌, ◌⊎◌, ◌<◌, Bool, true, false, List, length, slice_get, slice_set, Some, None, All}
+use Rattle.std.specs.Prelude.{ℕ, ◌≡◌, ◌≢◌, ◌⊎◌, ◌<◌, Bool, true, false, List, length, slice_get, slice_set, Some, None}
 use Rattle.std.specs.BTreeSet.{BTreeSet}
 use Rattle.std.specs.List.{Contains}
 use Rattle.std.proofs.Common.{refl, sym, ap, ◌∙◌, inl, inr, ⊎_elim, subst, arith, length-set}
@@ -81,21 +81,13 @@ due_terminals s due set are has TerminalLeaf = has
 module _ (old new : State) (listed : List (BTreeSet ℕ)) (are : AreListedTo old (length old.edges) listed)
     (nodes : length new.nodes ≡ length old.nodes) where
   pub listed_within : IsWithin new old → AreListedTo new (length new.edges) listed
-  listed_within within = record {
-    size = are.size ∙ sym nodes;
-    listed = λ v n below (x, at, ends). are.listed v n (omega (arith, below, within.places))
-        (x, within.edges n x at, ends);
-  }
+  listed_within within = grind arith
 
 -- .. where two edges become one
 module _ (v : ℕ) (old new : State) (joins : JoinsEdges v old new) (listed : List (BTreeSet ℕ))
     (are : AreListedTo old (length old.edges) listed) (more : IsListed listed joins.w joins.earlier) where
   end_u : EndsIn old joins.u joins.earlier
-  end_u = by_ends joins.earlier_ends
-    where
-      by_ends : HasEnds joins.x.edge v joins.u → EndsIn old joins.u joins.earlier
-      by_ends (inl is) = (joins.x, joins.earlier_at, inr is.1)
-      by_ends (inr is) = (joins.x, joins.earlier_at, inl is.0)
+  end_u = grind arith
 
   listed_after : AreListedTo (after v old new joins) (length (after v old new joins).edges) listed
   listed_after = record {
@@ -118,11 +110,7 @@ module _ (v : ℕ) (old new : State) (joins : JoinsEdges v old new) (listed : Li
 
 pub marked_same : (old new : State) (marks : List Bool) → AreMarked old marks →
     length new.nodes ≡ length old.nodes → new.terminals ≡ old.terminals → AreMarked new marks
-marked_same old new marks are nodes same = record {
-  size = are.size ∙ sym nodes;
-  marked = λ v is. subst (λ ts. Contains ts v) (sym same) (are.marked v is);
-  terminals = λ v is. are.terminals v (subst (λ ts. Contains ts v) same is);
-}
+marked_same old new marks are nodes same = grind arith
 
 -- a terminal moved to another node
 module _ (s : State) (marks : List Bool) (are : AreMarked s marks) (from to : ℕ) (terminal : IsTerminal s from)
@@ -157,8 +145,7 @@ module _ (s : State) (marks : List Bool) (are : AreMarked s marks) (from to : �
   marked_moved new nodes becomes = record {
     size = length-set without_from to true ∙ length-set marks from false ∙ are.size ∙ sym nodes;
     marked = λ v is. subst (λ ts. Contains ts v) (sym becomes) (Contains-from_In (moved s.terminals from to) v (⊎_elim
-        (λ (here : v ≡ to). subst (In (moved s.terminals from to)) (sym here)
-        (In-moved_to s.terminals from to (In-from_Contains s.terminals from terminal) apart))
+        (λ (here : v ≡ to). grind (arith, In-moved_to, In-from_Contains))
         (λ (p : (v ≢ from) × (has marks v ≡ true)).
         In-moved_from s.terminals from to v (In-from_Contains s.terminals v (are.marked v p.1)) p.0)
         (mark_cases v is)));
@@ -177,8 +164,7 @@ module _ (s : State) (marks : List Bool) (are : AreMarked s marks) (from to : �
 
 -- a node is dropped with its edge, where it has one
 within_leaf : (v : ℕ) (old new : State) → Takes (rule_of Leaf) v old new → IsWithin new old
-within_leaf v old new (inl drops) = subst (λ s. IsWithin s old) (sym drops.becomes)
-    (record { places = refl; edges = λ n x at. at })
+within_leaf v old new (inl drops) = grind arith
 within_leaf v old new (inr drops) = subst (λ s. IsWithin s old) (sym drops.becomes) (record {
   places = length-set old.edges drops.place None;
   edges = λ n x at. (found_before old.edges drops.place n x at).1;
@@ -195,15 +181,8 @@ terminals_leaf v old new (inr drops) = ap (λ s. s.terminals) drops.becomes
 pub renewed_leaf : (v : ℕ) (old new : State) (survey : Survey) (due : Due) →
     IsSurvey old survey.places.items survey.terminals → AreDue old due → Takes (rule_of Leaf) v old new →
     ((n : ℕ) (x : Bundle) → EndsIn old v n → HasEdge old n x → AreBothDue due x) → IsUpToDate new survey due
-renewed_leaf v old new survey due is are takes told = record {
-  seen = record {
-    places = listed_within old new survey.places.items is.places (nodes_leaf v old new takes)
-        (within_leaf v old new takes);
-    terminals = marked_same old new survey.terminals is.terminals (nodes_leaf v old new takes)
-        (terminals_leaf v old new takes);
-  };
-  all = due_leaf v old new due are takes told;
-}
+renewed_leaf v old new survey due is are takes told =
+    search (listed_within, nodes_leaf, within_leaf, marked_same, terminals_leaf, due_leaf)
 
 -- two edges become one
 pub renewed_joined : (v : ℕ) (old new : State) (joins : JoinsEdges v old new) (survey : Survey) (due : Due) →
@@ -245,36 +224,22 @@ forced_other v old new forces place e o (x, at, is) ends =
 -- .. and another node, where no edge is a loop
 pub forced_apart : (v : ℕ) (old new : State) (forces : ForcesEdge v old new) → forces.x.edge.a ≢ forces.x.edge.b →
     forces.other ≢ v
-forced_apart v old new forces no_loop same = by_ends forces.edge.ends
-  where
-    by_ends : HasEnds forces.x.edge v forces.other → ⊥
-    by_ends (inl is) = no_loop (is.0 ∙ sym same ∙ sym is.1)
-    by_ends (inr is) = no_loop (is.0 ∙ same ∙ sym is.1)
+forced_apart v old new forces no_loop same = omega arith
 
 -- the other end of an edge is the number of a node
 pub other_below : (s : State) (v u place : ℕ) (e : Edge) → IsNumbered s → HoldsEdge s place e → HasEnds e v u →
     u < length s.nodes
-other_below s v u place e numbered (x, at, is) ends =
-    let both = numbered.ends place x at in
-    by_ends (subst (λ (d : Edge). HasEnds d v u) (sym is) ends) both.0 both.1
-  where
-    by_ends : HasEnds x.edge v u → x.edge.a < length s.nodes → x.edge.b < length s.nodes → u < length s.nodes
-    by_ends (inl p) a b = subst (λ n. n < length s.nodes) p.1 b
-    by_ends (inr p) a b = subst (λ n. n < length s.nodes) p.0 a
+other_below s v u place e numbered (x, at, is) ends = grind arith
 
 -- fewer edges
 pub survey_within : (old new : State) (listed : List (BTreeSet ℕ)) (marks : List Bool) → IsSurvey old listed marks →
     IsWithin new old → new.nodes ≡ old.nodes → new.terminals ≡ old.terminals → IsSurvey new listed marks
-survey_within old new listed marks is within nodes terminals = record {
-  places = listed_within old new listed is.places (ap length nodes) within;
-  terminals = marked_same old new marks is.terminals (ap length nodes) terminals;
-}
+survey_within old new listed marks is within nodes terminals = grind arith
 
 -- the same survey
 pub survey_as : (s : State) (before after : Survey) (marks : List Bool) → after.places ≡ before.places →
     after.terminals ≡ marks → IsSurvey s before.places.items marks → IsSurvey s after.places.items after.terminals
-survey_as s before later marks places terminals is = subst (IsSurvey s later.places.items) (sym terminals)
-    (subst (λ ps. IsSurvey s ps marks) (sym (ap (λ v. v.items) places)) is)
+survey_as s before later marks places terminals is = grind arith
 
 -- one of two edges with the same ends is dropped
 pub renewed_dropped : (old new : State) (place other : ℕ) (alike : AreAlike old place other) (survey : Survey)
@@ -294,36 +259,19 @@ pub survey_more : (s : State) (before after : Survey) →
     ((u n : ℕ) → IsListed before.places.items u n → IsListed after.places.items u n) →
     after.terminals ≡ before.terminals → IsSurvey s before.places.items before.terminals →
     IsSurvey s after.places.items after.terminals
-survey_more s before later size kept terminals is = record {
-  places = record {
-    size = size ∙ is.places.size;
-    listed = λ v n below ends. kept v n (is.places.listed v n below ends);
-  };
-  terminals = subst (AreMarked s) (sym terminals) is.terminals;
-}
+survey_more s before later size kept terminals is = grind arith
 
 -- the other end of the later of two edges that become one
 pub joined_other : (v : ℕ) (old new : State) (joins : JoinsEdges v old new) (later : ℕ) (e : Edge) (o : ℕ) →
     joins.later ≡ later → HoldsEdge old later e → HasEnds e v o → joins.w ≡ o
-joined_other v old new joins later e o here (x, at, is) ends =
-    let ends_x = subst (λ (d : Edge). HasEnds d v o) (sym is) ends in
-    let same = same_edge old joins.later x joins.y (subst (λ n. HasEdge old n x) (sym here) at) joins.later_at in
-    other_is joins.y.edge v joins.w o joins.later_ends (subst (λ (b : Bundle). HasEnds b.edge v o) same ends_x)
+joined_other v old new joins later e o here (x, at, is) ends = grind arith
 
 -- fewer edges have numbers of nodes
 pub numbered_within : (old new : State) → IsNumbered old → IsWithin new old → new.nodes ≡ old.nodes →
     new.terminals ≡ old.terminals → IsNumbered new
-numbered_within old new numbered within nodes terminals = record {
-  ends = λ n x at. subst (λ ns. (x.edge.a < length ns) × (x.edge.b < length ns)) (sym nodes)
-      (numbered.ends n x (within.edges n x at));
-  terminals = subst (λ ns. All (λ t. t < length ns) new.terminals) (sym nodes)
-      (subst (All (λ t. t < length old.nodes)) (sym terminals) numbered.terminals);
-}
+numbered_within old new numbered within nodes terminals = grind arith
 
 -- an end of an edge is the number of a node
 pub end_below : (s : State) (place : ℕ) (e : Edge) (v : ℕ) → IsNumbered s → HoldsEdge s place e →
     (v ≡ e.a) ⊎ (v ≡ e.b) → v < length s.nodes
-end_below s place e v numbered (x, at, is) end =
-    let both = numbered.ends place x at in
-    ⊎_elim (λ (p : v ≡ e.a). subst (λ n. n < length s.nodes) (ap (λ (d : Edge). d.a) is ∙ sym p) both.0)
-    (λ (p : v ≡ e.b). subst (λ n. n < length s.nodes) (ap (λ (d : Edge). d.b) is ∙ sym p) both.1) end
+end_below s place e v numbered (x, at, is) end = grind arith

@@ -1,5 +1,5 @@
 -- Each step leaves fewer nodes and edges.
-use Rattle.std.specs.Prelude.{ℕ, zero, suc, ◌≡◌, ◌+◌, ◌<◌, ◌≤◌, Bool, true, false, List, [], ◌∷◌, length, replicate, slice_get, slice_set, Option, Some, None, nat_lt, if◌then◌else◌}
+use Rattle.std.specs.Prelude.{ℕ, zero, suc, ◌≡◌, ◌+◌, ◌<◌, ◌≤◌, Bool, true, false, List, [], ◌∷◌, length, replicate, slice_get, slice_set, Option, Some, None}
 use Rattle.std.proofs.Common.{refl, sym, ap, inl, inr, subst, arith}
 use Rattle.std.proofs.lemmas.Option.{same_Some}
 use Rattle.net_graph.specs.declared.edge.Edge.{Edge}
@@ -69,23 +69,15 @@ less_without : (s : State) (n : ℕ) (x : Bundle) → HasEdge s n x → size_of 
 less_without s n x at = omega (arith, fewer_edges s.edges n x at)
 
 less_parallel : (place : ℕ) (old new : State) → DropsParallel place old new → size_of new < size_of old
-less_parallel place old new drops = subst (λ s. size_of s < size_of old) (sym drops.becomes)
-    (by_test (nat_lt drops.y.edge.length drops.x.edge.length))
-  where
-    by_test : (b : Bool) → size_of (without_edge old (if b then place else drops.later)) < size_of old
-    by_test true = less_without old place drops.x drops.parallel.first_at
-    by_test false = less_without old drops.later drops.y drops.parallel.second_at
+less_parallel place old new drops = grind (arith, less_without)
 
 takes_less : (rule : Rule) (at : ℕ) (old new : State) → Takes rule at old new → size_of new < size_of old
 takes_less OneTerminal at old new drops = subst (λ s. size_of s < size_of old) (sym drops.becomes)
     (let (n, x, x_at) = drops.some in omega (arith, some_edges old.edges n x x_at, no_edges (length old.edges)))
-takes_less Loop at old new drops = subst (λ s. size_of s < size_of old) (sym drops.becomes)
-    (less_without old at drops.loop drops.at)
+takes_less Loop at old new drops = grind (arith, less_without)
 takes_less Parallel at old new drops = less_parallel at old new drops
-takes_less Leaf at old new (inl drops) = subst (λ s. size_of s < size_of old) (sym drops.becomes)
-    (omega (arith, fewer_nodes old.nodes at drops.node))
-takes_less Leaf at old new (inr drops) = subst (λ s. size_of s < size_of old) (sym drops.becomes)
-    (omega (arith, fewer_nodes old.nodes at drops.node, fewer_edges old.edges drops.place drops.x drops.edge.at))
+takes_less Leaf at old new (inl drops) = grind (arith, fewer_nodes)
+takes_less Leaf at old new (inr drops) = grind (arith, fewer_nodes, fewer_edges)
 takes_less Passed at old new joins = subst (λ s. size_of s < size_of old) (sym joins.becomes)
     (omega (
       arith,
@@ -93,14 +85,12 @@ takes_less Passed at old new joins = subst (λ s. size_of s < size_of old) (sym 
       fewer_edges (mid at old new joins) joins.later joins.y (later_at at old new joins),
       as_many_edges old.edges joins.earlier joins.x (joined joins.x joins.y joins.u joins.w) joins.earlier_at,
     ))
-takes_less TerminalLeaf at old new forces = subst (λ s. size_of s < size_of old) (sym forces.becomes)
-    (omega (arith, no_more_nodes old.nodes at, fewer_edges old.edges forces.place forces.x forces.edge.at))
+takes_less TerminalLeaf at old new forces = grind (arith, no_more_nodes, fewer_edges)
 
 -- .. and so each step counts
 pub steps_less : (n : ℕ) (old new : State) → AreSteps n old new → n + size_of new ≤ size_of old
 steps_less zero old new is = omega (arith, ap size_of is)
-steps_less (suc n) old new (mid, steps, step) =
-    omega (arith, steps_less n old mid steps, takes_less step.rule step.at mid new step.takes)
+steps_less (suc n) old new (mid, steps, step) = omega (arith, takes_less, steps_less n old mid steps)
 
 -- ---- the first state
 

@@ -1,6 +1,6 @@
 -- What holds of every state of a reduction: no terminal is listed twice, and terminals and ends of edges are nodes that
 -- are left.
-use Rattle.std.specs.Prelude.{ℕ, zero, suc, ◌≡◌, ◌+◌, ◌<◌, Bool, true, false, List, [], ◌∷◌, length, replicate, slice_get, slice_set, Some, None, All}
+use Rattle.std.specs.Prelude.{ℕ, zero, suc, ◌≡◌, ◌+◌, ◌<◌, Bool, true, false, List, [], ◌∷◌, length, replicate, slice_get, slice_set, Some, All}
 use Rattle.std.proofs.Common.{refl, sym, ap, ◌∙◌, inl, inr, ⊎_elim, subst, arith}
 use Rattle.std.proofs.lemmas.List.{get_or-replicate, length-replicate}
 use Rattle.std.proofs.lemmas.List.Elements.{All-contains}
@@ -26,15 +26,8 @@ pub record IsSound (s : State) : Type 0 where
 pub bundle_at : (size n : ℕ) (es : List Edge) (k : ℕ) (x : Bundle) → slice_get (bundles_from size n es) k ≡ Some (Some x) →
     (slice_get es k ≡ Some x.edge) × (x.originals ≡ slice_set (replicate size false) (n + k) true)
 bundle_at size n [] k x at = absurd cc
-bundle_at size n (e ∷ es) zero x at =
-    let is : record { edge = e; originals = slice_set (replicate size false) n true } ≡ x =
-    same_Some _ x (same_Some _ (Some x) at) in (
-      ap (λ y. Some y.edge) is,
-      ap (λ y. y.originals) (sym is) ∙ ap (λ m. slice_set (replicate size false) m true) (omega arith),
-    )
-bundle_at size n (e ∷ es) (suc k) x at =
-    let rest = bundle_at size (n + 1) es k x at in
-    (rest.0, rest.1 ∙ ap (λ m. slice_set (replicate size false) m true) (omega arith))
+bundle_at size n (e ∷ es) zero x at = grind arith
+bundle_at size n (e ∷ es) (suc k) x at = grind (arith, bundle_at size (n + 1) es k x at)
 
 -- both ends of an edge of the list are below the bound
 ends_below : (es : List Edge) (vertices k : ℕ) (e : Edge) → All (HasEndsBelow vertices) es → slice_get es k ≡ Some e →
@@ -62,8 +55,7 @@ pub no_loop : (s : State) (n : ℕ) (x : Bundle) (v u : ℕ) → ((place : ℕ) 
     HasEnds x.edge v u → u ≡ v → ⊥
 no_loop s n x v u none at ends is =
     let same : x.edge.a ≡ x.edge.b =
-    ⊎_elim (λ (along : (x.edge.a ≡ v) × (x.edge.b ≡ u)). along.0 ∙ sym is ∙ sym along.1)
-    (λ (against : (x.edge.a ≡ u) × (x.edge.b ≡ v)). against.0 ∙ is ∙ sym against.1) ends in
+    omega arith in
     none n (without_edge s n, record { loop = x; at = at; is_loop = same; becomes = refl })
 
 -- ---- the rules
@@ -74,11 +66,7 @@ left_from : (nodes : List Bool) (v u : ℕ) → (u ≡ v → ⊥) → slice_get 
 left_from nodes v u apart has = slice_get-set_other nodes v u false apart ∙ has
 
 pub IsSound-all_edges : (old new : State) → IsSound old → DropsAllEdges old new → IsSound new
-IsSound-all_edges old new sound drops = subst IsSound (sym drops.becomes) (record {
-  distinct = sound.distinct;
-  terminals = sound.terminals;
-  ends = λ n x at. let none : None ≡ Some x = slice_get-replicate _ n None (Some x) at in cc;
-})
+IsSound-all_edges old new sound drops = grind (arith, slice_get-replicate)
 
 -- the same nodes, without an edge
 less : (s : State) (place : ℕ) → IsSound s → IsSound (without_edge s place)
@@ -101,8 +89,7 @@ apart_from s v t free is here = free (subst (In s.terminals) here is)
 pub IsSound-lone_node : (v : ℕ) (old new : State) → IsSound old → DropsLoneNode v old new → IsSound new
 IsSound-lone_node v old new sound drops = subst IsSound (sym drops.becomes) (record {
   distinct = sound.distinct;
-  terminals = λ t is. left_from old.nodes v t
-      (apart_from old v t (λ h. drops.free (Contains-from_In old.terminals v h)) is) (sound.terminals t is);
+  terminals = grind (arith, left_from, apart_from, Contains-from_In);
   ends = λ n x at. let both = sound.ends n x at in (
     left_from old.nodes v x.edge.a (λ is. drops.none n (x, at, inl is)) both.0,
     left_from old.nodes v x.edge.b (λ is. drops.none n (x, at, inr is)) both.1,
@@ -112,8 +99,7 @@ IsSound-lone_node v old new sound drops = subst IsSound (sym drops.becomes) (rec
 pub IsSound-leaf : (v : ℕ) (old new : State) → IsSound old → DropsLeaf v old new → IsSound new
 IsSound-leaf v old new sound drops = subst IsSound (sym drops.becomes) (record {
   distinct = sound.distinct;
-  terminals = λ t is. left_from old.nodes v t
-      (apart_from old v t (λ h. drops.free (Contains-from_In old.terminals v h)) is) (sound.terminals t is);
+  terminals = grind (arith, left_from, apart_from, Contains-from_In);
   ends = λ n x at. let before = found_before old.edges drops.place n x at in
       let both = sound.ends n x before.1 in (
         left_from old.nodes v x.edge.a (λ is. before.0 (drops.edge.only n (x, before.1, inl is))) both.0,
@@ -125,22 +111,15 @@ IsSound-leaf v old new sound drops = subst IsSound (sym drops.becomes) (record {
 other_left : (s : State) (n : ℕ) (x : Bundle) (v u : ℕ) → IsSound s → HasEdge s n x → HasEnds x.edge v u → HasNode s u
 other_left s n x v u sound at ends =
     let both = sound.ends n x at in
-    ⊎_elim (λ (along : (x.edge.a ≡ v) × (x.edge.b ≡ u)). subst (HasNode s) along.1 both.1)
-    (λ (against : (x.edge.a ≡ u) × (x.edge.b ≡ v)). subst (HasNode s) against.0 both.0) ends
+    grind arith
 
 pub IsSound-joined : (v : ℕ) (old new : State) → IsSound old → (joins : JoinsEdges v old new) → (joins.u ≡ v → ⊥) →
     (joins.w ≡ v → ⊥) → IsSound new
 IsSound-joined v old new sound joins u_apart w_apart = subst IsSound (sym joins.becomes) (record {
   distinct = sound.distinct;
-  terminals = λ t is. left_from old.nodes v t
-      (apart_from old v t (λ h. joins.free (Contains-from_In old.terminals v h)) is) (sound.terminals t is);
+  terminals = grind (arith, left_from, apart_from, Contains-from_In);
   ends = λ n x at. ⊎_elim
-      (λ (p : (n ≡ joins.earlier) × (one v old new joins ≡ x)). subst Left p.1 (
-        left_from old.nodes v joins.u u_apart
-            (other_left old joins.earlier joins.x v joins.u sound joins.earlier_at joins.earlier_ends),
-        left_from old.nodes v joins.w w_apart
-            (other_left old joins.later joins.y v joins.w sound joins.later_at joins.later_ends),
-      ))
+      (λ (p : (n ≡ joins.earlier) × (one v old new joins ≡ x)). grind (arith, left_from))
       (λ (p : (n ≡ joins.earlier → ⊥) × (n ≡ joins.later → ⊥) × (slice_get old.edges n ≡ Some (Some x))).
       let both = sound.ends n x p.2 in (
         left_from old.nodes v x.edge.a (λ is. ⊎_elim p.0 p.1 (joins.only n (x, p.2, inl is))) both.0,
@@ -157,12 +136,7 @@ pub IsSound-forced : (v : ℕ) (old new : State) → IsSound old → (forces : F
     (forces.other ≡ v → ⊥) → IsSound new
 IsSound-forced v old new sound forces apart = subst IsSound (sym forces.becomes) (record {
   distinct = AreDistinct-moved old.terminals v forces.other sound.distinct;
-  terminals = λ t is. ⊎_elim (λ (here : t ≡ forces.other).
-      subst (λ u. slice_get (slice_set old.nodes v false) u ≡ Some true) (sym here)
-      (left_from old.nodes v forces.other apart
-      (other_left old forces.place forces.x v forces.other sound forces.edge.at forces.edge.ends)))
-      (λ (p : In old.terminals t × (t ≡ v → ⊥)). left_from old.nodes v t p.1 (sound.terminals t p.0))
-      (In-moved old.terminals v forces.other t (In-from_Contains old.terminals v forces.terminal) is);
+  terminals = grind (arith, left_from, other_left, In-moved, In-from_Contains);
   ends = λ n x at. let before = found_before old.edges forces.place n x at in
       let both = sound.ends n x before.1 in (
         left_from old.nodes v x.edge.a (λ is. before.0 (forces.edge.only n (x, before.1, inl is))) both.0,

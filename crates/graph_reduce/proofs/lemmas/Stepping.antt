@@ -1,7 +1,6 @@
 -- Steps by the rules at nodes, and what is tidy after them.
 use Rattle.std.specs.Prelude.{ℕ, ◌≡◌, ◌≢◌, length, None}
 use Rattle.std.proofs.Common.{refl, sym, ap, ◌∙◌, inl, inr, ⊎_elim, subst, arith, length-set}
-use Rattle.net_graph.specs.Network.{HasEnds}
 use Rattle.graph_reduce.specs.declared.node_rules.NodeRule.TheVariants as node
 use Rattle.graph_reduce.specs.State.{Bundle, State, HasEdge}
 use Rattle.graph_reduce.specs.Rules.{JoinsEdges, ForcesEdge, without_edge, without_node}
@@ -89,8 +88,7 @@ tidy_fewer old new tidy within same = tidy_within old new tidy within
     (λ alone (n, x, at). tidy.idle (ap length (sym same) ∙ alone) (n, x, within.edges n x at))
 
 pub tidy_leaf : (v : ℕ) (old new : State) → IsTidy old → Takes Leaf v old new → IsTidy new
-tidy_leaf v old new tidy (inl drops) = subst IsTidy (sym drops.becomes)
-    (tidy_fewer old (without_node old v) tidy (record { places = refl; edges = λ n x at. at }) refl)
+tidy_leaf v old new tidy (inl drops) = grind (arith, tidy_fewer)
 tidy_leaf v old new tidy (inr drops) = subst IsTidy (sym drops.becomes)
     (tidy_fewer old (without_edge (without_node old v) drops.place) tidy (record {
       places = length-set old.edges drops.place None;
@@ -106,19 +104,7 @@ within_forced v old new forces = subst (λ s. IsWithin s old) (sym forces.become
 module _ (v : ℕ) (old new : State) (tidy : IsTidy old) (joins : JoinsEdges v old new) where
   -- the other ends are two nodes
   others_apart : joins.u ≢ joins.w
-  others_apart same = tidy.parallels joins.earlier joins.later joins.x joins.y (record {
-    order = joins.order;
-    first_at = joins.earlier_at;
-    second_at = joins.later_at;
-    same_ends = ends joins.earlier_ends (subst (HasEnds joins.y.edge v) (sym same) joins.later_ends);
-  })
-    where
-      ends : HasEnds joins.x.edge v joins.u → HasEnds joins.y.edge v joins.u →
-          HasEnds joins.y.edge joins.x.edge.a joins.x.edge.b
-      ends (inl x_is) (inl y_is) = inl (y_is.0 ∙ sym x_is.0, y_is.1 ∙ sym x_is.1)
-      ends (inl x_is) (inr y_is) = inr (y_is.0 ∙ sym x_is.1, y_is.1 ∙ sym x_is.0)
-      ends (inr x_is) (inl y_is) = inr (y_is.0 ∙ sym x_is.1, y_is.1 ∙ sym x_is.0)
-      ends (inr x_is) (inr y_is) = inl (y_is.0 ∙ sym x_is.0, y_is.1 ∙ sym x_is.1)
+  others_apart same = grind arith
 
   abbrev then : State
   then = after v old new joins

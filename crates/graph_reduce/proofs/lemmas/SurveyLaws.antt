@@ -1,7 +1,7 @@
 -- The places that are listed for each node.
-use Rattle.std.specs.Prelude.{ℕ, ◌≡◌, ◌+◌, ◌<◌, List, length, slice_get, slice_set, slice_index_or, Some}
+use Rattle.std.specs.Prelude.{ℕ, ◌≡◌, ◌+◌, ◌<◌, List, length, slice_set, slice_index_or, Some}
 use Rattle.std.specs.BTreeSet.{BTreeSet}
-use Rattle.std.proofs.Common.{sym, ap, ◌∙◌, inl, inr, ⊎_elim, subst, arith, length-set}
+use Rattle.std.proofs.Common.{sym, ap, ◌∙◌, inl, inr, subst, arith, length-set}
 use Rattle.std.proofs.lemmas.Bool.{cases_eq}
 use Rattle.std.proofs.lemmas.Option.{slice_get-get_or, same_Some}
 use Rattle.net_graph.specs.EntryLaws.{slice_get-set_same, slice_get-set_other}
@@ -9,7 +9,6 @@ use Rattle.net_graph.specs.declared.edge.Edge.{Edge}
 use Rattle.graph_reduce.specs.NumberSets.{IsIn}
 use Rattle.graph_reduce.specs.State.{State, EndsIn}
 use Rattle.graph_reduce.specs.Survey.{IsListed, HasPlacesOf, AreListedTo}
-use Rattle.graph_reduce.proofs.lemmas.Ends.{same_edge}
 use Rattle.graph_reduce.proofs.lemmas.Longer.{HoldsEdge}
 use Rattle.graph_reduce.proofs.lemmas.NodeKinds.{below_end}
 
@@ -30,8 +29,7 @@ set_written s end listed v set are below has = record {
   listed = λ u n within ends. elim (cases_eq u v) [
     | inl same ↦ (
       set,
-      subst (λ k. slice_get (slice_set listed v set) k ≡ Some set) (sym same)
-          (slice_get-set_same listed v set (omega (arith, are.size))),
+      grind (arith, slice_get-set_same),
       has n (subst (λ k. EndsIn s k n) same ends),
     )
     | inr apart ↦ (let (other, at, member) = are.listed u n within ends in
@@ -42,19 +40,6 @@ set_written s end listed v set are below has = record {
 -- one place more
 module _ (s : State) (place : ℕ) (old new : List (BTreeSet ℕ)) (are : AreListedTo s place old)
     (size : length new ≡ length old) (kept : (u n : ℕ) → IsListed old u n → IsListed new u n) where
-  pub listed_more : ((v : ℕ) → EndsIn s v place → IsListed new v place) → AreListedTo s (place + 1) new
-  listed_more here = record {
-    size = size ∙ are.size;
-    listed = λ v n below ends. elim (cases_eq n place) [
-      | inl same ↦ subst (IsListed new v) (sym same) (here v (subst (EndsIn s v) same ends))
-      | inr apart ↦ kept v n (are.listed v n (omega (arith, below, apart)) ends)
-    ];
-  }
-
   pub listed_edge : (e : Edge) → HoldsEdge s place e → IsListed new e.a place → IsListed new e.b place →
       AreListedTo s (place + 1) new
-  listed_edge e (x, at, is) a b = listed_more (λ v (y, y_at, ends). let same = same_edge s place y x y_at at in
-      ⊎_elim (λ (end : y.edge.a ≡ v). subst (λ u. IsListed new u place)
-      (sym (ap (λ (d : Edge). d.a) (ap (λ z. z.edge) same ∙ is)) ∙ end) a)
-      (λ (end : y.edge.b ≡ v). subst (λ u. IsListed new u place)
-      (sym (ap (λ (d : Edge). d.b) (ap (λ z. z.edge) same ∙ is)) ∙ end) b) ends)
+  listed_edge e (x, at, is) a b = grind arith

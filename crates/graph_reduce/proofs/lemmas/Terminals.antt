@@ -2,7 +2,7 @@
 use Rattle.std.specs.Prelude.{ℕ, zero, suc, ◌≡◌, ◌==◌, ◌⊎◌, Bool, true, false, not, List, [], ◌∷◌, length, map, Contains, if◌then◌else◌}
 use Rattle.std.specs.List.{list_any}
 use Rattle.std.proofs.Common.{refl, sym, ap, ◌∙◌, inl, inr, ⊎_elim, subst, arith}
-use Rattle.std.proofs.lemmas.Bool.{eqb-true, eqb-false, eq-eqb, cases_eq, or_cases, or_left, or_right, both_ways}
+use Rattle.std.proofs.lemmas.Bool.{eqb-true, eqb-false, eq-eqb, or_cases, or_left, or_right, both_ways}
 use Rattle.graph_reduce.specs.State.{without, distinct_of}
 use Rattle.graph_reduce.specs.Rules.{moved}
 
@@ -52,19 +52,12 @@ In-without_from t (x ∷ xs) v h apart = by_test (x == t) refl (λ later. In-wit
 
 pub AreDistinct-without : (t : ℕ) (xs : List ℕ) → AreDistinct xs → AreDistinct (without t xs)
 AreDistinct-without t [] d = tt
-AreDistinct-without t (x ∷ xs) (new, rest) = by_test (x == t) (AreDistinct-without t xs rest)
-  where
-    by_test : (b : Bool) → AreDistinct (without t xs) → AreDistinct (if not b then x ∷ without t xs else without t xs)
-    by_test true left = left
-    by_test false left = (λ h. new (In-without t xs x h).0, left)
+AreDistinct-without t (x ∷ xs) (new, rest) = grind (arith, In-without, AreDistinct-without t xs rest)
 
 -- the list without repeats has none, and holds the same numbers
 pub AreDistinct-distinct_of : (xs : List ℕ) → AreDistinct (distinct_of xs)
 AreDistinct-distinct_of [] = tt
-AreDistinct-distinct_of (x ∷ xs) = (
-  λ h. (In-without x (distinct_of xs) x h).1 refl,
-  AreDistinct-without x (distinct_of xs) (AreDistinct-distinct_of xs),
-)
+AreDistinct-distinct_of (x ∷ xs) = grind (arith, In-without, AreDistinct-without, AreDistinct-distinct_of xs)
 
 pub In-distinct_of : (xs : List ℕ) (v : ℕ) → In (distinct_of xs) v → In xs v
 In-distinct_of [] v h = absurd h
@@ -74,10 +67,7 @@ In-distinct_of (x ∷ xs) v (inr later) = inr (In-distinct_of xs v (In-without x
 pub In-distinct_of_from : (xs : List ℕ) (v : ℕ) → In xs v → In (distinct_of xs) v
 In-distinct_of_from [] v h = absurd h
 In-distinct_of_from (x ∷ xs) v (inl here) = inl here
-In-distinct_of_from (x ∷ xs) v (inr later) = elim (cases_eq x v) [
-  | inl here ↦ inl here
-  | inr apart ↦ inr (In-without_from x (distinct_of xs) v (In-distinct_of_from xs v later) (λ e. apart (sym e)))
-]
+In-distinct_of_from (x ∷ xs) v (inr later) = grind (arith, In-without_from, In-distinct_of_from xs v later)
 
 -- ---- one number in another's place
 
@@ -127,13 +117,7 @@ pub AreDistinct-with_other : (from to : ℕ) (xs : List ℕ) → (In xs to → �
     AreDistinct (with_other from to xs)
 AreDistinct-with_other from to [] new d = tt
 AreDistinct-with_other from to (x ∷ xs) new (head, rest) =
-    (by_test (x == from) refl, AreDistinct-with_other from to xs (λ h. new (inr h)) rest)
-  where
-    by_test : (b : Bool) → (x == from) ≡ b → In (with_other from to xs) (if b then to else x) → ⊥
-    by_test true is h = ⊎_elim (λ (p : (to ≡ to) × In xs from). head (subst (In xs) (sym (eqb-true x from is)) p.1))
-        (λ (p : In xs to × (to ≡ from → ⊥)). new (inr p.0)) (In-with_other from to xs to h)
-    by_test false is h = ⊎_elim (λ (p : (x ≡ to) × In xs from). new (inl p.0))
-        (λ (p : In xs x × (x ≡ from → ⊥)). head p.0) (In-with_other from to xs x h)
+    grind (arith, In-with_other, AreDistinct-with_other from to xs (λ h. new (inr h)) rest)
 
 -- ---- both
 
@@ -151,42 +135,22 @@ In-from_list_any to (x ∷ xs) h = ⊎_elim (λ (e : (x == to) ≡ true). inl (e
 -- what is in the list where a terminal moved to another node
 pub In-moved : (terminals : List ℕ) (from to v : ℕ) → In terminals from → In (moved terminals from to) v →
     (v ≡ to) ⊎ (In terminals v × (v ≡ from → ⊥))
-In-moved terminals from to v has h = by_test (list_any (λ t. t == to) terminals) h
-  where
-    by_test : (b : Bool) → In (if b then without from terminals else with_other from to terminals) v →
-        (v ≡ to) ⊎ (In terminals v × (v ≡ from → ⊥))
-    by_test true h = inr (In-without from terminals v h)
-    by_test false h = ⊎_elim (λ (p : (v ≡ to) × In terminals from). inl p.0)
-        (λ (p : In terminals v × (v ≡ from → ⊥)). inr p) (In-with_other from to terminals v h)
+In-moved terminals from to v has h = grind (arith, In-without, In-with_other)
 
 -- .. the others are
 pub In-moved_from : (terminals : List ℕ) (from to v : ℕ) → In terminals v → (v ≡ from → ⊥) →
     In (moved terminals from to) v
-In-moved_from terminals from to v h apart = by_test (list_any (λ t. t == to) terminals)
-  where
-    by_test : (b : Bool) → In (if b then without from terminals else with_other from to terminals) v
-    by_test true = In-without_from from terminals v h apart
-    by_test false = In-with_other_from from to terminals v h apart
+In-moved_from terminals from to v h apart = grind (arith, In-without_from, In-with_other_from)
 
 -- .. and so is the node
 pub In-moved_to : (terminals : List ℕ) (from to : ℕ) → In terminals from → (to ≡ from → ⊥) →
     In (moved terminals from to) to
-In-moved_to terminals from to has apart = by_test (list_any (λ t. t == to) terminals) refl
-  where
-    by_test : (b : Bool) → list_any (λ t. t == to) terminals ≡ b →
-        In (if b then without from terminals else with_other from to terminals) to
-    by_test true is = In-without_from from terminals to (In-from_list_any to terminals is) apart
-    by_test false is = In-with_other_to from to terminals has
+In-moved_to terminals from to has apart = grind (arith, In-without_from, In-from_list_any, In-with_other_to)
 
 pub AreDistinct-moved : (terminals : List ℕ) (from to : ℕ) → AreDistinct terminals →
     AreDistinct (moved terminals from to)
-AreDistinct-moved terminals from to d = by_test (list_any (λ t. t == to) terminals) refl
-  where
-    by_test : (b : Bool) → list_any (λ t. t == to) terminals ≡ b →
-        AreDistinct (if b then without from terminals else with_other from to terminals)
-    by_test true is = AreDistinct-without from terminals d
-    by_test false is = AreDistinct-with_other from to terminals
-        (λ h. both_ways _ is (list_any-from_In to terminals h)) d
+AreDistinct-moved terminals from to d =
+    grind (arith, AreDistinct-without, AreDistinct-with_other, both_ways, list_any-from_In)
 
 -- a list of distinct numbers that has one and is longer has another
 pub another : (xs : List ℕ) (v : ℕ) → AreDistinct xs → In xs v → (length xs ≡ 1 → ⊥) →

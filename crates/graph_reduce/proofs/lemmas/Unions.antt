@@ -35,10 +35,4 @@ pub union-swap : (xs ys : List Bool) → length xs ≡ length ys → union xs ys
 union-swap [] [] size = refl
 union-swap [] (y ∷ ys) size = absurd (omega arith)
 union-swap (x ∷ xs) [] size = absurd (omega arith)
-union-swap (x ∷ xs) (y ∷ ys) size = let rest = union-swap xs ys (omega arith) in let first = or_swap x y in cc
-  where
-    or_swap : (a b : Bool) → (a || b) ≡ (b || a)
-    or_swap true true = refl
-    or_swap true false = refl
-    or_swap false true = refl
-    or_swap false false = refl
+union-swap (x ∷ xs) (y ∷ ys) size = grind (arith, union-swap xs ys (omega arith))

@@ -1,6 +1,6 @@
 -- Walks over chosen edges of a state, and walks that follow other walks.
+use Rattle.std.proofs.Common.{arith}
 use Rattle.std.specs.Prelude.{ℕ, ◌≡◌, Bool, true, List, slice_get, Option, Some}
-use Rattle.std.proofs.Common.{inl, inr, ⊎_elim}
 use Rattle.net_graph.specs.Network.{HasEnds}
 use Rattle.net_graph.specs.Search.{Leads}
 use Rattle.net_graph.specs.SearchLaws.{Leads-start, Leads-more, Leads-keeps, Leads-trans, Leads-back}
@@ -21,17 +21,10 @@ IsNet s F = (v w : ℕ) → In s.terminals v → In s.terminals w → Leads (Joi
 
 -- an edge joins its ends both ways
 pub HasEnds-back : (x : Bundle) (v w : ℕ) → HasEnds x.edge v w → HasEnds x.edge w v
-HasEnds-back x v w ends = ⊎_elim (λ (along : (x.edge.a ≡ v) × (x.edge.b ≡ w)). inr along)
-    (λ (against : (x.edge.a ≡ w) × (x.edge.b ≡ v)). inl against) ends
+HasEnds-back x v w ends = grind arith
 
 pub Joins-back : (edges : List (Option Bundle)) (F : ℕ → Bool) (v w : ℕ) → Joins edges F v w → Joins edges F w v
-Joins-back edges F v w j = record {
-  place = j.place;
-  x = j.x;
-  chosen = j.chosen;
-  at = j.at;
-  ends = HasEnds-back j.x v w j.ends;
-}
+Joins-back edges F v w j = grind arith
 
 -- .. and so does a walk
 pub walk_back : (edges : List (Option Bundle)) (F : ℕ → Bool) (v w : ℕ) → Leads (Joins edges F) v w →
