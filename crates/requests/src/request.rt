@@ -3,7 +3,7 @@
 use search_rules::{AscentRule, GraphOptions, SearchOptions};
 
 /// A tool of the program, with what its words tell it.
-#[derive(Clone, Copy, Debug, PartialEq, Eq)]
+#[derive(Clone, Copy)]
 pub enum Request<'a> {
     /// Prints drawn points.
     Points(Drawing),
@@ -69,7 +69,7 @@ pub enum Request<'a> {
 }
 
 /// Points to draw.
-#[derive(Clone, Copy, Debug, PartialEq, Eq)]
+#[derive(Clone, Copy)]
 pub struct Drawing {
     /// How many, 1 to 50.
     pub count: u8,
