@@ -18,16 +18,19 @@ pub fn tell_solved(told: &mut Told, solved: &Solved) {
 fn tell_tree(told: &mut Told, tree: &CertTree) {
     let mut leaf = 0;
     for node in tree.nodes() {
-        match node {
-            Some(SplitOn::Edge(e)) => told.line("edge ", e),
-            Some(SplitOn::Vertex(v)) => told.line("vertex ", v),
-            None => {
-                told.word("leaf\n");
-                if leaf < tree.leaves() {
-                    tell_cuts(told, tree.packing(leaf), "");
-                    leaf += 1;
-                }
-            }
+        tell_node(told, *node);
+        if node.is_none() && leaf < tree.leaves() {
+            tell_cuts(told, tree.packing(leaf), "");
+            leaf += 1;
         }
+    }
+}
+
+// What a node splits on, or that it is a leaf.
+fn tell_node(told: &mut Told, node: Option<SplitOn>) {
+    match node {
+        Some(SplitOn::Edge(e)) => told.line("edge ", &e),
+        Some(SplitOn::Vertex(v)) => told.line("vertex ", &v),
+        None => told.word("leaf\n"),
     }
 }
