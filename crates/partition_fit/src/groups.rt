@@ -16,7 +16,8 @@ pub struct Group {
 #[derive(Clone, Copy)]
 pub struct Groups {
     groups: [Group; 64],
-    count: u8,
+    /// How many there are.
+    pub count: u8,
     of_edge: [u8; 64],
 }
 
@@ -33,11 +34,6 @@ impl Groups {
             count: 0,
             of_edge: [0; 64],
         }
-    }
-
-    /// How many groups there are.
-    pub fn count(&self) -> u8 {
-        self.count
     }
 
     /// The group of a number.

@@ -95,7 +95,7 @@ impl Improver {
         chosen: &mut Vec<Numbered>,
     ) -> Result<bool, AllocError> {
         let (joining, length) = self.keep_others(parts, cluster, chosen)?;
-        let count = joining.count();
+        let count = joining.count;
         if count < 3 || count > 8 {
             return Ok(false);
         }

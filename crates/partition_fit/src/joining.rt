@@ -6,7 +6,8 @@ use crate::sets::{all_below, lowest, place, single, without_lowest};
 #[derive(Clone, Copy)]
 pub struct Joining {
     blocks: [u64; 64],
-    count: u8,
+    /// How many blocks there are.
+    pub count: u8,
 }
 
 impl Joining {
@@ -20,11 +21,6 @@ impl Joining {
             blocks,
             count: parts,
         }
-    }
-
-    /// How many blocks there are.
-    pub fn count(&self) -> u8 {
-        self.count
     }
 
     /// The block of a part.

@@ -9,14 +9,14 @@ use crate::sets::{lowest, single};
 use std::alloc::{AllocError, Global};
 
 /// A partition of the parts, by a label for each, with its amount in units. Labels past the last part mean nothing.
-#[derive(Clone, Copy, Debug)]
+#[derive(Clone, Copy)]
 pub struct Level {
     pub labels: [u8; 50],
     pub amount: u64,
 }
 
 /// What is proposed for parts and items.
-#[derive(Debug, Drop)]
+#[derive(Drop)]
 pub struct Proposal {
     /// A nested chain of partitions that bounds, the finest first.
     pub levels: Vec<Level>,

@@ -2,8 +2,8 @@
 
 use crate::chain::Chain;
 use crate::fitted::{Fitted, pulls, weigh_crossing};
-use crate::sets::{lowest, single, without_lowest};
-use crate::sweep::is_above;
+use crate::sets::single;
+use crate::sweep::extremes_of;
 
 // How often an edge is lowered at most.
 const STEPS: u16 = 4000;
@@ -36,27 +36,10 @@ fn most_overloaded(items: &[Fitted]) -> Option<Fitted> {
 // Lowers the most pulled edge of an overloaded item.
 fn lower(chain: &mut Chain, items: &mut [Fitted], worst: Fitted) {
     let pulls = pulls(items);
-    if let Some(edge) = most_pulled(chain, worst.used, &pulls) {
+    if let Some(edge) = extremes_of(chain, worst.used, &pulls).most {
         let weight = chain.weight(edge);
         chain.set_weight(edge, weight.saturating_sub(worst.overload()));
         chain.merge();
         weigh_crossing(items, single(edge), chain);
     }
-}
-
-// The edge with the greatest pull, among those with a weight.
-fn most_pulled(chain: &Chain, edges: u64, pulls: &[u64; 64]) -> Option<u8> {
-    let mut most = None;
-    let mut rest = edges;
-    for _ in 0..64 {
-        if rest == 0 {
-            break;
-        }
-        let edge = lowest(rest);
-        rest = without_lowest(rest);
-        if chain.weight(edge) > 0 && is_above(edge, most, pulls) {
-            most = Some(edge);
-        }
-    }
-    most
 }
