@@ -4,7 +4,7 @@ ghost use Rattle.std.specs.Prelude.{◌≡◌};
 ghost use Rattle.verdict_line.specs.Verdicts.{counted};
 
 /// From which number the edges and the vertices count that a line tells.
-#[derive(Clone, Copy, Debug, PartialEq, Eq)]
+#[derive(Clone, Copy)]
 pub enum Counting {
     /// From 0, as in the grid of points.
     FromZero,

@@ -14,7 +14,7 @@ use text_out::{Block, finish, literal, number};
 use tool_frame::{Answer, AnswerStatus};
 
 /// The line of a verdict on an answer that isn't too long.
-#[derive(Clone, Copy, Debug, PartialEq, Eq)]
+#[derive(Clone, Copy)]
 pub struct VerdictLine {
     /// From which number edges and vertices count in the line.
     pub counting: Counting,
