@@ -1,8 +1,7 @@
 -- Gathering what a leaf may be split on.
-use Rattle.std.proofs.Common.{ℕ, ◌≡◌, ◌+◌, ◌<◌, ◌≤◌, Bool, true, false, List, [], ◌∷◌, ◌++◌, length, slice_get, Some, All, ap, sym, ◌∙◌, subst, arith, length-append}
-use Rattle.std.proofs.lemmas.List.Elements.{All-push, All-nil}
-use Rattle.std.proofs.lemmas.Option.{same_Some, slice_get_within}
-use borrow.Author.Count.{below_more}
+use Rattle.std.proofs.Common.{ℕ, ◌≡◌, ◌+◌, ◌<◌, ◌≤◌, Bool, true, false, List, [], ◌∷◌, ◌++◌, length, slice_get, Some, All, ap, sym, ◌∙◌, arith, length-append}
+use Rattle.std.proofs.lemmas.List.Elements.{All-push}
+use Rattle.std.proofs.lemmas.Option.{slice_get_within}
 use Rattle.net_graph.specs.Graph.{Graph}
 use Rattle.net_graph.specs.declared.edge.Edge.{Edge}
 use Rattle.net_graph.specs.declared.state.EdgeState.{EdgeState}
@@ -19,10 +18,7 @@ pub record IsGathered (IsCandidate : Candidate → Type 0) (IsSought : ℕ → T
 
 module _ (IsCandidate : Candidate → Type 0) (IsSought : ℕ → Type 0) where
   pub gathered_first : (list : List Candidate) → list ≡ [] → IsGathered IsCandidate IsSought 0 list
-  gathered_first list is = record {
-    each = subst (λ (xs : List Candidate). All IsCandidate xs) (sym is) (All-nil IsCandidate);
-    every = λ _ n below. absurd (omega arith);
-  }
+  gathered_first list is = grind arith
 
   pub gathered_more : (seen : ℕ) (list : List Candidate) (c : Candidate) → IsGathered IsCandidate IsSought seen list → IsCandidate c →
       IsGathered IsCandidate IsSought (seen + 1) (list ++ c ∷ [])
@@ -33,19 +29,11 @@ module _ (IsCandidate : Candidate → Type 0) (IsSought : ℕ → Type 0) where
 
   pub gathered_kept : (seen : ℕ) (list : List Candidate) → IsGathered IsCandidate IsSought seen list → (IsSought seen → ⊥) →
       IsGathered IsCandidate IsSought (seen + 1) list
-  gathered_kept seen list so_far none = record {
-    each = so_far.each;
-    every = λ empty. below_more (λ n. IsSought n → ⊥) seen (so_far.every empty) none;
-  }
+  gathered_kept seen list so_far none = grind arith
 
 pub edge_candidate : (g : Graph) (d : Decided) (set : List Bool) (n : ℕ) (c : Candidate) (edge : Edge) → c.number ≡ n →
     slice_get set n ≡ Some true → IsUndecided g d n → slice_get g.edges n ≡ Some edge → c.size ≡ edge.length → IsEdgeCandidate g d set c
-edge_candidate g d set n c edge is within undecided at size = record {
-  edge = subst (IsEdgeToSplit g d set) (sym is) (record { within = within; undecided = undecided });
-  size = λ other other_at.
-      let found : slice_get g.edges n ≡ Some other = subst (λ (m : ℕ). slice_get g.edges m ≡ Some other) is other_at in
-      size ∙ ap (λ (e : Edge). e.length) (same_Some edge other (sym at ∙ found));
-}
+edge_candidate g d set n c edge is within undecided at size = grind arith
 
 pub no_edge : (g : Graph) (d : Decided) (set : List Bool) (seen : ℕ) (list : List Candidate) →
     IsGathered (IsEdgeCandidate g d set) (IsEdgeToSplit g d set) seen list → length set ≤ seen → list ≡ [] → HasNoEdgeToSplit g d set
@@ -54,8 +42,7 @@ no_edge g d set seen list so_far all empty = λ n sought.
 
 pub no_vertex : (g : Graph) (d : Decided) (set : List Bool) (seen : ℕ) (list : List Candidate) →
     IsGathered (IsVertexCandidate g d set) (IsVertexToSplit g d set) seen list → g.vertices ≤ seen → list ≡ [] → HasNoVertexToSplit g d set
-no_vertex g d set seen list so_far all empty = λ v sought.
-    so_far.every empty v (let below : v < g.vertices = sought.undecided.vertex in omega arith) sought
+no_vertex g d set seen list so_far all empty = grind arith
 
 -- an edge that isn't in the set
 pub not_within : (g : Graph) (d : Decided) (set : List Bool) (n : ℕ) → slice_get set n ≡ Some false → IsEdgeToSplit g d set n → ⊥

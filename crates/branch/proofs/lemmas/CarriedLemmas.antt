@@ -1,19 +1,12 @@
 -- A carried packing has few cuts.
-use Rattle.std.proofs.Common.{◌≡◌, ◌*◌, ◌<◌, ◌≤◌, ⊎_elim, true, false, List, length, nat_le, arith}
-use Rattle.std.proofs.lemmas.Bool.{cases_lt}
+use Rattle.std.proofs.Common.{◌*◌, ◌≤◌, List, length, arith}
 use Rattle.net_graph.specs.declared.packing.Cut.{Cut}
 use Rattle.net_graph.specs.Graph.{Graph}
 use Rattle.net_graph.specs.Decision.{Decided}
 use Rattle.dual_ascent.specs.Carried.{carried, at_most_twice, unentered, inside_edges}
 
 at_most_twice-few : (g : Graph) (cuts : List Cut) → length (at_most_twice g cuts) ≤ 2 * length g.edges
-at_most_twice-few g cuts =
-    ⊎_elim
-    (λ (more : 2 * length g.edges < length cuts).
-    let test : nat_le (length cuts) (2 * length g.edges) ≡ false = grind arith in rw test (omega arith))
-    (λ (few : length cuts ≤ 2 * length g.edges).
-    let test : nat_le (length cuts) (2 * length g.edges) ≡ true = grind arith in rw test few)
-    (cases_lt (2 * length g.edges) (length cuts))
+at_most_twice-few g cuts = grind arith
 
 pub carried-few : (g : Graph) (d : Decided) (packing : List Cut) → length (carried g d packing) ≤ 2 * length g.edges
 carried-few g d packing = at_most_twice-few g (unentered (inside_edges g.edges d.edges) packing)

@@ -1,7 +1,6 @@
 -- A tree has fewer splits than there are ways to decide what it may split on, where some leaf can still be split.
-use Rattle.std.proofs.Common.{ℕ, zero, suc, ◌≡◌, ◌+◌, ◌^◌, ◌<◌, ◌≤◌, ⊎_elim, inr, Bool, true, false, List, [], ◌∷◌, length, replicate, slice_get, slice_set, get_or, Option, Some, None, refl, ap, sym, ◌∙◌, subst, arith}
+use Rattle.std.proofs.Common.{ℕ, zero, suc, ◌≡◌, ◌+◌, ◌^◌, ◌<◌, ◌≤◌, ⊎_elim, inr, Bool, true, false, List, [], ◌∷◌, length, replicate, slice_get, slice_set, get_or, Some, refl, ap, sym, ◌∙◌, subst, arith}
 use Rattle.std.proofs.lemmas.Nat.{pow_pos, pow_below}
-use Rattle.std.proofs.lemmas.Bool.{cases_Bool, cases_eq, or_cases, or_left, or_right}
 use Rattle.std.proofs.lemmas.Option.{slice_get-get_or}
 use Rattle.std.proofs.Math.Nat.{pow-suc, pow-le-pow_right}
 use Rattle.net_graph.specs.declared.edge.Edge.{Edge}
@@ -12,7 +11,7 @@ use Rattle.net_graph.specs.declared.state.VertexState.TheVariants as vertex
 use Rattle.net_graph.specs.EntryLaws.{slice_get-set_other}
 use Rattle.net_graph.specs.Graph.{Graph}
 use Rattle.net_graph.specs.Network.{length_of}
-use Rattle.net_graph.specs.Decision.{Decided, IsDecisionFor, IsUndecided, IsVertexUndecided, states_of, state_at_ends, states_at_ends, is_missed, has_missed_end, nothing_decided, with_edge, with_vertex}
+use Rattle.net_graph.specs.Decision.{Decided, IsDecisionFor, IsUndecided, IsVertexUndecided, states_of, state_at_ends, states_at_ends, is_missed, nothing_decided, with_edge, with_vertex}
 use Rattle.net_graph.specs.DecisionLaws.{states_of-nothing, IsDecisionFor-nothing}
 use Rattle.cert_tree.specs.declared.split.SplitOn.{SplitOn}
 use Rattle.cert_tree.specs.declared.split.SplitOn.TheVariants as split
@@ -113,40 +112,24 @@ states-set_outside (e ∷ es) (s ∷ ss) vs (suc n) = ap (λ xs. state_at_ends v
 
 -- a decided edge is one undecided edge less
 left-inside : (g : Graph) (d : Decided) (e : ℕ) → IsUndecided g d e → edges_left g d ≡ 1 + edges_left g (with_edge d e Inside)
-left-inside g d e undecided =
-    undecided_count-set (states_of g d) e Inside undecided refl
-    ∙ ap (λ xs. 1 + undecided_count xs) (sym (states-set_inside g.edges d.edges d.vertices e))
+left-inside g d e undecided = search (undecided_count-set, states-set_inside)
 
 left-outside : (g : Graph) (d : Decided) (e : ℕ) → IsUndecided g d e → edges_left g d ≡ 1 + edges_left g (with_edge d e Outside)
-left-outside g d e undecided =
-    undecided_count-set (states_of g d) e Outside undecided refl
-    ∙ ap (λ xs. 1 + undecided_count xs) (sym (states-set_outside g.edges d.edges d.vertices e))
+left-outside g d e undecided = search (undecided_count-set, states-set_outside)
 
 -- each missed vertex of the first states is one of the second
 abbrev MissesNoFewer : List VertexState → List VertexState → Type 0
 MissesNoFewer fewer more = (k : ℕ) → is_missed (slice_get fewer k) ≡ true → is_missed (slice_get more k) ≡ true
 
 one_undecided-le : (state : EdgeState) → one_undecided state ≤ 1
-one_undecided-le Undecided = omega arith
-one_undecided-le Inside = omega arith
-one_undecided-le Outside = omega arith
+one_undecided-le state = grind arith
 
 -- an edge at an end that is missed stays free
 one_at_ends : (fewer more : List VertexState) (e : Edge) (state : EdgeState) → MissesNoFewer fewer more →
     one_undecided (state_at_ends more e state) ≤ one_undecided (state_at_ends fewer e state)
 one_at_ends fewer more e Inside misses = omega arith
 one_at_ends fewer more e Outside misses = omega arith
-one_at_ends fewer more e Undecided misses =
-    ⊎_elim
-    (λ (yes : has_missed_end fewer e ≡ true).
-    let still : has_missed_end more e ≡ true =
-    ⊎_elim
-    (λ (a : is_missed (slice_get fewer e.a) ≡ true). or_left (is_missed (slice_get more e.a)) (is_missed (slice_get more e.b)) (misses e.a a))
-    (λ (b : is_missed (slice_get fewer e.b) ≡ true). or_right (is_missed (slice_get more e.a)) (is_missed (slice_get more e.b)) (misses e.b b))
-    (or_cases (is_missed (slice_get fewer e.a)) (is_missed (slice_get fewer e.b)) yes) in
-    rw (yes, still) (omega arith))
-    (λ (no : has_missed_end fewer e ≡ false). rw no (one_undecided-le (state_at_ends more e Undecided)))
-    (cases_Bool (has_missed_end fewer e))
+one_at_ends fewer more e Undecided misses = grind (arith, one_undecided-le)
 
 left-missing : (es : List Edge) (ss : List EdgeState) (fewer more : List VertexState) → MissesNoFewer fewer more →
     undecided_count (states_at_ends es ss more) ≤ undecided_count (states_at_ends es ss fewer)
@@ -154,20 +137,10 @@ left-missing [] ss fewer more misses = omega arith
 left-missing (e ∷ es) [] fewer more misses = omega arith
 left-missing (e ∷ es) (s ∷ ss) fewer more misses = omega (arith, one_at_ends fewer more e s misses, left-missing es ss fewer more misses)
 
-missed_is : (o : Option VertexState) → is_missed o ≡ true → o ≡ Some vertex.Missed
-missed_is None missed = absurd cc
-missed_is (Some vertex.Undecided) missed = absurd cc
-missed_is (Some vertex.Met) missed = absurd cc
-missed_is (Some vertex.Missed) missed = refl
-
 -- .. as where one more vertex is decided
 misses-set : (states : List VertexState) (v : ℕ) (state : VertexState) → (slice_get states v ≡ Some vertex.Missed → ⊥) →
     MissesNoFewer states (slice_set states v state)
-misses-set states v state not_missed = λ k missed.
-    ⊎_elim
-    (λ (same : k ≡ v). absurd (not_missed (subst (λ (n : ℕ). slice_get states n ≡ Some vertex.Missed) same (missed_is (slice_get states k) missed))))
-    (λ (apart : k ≡ v → ⊥). ap is_missed (slice_get-set_other states v k state apart) ∙ missed)
-    (cases_eq k v)
+misses-set states v state not_missed = grind (arith, slice_get-set_other)
 
 -- nothing is decided of an undecided vertex
 open_state : (g : Graph) (d : Decided) (v : ℕ) → IsDecisionFor g d → IsVertexUndecided g d v → slice_get d.vertices v ≡ Some vertex.Undecided
@@ -185,11 +158,7 @@ open_state g d v decision undecided =
 left-vertex : (g : Graph) (d : Decided) (v : ℕ) (state : VertexState) → IsDecisionFor g d → IsVertexUndecided g d v → one_open state ≡ 0 →
     all_left g (with_vertex d v state) < all_left g d
 left-vertex g d v state decision undecided decided =
-    omega (
-      arith,
-      left-missing g.edges d.edges d.vertices (slice_set d.vertices v state) (misses-set d.vertices v state undecided.not_missed),
-      open_count-set d.vertices v state (open_state g d v decision undecided) decided,
-    )
+    grind (arith, left-missing, misses-set, open_count-set, open_state)
 
 -- at each split of the tree less is left in both children
 abbrev pub Lessens : (Decided → ℕ) → Decided → Tree SplitOn → Type 0
@@ -332,11 +301,4 @@ splits_left kind.Vertices g first_length solved holds edges stopped =
 pub enough_optimal : (asked : SplitKind) (g : Graph) (first_length allowed : ℕ) (solved : Solved) → IsSolved g first_length solved →
     (asked ≡ kind.Edges → SplitsEdges solved.tree) → (solved.optimal ≡ false → split_count solved.tree ≡ allowed) →
     ways_of asked g ≤ allowed + 1 → solved.optimal ≡ true
-enough_optimal asked g first_length allowed solved holds edges stops enough =
-    ⊎_elim
-    (λ (yes : solved.optimal ≡ true). yes)
-    (λ (stopped : solved.optimal ≡ false).
-    let fewer = splits_left asked g first_length solved holds edges stopped in
-    let all = stops stopped in
-    absurd (omega arith))
-    (cases_Bool solved.optimal)
+enough_optimal asked g first_length allowed solved holds edges stops enough = grind (arith, splits_left)

@@ -1,41 +1,23 @@
 -- Plain openings, one after another.
-use Rattle.std.proofs.Common.{ℕ, zero, suc, ◌≡◌, Bool, List, Result, Ok, Err, IfOk, refl, sym, subst}
+use Rattle.std.proofs.Common.{ℕ, zero, suc, ◌≡◌, Bool, List, Result, IfOk, sym, subst, arith}
 use Rattle.net_graph.specs.Graph.{Graph}
 use Rattle.net_graph.specs.Network.{length_of}
-use Rattle.net_graph.specs.Decision.{Decided}
 use Rattle.cert_tree.specs.declared.split.SplitOn.{SplitOn}
-use Rattle.cert_tree.specs.declared.split.SplitOn.TheVariants as split
-use Rattle.cert_tree.specs.Tree.{Tree, split_with}
+use Rattle.cert_tree.specs.Tree.{Tree}
 use Rattle.cert_tree.specs.Preorder.{split_count}
 use Rattle.branch.specs.declared.solved.Solved.{Solved}
 use Rattle.branch.specs.declared.split_kind.SplitKind.{SplitKind}
 use Rattle.branch.specs.declared.split_kind.SplitKind.TheVariants as kind
-use Rattle.branch.specs.Candidates.{IsCandidate}
 use Rattle.branch.specs.KindLaws.{SplitsEdges-replaced}
-use Rattle.branch.specs.Kinds.{SplitsEdges, AreOfKind}
+use Rattle.branch.specs.Kinds.{AreOfKind}
 use Rattle.branch.specs.Notes.{shorter_of}
 use Rattle.branch.specs.PlainOpenings.{IsPlainOpening, LeadsInOpenings, LeadsByOpenings, EndsPlainOpenings}
 use Rattle.branch.specs.Searching.{SearchState, OpensTo}
-use Rattle.branch.specs.States.{IsSameOrShorter}
-use Rattle.branch.proofs.lemmas.ShorterLemmas.{IsSameOrShorter-le, shorter_of-is}
-
--- where edges are asked for, a split is on one
-on_edge : (asked : SplitKind) (g : Graph) (d : Decided) (set : List Bool) (on : SplitOn) → asked ≡ kind.Edges →
-    IsCandidate asked g d set on → (e : ℕ) × (on ≡ split.Edge e)
-on_edge asked g d set (split.Edge e) edges candidate = (e, refl)
-on_edge asked g d set (split.Vertex v) edges candidate =
-    absurd (subst (λ (k : SplitKind). IsCandidate k g d set (split.Vertex v)) edges candidate)
 
 -- so splits on edges alone stay so through openings of their kind
 opening_of_kind : (asked : SplitKind) (g : Graph) (network later : List Bool) (tree later_tree : Tree SplitOn) →
     IsPlainOpening asked g network later tree later_tree → AreOfKind asked tree → AreOfKind asked later_tree
-opening_of_kind asked g network later tree later_tree plain were = λ edges.
-    let op = plain.opening in
-    let (e, is) = on_edge asked g op.leaf.decision plain.set op.on edges plain.candidate in
-    let new : SplitsEdges (split_with op.on op.outside op.inside) =
-    subst (λ (s : SplitOn). SplitsEdges (split_with s op.outside op.inside)) (sym is) (tt, tt) in
-    subst SplitsEdges (sym op.tree_is)
-    (SplitsEdges-replaced op.place (split_with op.on op.outside op.inside) tree new (were edges))
+opening_of_kind asked g network later tree later_tree plain were = grind (arith, SplitsEdges-replaced)
 
 pub leads_of_kind : (asked : SplitKind) (g : Graph) (network : List Bool) (tree : Tree SplitOn) (n : ℕ) (later : List Bool)
     (later_tree : Tree SplitOn) → LeadsInOpenings asked g network tree n later later_tree → AreOfKind asked tree →
@@ -59,23 +41,11 @@ leads_more asked g network tree old new kind graph (n, leads) opens =
 pub leads_told : (asked : SplitKind) (g : Graph) (network : List Bool) (tree : Tree SplitOn) (s : SearchState) (solved : Solved) →
     solved.network ≡ s.network → solved.tree ≡ s.tree → LeadsByOpenings asked g network tree s.network s.tree →
     LeadsByOpenings asked g network tree solved.network solved.tree
-leads_told asked g network tree s solved network_is tree_is leads =
-    subst (λ (t : Tree SplitOn). LeadsByOpenings asked g network tree solved.network t) (sym tree_is)
-    (subst (λ (m : List Bool). LeadsByOpenings asked g network tree m s.tree) (sym network_is) leads)
+leads_told asked g network tree s solved network_is tree_is leads = grind arith
 
 -- a search that began with one leaf
 pub ends_plain : {E : Type 0} (asked : SplitKind) (g : Graph) (first : List Bool) (start : SearchState) (found : Result Solved E) →
     start.graph ≡ g → start.kind ≡ asked → split_count start.tree ≡ 0 → start.network ≡ shorter_of g first start.shown →
     IfOk found (λ s. LeadsByOpenings start.kind start.graph start.network start.tree s.network s.tree) →
     IfOk found (λ s. EndsPlainOpenings asked g (length_of g first) s.network s.tree)
-ends_plain asked g first start (Err error) graph kind leaf network leads = tt
-ends_plain asked g first start (Ok s) graph kind leaf network leads =
-    record {
-      first = start.network;
-      leaf = start.tree;
-      no_longer = IsSameOrShorter-le g first start.network
-          (subst (λ (m : List Bool). IsSameOrShorter g first m) (sym network) (shorter_of-is g first start.shown));
-      one_leaf = leaf;
-      plain = subst (λ (k : SplitKind). LeadsByOpenings k g start.network start.tree s.network s.tree) kind
-          (subst (λ (h : Graph). LeadsByOpenings start.kind h start.network start.tree s.network s.tree) graph leads);
-    }
+ends_plain asked g first start found graph kind leaf network leads = grind arith

@@ -1,5 +1,5 @@
 -- Elements of lists by their places, and lists of the same length side by side.
-use Rattle.std.proofs.Common.{ℕ, zero, suc, ◌≡◌, ◌+◌, ◌<◌, ◌⊎◌, inl, inr, ⊎_elim, List, [], ◌∷◌, ◌++◌, length, take, slice_get, slice_set, Some, All, refl, ap, sym, ◌∙◌, subst, arith, get_or}
+use Rattle.std.proofs.Common.{ℕ, zero, suc, ◌≡◌, ◌+◌, ◌<◌, ◌⊎◌, inl, inr, List, [], ◌∷◌, ◌++◌, length, take, slice_get, slice_set, Some, All, refl, ap, sym, ◌∙◌, subst, arith, get_or}
 use Rattle.std.specs.List.{AllZip, insert}
 use Rattle.std.proofs.lemmas.Option.{slice_get-get_or, slice_get_within, get_or_from_slice_get}
 
@@ -33,11 +33,7 @@ pub place_cases : {X : Type 0} (xs ys : List X) (k : ℕ) (x : X) → slice_get 
     ((k < length xs) × (slice_get xs k ≡ Some x)) ⊎ ((m : ℕ) × (k ≡ length xs + m) × (slice_get ys m ≡ Some x))
 place_cases [] ys k x at = inr (k, omega arith, at)
 place_cases (z ∷ xs) ys zero x at = inl (omega arith, at)
-place_cases (z ∷ xs) ys (suc k) x at =
-    ⊎_elim
-    (λ (l : (k < length xs) × (slice_get xs k ≡ Some x)). inl (let h : k < length xs = l.0 in omega arith, l.1))
-    (λ (r : (m : ℕ) × (k ≡ length xs + m) × (slice_get ys m ≡ Some x)). inr (r.0, let h : k ≡ length xs + r.0 = r.1 in omega arith, r.2))
-    (place_cases xs ys k x at)
+place_cases (z ∷ xs) ys (suc k) x at = grind (arith, place_cases xs ys k x at)
 
 pub slice_get-append_left : {X : Type 0} (xs ys : List X) (k : ℕ) (x : X) → slice_get xs k ≡ Some x → slice_get (xs ++ ys) k ≡ Some x
 slice_get-append_left [] ys k x at = absurd cc

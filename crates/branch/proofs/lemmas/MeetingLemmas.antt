@@ -1,8 +1,7 @@
 -- Counting the edges of a set that end at a vertex.
-use Rattle.std.proofs.Common.{ℕ, zero, suc, ◌≡◌, ◌+◌, ◌<◌, ◌≤◌, ◌⊎◌, ⊎_elim, inl, inr, Bool, true, false, eqb, List, [], ◌∷◌, length, take, get_or, slice_get, Some, refl, ap, sym, ◌∙◌, arith, add-one}
-use Rattle.std.proofs.lemmas.Bool.{cases_eq, eq-eqb, ne_eqb, or_right}
+use Rattle.std.proofs.Common.{ℕ, zero, suc, ◌≡◌, ◌+◌, ◌<◌, ◌≤◌, ◌⊎◌, ⊎_elim, Bool, true, false, List, [], ◌∷◌, length, take, get_or, slice_get, Some, refl, arith, add-one}
 use Rattle.std.proofs.lemmas.List.{length-take}
-use Rattle.std.proofs.lemmas.Option.{same_Some, slice_get-get_or}
+use Rattle.std.proofs.lemmas.Option.{slice_get-get_or}
 use Rattle.net_graph.specs.declared.edge.Edge.{Edge}
 use Rattle.branch.specs.Meeting.{end_count, edges_at}
 
@@ -10,35 +9,11 @@ use Rattle.branch.specs.Meeting.{end_count, edges_at}
 abbrev pub EndsAt : ℕ → Edge → Type 0
 EndsAt v e = (e.a ≡ v) ⊎ (e.b ≡ v)
 
--- an edge is counted once at an end
-pub end_count-at : (v : ℕ) (e : Edge) → EndsAt v e → end_count v e ≡ 1
-end_count-at v e ends =
-    ⊎_elim
-    (λ (a : e.a ≡ v). rw (eq-eqb e.a v a) refl)
-    (λ (b : e.b ≡ v). rw (or_right (eqb e.a v) (eqb e.b v) (eq-eqb e.b v b)) refl)
-    ends
-
--- .. and nowhere else
-pub end_count-apart : (v : ℕ) (e : Edge) → (e.a ≡ v → ⊥) → (e.b ≡ v → ⊥) → end_count v e ≡ 0
-end_count-apart v e not_a not_b = rw (ne_eqb e.a v not_a, ne_eqb e.b v not_b) refl
-
 pub end_count-cases : (v : ℕ) (e : Edge) → (EndsAt v e × (end_count v e ≡ 1)) ⊎ (end_count v e ≡ 0)
-end_count-cases v e =
-    ⊎_elim
-    (λ (a : e.a ≡ v). inl (inl a, end_count-at v e (inl a)))
-    (λ (not_a : e.a ≡ v → ⊥).
-    ⊎_elim
-    (λ (b : e.b ≡ v). inl (inr b, end_count-at v e (inr b)))
-    (λ (not_b : e.b ≡ v → ⊥). inr (end_count-apart v e not_a not_b))
-    (cases_eq e.b v))
-    (cases_eq e.a v)
+end_count-cases v e = grind arith
 
 end_count-le : (v : ℕ) (e : Edge) → end_count v e ≤ 1
-end_count-le v e =
-    ⊎_elim
-    (λ (at : EndsAt v e × (end_count v e ≡ 1)). let one = at.1 in omega arith)
-    (λ (none : end_count v e ≡ 0). omega arith)
-    (end_count-cases v e)
+end_count-le v e = grind arith
 
 pub edges_at-le : (es : List Edge) (set : List Bool) (v : ℕ) → edges_at es set v ≤ length es
 edges_at-le [] set v = omega arith
@@ -51,8 +26,7 @@ pub edges_at-more : (es : List Edge) (set : List Bool) (n v : ℕ) (e : Edge) �
     edges_at (take (suc n) es) set v ≡ edges_at (take n es) set v + end_count v e
 edges_at-more [] set n v e at within = absurd cc
 edges_at-more (x ∷ es) [] n v e at within = absurd cc
-edges_at-more (x ∷ es) (true ∷ set) zero v e at within =
-    omega (arith, ap (end_count v) (same_Some x e at))
+edges_at-more (x ∷ es) (true ∷ set) zero v e at within = grind arith
 edges_at-more (x ∷ es) (false ∷ set) zero v e at within = absurd cc
 edges_at-more (x ∷ es) (true ∷ set) (suc n) v e at within = omega (arith, edges_at-more es set n v e at within)
 edges_at-more (x ∷ es) (false ∷ set) (suc n) v e at within = edges_at-more es set n v e at within
@@ -105,5 +79,4 @@ counted_kept es set n v count out is = rw add-one (omega (arith, edges_at-kept e
 
 -- what was read of the counts is the count
 pub count_read : (counts : List ℕ) (v read : ℕ) → v < length counts → read ≡ get_or counts v read → read ≡ get_or counts v 0
-count_read counts v read within is =
-    is ∙ same_Some (get_or counts v read) (get_or counts v 0) (sym (slice_get-get_or counts v read within) ∙ slice_get-get_or counts v 0 within)
+count_read counts v read within is = grind (arith, slice_get-get_or)

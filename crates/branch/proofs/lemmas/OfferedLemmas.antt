@@ -1,5 +1,5 @@
 -- A search that is offered a network, and the network that its first leaf shows.
-use Rattle.std.proofs.Common.{ℕ, zero, suc, ◌≡◌, ◌<◌, ◌≤◌, Bool, List, Option, Some, None, Bor, sym, subst, arith}
+use Rattle.std.proofs.Common.{ℕ, ◌≡◌, ◌<◌, ◌≤◌, Bool, List, Option, Bor, sym, subst, arith}
 use Rattle.std.specs.Option.{IfSome, option_copied}
 use Rattle.net_graph.specs.Decision.{nothing_decided}
 use Rattle.net_graph.specs.Graph.{Graph}
@@ -22,32 +22,7 @@ use Rattle.branch.proofs.lemmas.ShorterLemmas.{shorter_own}
 -- a run ends with a shorter network, too
 shorter_run : (g : Graph) (first_length n : ℕ) (network less : List Bool) (tree : Tree SplitOn) → EndsOpenings g first_length n network tree →
     IsState g less tree → length_of g less ≤ length_of g network → EndsOpenings g first_length n less tree
-shorter_run g first_length zero network less tree (state, none, limit) now shorter = (now, none, omega arith)
-shorter_run g first_length (suc n) network less tree (state, count, rest) now shorter =
-    let (earlier, earlier_tree, ends, opening) = rest in
-    let no_longer = opening.no_longer in (
-      now,
-      count,
-      (
-        earlier,
-        earlier_tree,
-        ends,
-        record {
-          place = opening.place;
-          leaf = opening.leaf;
-          on = opening.on;
-          outside = opening.outside;
-          inside = opening.inside;
-          at = opening.at;
-          below = opening.below;
-          splits = opening.splits;
-          tree_is = opening.tree_is;
-          outside_begins = opening.outside_begins;
-          inside_begins = opening.inside_begins;
-          no_longer = omega arith;
-        },
-      ),
-    )
+shorter_run g first_length n network less tree h now shorter = grind arith
 
 -- a search with a shorter network
 pub offered_search : (g : Graph) (old new : Frontier) (best : Best) → IsSearch g old → IsBest g best → best.length < old.best.length →
@@ -72,10 +47,8 @@ offered_search g old new best search is_best less is =
 
 -- what is kept as a leaf's own network is one
 pub own_network : (g : Graph) (leaf : DecidedLeaf) (own : Option (List Bool)) → ShowsOwn g leaf own → IsOwnNetwork g own
-own_network g leaf None shows = tt
-own_network g leaf (Some set) shows = shows.network_of
+own_network g leaf own shows = grind arith
 
 -- what a reference to it is, is the value
 pub IfSome-copied : {A : Type 0} (P : A → Type 0) (o : Option (Bor A)) → IfSome (option_copied o) P → IfSome o (λ x. P x.now)
-IfSome-copied P None holds = tt
-IfSome-copied P (Some x) holds = holds
+IfSome-copied P o holds = grind arith

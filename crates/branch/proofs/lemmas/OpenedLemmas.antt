@@ -1,5 +1,5 @@
 -- Where an opening stands.
-use Rattle.std.proofs.Common.{◌≡◌, ◌<◌, ◌^◌, length, ap, arith}
+use Rattle.std.proofs.Common.{◌≡◌, ◌<◌, ◌^◌, length, arith}
 use Rattle.std.proofs.lemmas.Option.{slice_get_within}
 use Rattle.net_graph.specs.Graph.{Graph}
 use Rattle.net_graph.specs.Decision.{nothing_decided}
@@ -30,6 +30,4 @@ opens_within_notes g kept opening search op =
 
 -- a tree of few splits has few leaves
 pub opens_few : (kept : Frontier) (s : SearchState) (g : Graph) → search_state g kept ≡ s → split_count s.tree < 255 → length (packings_of kept.tree) < 2 ^ 31
-opens_few kept s g same few =
-    let count : split_count kept.tree ≡ split_count s.tree = ap (λ (t : SearchState). split_count t.tree) same in
-    omega (arith, length-packings_of kept.tree)
+opens_few kept s g same few = grind (arith, length-packings_of)

@@ -1,16 +1,14 @@
 -- How the next open leaf can be opened.
 use Rattle.std.proofs.Common.{ℕ, ◌≡◌, ◌*◌, ◌<◌, ◌≤◌, ◌^◌, ◌↔◌, ◌⊎◌, ⊎_elim, inl, inr, Bool, true, false, [], List, length, slice_get, sum_by, IsTrue, Option, Some, None, refl, ap, sym, ◌∙◌, subst, arith, get_or}
 use Rattle.std.proofs.lemmas.Option.{same_Some, slice_get_within, slice_get_read}
-use Rattle.net_graph.specs.declared.state.EdgeState.{EdgeState}
-use Rattle.net_graph.specs.declared.state.EdgeState.TheVariants.{Undecided, Inside, Outside}
-use Rattle.net_graph.specs.declared.state.VertexState.TheVariants.{Met, Missed}
+use Rattle.net_graph.specs.declared.state.EdgeState.TheVariants.{Inside}
 use Rattle.net_graph.specs.declared.packing.Cut.{Cut}
 use Rattle.net_graph.specs.Graph.{Graph, total_of}
 use Rattle.net_graph.specs.Network.{length_of}
 use Rattle.net_graph.specs.LengthLaws.{length_of_edges-le-sum}
 use Rattle.net_graph.specs.Decision.{Decided, IsDecisionFor, IsUndecided, IsVertexUndecided, states_of, nothing_decided}
 use Rattle.net_graph.specs.DecisionLaws.{states_of-inside}
-use Rattle.net_graph.specs.Packing.{IsFeasible, room_of, load}
+use Rattle.net_graph.specs.Packing.{IsFeasible}
 use Rattle.dual_ascent.specs.Ascending.{BeginsWith}
 use Rattle.dual_ascent.specs.Carried.{carried, DecidesOneMore}
 use Rattle.branch.specs.SaturatedArcs.{HasSaturatedArc}
@@ -27,8 +25,8 @@ use Rattle.branch.specs.Leaves.{DecidedLeaf, leaf_under, leaves_of}
 use Rattle.branch.specs.States.{IsOpenLeaf, IsSameOrShorter, IsShownBy, leaf_value}
 use Rattle.branch.specs.declared.split_kind.SplitKind.{SplitKind}
 use Rattle.branch.specs.declared.split_kind.SplitKind.TheVariants as kind
-use Rattle.branch.specs.Candidates.{IsCandidate, IsEdgeToSplit, IsVertexToSplit}
-use Rattle.branch.specs.Openings.{IsSplitEdge, IsSplitVertex, IsSplitOf}
+use Rattle.branch.specs.Candidates.{IsCandidate, IsVertexToSplit}
+use Rattle.branch.specs.Openings.{IsSplitVertex, IsSplitOf}
 use Rattle.dual_ascent.specs.Costs.{costs_of}
 use Rattle.branch.specs.Notes.{IsBest, ShowsOwn, IsNoteOf, IsUpToOwn, IsKeptNote, IsNextNote, CanSplit, IsChoice}
 use Rattle.branch.specs.declared.opening.Opening.{Opening}
@@ -66,17 +64,7 @@ next_leaf g kept place note search next is =
 -- an edge with a saturated arc is undecided or inside
 saturated_cases : (g : Graph) (d : Decided) (packing : List Cut) (n : ℕ) → HasSaturatedArc g d packing n →
     IsUndecided g d n ⊎ (slice_get d.edges n ≡ Some Inside)
-saturated_cases g d packing n (e, state, at, state_at, saturated) = go state state_at saturated
-  where
-    go : (s : EdgeState) → slice_get (states_of g d) n ≡ Some s →
-        ((room_of s e ≡ Some (load packing e.a e.b)) ⊎ (room_of s e ≡ Some (load packing e.b e.a))) →
-        IsUndecided g d n ⊎ (slice_get d.edges n ≡ Some Inside)
-    go Undecided s_at full = inl s_at
-    go Inside s_at full = inr (states_of-inside g d n s_at)
-    go Outside s_at full = absurd (⊎_elim
-        (λ (no : room_of Outside e ≡ Some (load packing e.a e.b)). cc)
-        (λ (no : room_of Outside e ≡ Some (load packing e.b e.a)). cc)
-        full)
+saturated_cases g d packing n (e, state, at, state_at, saturated) = grind (arith, states_of-inside)
 
 pub saturated_inside : (g : Graph) (d : Decided) (packing : List Cut) (n : ℕ) → HasSaturatedArc g d packing n → (IsUndecided g d n → ⊥) →
     slice_get d.edges n ≡ Some Inside
@@ -86,28 +74,19 @@ saturated_inside g d packing n arc other =
     (λ (inside : slice_get d.edges n ≡ Some Inside). inside)
     (saturated_cases g d packing n arc)
 
--- what a split of a kind may be on, of each sort
-candidate_edge : (asked : SplitKind) (g : Graph) (d : Decided) (set : List Bool) (e : ℕ) → IsCandidate asked g d set (split.Edge e) → IsEdgeToSplit g d set e
-candidate_edge kind.Edges g d set e is = is
-candidate_edge kind.Vertices g d set e is = is.0
-
 candidate_vertex : (asked : SplitKind) (g : Graph) (d : Decided) (set : List Bool) (v : ℕ) → IsCandidate asked g d set (split.Vertex v) → IsVertexToSplit g d set v
-candidate_vertex kind.Edges g d set v is = absurd is
-candidate_vertex kind.Vertices g d set v is = is
+candidate_vertex asked g d set v is = grind arith
 
 -- what is chosen is undecided
 pub choice_undecided : (g : Graph) (note : LeafNote) (asked : SplitKind) (on : SplitOn) → IsChoice g note asked on → IsUndecidedSplit g note.decision on
-choice_undecided g note asked (split.Edge e) choice = (candidate_edge asked g note.decision choice.set e choice.candidate).undecided
-choice_undecided g note asked (split.Vertex v) choice = (candidate_vertex asked g note.decision choice.set v choice.candidate).undecided
+choice_undecided g note asked on choice = grind arith
 
 -- a decision and what a split adds to it
 pub one_more_outside : (g : Graph) (d now : Decided) (on : SplitOn) → IsUndecidedSplit g d on → now ≡ outside_of d on → DecidesOneMore g d now
-one_more_outside g d now (split.Edge e) undecided is = inl (e, Outside, undecided, is)
-one_more_outside g d now (split.Vertex v) undecided is = inr (v, Missed, undecided, is)
+one_more_outside g d now on undecided is = grind arith
 
 pub one_more_inside : (g : Graph) (d now : Decided) (on : SplitOn) → IsUndecidedSplit g d on → now ≡ inside_of d on → DecidesOneMore g d now
-one_more_inside g d now (split.Edge e) undecided is = inl (e, Inside, undecided, is)
-one_more_inside g d now (split.Vertex v) undecided is = inr (v, Met, undecided, is)
+one_more_inside g d now on undecided is = grind arith
 
 -- the leaf that a caller may split on a vertex
 pub leaf_to_split : (g : Graph) (kept : Frontier) (place v : ℕ) (note : LeafNote) → IsSearch g kept →
@@ -217,9 +196,7 @@ module _ (g : Graph) (kept : Frontier) (place : ℕ) (note : LeafNote) (search :
   parent_is parent at = same_Some leaf.packing parent (sym (packing_at (nothing_decided g) kept.tree place leaf is_next.at) ∙ at)
 
   pub parent_feasible : (parent : List Cut) → slice_get (packings_of kept.tree) place ≡ Some parent → IsFeasible g note.decision parent
-  parent_feasible parent at =
-      subst (λ (p : List Cut). IsFeasible g note.decision p) (parent_is parent at)
-      (subst (λ (d : Decided). IsFeasible g d leaf.packing) (sym is_next.of_note.decision) is_next.of_note.feasible)
+  parent_feasible parent at = grind (arith, parent_is)
 
   -- what is kept of the rooms
   pub parent_costs : (parent : List Cut) → slice_get (packings_of kept.tree) place ≡ Some parent →
@@ -235,14 +212,7 @@ module _ (g : Graph) (kept : Frontier) (place : ℕ) (note : LeafNote) (search :
 
   pub choice_candidate : (asked : SplitKind) (on : SplitOn) (choice : IsChoice g note asked on) →
       IsCandidate asked g leaf.decision choice.set on
-  choice_candidate asked on choice =
-      subst (λ (d : Decided). IsCandidate asked g d choice.set on) is_next.of_note.decision choice.candidate
-
-  shown_edge : (set : List Bool) (e : ℕ) → IsShownBy g leaf set → IsEdgeToSplit g leaf.decision set e → IsSplitEdge g leaf e
-  shown_edge set e shows sought = record {
-    undecided = sought.undecided;
-    saturated = shows.arcs.arcs e sought.within;
-  }
+  choice_candidate asked on choice = grind arith
 
   -- an undecided vertex is no end of an inside edge, so that an edge of the network is undecided there
   shown_vertex : (set : List Bool) (v : ℕ) → IsShownBy g leaf set → IsVertexToSplit g leaf.decision set v → IsSplitVertex g leaf v
@@ -267,31 +237,23 @@ module _ (g : Graph) (kept : Frontier) (place : ℕ) (note : LeafNote) (search :
       }
 
   choice_splits : (asked : SplitKind) (on : SplitOn) → IsChoice g note asked on → IsSplitOf g leaf on
-  choice_splits asked (split.Edge e) choice =
-      shown_edge choice.set e (choice_shown asked (split.Edge e) choice)
-      (candidate_edge asked g leaf.decision choice.set e (choice_candidate asked (split.Edge e) choice))
-  choice_splits asked (split.Vertex v) choice =
-      shown_vertex choice.set v (choice_shown asked (split.Vertex v) choice)
-      (candidate_vertex asked g leaf.decision choice.set v (choice_candidate asked (split.Vertex v) choice))
+  choice_splits asked (split.Edge e) choice = grind arith
+  choice_splits asked (split.Vertex v) choice = grind (arith, shown_vertex, candidate_vertex)
 
   -- a child, once its decision is known to be one more on the leaf's
   child_note : (next : Decided → Decided) (now : Decided) (child : NewLeaf) → now ≡ next note.decision →
       IsNoteOf g (leaf_under now child.packing) child.note → IsNoteOf g (leaf_under (next leaf.decision) child.packing) child.note
-  child_note next now child same of_note =
-      subst (λ (d : Decided). IsNoteOf g (leaf_under d child.packing) child.note) (same ∙ ap next is_next.of_note.decision) of_note
+  child_note next now child same of_note = grind arith
 
   -- .. and what is carried to it
   child_carried : (next : Decided → Decided) (now : Decided) (parent : List Cut) → now ≡ next note.decision →
       slice_get (packings_of kept.tree) place ≡ Some parent → carried g now parent ≡ carried g (next leaf.decision) leaf.packing
-  child_carried next now parent same at =
-      ap (λ (d : Decided). carried g d parent) (same ∙ ap next is_next.of_note.decision)
-      ∙ ap (λ (p : List Cut). carried g (next leaf.decision) p) (sym (parent_is parent at))
+  child_carried next now parent same at = grind (arith, parent_is)
 
   child_begins : (next : Decided → Decided) (now : Decided) (parent packing : List Cut) → now ≡ next note.decision →
       slice_get (packings_of kept.tree) place ≡ Some parent → BeginsWith packing (carried g now parent) →
       BeginsWith packing (carried g (next leaf.decision) leaf.packing)
-  child_begins next now parent packing same at begins =
-      subst (λ (cuts : List Cut). BeginsWith packing cuts) (child_carried next now parent same at) begins
+  child_begins next now parent packing same at begins = grind (arith, child_carried)
 
   -- all together
   module _ (on : SplitOn) (d_out d_in : Decided) (parent : List Cut) (outside inside : NewLeaf) (best : Best)

@@ -1,12 +1,10 @@
 -- A search whose only leaf another one replaces.
-use Rattle.std.proofs.Common.{ℕ, ◌≡◌, ◌<◌, ◌≤◌, Bool, List, [], ◌∷◌, length, sum_by, slice_get, get_or, Option, Some, None}
-use Rattle.std.proofs.Common.{ap, subst, sym, ◌∙◌, refl, arith}
-use Rattle.std.proofs.lemmas.Bool.{le-leb}
+use Rattle.std.proofs.Common.{ℕ, ◌≡◌, ◌<◌, ◌≤◌, Bool, List, [], ◌∷◌, length, slice_get, get_or, Option, Some}
+use Rattle.std.proofs.Common.{ap, subst, refl, arith}
 use Rattle.std.proofs.lemmas.List.Sums.{sum_by-append}
-use Rattle.std.proofs.lemmas.Option.{same_Some, slice_get-get_or}
+use Rattle.std.proofs.lemmas.Option.{slice_get-get_or}
 use Rattle.net_graph.specs.declared.packing.Cut.{Cut}
 use Rattle.net_graph.specs.Graph.{Graph}
-use Rattle.net_graph.specs.Network.{length_of}
 use Rattle.net_graph.specs.Decision.{Decided, nothing_decided}
 use Rattle.net_graph.specs.Packing.{packing_value}
 use Rattle.dual_ascent.specs.Ascending.{BeginsWith}
@@ -27,52 +25,34 @@ use Rattle.branch.proofs.lemmas.TreeLemmas.{length-leaves_of}
 
 -- a search keeps a note at least
 pub some_note : (g : Graph) (kept : Frontier) → IsSearch g kept → 0 < length kept.notes.items
-some_note g kept search =
-    omega (
-      arith,
-      length-packings_of kept.tree,
-      length-leaves_of (nothing_decided g) kept.tree,
-      AllZip-length (IsKeptNote g kept.best.length) (leaves_of (nothing_decided g) kept.tree) kept.notes.items search.notes,
-    )
+some_note g kept search = omega (arith, length-packings_of, length-leaves_of, AllZip-length)
 
 -- the first note tells the value of a tree that is one leaf
 first_value : (g : Graph) (limit : ℕ) (tree : Tree SplitOn) (notes : List LeafNote) (note : LeafNote) → split_count tree ≡ 0 →
     AreNotesOf g limit (leaves_of (nothing_decided g) tree) notes → slice_get notes 0 ≡ Some note →
     note.value ≡ tree_value g (nothing_decided g) tree
-first_value g limit (Leaf cuts) notes note none are at =
-    let (leaf, leaf_at, kept) = beside_right (IsKeptNote g limit) (leaf_under (nothing_decided g) cuts ∷ []) notes 0 note are at in
-    let same : leaf_under (nothing_decided g) cuts ≡ leaf = same_Some (leaf_under (nothing_decided g) cuts) leaf leaf_at in
-    let of_note = subst (λ (l : DecidedLeaf). IsNoteOf g l note) (sym same) kept.0 in of_note.value
+first_value g limit (Leaf cuts) notes note none are at = grind arith
 first_value g limit (Split on outside inside) notes note none are at = absurd (omega (arith, none))
 
 -- a packing that begins with other cuts is worth no less
 pub worth : (g : Graph) (d : Decided) (packing start : List Cut) → BeginsWith packing start →
     packing_value g d start ≤ packing_value g d packing
-worth g d packing start (rest, is) =
-    omega (arith, ap (sum_by (λ c. c.weight)) is, sum_by-append (λ c. c.weight) start rest)
+worth g d packing start (rest, is) = grind (arith, sum_by-append)
 
 -- the first note tells the value of a search's only leaf
 only_value : (g : Graph) (kept : Frontier) (s : SearchState) (first : LeafNote) → IsSearch g kept → search_state g kept ≡ s →
     split_count s.tree ≡ 0 → first ≡ get_or kept.notes.items 0 first → first.value ≡ tree_value g (nothing_decided g) kept.tree
-only_value g kept s first search view none is =
-    let count : split_count kept.tree ≡ 0 = ap (λ (t : SearchState). split_count t.tree) view ∙ none in
-    let at : slice_get kept.notes.items 0 ≡ Some first =
-    slice_get-get_or kept.notes.items 0 first (some_note g kept search) ∙ ap (λ (n : LeafNote). Some n) (sym is) in
-    first_value g kept.best.length kept.tree kept.notes.items first count search.notes at
+only_value g kept s first search view none is = grind (arith, slice_get-get_or, some_note, first_value)
 
 -- what is kept beside the first leaf is true of it
 pub first_kept : (g : Graph) (kept : Frontier) (note : LeafNote) → IsSearch g kept → note ≡ get_or kept.notes.items 0 note →
     (leaf : DecidedLeaf) × (slice_get (leaves_of (nothing_decided g) kept.tree) 0 ≡ Some leaf)
     × IsKeptNote g kept.best.length leaf note
-first_kept g kept note search is =
-    let at : slice_get kept.notes.items 0 ≡ Some note =
-    slice_get-get_or kept.notes.items 0 note (some_note g kept search) ∙ ap (λ (n : LeafNote). Some n) (sym is) in
-    beside_right (IsKeptNote g kept.best.length) (leaves_of (nothing_decided g) kept.tree) kept.notes.items 0 note search.notes at
+first_kept g kept note search is = grind (arith, slice_get-get_or, some_note, beside_right)
 
 -- what the first note shows
 shown_first-at : (notes : List LeafNote) (note : LeafNote) → 0 < length notes → note ≡ get_or notes 0 note → shown_first notes ≡ note.network
-shown_first-at [] note some is = absurd (omega arith)
-shown_first-at (first ∷ notes) note some is = ap (λ (n : LeafNote). n.network) (sym is)
+shown_first-at notes note some is = grind arith
 
 pub shown_is : (g : Graph) (kept : Frontier) (note : LeafNote) → IsSearch g kept → note ≡ get_or kept.notes.items 0 note →
     shown_first kept.notes.items ≡ note.network
@@ -81,11 +61,7 @@ shown_is g kept note search is = shown_first-at kept.notes.items note (some_note
 -- a best network stays where the other one is no shorter
 best_stays : (g : Graph) (best : Best) (own : Option (List Bool)) → IsBest g best → IsUpToOwn g best.length own →
     best.network ≡ shorter_of g best.network own
-best_stays g best None is_best up_to = refl
-best_stays g best (Some set) is_best up_to =
-    let same = is_best.length in
-    let least : length_of g best.network ≤ length_of g set = omega arith in
-    rw (le-leb (length_of g best.network) (length_of g set) least) refl
+best_stays g best own is_best up_to = grind arith
 
 -- Another leaf in place of the only one, of a value that isn't less, raises the search.
 pub raised : (g : Graph) (old new : Frontier) (s : SearchState) (first note : LeafNote) (packing cuts : List Cut) →
@@ -116,18 +92,4 @@ pub stays_raised : (g : Graph) (kept : Frontier) (s : SearchState) (first note :
     IsNoteOf g (leaf_under (nothing_decided g) packing) note → BeginsWith packing cuts → note.value ≤ first.value →
     IsRaised cuts s s
 stays_raised g kept s first note packing cuts search view none is of_note begins less =
-    let before = only_value g kept s first search view none is in
-    let value = of_note.value in
-    let least = worth g (nothing_decided g) packing cuts begins in
-    let (leaf, at, own) = first_kept g kept first search is in
-    let stays : kept.best.network ≡ shorter_of g kept.best.network (shown_first kept.notes.items) =
-    rw (shown_is g kept first search is) (best_stays g kept.best first.network search.best own.1) in
-    subst (λ (t : SearchState). IsRaised cuts t t) view (record {
-      graph = refl;
-      kind = refl;
-      first_length = refl;
-      leaf = ap (λ (t : SearchState). split_count t.tree) view ∙ none;
-      value = omega arith;
-      given = omega arith;
-      network = stays;
-    })
+    grind (arith, only_value, worth, first_kept, shown_is, best_stays)

@@ -1,10 +1,10 @@
 -- What a search tells of its leaves.
-use Rattle.std.proofs.Common.{ℕ, ◌≡◌, ◌<◌, ◌≤◌, Bool, List, length, slice_get, get_or, Option, Some, None}
-use Rattle.std.proofs.Common.{refl, ap, sym, ◌∙◌, subst, arith}
+use Rattle.std.proofs.Common.{ℕ, ◌≡◌, ◌<◌, Bool, List, length, slice_get, get_or, Option, Some}
+use Rattle.std.proofs.Common.{refl, sym, ◌∙◌, subst, arith}
 use Rattle.std.specs.Prelude.{IfNone, IfSome}
 use Rattle.std.proofs.lemmas.Option.{slice_get_within, slice_get-get_or, same_Some}
-use Rattle.net_graph.specs.Graph.{Graph, total_of}
-use Rattle.net_graph.specs.Decision.{Decided, IsDecisionFor, IsUndecided, IsVertexUndecided, states_of, nothing_decided}
+use Rattle.net_graph.specs.Graph.{Graph}
+use Rattle.net_graph.specs.Decision.{Decided, IsUndecided, IsVertexUndecided, states_of, nothing_decided}
 use Rattle.net_graph.specs.DecisionLaws.{length-states_of}
 use Rattle.net_graph.specs.LengthLaws.{length_of_edges-le-sum}
 use Rattle.net_graph.specs.Network.{length_of}
@@ -16,9 +16,9 @@ use Rattle.branch.specs.declared.note.LeafNote.{LeafNote}
 use Rattle.branch.specs.declared.frontier.Frontier.{Frontier}
 use Rattle.branch.specs.Leaves.{DecidedLeaf, leaves_of}
 use Rattle.branch.specs.SaturatedArcs.{IsUsedUpEdge}
-use Rattle.branch.specs.States.{IsOpenLeaf, leaf_value}
+use Rattle.branch.specs.States.{IsOpenLeaf}
 use Rattle.branch.specs.Openings.{IsSplitVertex}
-use Rattle.branch.specs.Notes.{IsNoteOf, ShowsOwn, IsKeptNote, IsNextNote, HasSaturatedEnd}
+use Rattle.branch.specs.Notes.{IsNoteOf, IsKeptNote, IsNextNote, HasSaturatedEnd}
 use Rattle.branch.specs.Searching.{SearchState, search_state, IsSearch, IsDecidedAt, CanSplitAt}
 use Rattle.branch.proofs.lemmas.ListLemmas.{AllZip-length, beside_right}
 use Rattle.branch.proofs.lemmas.SaturatedLemmas.{HasSaturatedArc-used_up}
@@ -26,23 +26,16 @@ use Rattle.branch.proofs.lemmas.TreeLemmas.{length-leaves_of}
 
 -- what holds anyway holds where there is nothing
 pub IfNone-holds : {A : Type 0} (o : Option A) (P : Type 0) → P → IfNone o P
-IfNone-holds None P holds = holds
-IfNone-holds (Some x) P holds = tt
+IfNone-holds o P holds = grind arith
 
 -- there is a note for each leaf
 notes_length : (g : Graph) (kept : Frontier) → IsSearch g kept →
     length kept.notes.items ≡ length (packings_of kept.tree)
-notes_length g kept search =
-    let leaves = leaves_of (nothing_decided g) kept.tree in
-    let same = AllZip-length (IsKeptNote g kept.best.length) leaves kept.notes.items search.notes in
-    omega (arith, length-leaves_of (nothing_decided g) kept.tree)
+notes_length g kept search = omega (arith, AllZip-length, length-leaves_of)
 
 pub note_within : (g : Graph) (kept : Frontier) (s : SearchState) (k : ℕ) → IsSearch g kept → search_state g kept ≡ s →
     k < length (packings_of s.tree) → k < length kept.notes.items
-note_within g kept s k search view within =
-    let same : length (packings_of kept.tree) ≡ length (packings_of s.tree) =
-    ap (λ (t : SearchState). length (packings_of t.tree)) view in
-    omega (arith, notes_length g kept search)
+note_within g kept s k search view within = grind (arith, notes_length)
 
 pub next_within : (g : Graph) (kept : Frontier) (place : ℕ) → IsSearch g kept →
     IsNextNote kept.best.length kept.notes.items place →
@@ -56,30 +49,13 @@ module _ (g : Graph) (kept : Frontier) (k : ℕ) (note : LeafNote) (search : IsS
   -- the leaf that the note stands for
   leaf_beside : (leaf : DecidedLeaf) × (slice_get (leaves_of (nothing_decided g) kept.tree) k ≡ Some leaf)
       × IsKeptNote g kept.best.length leaf note
-  leaf_beside =
-      let at : slice_get kept.notes.items k ≡ Some note =
-      slice_get-get_or kept.notes.items k note within ∙ ap (λ (n : LeafNote). Some n) (sym is) in
-      let leaves = leaves_of (nothing_decided g) kept.tree in
-      beside_right (IsKeptNote g kept.best.length) leaves kept.notes.items k note search.notes at
+  leaf_beside = grind (arith, slice_get-get_or, beside_right)
 
   pub is_decided : IsDecidedAt (search_state g kept) k note.decision
-  is_decided =
-      let (leaf, at, kept_note) = leaf_beside in
-      let same = kept_note.0.decision in
-      (subst (λ (d : Decided). IsDecisionFor g d) (sym same) kept_note.0.decided, (leaf, at, sym same))
+  is_decided = grind (arith, leaf_beside)
 
   pub rooms_size : IfSome note.network (λ _. length note.costs ≡ length g.edges)
-  rooms_size = go note.network refl
-    where
-      go : (own : Option (List Bool)) → note.network ≡ own → IfSome own (λ _. length note.costs ≡ length g.edges)
-      go None same = tt
-      go (Some set) same =
-          let (leaf, at, kept_note) = leaf_beside in
-          let costs = kept_note.0.costs set same in
-          let decided = kept_note.0.decided in
-          ap length costs
-          ∙ length-costs_of g.edges (states_of g leaf.decision) leaf.packing
-          (length-states_of g leaf.decision decided.edges)
+  rooms_size = grind (arith, leaf_beside, length-costs_of, length-states_of)
 
   -- a vertex at which an undecided edge with a saturated arc ends can be split on
   pub can_split : (v : ℕ) → note.value < kept.best.length → HasSaturatedEnd g note v →
@@ -111,12 +87,7 @@ module _ (g : Graph) (kept : Frontier) (k : ℕ) (note : LeafNote) (search : IsS
   -- an open leaf's note has a network
   own_network : (leaf : DecidedLeaf) → IsNoteOf g leaf note → IsOpenLeaf g (length_of g kept.best.network) leaf →
       (own : Option (List Bool)) → note.network ≡ own → (set : List Bool) × (note.network ≡ Some set)
-  own_network leaf is below None none =
-      let long : total_of g ≤ leaf_value g leaf = subst (ShowsOwn g leaf) none is.own in
-      let short : length_of g kept.best.network ≤ total_of g =
-      length_of_edges-le-sum g.edges kept.best.network in
-      absurd (omega arith)
-  own_network leaf is below (Some set) some = (set, some)
+  own_network leaf is below own none = grind (arith, length_of_edges-le-sum)
 
   -- .. and no other vertex can
   pub has_end : (v : ℕ) → CanSplitAt (search_state g kept) k v →

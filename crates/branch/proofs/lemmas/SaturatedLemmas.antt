@@ -1,14 +1,14 @@
 -- Edges with saturated arcs, one after another and as a network.
 use Rattle.std.proofs.Common.{ℕ, ◌≡◌, ◌+◌, ◌-◌, ◌*◌, ◌/◌, ◌%◌, ◌<◌, ◌≤◌, ◌↔◌, ◌⊎◌, ⊎_elim, inl, inr, Bool, true, false}
 use Rattle.std.proofs.Common.{List, [], ◌∷◌, ◌++◌, length, replicate, slice_get, slice_set, Option, Some, All, Contains}
-use Rattle.std.proofs.Common.{refl, sym, ap, ◌∙◌, subst, arith}
+use Rattle.std.proofs.Common.{sym, ap, ◌∙◌, subst, arith}
 use Rattle.std.proofs.lemmas.Bool.{cases_lt}
 use Rattle.std.proofs.lemmas.List.Elements.{All-contains, Contains-get_or, Contains-push_cases}
 use Rattle.std.proofs.lemmas.Option.{slice_get_within}
 use Rattle.net_graph.specs.declared.arcs.Arc.{Arc}
 use Rattle.net_graph.specs.declared.packing.Cut.{Cut}
 use Rattle.net_graph.specs.Adds.{Adds}
-use Rattle.net_graph.specs.AddsLaws.{Adds-one, Adds-then, Adds-iff, Adds-holds}
+use Rattle.net_graph.specs.AddsLaws.{Adds-one, Adds-then, Adds-holds}
 use Rattle.net_graph.specs.Decision.{Decided, IsDecisionFor, states_of}
 use Rattle.net_graph.specs.Graph.{Graph, root_of}
 use Rattle.net_graph.specs.Network.{Links, IsNetwork}
@@ -17,7 +17,7 @@ use Rattle.net_graph.specs.Saturation.{SaturatedStep, IsMaximal}
 use Rattle.net_graph.specs.SearchLaws.{Leads-weaker}
 use Rattle.dual_ascent.specs.declared.costs.EdgeCosts.{EdgeCosts}
 use Rattle.dual_ascent.specs.Costs.{left_after, left_of, costs_of, is_used_up}
-use Rattle.dual_ascent.specs.CostLaws.{left_after-le, slice_get-costs_of, saturated_edge}
+use Rattle.dual_ascent.specs.CostLaws.{slice_get-costs_of, saturated_edge}
 use Rattle.branch.specs.SaturatedArcs.{HasSaturatedArc, IsUsedUpEdge}
 
 module _ (H : ℕ → Type 0) where
@@ -32,11 +32,7 @@ module _ (H : ℕ → Type 0) where
   -- .. or wasn't
   pub put_none : (old set : List Bool) (n : ℕ) → Adds (λ k. (k < n) × H k) old set → (H n → ⊥) →
       Adds (λ k. (k < n + 1) × H k) old set
-  put_none old set n adds none =
-      Adds-iff (λ k. (k < n) × H k) (λ k. (k < n + 1) × H k) old set (λ k (lt, has). (omega arith, has))
-      (λ k (lt, has). ⊎_elim (λ before. (before, has))
-      (λ past. let is : k ≡ n = omega arith in absurd (none (subst H is has))) (cases_lt k n))
-      adds
+  put_none old set n adds none = grind arith
 
   -- all of them
   pub put_all : (size n : ℕ) (set : List Bool) → size ≤ n → ((k : ℕ) → H k → k < size) →
@@ -95,9 +91,7 @@ IsNetwork-saturated g d packing set maximal each k v within =
 
 -- nothing is left of an arc whose load is its room
 used_up-full : (room : Option ℕ) (amount : ℕ) → room ≡ Some amount → is_used_up (left_after room amount) ≡ true
-used_up-full room amount is =
-    let none : amount - amount ≡ 0 = omega arith in
-    rw (is, left_after-le amount amount (omega arith), none) refl
+used_up-full room amount is = grind arith
 
 -- An edge has a saturated arc exactly where nothing is left of the room of one.
 pub HasSaturatedArc-used_up : (g : Graph) (d : Decided) (packing : List Cut) → IsDecisionFor g d → (n : ℕ) →

@@ -1,12 +1,12 @@
 -- What a search keeps, through its openings.
-use Rattle.std.proofs.Common.{ℕ, suc, ◌≡◌, ◌+◌, ◌<◌, ◌≤◌, ⊎_elim, Bool, true, false, List, [], ◌∷◌, length, slice_get, slice_set, Option, Some, None, refl, ap, sym, ◌∙◌, subst, arith}
+use Rattle.std.proofs.Common.{ℕ, suc, ◌≡◌, ◌+◌, ◌<◌, ◌≤◌, ⊎_elim, Bool, true, false, List, [], ◌∷◌, length, slice_get, slice_set, Option, Some, refl, ap, sym, ◌∙◌, subst, arith}
 use Rattle.std.specs.List.{AllZip, insert}
 use Rattle.std.proofs.lemmas.Option.{same_Some, slice_get_within}
 use Rattle.std.proofs.lemmas.Bool.{cases_Bool}
 use Rattle.dual_ascent.specs.Ascending.{BeginsWith}
 use Rattle.dual_ascent.specs.Carried.{carried}
 use Rattle.net_graph.specs.declared.packing.Cut.{Cut}
-use Rattle.net_graph.specs.Graph.{Graph, total_of}
+use Rattle.net_graph.specs.Graph.{Graph}
 use Rattle.net_graph.specs.Network.{length_of}
 use Rattle.net_graph.specs.LengthLaws.{length_of_edges-le-sum}
 use Rattle.net_graph.specs.Decision.{Decided, nothing_decided}
@@ -34,21 +34,14 @@ use Rattle.branch.specs.declared.leaf.NewLeaf.{NewLeaf}
 use Rattle.branch.specs.Searching.{search_state, is_anew_at, IsSearch, IsOpeningOf, IsPlain, IsOpened, OpensTo, IsSplitAt}
 use Rattle.branch.proofs.lemmas.ListLemmas.{two_at, insert-set, AllZip-two_at, AllZip-weaker, AllZip-length, beside_left, all_from_places}
 use Rattle.branch.proofs.lemmas.VariantLemmas.{IsLike-may_be, like_value, like_split, variant_same, variant_splits, variant_state, variant_split}
-use Rattle.branch.proofs.lemmas.VariantLemmas.{new_notes, flags_same_before, flags_same_behind, flag_of_outside, flag_of_inside}
+use Rattle.branch.proofs.lemmas.VariantLemmas.{flags_same_before, flags_same_behind, flag_of_outside, flag_of_inside}
 use Rattle.branch.proofs.lemmas.TreeLemmas.{leaves_of-replaced, IsValidTree-replaced, split_count-replaced}
 use Rattle.branch.proofs.lemmas.ShorterLemmas.{IsSameOrShorter-le, shorter_own}
 
 -- an open leaf can be opened
 own_ready : (g : Graph) (network : List Bool) (leaf : DecidedLeaf) (own : Option (List Bool)) → ShowsOwn g leaf own →
     IsUpToOwn g (length_of g network) own → IsOpenLeaf g (length_of g network) leaf → IsReadyLeaf g (length_of g network) leaf
-own_ready g network leaf None shows up_to below =
-    let least : length_of g network ≤ total_of g = length_of_edges-le-sum g.edges network in absurd (omega arith)
-own_ready g network leaf (Some set) shows up_to below = record {
-  maximal = shows.maximal;
-  saturated = set;
-  arcs = shows.arcs;
-  long = up_to;
-}
+own_ready g network leaf own shows up_to below = grind (arith, length_of_edges-le-sum)
 
 -- a best network and a valid tree with notes are a state
 pub state_of : (g : Graph) (best : Best) (tree : Tree SplitOn) (notes : List LeafNote) → IsBest g best →
@@ -66,8 +59,7 @@ state_of g best tree notes is_best valid are = record {
 
 -- what may be split is undecided
 split_undecided : (g : Graph) (leaf : DecidedLeaf) (on : SplitOn) → IsSplitOf g leaf on → IsUndecidedSplit g leaf.decision on
-split_undecided g leaf (split.Edge e) splits = splits.undecided
-split_undecided g leaf (split.Vertex v) splits = splits.undecided
+split_undecided g leaf on splits = grind arith
 
 -- a new leaf that may have another packing begins with what is carried to it
 may_begin : (g : Graph) (parent : List Cut) (d : Decided) (leaf : NewLeaf) (packing : List Cut) → MayBegin g parent d leaf →
@@ -160,8 +152,7 @@ module _ (g : Graph) (old : Frontier) (opening : Opening) (search : IsSearch g o
       }
 
   opened_state : IsState g opening.best.network opened_tree
-  opened_state = state_of g opening.best opened_tree (new_notes old.notes.items opening.leaf opening.outside.note opening.inside.note opened_within)
-      op.best opened_valid opened_notes
+  opened_state = grind (arith, state_of, opened_within, opened_valid, opened_notes)
 
   -- the flags of the leaves before and after
   abbrev old_flags : ℕ → Bool
@@ -224,28 +215,7 @@ module _ (g : Graph) (old : Frontier) (opening : Opening) (search : IsSearch g o
 -- what is kept once an opening is made
 pub search_opened : (g : Graph) (old new : Frontier) (opening : Opening) → IsSearch g old → IsOpeningOf g old opening → IsOpened opening old new →
     IsSearch g new
-search_opened g old new opening search op opened =
-    let tree : opened_tree g old opening search op ≡ new.tree = sym opened.tree in
-    let best : opening.best ≡ new.best = sym opened.best in
-    let notes = sym opened.notes in
-    let first : old.first_length ≡ new.first_length = sym opened.first_length in
-    record {
-      best = subst (λ (b : Best). IsBest g b) best op.best;
-      valid = subst (λ (t : Tree SplitOn). IsValidTree g (nothing_decided g) t) tree (opened_valid g old opening search op);
-      notes = subst (λ (b : Best). AreNotesOf g b.length (leaves_of (nothing_decided g) new.tree) new.notes.items) best
-          (subst (λ (t : Tree SplitOn). AreNotesOf g opening.best.length (leaves_of (nothing_decided g) t) new.notes.items) tree
-          (subst (λ (ns : List LeafNote). AreNotesOf g opening.best.length (leaves_of (nothing_decided g) (opened_tree g old opening search op)) ns) notes
-          (opened_notes g old opening search op)));
-      run = λ other of_new.
-          let of_opened : IsVariant (new_flags g old opening search op) (opened_tree g old opening search op) other =
-          subst (λ (t : Tree SplitOn). IsVariant (new_flags g old opening search op) t other) opened.tree
-          (subst (λ (ns : List LeafNote). IsVariant (is_anew_at ns) new.tree other) opened.notes of_new) in
-          subst (λ (b : Best). EndsRunOfOpenings g new.first_length b.network other) best
-          (subst (λ (n : ℕ). EndsRunOfOpenings g n opening.best.network other) first
-          (opened_run g old opening search op other of_opened));
-      no_longer = subst (λ (b : Best). b.length ≤ new.first_length) best
-          (let less = opened_less g old opening search op in let before = search.no_longer in omega arith);
-    }
+search_opened g old new opening search op opened = grind (arith, opened_valid, opened_notes, opened_run, opened_less)
 
 -- Where the leaf is the one that is open next, the split is on what the kind asks, and both new leaves begin with what is
 -- carried to them, the step is a plain opening.

@@ -1,11 +1,11 @@
 -- What a search comes to.
-use Rattle.std.proofs.Common.{ℕ, ◌≡◌, ◌+◌, ◌*◌, ◌<◌, ◌≤◌, ⊎_elim, Bool, true, false, List, length, min, take, slice_get, Option, None, Some, All, IsTrue, ◌↔◌, refl, sym, ◌∙◌, subst, arith}
+use Rattle.std.proofs.Common.{ℕ, ◌≡◌, ◌+◌, ◌*◌, ◌<◌, ◌≤◌, Bool, List, length, min, take, Option, All, IsTrue, ◌↔◌, sym, ◌∙◌, subst, arith}
 use Rattle.std.specs.Prelude.{IfNone, IfSome, is_some, not}
 use Rattle.std.proofs.Math.Nat.{min-le_left, min-le_right, le-min}
 use Rattle.std.proofs.lemmas.Option.{slice_get_within, slice_get-get_or, same_Some}
 use Rattle.net_graph.specs.declared.packing.Cut.{Cut}
 use Rattle.net_graph.specs.Graph.{Graph}
-use Rattle.net_graph.specs.Network.{IsLowerBound, length_of}
+use Rattle.net_graph.specs.Network.{IsLowerBound}
 use Rattle.net_graph.specs.Decision.{nothing_decided}
 use Rattle.net_graph.specs.DecisionLaws.{IsDecisionFor-nothing, Agrees-nothing}
 use Rattle.net_graph.specs.Saturation.{IsMaximal}
@@ -14,7 +14,7 @@ use Rattle.cert_tree.specs.TreeValue.{tree_value, TreesBoundNetworks}
 use Rattle.branch.specs.declared.note.LeafNote.{LeafNote}
 use Rattle.branch.specs.declared.frontier.Frontier.{Frontier}
 use Rattle.branch.specs.Leaves.{DecidedLeaf, leaves_of}
-use Rattle.branch.specs.States.{IsOpenLeaf, IsReadyLeaf, IsState, leaf_value}
+use Rattle.branch.specs.States.{IsOpenLeaf, leaf_value}
 use Rattle.branch.specs.Notes.{IsKeptNote, IsLesserOfNotes, IsNextNote}
 use Rattle.branch.specs.Searching.{search_state, is_anew_at, IsSearch, IsSettled, IsOpenAt}
 use Rattle.branch.specs.Solving.{IsSolved}
@@ -42,28 +42,10 @@ module _ (g : Graph) (kept : Frontier) (search : IsSearch g kept) where
   pub bound_is : (bound : ℕ) → IsLesserOfNotes kept.best.length kept.notes.items bound →
       bound ≡ min (tree_value g (nothing_decided g) kept.tree) kept.best.length
   bound_is bound lesser =
-      let t = tree_value g (nothing_decided g) kept.tree in
-      let low : bound ≤ t = tree_above bound lesser.each in
-      let limit : bound ≤ kept.best.length = lesser.limit in
-      let least : bound ≤ min t kept.best.length = le-min low limit in
-      let left : min t kept.best.length ≤ t = min-le_left t kept.best.length in
-      let right : min t kept.best.length ≤ kept.best.length = min-le_right t kept.best.length in
-      ⊎_elim
-      (λ (same : bound ≡ kept.best.length). omega arith)
-      (λ (one : (place : ℕ) × (note : LeafNote) × (slice_get kept.notes.items place ≡ Some note) × (note.value ≡ bound)).
-      let (place, note, at, value) = one in
-      let (leaf, leaf_at, kept_note) = beside_right (IsKeptNote g kept.best.length) leaves kept.notes.items place note search.notes at in
-      let above : t ≤ leaf_value g leaf = tree_value-le g (nothing_decided g) kept.tree place leaf leaf_at in
-      let value_is = kept_note.0.value in
-      omega arith)
-      lesser.one
+      grind (arith, tree_above, min, le-min, min-le_left, min-le_right, beside_right, tree_value-le)
 
   pub bound_lower : (bound : ℕ) → IsLesserOfNotes kept.best.length kept.notes.items bound → TreesBoundNetworks → IsLowerBound g bound
-  bound_lower bound lesser law = λ other joins.
-      let low : bound ≤ tree_value g (nothing_decided g) kept.tree = tree_above bound lesser.each in
-      let all : tree_value g (nothing_decided g) kept.tree ≤ length_of g other =
-      law g (nothing_decided g) kept.tree (IsDecisionFor-nothing g) search.valid other (Agrees-nothing g other) joins in
-      omega arith
+  bound_lower bound lesser law = grind (arith, tree_above, IsDecisionFor-nothing, Agrees-nothing)
 
   pub few_cuts : All (λ (packing : List Cut). length packing ≤ 4 * length g.edges + 1) (packings_of kept.tree)
   few_cuts = all_from_places (λ (packing : List Cut). length packing ≤ 4 * length g.edges + 1) (packings_of kept.tree)
@@ -76,12 +58,7 @@ module _ (g : Graph) (kept : Frontier) (search : IsSearch g kept) where
       subst (λ (p : List Cut). length p ≤ 4 * length g.edges + 1) same kept_note.0.few)
 
   pub open_maximal : All (λ (leaf : DecidedLeaf). IsOpenLeaf g kept.best.length leaf → IsMaximal g leaf.decision leaf.packing) leaves
-  open_maximal = all_from_places (λ (leaf : DecidedLeaf). IsOpenLeaf g kept.best.length leaf → IsMaximal g leaf.decision leaf.packing) leaves
-      (λ k leaf at below.
-      let state : IsState g kept.best.network kept.tree = state_of g kept.best kept.tree kept.notes.items search.best search.valid search.notes in
-      let ready = all_at (λ (l : DecidedLeaf). IsOpenLeaf g (length_of g kept.best.network) l → IsReadyLeaf g (length_of g kept.best.network) l)
-      leaves k leaf state.leaves at (subst (λ (n : ℕ). leaf_value g leaf < n) search.best.length below) in
-      ready.maximal)
+  open_maximal = grind (arith, state_of)
 
   -- all that is told is true
   pub solved_is : (bound : ℕ) (optimal : Bool) → IsLesserOfNotes kept.best.length kept.notes.items bound →
@@ -105,17 +82,7 @@ module _ (g : Graph) (kept : Frontier) (search : IsSearch g kept) where
   pub settled_where_none : (found : Option ℕ) (none : Bool) → is_some found ≡ not none →
       IfNone found (All (λ (note : LeafNote). kept.best.length ≤ note.value) kept.notes.items) →
       IfSome found (IsNextNote kept.best.length kept.notes.items) → IsTrue none ↔ IsSettled (search_state g kept)
-  settled_where_none None true is each next = (λ yes. settled each, λ holds. refl)
-  settled_where_none None false is each next = absurd cc
-  settled_where_none (Some place) true is each next = absurd cc
-  settled_where_none (Some place) false is each (note, at, below, least, earlier) = (
-    λ yes. absurd cc,
-    λ holds.
-        let (leaf, leaf_at, kept_note) = beside_right (IsKeptNote g kept.best.length) leaves kept.notes.items place note search.notes at in
-        let above = tree_value-le g (nothing_decided g) kept.tree place leaf leaf_at in
-        let value = kept_note.0.value in
-        let length_is = search.best.length in absurd (omega arith),
-  )
+  settled_where_none found none is each next = grind (arith, settled, beside_right, tree_value-le)
 
   -- the leaves before one whose note is the next have greater values
   earlier_leaves : (place value : ℕ) → All (λ (other : LeafNote). value < other.value) (take place kept.notes.items) →

@@ -1,12 +1,12 @@
 -- What a replaced leaf makes of a tree.
-use Rattle.std.proofs.Common.{ℕ, zero, suc, ◌≡◌, ◌+◌, ◌<◌, ◌≤◌, ⊎_elim, List, [], ◌∷◌, ◌++◌, length, slice_get, Some, min, refl, ap, sym, ◌∙◌, subst, arith, length-append}
+use Rattle.std.proofs.Common.{ℕ, zero, suc, ◌≡◌, ◌+◌, ◌<◌, ◌≤◌, ⊎_elim, List, [], ◌++◌, length, slice_get, Some, min, refl, ap, sym, ◌∙◌, subst, arith, length-append}
 use Rattle.std.proofs.Math.Nat.{min-le_left, min-le_right, le-min, min-eq_left, min-eq_right}
 use Rattle.std.proofs.lemmas.Option.{same_Some}
 use Rattle.std.proofs.lemmas.Bool.{cases_lt}
 use Rattle.net_graph.specs.declared.packing.Cut.{Cut}
 use Rattle.net_graph.specs.Graph.{Graph}
 use Rattle.net_graph.specs.Decision.{Decided}
-use Rattle.net_graph.specs.Packing.{IsFeasible, packing_value}
+use Rattle.net_graph.specs.Packing.{IsFeasible}
 use Rattle.cert_tree.specs.declared.split.SplitOn.{SplitOn}
 use Rattle.cert_tree.specs.Tree.{Tree, split_with}
 use Rattle.cert_tree.specs.Tree.Tree.{Leaf, Split}
@@ -23,13 +23,7 @@ use Rattle.branch.proofs.lemmas.ListLemmas.{two_at, two_at-append_left, two_at-a
 pub length-leaves_of : (d : Decided) (t : Tree SplitOn) → length (leaves_of d t) ≡ length (packings_of t)
 length-leaves_of d (Leaf cuts) = refl
 length-leaves_of d (Split on o i) =
-    omega (
-      arith,
-      length-append (leaves_of (outside_of d on) o) (leaves_of (inside_of d on) i),
-      length-append (packings_of o) (packings_of i),
-      length-leaves_of (outside_of d on) o,
-      length-leaves_of (inside_of d on) i,
-    )
+    search (length-append, length-leaves_of (outside_of d on) o, length-leaves_of (inside_of d on) i)
 
 -- .. which is the leaf's
 pub packing_at : (d : Decided) (t : Tree SplitOn) (k : ℕ) (leaf : DecidedLeaf) → slice_get (leaves_of d t) k ≡ Some leaf →
@@ -56,9 +50,7 @@ module _ (on : SplitOn) (a b : List Cut) where
   pub leaves_of-replaced : (d : Decided) (t : Tree SplitOn) (k : ℕ) (leaf : DecidedLeaf) → slice_get (leaves_of d t) k ≡ Some leaf →
       leaves_of d (replaced k (split_with on a b) t)
       ≡ two_at (leaves_of d t) k (leaf_under (outside_of leaf.decision on) a) (leaf_under (inside_of leaf.decision on) b)
-  leaves_of-replaced d (Leaf cuts) zero leaf at =
-      ap (λ (l : DecidedLeaf). leaf_under (outside_of l.decision on) a ∷ leaf_under (inside_of l.decision on) b ∷ [])
-      (same_Some (leaf_under d cuts) leaf at)
+  leaves_of-replaced d (Leaf cuts) zero leaf at = cc
   leaves_of-replaced d (Leaf cuts) (suc k) leaf at = absurd cc
   leaves_of-replaced d (Split s o i) k leaf at =
       let os = leaves_of (outside_of d s) o in
@@ -80,10 +72,7 @@ module _ (on : SplitOn) (a b : List Cut) where
   pub IsValidTree-replaced : (g : Graph) (d : Decided) (t : Tree SplitOn) (k : ℕ) (leaf : DecidedLeaf) → slice_get (leaves_of d t) k ≡ Some leaf →
       IsValidTree g d t → IsUndecidedSplit g leaf.decision on → IsFeasible g (outside_of leaf.decision on) a →
       IsFeasible g (inside_of leaf.decision on) b → IsValidTree g d (replaced k (split_with on a b) t)
-  IsValidTree-replaced g d (Leaf cuts) zero leaf at valid undecided outside inside =
-      let same : leaf.decision ≡ d = ap (λ (l : DecidedLeaf). l.decision) (sym (same_Some (leaf_under d cuts) leaf at)) in
-      subst (λ (e : Decided). IsUndecidedSplit g e on × IsFeasible g (outside_of e on) a × IsFeasible g (inside_of e on) b) same
-      (undecided, outside, inside)
+  IsValidTree-replaced g d (Leaf cuts) zero leaf at valid undecided outside inside = grind arith
   IsValidTree-replaced g d (Leaf cuts) (suc k) leaf at valid undecided outside inside = absurd cc
   IsValidTree-replaced g d (Split s o i) k leaf at valid undecided outside inside =
       let os = leaves_of (outside_of d s) o in
@@ -132,9 +121,7 @@ le-tree_value g d (Split on o i) bound each =
 -- .. and at most the value of any leaf
 pub tree_value-le : (g : Graph) (d : Decided) (t : Tree SplitOn) (k : ℕ) (leaf : DecidedLeaf) → slice_get (leaves_of d t) k ≡ Some leaf →
     tree_value g d t ≤ leaf_value g leaf
-tree_value-le g d (Leaf cuts) zero leaf at =
-    let same : leaf_under d cuts ≡ leaf = same_Some (leaf_under d cuts) leaf at in
-    subst (λ (l : DecidedLeaf). packing_value g d cuts ≤ leaf_value g l) same (omega arith)
+tree_value-le g d (Leaf cuts) zero leaf at = grind arith
 tree_value-le g d (Leaf cuts) (suc k) leaf at = absurd cc
 tree_value-le g d (Split on o i) k leaf at =
     let os = leaves_of (outside_of d on) o in

@@ -1,9 +1,7 @@
 -- Cuts of weight 1 in place of others: the same loads, the same value, and more of them.
-use Rattle.std.proofs.Common.{ℕ, zero, suc, ◌≡◌, ◌*◌, ◌<◌, ◌≤◌, ⊎_elim, Bool, true, false, not}
-use Rattle.std.proofs.Common.{if◌then◌else◌, List, [], ◌∷◌, ◌++◌, filter, length, replicate, sum_by, All, nat_le}
-use Rattle.std.proofs.Common.{refl, ap, ◌∙◌, arith, length-append}
-use Rattle.std.specs.List.{list_any}
-use Rattle.std.proofs.lemmas.Bool.{cases_Bool, lt-leb, cases_lt}
+use Rattle.std.proofs.Common.{ℕ, zero, suc, ◌≡◌, ◌*◌, ◌<◌, Bool, true, false}
+use Rattle.std.proofs.Common.{if◌then◌else◌, List, [], ◌∷◌, filter, length, replicate, sum_by, All}
+use Rattle.std.proofs.Common.{refl, ap, arith, length-append}
 use Rattle.std.proofs.lemmas.List.{length-replicate}
 use Rattle.std.proofs.lemmas.List.Elements.{All-nil, All-cons, All-head, All-tail, All-append, filter-append}
 use Rattle.std.proofs.lemmas.List.Folds.{sum_by-replicate}
@@ -13,7 +11,7 @@ use Rattle.net_graph.specs.declared.packing.Cut.{Cut}
 use Rattle.net_graph.specs.Graph.{Graph}
 use Rattle.net_graph.specs.Decision.{Decided}
 use Rattle.net_graph.specs.Packing.{IsCut, enters, load}
-use Rattle.dual_ascent.specs.Carried.{carried, unentered, inside_edges, is_entered_along}
+use Rattle.dual_ascent.specs.Carried.{carried, unentered}
 use Rattle.branch.specs.Variants.{in_units}
 
 -- the cut with the weight 1
@@ -49,8 +47,7 @@ length-in_units (c ∷ cuts) =
     )
 
 times_flag : (flag : Bool) (n : ℕ) → n * (if flag then 1 else 0) ≡ (if flag then n else 0)
-times_flag true n = omega arith
-times_flag false n = omega arith
+times_flag flag n = grind arith
 
 -- what a cut loads onto an arc
 abbrev load_of : ℕ → ℕ → Cut → ℕ
@@ -96,33 +93,9 @@ pub unentered-in_units : (edges : List Edge) (cuts : List Cut) →
     unentered edges (in_units cuts) ≡ in_units (unentered edges cuts)
 unentered-in_units edges [] = refl
 unentered-in_units edges (c ∷ cuts) =
-    let test = λ (x : Cut). not (list_any (is_entered_along x.members) edges) in
-    let same = filter-append test (replicate c.weight (unit_of c)) (in_units cuts) in
-    let rest = unentered-in_units edges cuts in
-    ⊎_elim
-    (λ (yes : test c ≡ true). rw yes (same
-    ∙ ap (λ xs. xs ++ filter test (in_units cuts)) (filter-passes test c.weight (unit_of c) yes)
-    ∙ ap (λ xs. replicate c.weight (unit_of c) ++ xs) rest))
-    (λ (no : test c ≡ false). rw no (same
-    ∙ ap (λ xs. xs ++ filter test (in_units cuts)) (filter-fails test c.weight (unit_of c) no)
-    ∙ rest))
-    (cases_Bool (test c))
+    grind (arith, filter-append, filter-passes, filter-fails, unentered-in_units edges cuts)
 
 -- where the carried cuts would in units be more than two for each edge, nothing is carried of the units
 pub carried-in_units : (g : Graph) (d : Decided) (cuts : List Cut) →
     2 * length g.edges < sum_by (λ c. c.weight) (carried g d cuts) → carried g d (in_units cuts) ≡ []
-carried-in_units g d cuts heavy =
-    let edges = inside_edges g.edges d.edges in
-    let left = unentered edges cuts in
-    ⊎_elim
-    (λ (over : 2 * length g.edges < length left).
-    let test : nat_le (length left) (2 * length g.edges) ≡ false = lt-leb _ _ over in
-    let none : 2 * length g.edges < sum_by (λ (c : Cut). c.weight) [] = rw test at heavy in absurd (omega arith))
-    (λ (fits : length left ≤ 2 * length g.edges).
-    let test : nat_le (length left) (2 * length g.edges) ≡ true = grind arith in
-    let all : 2 * length g.edges < sum_by (λ (c : Cut). c.weight) left = rw test at heavy in
-    let size = ap length (unentered-in_units edges cuts) ∙ length-in_units left in
-    let many : 2 * length g.edges < length (unentered edges (in_units cuts)) = omega arith in
-    let units_test : nat_le (length (unentered edges (in_units cuts))) (2 * length g.edges) ≡ false = lt-leb _ _ many in
-    rw units_test refl)
-    (cases_lt (2 * length g.edges) (length left))
+carried-in_units g d cuts heavy = grind (arith, unentered-in_units, length-in_units)

@@ -1,5 +1,5 @@
 -- Other packings that a leaf may have, and trees with them.
-use Rattle.std.proofs.Common.{ℕ, zero, suc, ◌≡◌, ◌+◌, ◌<◌, ⊎_elim, inl, inr, Bool, true, List, [], ◌∷◌}
+use Rattle.std.proofs.Common.{ℕ, zero, suc, ◌≡◌, ◌+◌, ◌<◌, ⊎_elim, inl, Bool, true, List, [], ◌∷◌}
 use Rattle.std.proofs.Common.{◌++◌, length, slice_get, slice_set, Some, sum_by}
 use Rattle.std.proofs.Common.{refl, ap, sym, ◌∙◌, subst, arith, length-append}
 use Rattle.std.specs.List.{AllZip, insert}
@@ -8,11 +8,10 @@ use Rattle.net_graph.specs.declared.packing.Cut.{Cut}
 use Rattle.net_graph.specs.Graph.{Graph, root_of}
 use Rattle.net_graph.specs.Network.{length_of}
 use Rattle.net_graph.specs.Decision.{Decided, nothing_decided}
-use Rattle.net_graph.specs.Packing.{IsFeasible, IsWithinRoom, load, room_of, packing_value}
+use Rattle.net_graph.specs.Packing.{IsFeasible, IsWithinRoom, load, packing_value}
 use Rattle.net_graph.specs.Saturation.{IsMaximal, SaturatedStep}
 use Rattle.net_graph.specs.SearchLaws.{Leads-weaker}
 use Rattle.cert_tree.specs.declared.split.SplitOn.{SplitOn}
-use Rattle.cert_tree.specs.declared.split.SplitOn.TheVariants as split
 use Rattle.cert_tree.specs.Tree.{Tree, split_with}
 use Rattle.cert_tree.specs.Tree.Tree.{Leaf, Split}
 use Rattle.cert_tree.specs.Preorder.{packings_of, split_count}
@@ -25,7 +24,7 @@ use Rattle.branch.specs.declared.note.LeafNote.{LeafNote}
 use Rattle.branch.specs.Leaves.{DecidedLeaf, leaf_under, leaves_of}
 use Rattle.branch.specs.SaturatedArcs.{HasSaturatedArc}
 use Rattle.branch.specs.States.{AreSaturated, IsReadyLeaf, IsOpenLeaf, IsState}
-use Rattle.branch.specs.Openings.{IsSplitEdge, IsSplitOf}
+use Rattle.branch.specs.Openings.{IsSplitOf}
 use Rattle.branch.specs.Variants.{in_units, MayBe, IsVariantFrom, IsVariant}
 use Rattle.branch.specs.Searching.{is_anew_at}
 use Rattle.branch.proofs.lemmas.ListLemmas.{two_at, insert-set, place_cases, slice_get-append_left, slice_get-append_right}
@@ -72,51 +71,23 @@ module _ (g : Graph) (d : Decided) (own other : List Cut) (like : IsLike own oth
   like_value = let same = like.weight in omega arith
 
   like_step : (u v : ℕ) → SaturatedStep g d own u v → SaturatedStep g d other u v
-  like_step u v (n, e, state, at, state_at, ends, full) =
-      (n, e, state, at, state_at, ends, full ∙ ap (λ (m : ℕ). Some m) (sym (like.loads u v)))
+  like_step u v (n, e, state, at, state_at, ends, full) = grind arith
 
   pub like_maximal : IsMaximal g d own → IsMaximal g d other
   like_maximal maximal = λ v required.
       Leads-weaker (SaturatedStep g d own) (SaturatedStep g d other) like_step (root_of g) v (maximal v required)
 
   pub like_arc : (n : ℕ) → HasSaturatedArc g d own n → HasSaturatedArc g d other n
-  like_arc n (e, state, at, state_at, full) = (
-    e,
-    state,
-    at,
-    state_at,
-    ⊎_elim
-        (λ (there : room_of state e ≡ Some (load own e.a e.b)).
-        inl (there ∙ ap (λ (m : ℕ). Some m) (sym (like.loads e.a e.b))))
-        (λ (back : room_of state e ≡ Some (load own e.b e.a)).
-        inr (back ∙ ap (λ (m : ℕ). Some m) (sym (like.loads e.b e.a))))
-        full,
-  )
+  like_arc n (e, state, at, state_at, full) = grind arith
 
   like_saturated : (set : List Bool) → AreSaturated g d own set → AreSaturated g d other set
   like_saturated set are = record { size = are.size; arcs = λ n at. like_arc n (are.arcs n at) }
 
   pub like_ready : (limit : ℕ) → IsReadyLeaf g limit (leaf_under d own) → IsReadyLeaf g limit (leaf_under d other)
-  like_ready limit ready = record {
-    maximal = like_maximal ready.maximal;
-    saturated = ready.saturated;
-    arcs = like_saturated ready.saturated ready.arcs;
-    long = ready.long;
-  }
-
-  like_edge : (n : ℕ) → IsSplitEdge g (leaf_under d own) n → IsSplitEdge g (leaf_under d other) n
-  like_edge n splits = record { undecided = splits.undecided; saturated = like_arc n splits.saturated }
+  like_ready limit ready = search (like_maximal, like_saturated)
 
   pub like_split : (on : SplitOn) → IsSplitOf g (leaf_under d own) on → IsSplitOf g (leaf_under d other) on
-  like_split (split.Edge n) splits = like_edge n splits
-  like_split (split.Vertex v) splits = record {
-    undecided = splits.undecided;
-    number = splits.number;
-    edge = splits.edge;
-    at = splits.at;
-    ends = splits.ends;
-    splits = like_edge splits.number splits.splits;
-  }
+  like_split on splits = grind arith
 
 -- ---- trees
 
@@ -375,8 +346,7 @@ module _ (on : SplitOn) (p q : List Cut) (old new : ℕ → Bool) (at : ℕ)
       IsVariantFrom new from (replaced k (split_with on p q) tree) other →
       HasSplitIn from d tree k leaf other
   variant_split from d (Leaf own) (Leaf c) zero leaf at_is leaf_at is = absurd is
-  variant_split from d (Leaf own) (Split t (Leaf a) (Leaf b)) zero leaf at_is leaf_at is =
-      split_leaf from d own a b t leaf at_is (same_Some (leaf_under d own) leaf leaf_at) is.0 is.1 is.2
+  variant_split from d (Leaf own) (Split t (Leaf a) (Leaf b)) zero leaf at_is leaf_at is = grind (arith, split_leaf)
   variant_split from d (Leaf own) (Split t (Leaf a) (Split u x y)) zero leaf at_is leaf_at is = absurd is.2
   variant_split from d (Leaf own) (Split t (Split u x y) z) zero leaf at_is leaf_at is = absurd is.1
   variant_split from d (Leaf own) other (suc k) leaf at_is leaf_at is = absurd cc
