@@ -1,5 +1,5 @@
 -- What a reader stands for behind one more byte.
-use Rattle.std.proofs.Common.{ℕ, suc, zero, ◌≡◌, ◌≢◌, ◌+◌, ◌-◌, ◌<◌, List, [], ◌∷◌, ◌++◌, length, take, refl, sym, ap, subst, ◌∙◌, arith, append_assoc, length-append, Option, Some, ⊎_elim}
+use Rattle.std.proofs.Common.{ℕ, suc, zero, ◌≡◌, ◌≢◌, ◌+◌, ◌-◌, ◌<◌, ◌≤◌, List, [], ◌∷◌, ◌++◌, length, take, refl, sym, ap, subst, ◌∙◌, arith, append_assoc, length-append, Option, Some, ⊎_elim}
 use Rattle.std.specs.Prelude.{option_and_then}
 use Rattle.std.proofs.lemmas.List.{append-nil}
 use Rattle.std.proofs.lemmas.List.Concat.{flat_map-append}
@@ -22,7 +22,7 @@ use Rattle.answer_text.specs.declared.form.Form.{Form}
 use Rattle.answer_text.specs.declared.version.Version.TheVariants as version
 use Rattle.answer_text.specs.Forms.{HasVertices, IsVersionOf, first_version, set_size, silent_lines}
 use Rattle.answer_text.specs.Words.{version_number}
-use Rattle.answer_text.specs.Lines.{answer_lines, line_bytes, line_text, lines_text, step, run}
+use Rattle.answer_text.specs.Lines.{answer_lines, body_lines, head_lines, line_bytes, line_text, lines_text, step, run}
 use Rattle.answer_text.specs.LineFits.{FitsLine, FitsLines, IsLineRead, IsNoLine, version_with, version_from}
 use Rattle.answer_text.specs.Events.{events_of, events_from, no_head, head_with, line_told, event_at}
 use Rattle.answer_text.specs.Reading.{BeginsAnswer, line_feeds, IsReadWhole, StopsAt}
@@ -100,7 +100,16 @@ text_more lines begun bytes more text = ap (λ x. x ++ more) text ∙ append_ass
 
 so_far_more : (F : Form) (bytes begun more : List ℕ) (s : Stage) (v : Version) (h : AnswerHead) (n : ℕ) (events : List AnswerEvent) → ReadSoFar F bytes begun s v h n events
     → ReadSoFar F (bytes ++ more) (begun ++ more) s v h n events
-so_far_more F bytes begun more s v h n events r = search text_more
+so_far_more F bytes begun more s v h n events r = record {
+  lines = r.lines;
+  fits = r.fits;
+  due = r.due;
+  text = text_more (lines_text r.lines) begun bytes more r.text;
+  told = r.told;
+  version_told = r.version_told;
+  head_told = r.head_told;
+  count = r.count;
+}
 
 -- what was read of a line and one more byte
 begun_more : (begun : List ℕ) (b : ℕ) (rest : List ℕ) → begun ++ b ∷ rest ≡ (begun ++ b ∷ []) ++ rest
@@ -142,7 +151,18 @@ reads_run F bytes events more old new r on line fed =
 -- a byte within a line
 pub reads_on : (F : Form) (bytes : List ℕ) (events : List AnswerEvent) (b : ℕ) (old new : EventReader) → Reads F bytes events old → (b ≡ 10 → ⊥) → GoesOn old b new → new.line ≡ old.line → new.fed ≡ old.fed + 1
     → Reads F (bytes ++ b ∷ []) events new
-reads_on F bytes events b old new r other on line fed = grind (arith, reads_run)
+reads_on F bytes events b old new r other on line fed =
+    let next = on.next in
+    let run : IsRun old.kept old.scan (b ∷ []) new.kept new.scan = record {
+      leads = record { on = next.leads.on; back = next.leads.back };
+      within = All-push (λ c. c ≢ 10) [] b (All-nil (λ c. c ≢ 10)) other;
+      sound = next.sound;
+      name = next.name;
+      stage = next.stage;
+      version = next.version;
+      size = next.size;
+    } in
+    reads_run F bytes events (b ∷ []) old new r (record { run = run; head = on.head; form = on.form }) line fed
 
 pub reads_line : (F : Form) (bytes : List ℕ) (events : List AnswerEvent) (old new : EventReader) (told : Option Event) → Reads F bytes events old → EndsLine old told new → new.fed ≡ old.fed + 1
     → Reads F (bytes ++ 10 ∷ []) (events ++ given old.line told new.kept.members) new
@@ -264,11 +284,30 @@ ceases_end F bytes events reader r none =
 -- ---- the end
 
 pub ended_whole : (F : Form) (bytes : List ℕ) (events : List AnswerEvent) (reader : EventReader) → Reads F bytes events reader → reader.scan ≡ scan.Ended → IsReadWhole F bytes events
-ended_whole F bytes events reader r is = grind (arith, append-nil, read_whole)
+ended_whole F bytes events reader r is =
+    let so_far = r.lines in
+    let both = r.at_end is in
+    let text : bytes ≡ lines_text so_far.lines = so_far.text ∙ ap (λ x. lines_text so_far.lines ++ x) both.1 ∙ append-nil (lines_text so_far.lines) in
+    subst (λ es. IsReadWhole F bytes es) (sym so_far.told) (read_whole F so_far.lines bytes (so_far.due ∙ ap Some both.0) so_far.fits text)
+
+-- the lines of an answer are more than those of a head
+head_long : (v : Version) (h : AnswerHead) (ls : List Line) → 5 + length ls ≤ length (head_lines v h ++ ls)
+head_long version.One h ls = omega arith
+head_long version.Two h ls = omega arith
+head_long version.Graph h ls = omega arith
+
+answer_long : (a : WrittenAnswer) → 6 ≤ length (answer_lines a)
+answer_long a = let long = head_long a.version a.head (body_lines a) in omega arith
 
 -- the head was read then
 pub ended_headed : (F : Form) (bytes : List ℕ) (events : List AnswerEvent) (reader : EventReader) → Reads F bytes events reader → reader.scan ≡ scan.Ended → 6 < reader.line
-ended_headed F bytes events reader r is = grind (arith, answer_value)
+ended_headed F bytes events reader r is =
+    let so_far = r.lines in
+    let told = answer_value F (first_version F) so_far.lines (so_far.due ∙ ap Some (r.at_end is).0) so_far.fits in
+    let count = ap length told.lines in
+    let number = so_far.count in
+    let long = answer_long told.answer in
+    omega arith
 
 -- nothing is due behind the end
 done_dead : (v : Version) (F : Form) (s s' : Stage) (bytes : List ℕ) (l : Line) → IsLineRead v F s bytes l s' → s ≡ stage.Done → ⊥
@@ -277,7 +316,10 @@ done_dead v F s s' bytes l read is = let due : step stage.Done l ≡ Some s' = a
 -- the line that a reader in a line may come to
 underway_line : (F : Form) (bytes : List ℕ) (events : List AnswerEvent) (reader : EventReader) → (r : Reads F bytes events reader) → IsUnderway reader.kept reader.scan
     → (rest : List ℕ) × (l : Line) × (s' : Stage) × IsLineRead reader.kept.version F reader.kept.stage (r.begun ++ rest) l s'
-underway_line F bytes events reader r sound = grind (arith, some_left)
+underway_line F bytes events reader r sound =
+    let more = some_left reader.kept reader.scan sound r.name in
+    let read = r.due more.0 more.1 more.2 in
+    (more.0, more.1, read.0, read.1)
 
 -- short of the end the bytes stop in their last line
 pub unended_stops : (F : Form) (bytes : List ℕ) (events : List AnswerEvent) (reader : EventReader) → Reads F bytes events reader → (reader.scan ≡ scan.Ended → ⊥) → StopsAt F bytes reader.line events
@@ -296,7 +338,8 @@ unended_stops F bytes events reader r open_end =
 
 -- what begins an answer with more behind it begins one
 begins_shorter : (F : Form) (bytes more whole : List ℕ) → bytes ++ more ≡ whole → BeginsAnswer F whole → BeginsAnswer F bytes
-begins_shorter F bytes more whole parts begins = grind (arith, append_assoc)
+begins_shorter F bytes more whole parts begins =
+    record { rest = more ++ begins.rest; answer = begins.answer; spells = subst (λ x. SpellsAnswer F x begins.answer) (ap (λ x. x ++ begins.rest) (sym parts) ∙ append_assoc bytes more begins.rest) begins.spells }
 
 -- a line that is due goes on with lines that were
 begins_with_line : (v : Version) (F : Form) (s s' : Stage) (ls : List Line) (begun rest : List ℕ) (l : Line) → run stage.Title ls ≡ Some s → v ≡ version_from (first_version F) ls → FitsLines (first_version F) F ls
@@ -309,7 +352,9 @@ begins_with_line v F s s' ls begun rest l due is fits read =
 
 -- how many line feeds the bytes have
 pub line_count : (F : Form) (bytes : List ℕ) (events : List AnswerEvent) (reader : EventReader) → Reads F bytes events reader → reader.line ≡ line_feeds bytes + 1
-line_count F bytes events reader r = grind (arith, line_feeds-append, line_feeds-lines, line_feeds-lacks)
+line_count F bytes events reader r =
+    let so_far = r.lines in
+    omega (arith, ap line_feeds so_far.text, line_feeds-append (lines_text so_far.lines) r.begun, line_feeds-lines (first_version F) F so_far.lines so_far.fits, line_feeds-lacks r.begun r.unended)
 
 pub reads_begin : (F : Form) (bytes : List ℕ) (events : List AnswerEvent) (reader : EventReader) → Reads F bytes events reader → BeginsWith F bytes events
 reads_begin F bytes events reader r =
@@ -357,7 +402,10 @@ version_kept v s s' (l ∷ ls) other e = absurd cc
 -- lines of an answer, of which the title is one, tell its version
 title_version : (w : Version) (s : Stage) (ls rest : List Line) (a : WrittenAnswer) → run stage.Title ls ≡ Some s → 0 < length ls → answer_lines a ≡ ls ++ rest → version_from w ls ≡ a.version
 title_version w s [] rest a due some lines = absurd (omega arith)
-title_version w s (l ∷ ls) rest a due some lines = grind (arith, version_kept)
+title_version w s (l ∷ ls) rest a due some lines =
+    let first : l ≡ line.Title a.version = cc in
+    let behind : run stage.Title (line.Title a.version ∷ ls) ≡ Some s = ap (λ x. run stage.Title (x ∷ ls)) (sym first) ∙ due in
+    ap (λ x. version_from (version_with w x) ls) first ∙ version_kept a.version stage.Length s ls (λ i. cc) behind
 
 pub version_told : (F : Form) (bytes : List ℕ) (events : List AnswerEvent) (reader : EventReader) → Reads F bytes events reader → 6 < reader.line → TellsVersion F bytes (version_number reader.kept.version)
 version_told F bytes events reader r headed rest answer spells =
