@@ -1,5 +1,5 @@
 -- The first trees of their members: how a loop finds them, and what is found under a word.
-use Rattle.std.proofs.Common.{ℕ, ◌≡◌, ◌+◌, ◌<◌, List, length, ap, sym, subst, ◌∙◌, arith, rules, ⊎_elim, Option, None, Some}
+use Rattle.std.proofs.Common.{ℕ, ◌≡◌, ◌+◌, ◌<◌, List, length, ap, sym, subst, ◌∙◌, arith, ⊎_elim, Option, None, Some}
 use Rattle.std.specs.Prelude.{slice_get}
 use Rattle.std.specs.Ordering.{nat_cmp}
 use Rattle.std.specs.BTreeMap.{BTreeMap, get, Updates, IsEmpty}
@@ -22,15 +22,7 @@ module _ (trees : List Tree) where
   -- of two trees with the same members, the later one is a repeat
   pub later_repeats : (j k : ℕ) (a b : Tree) → j < k → slice_get trees j ≡ Some a → slice_get trees k ≡ Some b
       → members_of a.code ≡ members_of b.code → IsRepeat trees k
-  later_repeats j k a b before at_a at_b same = record {
-    place = j;
-    earlier = a;
-    tree = b;
-    before = before;
-    at_earlier = at_a;
-    at = at_b;
-    same = same;
-  }
+  later_repeats j k a b before at_a at_b same = search
 
   -- two trees with the same members, neither of which is a repeat, stand at one place
   pub same_first : (j k : ℕ) (a b : Tree) → slice_get trees j ≡ Some a → slice_get trees k ≡ Some b
@@ -45,11 +37,7 @@ module _ (trees : List Tree) where
 
   -- nothing is found before the first tree
   pub firsts_none : (firsts : BTreeMap ℕ ℕ) → IsEmpty firsts → AreFirsts trees 0 firsts
-  firsts_none firsts empty = record {
-    sound = λ word k found. absurd (
-        let none : get nat_cmp firsts word ≡ None = search (rules, empty) in cc);
-    complete = λ k tree before at. absurd (omega arith);
-  }
+  firsts_none firsts empty = grind arith
 
   -- a tree whose word is there is passed over
   pub firsts_passed : (m word first : ℕ) (tree : Tree) (firsts : BTreeMap ℕ ℕ) → AreFirsts trees m firsts

@@ -61,13 +61,7 @@ AllPairs-trees_of R (t ∷ trees) (false ∷ set) all =
 
 module _ (trees : List Tree) where
   pub kept_of_none : AreKeptOf trees 0 []
-  kept_of_none = record {
-    set = [];
-    size = refl;
-    keeps = λ k at. absurd cc;
-    drops = λ k at. absurd cc;
-    all = sym (trees_of_none trees);
-  }
+  kept_of_none = grind (arith, trees_of_none)
 
   -- one tree more, which is kept
   pub kept_of_kept : (m : ℕ) (kept : List Tree) (tree : Tree) → slice_get trees m ≡ Some tree → ¬ IsDropped trees m
@@ -104,8 +98,4 @@ module _ (trees : List Tree) where
   }
 
   pub kept_of_all : (kept : List Tree) → AreKeptOf trees (length trees) kept → AreKeptTrees trees kept
-  kept_of_all kept so_far = record {
-    set = so_far.set;
-    is = record { size = so_far.size; keeps = so_far.keeps; drops = so_far.drops };
-    all = so_far.all;
-  }
+  kept_of_all kept so_far = search

@@ -25,8 +25,7 @@ abbrev AreTwo : ℕ → ℕ → List ℕ → Type 0
 AreTwo i j ms = (ms ≡ i ∷ j ∷ []) ⊎ (ms ≡ j ∷ i ∷ [])
 
 two_count : (ms : List ℕ) (i j : ℕ) → AreTwo i j ms → length ms ≡ 2
-two_count ms i j (inl is) = ap length is
-two_count ms i j (inr is) = ap length is
+two_count ms i j h = grind arith
 
 module _ (trees : List Tree) (flags : List Bool) (is : IsKeptSet trees flags) (i j : ℕ) where
   -- a tree of two members is kept, or an earlier one of the same members is

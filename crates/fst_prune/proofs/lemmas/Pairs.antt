@@ -15,11 +15,7 @@ use Rattle.fst_prune.proofs.lemmas.Places.{slice_get_push_old, slice_get_push_la
 
 module _ (trees : List Tree) (places : List ℕ) where
   pub pairs_none : ArePairsWithin trees places 0 0 []
-  pairs_none = record {
-    sound = λ x pair at. absurd cc;
-    complete = λ a b k tree order inside seen is. absurd (⊎_elim (λ (lower : b < 0). omega arith) (λ (same : (b ≡ 0) × (a < 0)). omega (arith, same.1)) seen);
-    few = omega arith;
-  }
+  pairs_none = grind arith
 
   -- behind the last pair of a place the next place begins
   pub pairs_next : (upper : ℕ) (pairs : List Pair) → upper < length places → length places ≤ 8 → ArePairsWithin trees places upper upper pairs
@@ -41,13 +37,7 @@ module _ (trees : List Tree) (places : List ℕ) where
 
   -- what was looked at, with one place more
   looked_at_more : (upper lower a b : ℕ) → IsLookedAt upper (lower + 1) a b → IsLookedAt upper lower a b ⊎ ((a ≡ lower) × (b ≡ upper))
-  looked_at_more upper lower a b seen = ⊎_elim
-      (λ (before : b < upper). inl (inl before))
-      (λ (row : (b ≡ upper) × (a < lower + 1)). ⊎_elim
-      (λ (before : a < lower). inl (inr (row.0, before)))
-      (λ (not_before : lower ≤ a). inr (omega (arith, row.1), row.0))
-      (cases_lt a lower))
-      seen
+  looked_at_more upper lower a b seen = grind arith
 
   -- two places with no kept pair add nothing
   pub pairs_passed : (upper lower : ℕ) (pairs : List Pair)

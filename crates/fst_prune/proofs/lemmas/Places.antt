@@ -1,8 +1,7 @@
 -- What stands at places of lists.
-use Rattle.std.proofs.Common.{ℕ, zero, suc, ◌≡◌, ◌<◌, List, [], ◌∷◌, ◌++◌, length, get_or, refl, sym, subst, ◌∙◌, arith, inl, inr, ◌⊎◌, Some}
+use Rattle.std.proofs.Common.{ℕ, zero, suc, ◌≡◌, ◌<◌, List, [], ◌∷◌, ◌++◌, length, get_or, refl, sym, ◌∙◌, arith, inl, inr, ◌⊎◌, Some}
 use Rattle.std.specs.Prelude.{Contains, slice_get}
 use Rattle.std.specs.List.{AllByRecursion}
-use Rattle.std.proofs.lemmas.Bool.{cases_order}
 use Rattle.std.proofs.lemmas.Grind.{get_or_default_zero}
 use Rattle.std.proofs.lemmas.Option.{same_Some}
 use Rattle.full_tree.specs.MembersLaws.{Climbs}
@@ -23,10 +22,7 @@ pub slice_get_push_cases : {X : Type 0} (xs : List X) (y : X) (n : ℕ) (x : X) 
 slice_get_push_cases [] y zero x at = inr (same_Some y x at, refl)
 slice_get_push_cases [] y (suc n) x at = absurd cc
 slice_get_push_cases (z ∷ xs) y zero x at = inl at
-slice_get_push_cases (z ∷ xs) y (suc n) x at = elim (slice_get_push_cases xs y n x at) [
-  | inl old ↦ inl old
-  | inr last ↦ inr (last.0, omega (arith, last.1))
-]
+slice_get_push_cases (z ∷ xs) y (suc n) x at = grind (arith, slice_get_push_cases xs y n x at)
 
 -- what holds of each item holds of the one at a place
 all_at : (P : ℕ → Type 0) (ps : List ℕ) (k : ℕ) → AllByRecursion P ps → k < length ps → P (get_or ps k 0)
@@ -43,19 +39,11 @@ climbs_at (p ∷ ps) (suc i) (suc j) climbs before inside = climbs_at ps i j cli
 
 -- .. so that each item stands at one place
 pub climbs_one : (ps : List ℕ) (i j : ℕ) → Climbs ps → i < length ps → j < length ps → get_or ps i 0 ≡ get_or ps j 0 → i ≡ j
-climbs_one ps i j climbs i_in j_in same = elim (cases_order i j) [
-  | inl is ↦ is
-  | inr (inl before) ↦ absurd (omega (arith, climbs_at ps i j climbs before j_in))
-  | inr (inr after) ↦ absurd (omega (arith, climbs_at ps j i climbs after i_in))
-]
+climbs_one ps i j climbs i_in j_in same = grind (arith, climbs_at)
 
 -- .. and less stands earlier
 pub climbs_before : (ps : List ℕ) (i j : ℕ) → Climbs ps → i < length ps → j < length ps → get_or ps i 0 < get_or ps j 0 → i < j
-climbs_before ps i j climbs i_in j_in less = elim (cases_order i j) [
-  | inl is ↦ absurd (let same : get_or ps i 0 ≡ get_or ps j 0 = subst (λ k. get_or ps i 0 ≡ get_or ps k 0) is refl in omega (arith, same))
-  | inr (inl before) ↦ before
-  | inr (inr after) ↦ absurd (omega (arith, climbs_at ps j i climbs after i_in))
-]
+climbs_before ps i j climbs i_in j_in less = grind (arith, climbs_at)
 
 -- two places that climb
 pub climbs_two : (p q : ℕ) → p < q → Climbs (p ∷ q ∷ [])

@@ -1,5 +1,5 @@
 -- Sets of kept pairs that replace a tree, as sets of pairs of the numbers of its members, and the other way round.
-use Rattle.std.proofs.Common.{ℕ, zero, suc, ◌≡◌, ◌<◌, ◌≤◌, Bool, true, false, List, [], ◌∷◌, length, get_or, refl, ap, sym, subst, ◌∙◌, arith, inl, inr, ⊎_elim, ◌⊎◌, Some}
+use Rattle.std.proofs.Common.{ℕ, ◌≡◌, ◌<◌, ◌≤◌, Bool, true, false, List, [], ◌∷◌, length, get_or, refl, ap, sym, subst, ◌∙◌, arith, inl, inr, ⊎_elim, ◌⊎◌, Some}
 use Rattle.std.specs.Prelude.{All, Contains, map, slice_get, slice_index_or}
 use Rattle.std.specs.Bool.{MatchBool}
 use Rattle.std.specs.Option.{option_map}
@@ -35,12 +35,6 @@ two_items (p ∷ []) two = absurd (omega (arith, two))
 two_items (p ∷ q ∷ []) two = refl
 two_items (p ∷ q ∷ r ∷ ps) two = absurd (omega (arith, two))
 
--- a member of two is one of them
-of_two : (x y i : ℕ) → Contains (x ∷ y ∷ []) i → (i ≡ x) ⊎ (i ≡ y)
-of_two x y i (zero, inside, is) = inl (sym is)
-of_two x y i (suc zero, inside, is) = inr (sym is)
-of_two x y i (suc (suc k), inside, is) = absurd (omega (arith, inside))
-
 -- a step that shares a tree can be taken back
 pub shares_back : (trees : List Tree) (set : List Bool) (i j : ℕ) → SharesTree trees set i j → SharesTree trees set j i
 shares_back trees set i j (k, tree, inside, at, first, second) = (k, tree, inside, at, second, first)
@@ -68,8 +62,7 @@ module _ (trees : List Tree) (ms : List ℕ) where
 
   -- its members are those of the pair
   first_in : (pair : Pair) (k : ℕ) (stands : StandsFor trees ms pair k) → IsMember stands.tree (get_or ms pair.a 0)
-  first_in pair k stands = subst (λ ps. Contains ps (get_or ms pair.a 0)) (sym stands.is.members)
-      (member_at (get_or ms pair.a 0 ∷ get_or ms pair.b 0 ∷ []) 0 (omega arith))
+  first_in pair k stands = grind arith
 
   second_in : (pair : Pair) (k : ℕ) (stands : StandsFor trees ms pair k) → IsMember stands.tree (get_or ms pair.b 0)
   second_in pair k stands = subst (λ ps. Contains ps (get_or ms pair.b 0)) (sym stands.is.members)
@@ -77,8 +70,7 @@ module _ (trees : List Tree) (ms : List ℕ) where
 
   stands_members : (pair : Pair) (k i : ℕ) (stands : StandsFor trees ms pair k) → IsMember stands.tree i
       → (i ≡ get_or ms pair.a 0) ⊎ (i ≡ get_or ms pair.b 0)
-  stands_members pair k i stands member =
-      of_two (get_or ms pair.a 0) (get_or ms pair.b 0) i (subst (λ ps. Contains ps i) stands.is.members member)
+  stands_members pair k i stands member = grind arith
 
   -- a hop by a pair is a step that shares its tree
   hop_shares : (set : List Bool) (pair : Pair) (k v w : ℕ) → StandsFor trees ms pair k → slice_get set k ≡ Some true

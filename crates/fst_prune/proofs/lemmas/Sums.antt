@@ -145,29 +145,15 @@ pub record Gathered (Good : ℕ → List Bool → Type 0) (vs : List ℕ) (n : �
   pub only : (x : ℕ) → slice_get whole x ≡ Some true → ComesFrom Good set x
   pub short : sum_of vs whole ≤ sum_of ws set
 
--- one number more in front, which isn't in the set
-held_without : (Good : ℕ → List Bool → Type 0) (set whole : List Bool)
-    → ((k : ℕ) → slice_get set k ≡ Some true → Holds (λ j. Good (suc j)) whole k)
-    → (k : ℕ) → slice_get (false ∷ set) k ≡ Some true → Holds Good whole k
-held_without Good set whole rest zero at = absurd cc
-held_without Good set whole rest (suc k) at =
-    let held : Holds (λ j. Good (suc j)) whole k = rest k at in
-    record { part = held.part; good = held.good; within = held.within }
-
 -- .. or is
 held_with : (Good : ℕ → List Bool → Type 0) (set first whole : List Bool) → length first ≡ length whole → Good 0 first
     → ((k : ℕ) → slice_get set k ≡ Some true → Holds (λ j. Good (suc j)) whole k)
     → (k : ℕ) → slice_get (true ∷ set) k ≡ Some true → Holds Good (union first whole) k
-held_with Good set first whole same good rest zero at =
-    record { part = first; good = good; within = λ x here. union_first first whole x same here }
-held_with Good set first whole same good rest (suc k) at =
-    let held : Holds (λ j. Good (suc j)) whole k = rest k at in
-    record { part = held.part; good = held.good; within = λ x there. union_second first whole x same (held.within x there) }
+held_with Good set first whole same good rest k at = grind (arith, union_first, union_second)
 
 from_rest : (Good : ℕ → List Bool → Type 0) (flag : Bool) (set : List Bool) (x : ℕ) → ComesFrom (λ j. Good (suc j)) set x
     → ComesFrom Good (flag ∷ set) x
-from_rest Good flag set x from =
-    record { number = suc from.number; part = from.part; among = from.among; good = from.good; has = from.has }
+from_rest Good flag set x from = search
 
 module _ (vs : List ℕ) (n : ℕ) where
   shifted : (Good : ℕ → List Bool → Type 0) (most k : ℕ) → Part Good vs n (suc k) most → Part (λ j. Good (suc j)) vs n k most
@@ -175,13 +161,7 @@ module _ (vs : List ℕ) (n : ℕ) where
 
   gathered_without : (Good : ℕ → List Bool → Type 0) (w : ℕ) (ws : List ℕ) (set : List Bool)
       → Gathered (λ j. Good (suc j)) vs n ws set → Gathered Good vs n (w ∷ ws) (false ∷ set)
-  gathered_without Good w ws set rest = record {
-    whole = rest.whole;
-    size = rest.size;
-    holds = held_without Good set rest.whole rest.holds;
-    only = λ x has. from_rest Good false set x (rest.only x has);
-    short = omega (arith, rest.short);
-  }
+  gathered_without Good w ws set rest = grind arith
 
   gathered_with : (Good : ℕ → List Bool → Type 0) (w : ℕ) (ws : List ℕ) (set : List Bool)
       → Part Good vs n 0 w → Gathered (λ j. Good (suc j)) vs n ws set → Gathered Good vs n (w ∷ ws) (true ∷ set)

@@ -1,6 +1,6 @@
 -- Pruning keeps the totals of concatenations: each tree that is dropped is replaced by kept trees that join its members at
 -- no greater length.
-use Rattle.std.proofs.Common.{ℕ, zero, suc, ◌≡◌, ◌<◌, ◌≤◌, Bool, true, false, List, length, get_or, refl, sym, subst, ◌∙◌, arith, ⊎_elim, inl, inr, ◌⊎◌, Some}
+use Rattle.std.proofs.Common.{ℕ, zero, suc, ◌≡◌, ◌<◌, ◌≤◌, Bool, true, false, List, length, get_or, sym, subst, ◌∙◌, arith, ⊎_elim, ◌⊎◌, Some}
 use Rattle.std.specs.Prelude.{Contains, slice_get, slice_index_or}
 use Rattle.std.specs.declared.cmp.Ordering.{Ordering}
 use Rattle.std.specs.declared.cmp.Ordering.TheVariants.{Less, Equal, Greater}
@@ -24,9 +24,7 @@ use Rattle.fst_prune.proofs.lemmas.KeptPairs.{flag_cases}
 
 -- an earlier tree in file order is no longer
 then_less : (o p : Ordering) → ordering_then o p ≡ Less → (o ≡ Less) ⊎ (o ≡ Equal)
-then_less Less p less = inl refl
-then_less Equal p less = inr refl
-then_less Greater p less = absurd cc
+then_less o p less = grind arith
 
 no_longer : (a b : Tree) → tree_cmp a b ≡ Less → a.length ≤ b.length
 no_longer a b less = ⊎_elim
