@@ -75,8 +75,7 @@ OpenStep-kept g costs cut of some least u v (arc, is_arc, full, leaves, comes) =
 -- .. and so where they lead
 pub SaturatedLeads-kept : (g : Graph) (costs : List EdgeCosts) (cut : Cut) → edges_of costs ≡ g.edges → 0 < cut.weight → IsLeastOf (Entering costs cut.members) (Some cut.weight) → (u v : ℕ) →
     SaturatedLeads g costs u v → SaturatedLeads g (map (lowered_by cut) costs) u v
-SaturatedLeads-kept g costs cut of some least u v led =
-    Leads-weaker (OpenStep g.edges (is_saturated costs)) (OpenStep g.edges (is_saturated (map (lowered_by cut) costs))) (OpenStep-kept g costs cut of some least) u v led
+SaturatedLeads-kept g costs cut of some least u v led = search (Leads-weaker, OpenStep-kept)
 
 -- the arcs of which the cut leaves nothing
 abbrev pub newly : ℕ → List EnteringArc → List Arc
@@ -190,13 +189,7 @@ AreActive-packed g vertices costs after list grown rest root is more active are 
 
 -- of no vertices
 pub AreActive-none : (g : Graph) (costs : List EdgeCosts) → AreActive g [] costs []
-AreActive-none g costs = record {
-  kept = All-nil (IsKept g costs);
-  among = All-nil (λ (a : ActiveVertex). Contains [] a.vertex);
-  apart = All-nil (λ (a : ActiveVertex). SaturatedLeads g costs (root_of g) a.vertex → ⊥);
-  every = All-nil (λ v. Contains (vertices_of []) v ⊎ SaturatedLeads g costs (root_of g) v);
-  ascending = λ i j d less lt. absurd (omega arith);
-}
+AreActive-none g costs = grind arith
 
 -- of one more, which the root leads to
 pub AreActive-skip : (g : Graph) (vertices : List ℕ) (costs : List EdgeCosts) (list : List ActiveVertex) (v : ℕ) → AreActive g vertices costs list → SaturatedLeads g costs (root_of g) v → AreActive g (vertices ++ v ∷ []) costs list

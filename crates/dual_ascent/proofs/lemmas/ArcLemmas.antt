@@ -30,41 +30,13 @@ IsArcOf-below g x graph (n, e, at, way) =
     (λ (is : x ≡ backward_arc n e). (subst (λ v. v < g.vertices) (ap (λ (y : Arc). y.from) (sym is)) ends.b, subst (λ v. v < g.vertices) (ap (λ (y : Arc). y.to) (sym is)) ends.a))
     way
 
--- arcs with one number are one arc
-pub same_arc : (edges : List Edge) (x y : Arc) → IsArcOf edges x → IsArcOf edges y → x.number ≡ y.number → x ≡ y
-same_arc edges x y (n, e, at, way) (m, f, at_m, way_m) same =
-    ⊎_elim
-    (λ (is : x ≡ forward_arc n e). let first : x.number ≡ 2 * n = ap (λ (z : Arc). z.number) is in
-    ⊎_elim
-    (λ (is_m : y ≡ forward_arc m f). let second : y.number ≡ 2 * m = ap (λ (z : Arc). z.number) is_m in
-    let place : n ≡ m = omega arith in
-    let edge : e ≡ f = same_Some e f (sym at ∙ ap (slice_get edges) place ∙ at_m) in
-    is ∙ ap (λ k. forward_arc k e) place ∙ ap (forward_arc m) edge ∙ sym is_m)
-    (λ (is_m : y ≡ backward_arc m f). let second : y.number ≡ 2 * m + 1 = ap (λ (z : Arc). z.number) is_m in absurd (omega arith))
-    way_m)
-    (λ (is : x ≡ backward_arc n e). let first : x.number ≡ 2 * n + 1 = ap (λ (z : Arc). z.number) is in
-    ⊎_elim
-    (λ (is_m : y ≡ forward_arc m f). let second : y.number ≡ 2 * m = ap (λ (z : Arc). z.number) is_m in absurd (omega arith))
-    (λ (is_m : y ≡ backward_arc m f). let second : y.number ≡ 2 * m + 1 = ap (λ (z : Arc). z.number) is_m in
-    let place : n ≡ m = omega arith in
-    let edge : e ≡ f = same_Some e f (sym at ∙ ap (slice_get edges) place ∙ at_m) in
-    is ∙ ap (λ k. backward_arc k e) place ∙ ap (backward_arc m) edge ∙ sym is_m)
-    way_m)
-    way
-
 -- what is left of an edge's first arc
 pub cost_of-even : (costs : List EdgeCosts) (n : ℕ) (c : EdgeCosts) → slice_get costs n ≡ Some c → cost_of costs (2 * n) ≡ c.there
-cost_of-even costs n c at =
-    let half : 2 * n / 2 ≡ n = omega arith in
-    let even : 2 * n % 2 ≡ 0 = omega arith in
-    rw (half, at, even) refl
+cost_of-even costs n c at = grind arith
 
 -- .. and of its second
 pub cost_of-odd : (costs : List EdgeCosts) (n : ℕ) (c : EdgeCosts) → slice_get costs n ≡ Some c → cost_of costs (2 * n + 1) ≡ c.back
-cost_of-odd costs n c at =
-    let half : (2 * n + 1) / 2 ≡ n = omega arith in
-    let odd : (2 * n + 1) % 2 ≡ 1 = omega arith in
-    rw (half, at, odd) refl
+cost_of-odd costs n c at = grind arith
 
 -- the edge of the costs at a place
 pub slice_get-edges_of : (costs : List EdgeCosts) (n : ℕ) (c : EdgeCosts) → slice_get costs n ≡ Some c → slice_get (edges_of costs) n ≡ Some c.edge
@@ -81,19 +53,11 @@ costs_at costs n e at =
 
 -- an edge's own arc is as it is
 cost_in-with_same : (c : EdgeCosts) (arc : ℕ) (cost : Option ℕ) → cost_in (Some (with_cost c arc cost)) arc ≡ cost
-cost_in-with_same c arc cost =
-    ⊎_elim
-    (λ (even : eqb (arc % 2) 0 ≡ true). rw even refl)
-    (λ (odd : eqb (arc % 2) 0 ≡ false). rw odd refl)
-    (cases_Bool (eqb (arc % 2) 0))
+cost_in-with_same c arc cost = grind arith
 
 -- .. and the other one as it was
 cost_in-with_other : (c : EdgeCosts) (arc other : ℕ) (cost : Option ℕ) → other / 2 ≡ arc / 2 → other ≢ arc → cost_in (Some (with_cost c arc cost)) other ≡ cost_in (Some c) other
-cost_in-with_other c arc other cost edge apart =
-    ⊎_elim
-    (λ (even : arc % 2 ≡ 0). let odd : other % 2 ≡ 1 = omega arith in rw (even, odd) refl)
-    (λ (odd : arc % 2 ≢ 0). let one : arc % 2 ≡ 1 = omega arith in let even : other % 2 ≡ 0 = omega arith in rw (one, even) refl)
-    (cases_eq (arc % 2) 0)
+cost_in-with_other c arc other cost edge apart = grind arith
 
 -- the edges stay
 pub edges_of-set : (costs : List EdgeCosts) (place arc : ℕ) (cost : Option ℕ) (d : EdgeCosts) → edges_of (set costs place (with_cost (get_or costs place d) arc cost)) ≡ edges_of costs

@@ -1,6 +1,6 @@
 -- What an ascent keeps from step to step, and what it ends with.
-use Rattle.std.proofs.Common.{ℕ, ◌≡◌, ◌+◌, ◌-◌, ◌*◌, ◌≤◌, ◌<◌, Bool, true, false, eqb, eqb-true, List, [], ◌∷◌, ◌++◌, map, length, slice_get, All, Contains, Some, None, ◌⊎◌, inl, inr, ⊎_elim, refl, ◌↔◌, IsTrue, get_or, sym, ap, subst, ◌∙◌, arith, length-append, append_assoc, append-nil}
-use Rattle.std.proofs.lemmas.Bool.{cases_Bool, cond_both, eqb-false}
+use Rattle.std.proofs.Common.{ℕ, ◌≡◌, ◌+◌, ◌-◌, ◌*◌, ◌≤◌, ◌<◌, Bool, true, eqb, eqb-true, List, [], ◌∷◌, ◌++◌, map, length, slice_get, All, Contains, Some, None, ◌⊎◌, inl, inr, ⊎_elim, refl, ◌↔◌, IsTrue, get_or, sym, ap, subst, ◌∙◌, arith, length-append, append_assoc, append-nil}
+use Rattle.std.proofs.lemmas.Bool.{cond_both, eqb-false}
 use Rattle.std.proofs.lemmas.List.Elements.{All-contains}
 use Rattle.std.proofs.lemmas.List.Sums.{sum_by_push}
 use Rattle.std.proofs.lemmas.Option.{get_or_from_slice_get, slice_get-get_or, slice_get_within}
@@ -35,12 +35,8 @@ pub record IsUnderWay (g : Graph) (decision : Decided) (start packing : List Cut
 -- at the start
 pub IsUnderWay-none : (g : Graph) (decision : Decided) (start : List Cut) (costs : List EdgeCosts) → IsDecisionFor g decision → IsFeasible g decision start →
     length start ≤ 2 * length g.edges → costs ≡ costs_of g.edges (states_of g decision) start → IsUnderWay g decision start start costs
-IsUnderWay-none g decision start costs size feasible few are = record {
-  feasible = feasible;
-  left = are;
-  begins = ([], sym (append-nil start));
-  few = omega (arith, unsaturated-le costs, ap length are, length-costs_of g.edges (states_of g decision) start (length-states_of g decision size.edges));
-}
+IsUnderWay-none g decision start costs size feasible few are =
+    grind (arith, append-nil, unsaturated-le, length-costs_of, length-states_of)
 
 -- a packing with one more cut begins with the same cuts
 BeginsWith-push : (start packing : List Cut) (cut : Cut) → BeginsWith packing start → BeginsWith (packing ++ cut ∷ []) start
@@ -139,20 +135,13 @@ free_where_closed g decision packing members n e size feasible none at enter =
 -- a set that parts a required vertex from the root is a closing cut where no arc with a room enters it
 IsClosingCut-from_parts : (g : Graph) (decision : Decided) (packing : List Cut) (vertices : List ℕ) (members : List Bool) → IsDecisionFor g decision → AreRequired g decision vertices →
     IsFeasible g decision packing → Parts g vertices members → IsLeastOf (Entering (costs_of g.edges (states_of g decision) packing) members) None → IsClosingCut g decision members
-IsClosingCut-from_parts g decision packing vertices members size are feasible parts none = record {
-  cut = IsCut-from_parts g decision vertices members are parts;
-  free = λ n e at enter. free_where_closed g decision packing members n e size feasible none at enter;
-}
+IsClosingCut-from_parts g decision packing vertices members size are feasible parts none =
+    search (IsCut-from_parts, free_where_closed)
 
 -- cuts that stand before stay there
 pub closed_with-behind : (g : Graph) (members : List Bool) (first packing : List Cut) →
     first ++ closed_with g members packing ≡ closed_with g members (first ++ packing)
-closed_with-behind g members first packing =
-    let cut : Cut = record { weight = total_of g; members = members } in
-    ⊎_elim
-    (λ (none : eqb (total_of g) 0 ≡ true). rw none refl)
-    (λ (some : eqb (total_of g) 0 ≡ false). rw some (sym (append_assoc first packing (cut ∷ []))))
-    (cases_Bool (eqb (total_of g) 0))
+closed_with-behind g members first packing = grind (arith, append_assoc)
 
 -- a set that only arcs of outside edges enter closes an ascent
 pub IsClosed-from_under_way : (g : Graph) (decision : Decided) (start packing : List Cut) (costs : List EdgeCosts) (vertices : List ℕ) (members : List Bool) → IsDecisionFor g decision → AreRequired g decision vertices →

@@ -1,9 +1,8 @@
 -- What a packing leaves of the rooms once cuts were taken back, and once more is decided.
-use Rattle.std.proofs.Common.{ℕ, suc, ◌≡◌, ◌+◌, ◌-◌, ◌^◌, ◌≤◌, ◌<◌, Bool, true, false, cond, List, [], ◌∷◌, ◌++◌, filter, map, length, sum_by, take, drop, get_or, slice_get, Option, Some, None, ⊎_elim, refl, sym, ap, subst, ◌∙◌, arith, append_assoc, append-nil}
+use Rattle.std.proofs.Common.{ℕ, suc, ◌≡◌, ◌+◌, ◌-◌, ◌^◌, ◌≤◌, ◌<◌, Bool, true, false, cond, List, [], ◌∷◌, ◌++◌, filter, map, length, sum_by, take, drop, get_or, slice_get, Option, Some, ⊎_elim, refl, sym, ap, subst, ◌∙◌, arith, append_assoc, append-nil}
 use Rattle.std.specs.Prelude.{IfSome}
 use Rattle.std.specs.List.{zip}
 use Rattle.std.proofs.Math.Seq.{drop-cons}
-use Rattle.std.proofs.lemmas.Bool.{cases_lt}
 use Rattle.std.proofs.lemmas.List.{take_all, drop_all}
 use Rattle.std.proofs.lemmas.List.Elements.{filter_more}
 use Rattle.std.proofs.lemmas.List.Sums.{sum_by-cons, sum_by-append, sum_by-take-drop, get_or-le-sum_by}
@@ -11,14 +10,14 @@ use Rattle.std.proofs.lemmas.Option.{same_Some, slice_get-get_or, slice_get_with
 use Rattle.net_graph.specs.declared.edge.Edge.{Edge}
 use Rattle.net_graph.specs.declared.packing.Cut.{Cut}
 use Rattle.net_graph.specs.declared.state.EdgeState.{EdgeState}
-use Rattle.net_graph.specs.declared.state.EdgeState.TheVariants.{Undecided, Inside, Outside}
+use Rattle.net_graph.specs.declared.state.EdgeState.TheVariants.{Undecided, Inside}
 use Rattle.net_graph.specs.Arcs.{forward_arc, backward_arc}
 use Rattle.net_graph.specs.Graph.{Graph, IsGraph}
 use Rattle.net_graph.specs.Packing.{enters, load, room_of, IsWithinRoom}
 use Rattle.dual_ascent.specs.declared.costs.EdgeCosts.{EdgeCosts}
 use Rattle.dual_ascent.specs.declared.entering.EnteringArc.{EnteringArc}
 use Rattle.dual_ascent.specs.Costs.{left_after, raised_after, raised_by, left_in, left_of, costs_of, cost_of, weight_on}
-use Rattle.dual_ascent.specs.CostLaws.{left_after-le, left_after-lt, slice_get-costs_of}
+use Rattle.dual_ascent.specs.CostLaws.{slice_get-costs_of}
 use Rattle.dual_ascent.specs.Entering.{EntersLeft}
 use Rattle.dual_ascent.proofs.lemmas.ArcLemmas.{cost_of-even, cost_of-odd}
 use Rattle.dual_ascent.proofs.lemmas.CarriedLemmas.{load-fewer}
@@ -31,35 +30,17 @@ AreWithinRooms edges states packing = (n : ℕ) (e : Edge) (state : EdgeState) �
 
 -- ---- a cut that is taken back
 
--- a load that is taken back
-raised_after-left_after : (room : Option ℕ) (rest amount : ℕ) → IfSome room (λ r. rest + amount ≤ r) →
-    raised_after (left_after room (rest + amount)) amount ≡ left_after room rest
-raised_after-left_after None rest amount fits = refl
-raised_after-left_after (Some room) rest amount fits =
-    let same : room - (rest + amount) + amount ≡ room - rest = omega arith in
-    let less : rest ≤ room = omega arith in
-    ap (λ c. raised_after c amount) (left_after-le room (rest + amount) fits) ∙ ap Some same ∙ sym (left_after-le room rest less)
-
 -- the load of a cut amid others
 load-amid : (front : List Cut) (cut : Cut) (rest : List Cut) (u v : ℕ) →
     load (front ++ cut ∷ rest) u v ≡ load (front ++ rest) u v + weight_on cut u v
-load-amid front cut rest u v = omega (
-  arith,
-  sum_by-append (λ (c : Cut). weight_on c u v) front (cut ∷ rest),
-  sum_by-cons (λ (c : Cut). weight_on c u v) cut rest,
-  sum_by-append (λ (c : Cut). weight_on c u v) front rest,
-)
+load-amid front cut rest u v = omega (arith, sum_by-append, sum_by-cons)
 
 -- what is left of an arc then
 raised_arc : (state : EdgeState) (e : Edge) (front : List Cut) (cut : Cut) (rest : List Cut) (u v : ℕ) →
     IsWithinRoom state e (load (front ++ cut ∷ rest) u v) →
     raised_after (left_after (room_of state e) (load (front ++ cut ∷ rest) u v)) (weight_on cut u v)
     ≡ left_after (room_of state e) (load (front ++ rest) u v)
-raised_arc state e front cut rest u v fits =
-    let is = load-amid front cut rest u v in
-    ap (λ m. raised_after (left_after (room_of state e) m) (weight_on cut u v)) is
-    ∙ raised_after-left_after (room_of state e) (load (front ++ rest) u v) (weight_on cut u v)
-    (subst (λ m. IsWithinRoom state e m) is fits)
+raised_arc state e front cut rest u v fits = grind (arith, load-amid)
 
 -- .. of all arcs
 pub map-raised_by : (edges : List Edge) (states : List EdgeState) (front : List Cut) (cut : Cut) (rest : List Cut) →
@@ -74,29 +55,10 @@ map-raised_by (e ∷ edges) (state ∷ states) front cut rest within =
     let more = map-raised_by edges states front cut rest (λ n x s at is. within (suc n) x s at is) in
     cc
 
--- no sum wraps where it is taken back
-left_fits : (room : Option ℕ) (length amount left : ℕ) → IfSome room (λ r. r ≤ length) → left_after room amount ≡ Some left →
-    left + amount ≤ length
-left_fits None length amount left small is = absurd cc
-left_fits (Some room) length amount left small is =
-    ⊎_elim
-    (λ over. let none : left_after (Some room) amount ≡ None = left_after-lt room amount over in absurd cc)
-    (λ fits. let rest : room - amount ≡ left = same_Some (room - amount) left (sym (left_after-le room amount fits) ∙ is) in omega arith)
-    (cases_lt room amount)
-
--- a room is no larger than the edge is long
-room-le : (state : EdgeState) (e : Edge) → IfSome (room_of state e) (λ r. r ≤ e.length)
-room-le Undecided e = omega arith
-room-le Inside e = omega arith
-room-le Outside e = tt
-
 -- the weight of a cut and what is left of an arc that enters it
 weight_fits : (state : EdgeState) (e : Edge) (front : List Cut) (cut : Cut) (rest : List Cut) (u v left : ℕ) → enters cut.members u v ≡ true →
     left_after (room_of state e) (load (front ++ cut ∷ rest) u v) ≡ Some left → left + cut.weight ≤ e.length
-weight_fits state e front cut rest u v left entered is =
-    let loaded : weight_on cut u v ≡ cut.weight = rw entered refl in
-    let all = left_fits (room_of state e) e.length (load (front ++ cut ∷ rest) u v) left (room-le state e) is in
-    omega (arith, all, loaded, load-amid front cut rest u v)
+weight_fits state e front cut rest u v left entered is = grind (arith, load-amid)
 
 pub raise_fits : (g : Graph) (states : List EdgeState) (front : List Cut) (cut : Cut) (rest : List Cut) (x : EnteringArc) → IsGraph g →
     length states ≡ length g.edges → EntersLeft (costs_of g.edges states (front ++ cut ∷ rest)) cut.members x → x.left + cut.weight < 2 ^ 64
@@ -132,17 +94,11 @@ those_left test packing i = filter test (take i packing) ++ drop i packing
 
 -- a smaller load is within a room, too
 within-less : (room : Option ℕ) (m n : ℕ) → m ≤ n → IfSome room (λ r. n ≤ r) → IfSome room (λ r. m ≤ r)
-within-less None m n less fits = tt
-within-less (Some room) m n less fits = omega arith
+within-less room m n less fits = grind arith
 
 -- they load no more than all
 load-those_left : (test : Cut → Bool) (packing : List Cut) (i u v : ℕ) → load (those_left test packing i) u v ≤ load packing u v
-load-those_left test packing i u v = omega (
-  arith,
-  sum_by-append (λ (c : Cut). weight_on c u v) (filter test (take i packing)) (drop i packing),
-  load-fewer test (take i packing) u v,
-  sum_by-take-drop (λ (c : Cut). weight_on c u v) packing i,
-)
+load-those_left test packing i u v = grind (arith, sum_by-append, load-fewer, sum_by-take-drop)
 
 -- and so they keep to the rooms
 pub those_left_within : (edges : List Edge) (states : List EdgeState) (test : Cut → Bool) (packing : List Cut) (i : ℕ) →
@@ -193,11 +149,7 @@ those_left-all test packing i past =
 -- the costs of one edge
 left_in-left_of : (e : Edge) (before now : EdgeState) (packing : List Cut) → (now ≡ Undecided → before ≡ Undecided)
     → (now ≡ Inside → (load packing e.a e.b ≡ 0) × (load packing e.b e.a ≡ 0)) → left_in (left_of e before packing) now ≡ left_of e now packing
-left_in-left_of e before Undecided packing undecided inside = ap (λ s. left_of e s packing) (undecided refl)
-left_in-left_of e before Inside packing undecided inside =
-    let (there, back) = inside refl in
-    (λ i. record { edge = e; there = left_after (Some 0) (sym there i); back = left_after (Some 0) (sym back i) })
-left_in-left_of e before Outside packing undecided inside = refl
+left_in-left_of e before now packing undecided inside = grind arith
 
 -- .. of all edges
 pub costs_in : (edges : List Edge) (before now : List EdgeState) (packing : List Cut) → length before ≡ length edges → length now ≡ length edges

@@ -1,7 +1,7 @@
 -- A packing carried to the next decision stays feasible.
 use Rattle.std.proofs.Common.{ℕ, zero, suc, ◌≡◌, ◌≤◌, ◌<◌, Bool, true, false, not, ◌||◌, List, [], ◌∷◌, ◌++◌, filter, length, slice_get, All, Contains, Some, ⊎_elim, refl, sym, ap, subst, ◌∙◌, arith, append-nil, append_assoc}
 use Rattle.std.specs.List.{list_any}
-use Rattle.std.proofs.lemmas.Bool.{cases_Bool, both_ways, not-true}
+use Rattle.std.proofs.lemmas.Bool.{cases_Bool, not-true}
 use Rattle.std.proofs.lemmas.List.Elements.{All-filter, All-head, All-tail, All-weaker, Contains-append_right, filter_passes}
 use Rattle.std.proofs.lemmas.List.Folds.{list_any-from_Any}
 use Rattle.std.proofs.lemmas.List.Sums.{sum_by-cons}
@@ -12,7 +12,7 @@ use Rattle.net_graph.specs.declared.state.EdgeState.{EdgeState}
 use Rattle.net_graph.specs.declared.state.EdgeState.TheVariants.{Undecided, Inside, Outside}
 use Rattle.net_graph.specs.declared.state.VertexState.{VertexState}
 use Rattle.net_graph.specs.Graph.{Graph}
-use Rattle.net_graph.specs.Decision.{Decided, IsRequired, IsUndecided, states_of, has_missed_end, states_at_ends}
+use Rattle.net_graph.specs.Decision.{Decided, IsRequired, IsUndecided, states_of, states_at_ends}
 use Rattle.net_graph.specs.DecisionLaws.{states_of-inside}
 use Rattle.net_graph.specs.DecidingLaws.{IsRequired-with_edge, IsRequired-with_vertex, IsUndecided-before_edge, IsUndecided-before_vertex}
 use Rattle.net_graph.specs.Packing.{enters, load, IsCut, IsWithinRoom, IsFeasible}
@@ -27,15 +27,11 @@ inside_one e Outside = []
 
 -- an edge that isn't inside
 pub inside_one-none : (e : Edge) (state : EdgeState) → (state ≡ Inside → ⊥) → inside_one e state ≡ []
-inside_one-none e Inside out = absurd (out refl)
-inside_one-none e Undecided out = refl
-inside_one-none e Outside out = refl
+inside_one-none e state out = grind arith
 
 -- the first edge and the others
 inside_first : (e : Edge) (state : EdgeState) (es : List Edge) (states : List EdgeState) → inside_edges (e ∷ es) (state ∷ states) ≡ inside_one e state ++ inside_edges es states
-inside_first e Inside es states = refl
-inside_first e Undecided es states = refl
-inside_first e Outside es states = refl
+inside_first e state es states = grind arith
 
 -- one more edge
 pub inside_edges-push : (es : List Edge) (states : List EdgeState) (e : Edge) (state : EdgeState) → slice_get states (length es) ≡ Some state → inside_edges (es ++ e ∷ []) states ≡ inside_edges es states ++ inside_one e state
@@ -43,45 +39,31 @@ inside_edges-push [] [] e state at = absurd cc
 inside_edges-push [] (t ∷ states) e state at = inside_first e t [] states ∙ append-nil (inside_one e t) ∙ ap (inside_one e) (same_Some t state at)
 inside_edges-push (x ∷ es) [] e state at = absurd cc
 inside_edges-push (x ∷ es) (t ∷ states) e state at =
-    inside_first x t (es ++ e ∷ []) states ∙ ap (λ ys. inside_one x t ++ ys) (inside_edges-push es states e state at)
-    ∙ sym (append_assoc (inside_one x t) (inside_edges es states) (inside_one e state)) ∙ ap (λ ys. ys ++ inside_one e state) (sym (inside_first x t es states))
+    search (inside_first, append_assoc, inside_edges-push es states e state at)
 
 -- a missed end makes no edge inside
 pub inside_edges-at_ends : (edges : List Edge) (states : List EdgeState) (vertices : List VertexState) → inside_edges edges (states_at_ends edges states vertices) ≡ inside_edges edges states
 inside_edges-at_ends [] states vertices = refl
 inside_edges-at_ends (e ∷ es) [] vertices = refl
 inside_edges-at_ends (e ∷ es) (Inside ∷ states) vertices = ap (λ ys. e ∷ ys) (inside_edges-at_ends es states vertices)
-inside_edges-at_ends (e ∷ es) (Undecided ∷ states) vertices =
-    ⊎_elim
-    (λ (missed : has_missed_end vertices e ≡ true). rw missed (inside_edges-at_ends es states vertices))
-    (λ (kept : has_missed_end vertices e ≡ false). rw kept (inside_edges-at_ends es states vertices))
-    (cases_Bool (has_missed_end vertices e))
+inside_edges-at_ends (e ∷ es) (Undecided ∷ states) vertices = grind (arith, inside_edges-at_ends es states vertices)
 inside_edges-at_ends (e ∷ es) (Outside ∷ states) vertices = inside_edges-at_ends es states vertices
 
 -- an inside edge is one of the inside edges
 inside_listed : (edges : List Edge) (states : List EdgeState) (n : ℕ) (e : Edge) → slice_get edges n ≡ Some e → slice_get states n ≡ Some Inside → Contains (inside_edges edges states) e
 inside_listed [] states n e at inside = absurd cc
 inside_listed (x ∷ edges) [] n e at inside = absurd cc
-inside_listed (x ∷ edges) (t ∷ states) zero e at inside =
-    let same : x ≡ e = same_Some x e at in
-    let is : t ≡ Inside = same_Some t Inside inside in
-    let all : inside_edges (x ∷ edges) (t ∷ states) ≡ e ∷ inside_edges edges states = inside_first x t edges states ∙ ap (λ s. inside_one x s ++ inside_edges edges states) is ∙ ap (λ y. y ∷ inside_edges edges states) same in
-    rw all (0, omega arith, refl)
+inside_listed (x ∷ edges) (t ∷ states) zero e at inside = grind arith
 inside_listed (x ∷ edges) (t ∷ states) (suc n) e at inside =
     rw (inside_first x t edges states) (Contains-append_right (inside_one x t) (inside_edges edges states) e (inside_listed edges states n e at inside))
 
 -- a test that passes nowhere fails at each
 list_any-fails : (test : Edge → Bool) (edges : List Edge) (e : Edge) → list_any test edges ≡ false → Contains edges e → test e ≡ false
-list_any-fails test edges e none listed = ⊎_elim
-    (λ (passes : test e ≡ true). absurd (both_ways (list_any test edges) none (list_any-from_Any test edges (listed.0, e, listed.1, listed.2, passes))))
-    (λ (fails : test e ≡ false). fails)
-    (cases_Bool (test e))
+list_any-fails test edges e none listed = grind (arith, list_any-from_Any)
 
 -- neither of two holds
 neither : (x y : Bool) → (x || y) ≡ false → (x ≡ false) × (y ≡ false)
-neither false false none = (refl, refl)
-neither false true none = absurd cc
-neither true y none = absurd cc
+neither x y none = grind arith
 
 -- an arc along which no cut is entered has no load
 load-none : (packing : List Cut) (u v : ℕ) → All (λ c. enters c.members u v ≡ false) packing → load packing u v ≡ 0
@@ -115,10 +97,7 @@ required_still g before now v one required = ⊎_elim
 
 -- what is undecided was undecided
 pub undecided_before : (g : Graph) (before now : Decided) (k : ℕ) → DecidesOneMore g before now → IsUndecided g now k → IsUndecided g before k
-undecided_before g before now k one is_now = ⊎_elim
-    (λ (n, state, undecided, is). IsUndecided-before_edge g before n k state undecided (subst (λ d. IsUndecided g d k) is is_now))
-    (λ (w, state, undecided, is). IsUndecided-before_vertex g before w k state undecided (subst (λ d. IsUndecided g d k) is is_now))
-    one
+undecided_before g before now k one is_now = grind (arith, IsUndecided-before_edge, IsUndecided-before_vertex)
 
 -- the edge's arcs keep to their room
 pub room_kept : (g : Graph) (before now : Decided) (packing : List Cut) (n : ℕ) (e : Edge) (state : EdgeState) → DecidesOneMore g before now → IsFeasible g before packing →

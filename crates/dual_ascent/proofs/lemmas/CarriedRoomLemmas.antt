@@ -1,7 +1,6 @@
 -- What a carried packing leaves of the rooms.
-use Rattle.std.proofs.Common.{ℕ, ◌≡◌, ◌*◌, ◌≤◌, Bool, true, refl, not, List, nat_le, map, length, slice_get, Some, arith}
+use Rattle.std.proofs.Common.{ℕ, ◌≡◌, ◌*◌, ◌≤◌, Bool, refl, not, List, map, length, slice_get, Some, arith}
 use Rattle.std.specs.List.{list_any, zip}
-use Rattle.std.proofs.lemmas.Bool.{le-leb}
 use Rattle.std.proofs.lemmas.List.Filters.{length-filter_both}
 use Rattle.net_graph.specs.declared.edge.Edge.{Edge}
 use Rattle.net_graph.specs.declared.packing.Cut.{Cut}
@@ -42,8 +41,4 @@ unentered-le edges parent =
 -- of few cuts all are carried that no arc of an inside edge enters
 pub carried-all : (g : Graph) (now : Decided) (parent : List Cut) → length parent ≤ 2 * length g.edges →
     carried g now parent ≡ unentered (inside_edges g.edges now.edges) parent
-carried-all g now parent few =
-    let kept : List Cut = unentered (inside_edges g.edges now.edges) parent in
-    let fewer : length kept ≤ length parent = unentered-le (inside_edges g.edges now.edges) parent in
-    let within : nat_le (length kept) (2 * length g.edges) ≡ true = le-leb (length kept) (2 * length g.edges) (omega arith) in
-    rw within refl
+carried-all g now parent few = grind (arith, unentered-le)

@@ -1,7 +1,6 @@
 -- What is left of the arcs' room: a loop's steps.
-use Rattle.std.proofs.Common.{ℕ, ◌≡◌, ◌+◌, ◌<◌, ◌≤◌, min, List, [], ◌∷◌, ◌++◌, map, length, get_or, take, Option, Some, None, ◌⊎◌, inl, inr, ⊎_elim, refl, sym, ap, subst, ◌∙◌, arith}
+use Rattle.std.proofs.Common.{ℕ, ◌≡◌, ◌+◌, ◌<◌, List, [], ◌∷◌, ◌++◌, map, length, get_or, take, Option, Some, ◌⊎◌, inl, inr, ⊎_elim, refl, sym, ap, ◌∙◌, arith}
 use Rattle.std.specs.List.{zip}
-use Rattle.std.proofs.lemmas.Bool.{cases_lt}
 use Rattle.std.proofs.lemmas.List.{take_more}
 use Rattle.std.proofs.lemmas.List.Elements.{Contains-append_left, Contains-push, Contains-push_cases}
 use Rattle.net_graph.specs.declared.edge.Edge.{Edge}
@@ -22,19 +21,7 @@ map-zip-left_of (e ∷ edges) (state ∷ decision) packing = ap (λ costs. left_
 -- the lesser of two least numbers is the least of both kinds
 pub IsLeastOf-either : (P Q R : ℕ → Type 0) (x y : Option ℕ) → ((n : ℕ) → R n → P n ⊎ Q n) → ((n : ℕ) → P n → R n) → ((n : ℕ) → Q n → R n) →
     IsLeastOf P x → IsLeastOf Q y → IsLeastOf R (lesser_of x y)
-IsLeastOf-either P Q R None None split left right p q = λ n r. ⊎_elim (p n) (q n) (split n r)
-IsLeastOf-either P Q R None (Some y) split left right p q = (right y q.0, λ n r. ⊎_elim (λ here. absurd (p n here)) (q.1 n) (split n r))
-IsLeastOf-either P Q R (Some x) None split left right p q = (left x p.0, λ n r. ⊎_elim (p.1 n) (λ here. absurd (q n here)) (split n r))
-IsLeastOf-either P Q R (Some x) (Some y) split left right p q = (
-  ⊎_elim
-      (λ less. let is : x ≡ min x y = omega arith in subst R is (left x p.0))
-      (λ more. let is : y ≡ min x y = omega arith in subst R is (right y q.0))
-      (cases_lt x y),
-  λ n r. ⊎_elim
-      (λ here. let low : x ≤ n = p.1 n here in omega arith)
-      (λ here. let low : y ≤ n = q.1 n here in omega arith)
-      (split n r),
-)
+IsLeastOf-either P Q R x y split left right p q = grind arith
 
 -- one more listed arc
 pub IsLeftOfOne-more : (list : List EnteringArc) (i : ℕ) (d : EnteringArc) (least : Option ℕ) → i < length list → IsLeastOf (IsLeftOfOne (take i list)) least →
@@ -54,5 +41,4 @@ IsLeftOfOne-more list i d least within so_far =
 -- one more cut of a packing
 pub costs_of-take : (edges : List Edge) (decision : List EdgeState) (packing : List Cut) (i : ℕ) (c : Cut) → i < length packing →
     map (lowered_by (get_or packing i c)) (costs_of edges decision (take i packing)) ≡ costs_of edges decision (take (i + 1) packing)
-costs_of-take edges decision packing i c within =
-    map-lowered_by edges decision (take i packing) (get_or packing i c) ∙ ap (costs_of edges decision) (sym (take_more packing i c within))
+costs_of-take edges decision packing i c within = grind (arith, map-lowered_by, take_more)

@@ -1,9 +1,9 @@
 -- The arcs that enter a set, gathered one after another, and what a cut leaves of them.
 use Rattle.std.proofs.Common.{ℕ, ◌≡◌, ◌≢◌, ◌+◌, ◌-◌, ◌*◌, ◌<◌, ◌≤◌, min, Bool, true, false, not, ◌&&◌, List, [], ◌∷◌, ◌++◌, map, length, get_or, slice_get, Option, Some, None, All, Contains, ◌⊎◌, inl, inr, ⊎_elim, refl, sym, ap, subst, ◌∙◌, arith}
 use Rattle.std.specs.Option.{SomeIff, option_map}
-use Rattle.std.proofs.lemmas.Bool.{cases_Bool, cases_eq, cases_lt, both_ways}
+use Rattle.std.proofs.lemmas.Bool.{cases_eq, cases_lt}
 use Rattle.std.proofs.lemmas.List.{length-map, same_lists, get_or-map}
-use Rattle.std.proofs.lemmas.List.Elements.{All-nil, All-push, All-contains, Contains-append_left, Contains-push, Contains-push_cases}
+use Rattle.std.proofs.lemmas.List.Elements.{All-push, Contains-append_left, Contains-push, Contains-push_cases}
 use Rattle.std.proofs.lemmas.Option.{same_Some, slice_get_within, slice_get-get_or, slice_get-map, get_or_from_slice_get}
 use Rattle.net_graph.specs.declared.arcs.Arc.{Arc}
 use Rattle.net_graph.specs.declared.edge.Edge.{Edge}
@@ -13,40 +13,26 @@ use Rattle.net_graph.specs.Flags.{has}
 use Rattle.net_graph.specs.Graph.{Graph, IsGraph}
 use Rattle.net_graph.specs.Joins.{slice_get-has}
 use Rattle.net_graph.specs.Packing.{enters}
-use Rattle.net_graph.specs.Turned.{partner_of-even, partner_of-odd}
 use Rattle.dual_ascent.specs.declared.costs.EdgeCosts.{EdgeCosts}
 use Rattle.dual_ascent.specs.declared.entering.EnteringArc.{EnteringArc}
 use Rattle.dual_ascent.specs.Costs.{left_after, raised_after, weight_on, lowered_by, raised_by, cost_of, edges_of, Entering, IsLeastOf}
 use Rattle.dual_ascent.specs.Entering.{EntersLeft, AreEntering, AreEnteringBelow, IsLeftOfOne, turned}
-use Rattle.dual_ascent.proofs.lemmas.ArcLemmas.{IsArcOf-below, same_arc, cost_of-even, cost_of-odd, slice_get-edges_of, costs_at}
-use Rattle.dual_ascent.specs.CostLaws.{left_after-le, left_after-lt}
+use Rattle.dual_ascent.proofs.lemmas.ArcLemmas.{IsArcOf-below, cost_of-even, cost_of-odd, slice_get-edges_of, costs_at}
 
 -- ---- arcs turned round
 
 -- an arc of an edge turned round is the edge's other arc
 pub IsArcOf-turned : (edges : List Edge) (arc : Arc) → IsArcOf edges arc → IsArcOf edges (turned arc)
-IsArcOf-turned edges arc (n, e, at, way) =
-    ⊎_elim
-    (λ (is : arc ≡ forward_arc n e). (n, e, at, inr (ap turned is ∙ ap (λ m. record { number = m; from = e.b; to = e.a }) (partner_of-even n))))
-    (λ (is : arc ≡ backward_arc n e). (n, e, at, inl (ap turned is ∙ ap (λ m. record { number = m; from = e.a; to = e.b }) (partner_of-odd n))))
-    way
+IsArcOf-turned edges arc (n, e, at, way) = grind arith
 
 -- turned round twice, it is as before
 pub turned-turned : (edges : List Edge) (arc : Arc) → IsArcOf edges arc → turned (turned arc) ≡ arc
-turned-turned edges arc (n, e, at, way) =
-    ⊎_elim
-    (λ (is : arc ≡ forward_arc n e). ap (λ x. turned (turned x)) is
-    ∙ ap (λ m. record { number = m; from = e.a; to = e.b }) (ap partner_of (partner_of-even n) ∙ partner_of-odd n) ∙ sym is)
-    (λ (is : arc ≡ backward_arc n e). ap (λ x. turned (turned x)) is
-    ∙ ap (λ m. record { number = m; from = e.b; to = e.a }) (ap partner_of (partner_of-odd n) ∙ partner_of-even n) ∙ sym is)
-    way
+turned-turned edges arc (n, e, at, way) = grind arith
 
 -- ---- the arcs at members of the set
 
 ends_of : (x y : Bool) → y && not x ≡ true → (x ≡ false) × (y ≡ true)
-ends_of false true holds = (refl, refl)
-ends_of true true holds = absurd cc
-ends_of x false holds = absurd cc
+ends_of x y holds = grind arith
 
 -- an arc that enters leads from no member to a member
 pub enters-ends : (members : List Bool) (u v : ℕ) → enters members u v ≡ true → (has members u ≡ false) × (has members v ≡ true)
@@ -58,21 +44,12 @@ entered_within members u v entered = slice_get_within members v true (slice_get-
 
 -- at the start
 pub AreEnteringBelow-none : (costs : List EdgeCosts) (members : List Bool) → AreEnteringBelow costs members 0 []
-AreEnteringBelow-none costs members = record {
-  each = All-nil (EntersLeft costs members);
-  every = λ arc left below is_arc entered is. absurd (omega arith);
-}
+AreEnteringBelow-none costs members = grind arith
 
 -- where the vertices from one to another are no members
 pub AreEnteringBelow-skip : (costs : List EdgeCosts) (members : List Bool) (v w : ℕ) (list : List EnteringArc) →
     AreEnteringBelow costs members v list → ((u : ℕ) → v ≤ u → u < w → has members u ≡ false) → AreEnteringBelow costs members w list
-AreEnteringBelow-skip costs members v w list so_far apart = record {
-  each = so_far.each;
-  every = λ arc left below is_arc entered is. ⊎_elim
-      (λ earlier. so_far.every arc left earlier is_arc entered is)
-      (λ here. absurd (both_ways (has members arc.to) (apart arc.to here below) (enters-ends members arc.from arc.to entered).1))
-      (cases_lt arc.to v);
-}
+AreEnteringBelow-skip costs members v w list so_far apart = grind arith
 
 -- when all members were gone over that are vertices of the graph
 pub AreEnteringBelow-past : (g : Graph) (costs : List EdgeCosts) (members : List Bool) (v w : ℕ) (list : List EnteringArc) → IsGraph g →
@@ -88,12 +65,7 @@ AreEnteringBelow-past g costs members v w list graph edges past so_far = record 
 -- when all of the set was gone over
 pub AreEntering-all : (costs : List EdgeCosts) (members : List Bool) (v : ℕ) (list : List EnteringArc) → length members ≤ v →
     AreEnteringBelow costs members v list → AreEntering costs members list
-AreEntering-all costs members v list all so_far = record {
-  each = so_far.each;
-  every = λ arc left is_arc entered is.
-      let member : arc.to < length members = entered_within members arc.from arc.to entered in
-      so_far.every arc left (omega arith) is_arc entered is;
-}
+AreEntering-all costs members v list all so_far = grind (arith, entered_within)
 
 -- ---- the arcs at one member
 
@@ -107,13 +79,7 @@ pub record EnteringSoFar (costs : List EdgeCosts) (members : List Bool) (v : ℕ
 -- at the start
 pub EnteringSoFar-none : (costs : List EdgeCosts) (members : List Bool) (v : ℕ) (list : List EnteringArc) →
     AreEnteringBelow costs members v list → EnteringSoFar costs members v [] list
-EnteringSoFar-none costs members v list below = record {
-  each = below.each;
-  every = λ arc left gone is_arc entered is. ⊎_elim
-      (λ earlier. below.every arc left earlier is_arc entered is)
-      (λ (k, below, at). absurd (omega arith))
-      gone;
-}
+EnteringSoFar-none costs members v list below = grind arith
 
 -- what the other arc of one has
 abbrev pub HasOnly : List EdgeCosts → List Bool → Arc → Option EnteringArc → Type 0
@@ -180,9 +146,7 @@ EnteringSoFar-all costs members v arcs list from so_far = record {
 
 -- no more is taken from what is left of an arc than there is
 pub left_after-checked : (rest : Option ℕ) (left weight : ℕ) → SomeIff rest (weight ≤ left) (left - weight) → rest ≡ left_after (Some left) weight
-left_after-checked None left weight refused =
-    ⊎_elim (λ over. sym (left_after-lt left weight over)) (λ fits. absurd (refused fits)) (cases_lt left weight)
-left_after-checked (Some rest) left weight (fits, is) = ap Some is ∙ sym (left_after-le left weight fits)
+left_after-checked rest left weight refused = grind arith
 
 -- what is left of these arcs was changed by the weight
 pub record ChangedSoFar (after : Option ℕ → ℕ → Option ℕ) (before : List EdgeCosts) (weight : ℕ) (list : List EnteringArc) (now : List EdgeCosts) : Type 0 where
@@ -192,11 +156,7 @@ pub record ChangedSoFar (after : Option ℕ → ℕ → Option ℕ) (before : Li
 
 -- of none
 pub ChangedSoFar-none : (after : Option ℕ → ℕ → Option ℕ) (before : List EdgeCosts) (weight : ℕ) → ChangedSoFar after before weight [] before
-ChangedSoFar-none after before weight = record {
-  edges = refl;
-  changed = All-nil (λ (e : EnteringArc). cost_of before e.arc.number ≡ after (cost_of before e.arc.number) weight);
-  others = λ n. inl refl;
-}
+ChangedSoFar-none after before weight = grind arith
 
 -- of one more
 pub ChangedSoFar-more : (after : Option ℕ → ℕ → Option ℕ) (before now next : List EdgeCosts) (weight : ℕ) (list : List EnteringArc) (e : EnteringArc) →
@@ -222,56 +182,20 @@ ChangedSoFar-more after before now next weight list e so_far here edges others =
 
 -- no load takes nothing
 pub left_after-zero : (cost : Option ℕ) → left_after cost 0 ≡ cost
-left_after-zero None = refl
-left_after-zero (Some left) = let same : left - 0 ≡ left = omega arith in left_after-le left 0 (omega arith) ∙ ap Some same
+left_after-zero cost = grind arith
 
 raised_after-zero : (cost : Option ℕ) → raised_after cost 0 ≡ cost
-raised_after-zero None = refl
-raised_after-zero (Some left) = let same : left + 0 ≡ left = omega arith in ap Some same
-
--- there is such an amount or none
-some_or_none : (cost : Option ℕ) → (cost ≡ None) ⊎ ((left : ℕ) × (cost ≡ Some left))
-some_or_none None = inl refl
-some_or_none (Some left) = inr (left, refl)
+raised_after-zero cost = grind arith
 
 -- what is left of the arcs that enter the cut was changed by its weight, and of no others
 cost_of-changed_so_far : (after : Option ℕ → ℕ → Option ℕ) → ((weight : ℕ) → after None weight ≡ None) → ((cost : Option ℕ) → after cost 0 ≡ cost) →
     (before now : List EdgeCosts) (cut : Cut) (list : List EnteringArc) → AreEntering before cut.members list → ChangedSoFar after before cut.weight list now →
     (arc : Arc) → IsArcOf (edges_of before) arc → cost_of now arc.number ≡ after (cost_of before arc.number) (weight_on cut arc.from arc.to)
-cost_of-changed_so_far after gone unchanged before now cut list are so_far arc is_arc =
-    let P : EnteringArc → Type 0 = λ f. cost_of now f.arc.number ≡ after (cost_of before f.arc.number) cut.weight in
-    ⊎_elim
-    (λ (entered : enters cut.members arc.from arc.to ≡ true).
-    let loaded : weight_on cut arc.from arc.to ≡ cut.weight = rw entered refl in
-    ⊎_elim
-    (λ (kept : cost_of now arc.number ≡ cost_of before arc.number).
-    elim (some_or_none (cost_of before arc.number)) [
-      | inl none ↦ kept ∙ none ∙ sym (gone (weight_on cut arc.from arc.to)) ∙ ap (λ c. after c (weight_on cut arc.from arc.to)) (sym none)
-      | inr (left, is) ↦ All-contains P list (record { arc = arc; left = left }) so_far.changed (are.every arc left is_arc entered is) ∙ ap (after (cost_of before arc.number)) (sym loaded)
-    ])
-    (λ (f, listed, number).
-    let here : P f = All-contains P list f so_far.changed listed in
-    subst (λ n. cost_of now n ≡ after (cost_of before n) cut.weight) number here ∙ ap (after (cost_of before arc.number)) (sym loaded))
-    (so_far.others arc.number))
-    (λ (apart : enters cut.members arc.from arc.to ≡ false).
-    let loaded : weight_on cut arc.from arc.to ≡ 0 = rw apart refl in
-    ⊎_elim
-    (λ (kept : cost_of now arc.number ≡ cost_of before arc.number). kept ∙ sym (unchanged (cost_of before arc.number)) ∙ ap (after (cost_of before arc.number)) (sym loaded))
-    (λ (f, listed, number).
-    let own : EntersLeft before cut.members f = All-contains (EntersLeft before cut.members) list f are.each listed in
-    let same : f.arc ≡ arc = same_arc (edges_of before) f.arc arc own.arc is_arc number in
-    let entered : enters cut.members arc.from arc.to ≡ true = subst (λ (x : Arc). enters cut.members x.from x.to ≡ true) same own.enters in
-    absurd (both_ways (enters cut.members arc.from arc.to) apart entered))
-    (so_far.others arc.number))
-    (cases_Bool (enters cut.members arc.from arc.to))
+cost_of-changed_so_far after gone unchanged before now cut list are so_far arc is_arc = grind arith
 
 -- an edge's costs by their parts
 costs_with : (c : EdgeCosts) (e : Edge) (there back : Option ℕ) → c.edge ≡ e → c.there ≡ there → c.back ≡ back → c ≡ record { edge = e; there = there; back = back }
-costs_with c e there back edge first second =
-    let of : Edge → EdgeCosts = λ x. record { edge = x; there = c.there; back = c.back } in
-    let along : Option ℕ → EdgeCosts = λ x. record { edge = e; there = x; back = c.back } in
-    let against : Option ℕ → EdgeCosts = λ x. record { edge = e; there = there; back = x } in
-    ap of edge ∙ ap along first ∙ ap against second
+costs_with c e there back edge first second = grind arith
 
 -- what a cut makes of an edge's costs, where it changes what is left of an arc so
 abbrev changed_by : (Option ℕ → ℕ → Option ℕ) → Cut → EdgeCosts → EdgeCosts
@@ -365,9 +289,7 @@ arc_from_Entering costs members left (c, (k, below, is), ways) =
 
 -- what is left of one of the listed arcs is left of one that enters
 left_enters : (costs : List EdgeCosts) (members : List Bool) (list : List EnteringArc) (left : ℕ) → AreEntering costs members list → IsLeftOfOne list left → Entering costs members left
-left_enters costs members list left are (e, listed, is) =
-    let own : EntersLeft costs members e = All-contains (EntersLeft costs members) list e are.each listed in
-    Entering-from_arc costs members e.arc left own.arc own.enters (own.left ∙ ap Some is)
+left_enters costs members list left are (e, listed, is) = grind (arith, Entering-from_arc)
 
 -- .. and the other way round
 entering_listed : (costs : List EdgeCosts) (members : List Bool) (list : List EnteringArc) (left : ℕ) → AreEntering costs members list → Entering costs members left → IsLeftOfOne list left
@@ -378,8 +300,7 @@ entering_listed costs members list left are entering =
 -- the least that is left of a listed arc is the least of those that enter
 pub IsLeastOf-entering : (costs : List EdgeCosts) (members : List Bool) (list : List EnteringArc) (least : Option ℕ) → AreEntering costs members list → IsLeastOf (IsLeftOfOne list) least → IsLeastOf (Entering costs members) least
 IsLeastOf-entering costs members list None are none = λ n entering. none n (entering_listed costs members list n are entering)
-IsLeastOf-entering costs members list (Some least) are (one, low) =
-    (left_enters costs members list least are one, λ n entering. low n (entering_listed costs members list n are entering))
+IsLeastOf-entering costs members list (Some least) are (one, low) = search (left_enters, entering_listed)
 
 -- the edges stay
 pub edges_of-lowered : (costs : List EdgeCosts) (cut : Cut) → edges_of (map (lowered_by cut) costs) ≡ edges_of costs

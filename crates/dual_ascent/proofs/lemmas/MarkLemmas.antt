@@ -1,8 +1,7 @@
 -- The marks of a set's members in a word: which vertices lie before the next mark and behind the last one.
-use Rattle.std.proofs.Common.{ℕ, ◌≡◌, ◌+◌, ◌-◌, ◌/◌, ◌^◌, ◌<◌, ◌≤◌, Bool, true, false, eqb, List, length, ap, sym, subst, ◌∙◌, ⊎_elim, arith, w64}
+use Rattle.std.proofs.Common.{ℕ, ◌≡◌, ◌+◌, ◌-◌, ◌/◌, ◌^◌, ◌<◌, ◌≤◌, Bool, true, false, eqb, List, length, ap, ◌∙◌, arith, w64}
 use Rattle.std.specs.Int.{bit_at, trailing_zeros}
 use Rattle.std.proofs.lemmas.Nat.Bits.{bit_at-zero, bit_at-trailing_zeros}
-use Rattle.std.proofs.lemmas.Bool.{cases_lt}
 use Rattle.std.proofs.lemmas.List.{get_or_past}
 use Rattle.net_graph.specs.Flags.{has}
 use Rattle.net_graph.specs.MarkLaws.{next_mark-below, marks_behind-below, bit_at-behind}
@@ -16,13 +15,7 @@ pub record MarksMembers (members : List Bool) (marks v end : ℕ) : Type 0 where
 -- a vertex whose bit is 0 is no member
 unmarked : (members : List Bool) (marks v end u : ℕ) → MarksMembers members marks v end → v ≤ u → u < end →
     bit_at marks (u - v) ≡ 0 → has members u ≡ false
-unmarked members marks v end u is from below none =
-    let at : v + (u - v) ≡ u = omega arith in
-    ⊎_elim
-    (λ (within : u < length members). subst (λ k. has members k ≡ eqb (bit_at marks (u - v)) 1) at
-    (is.flags (u - v) (omega arith) (omega arith)) ∙ ap (λ b. eqb b 1) none)
-    (λ past. get_or_past members u false past)
-    (cases_lt u (length members))
+unmarked members marks v end u is from below none = grind (arith, get_or_past)
 
 -- ---- the next mark
 
@@ -49,14 +42,7 @@ none_before members marks v end is some fits u from below =
 -- the marks behind it
 pub marks_behind : (members : List Bool) (marks v end gap : ℕ) → MarksMembers members marks v end → v + gap < end →
     MarksMembers members (marks / 2 ^ gap / 2) (v + gap + 1) end
-marks_behind members marks v end gap is inside = record {
-  within = omega arith;
-  below = marks_behind-below marks v end gap is.below inside;
-  flags = λ i low within.
-      let at : v + (gap + 1 + i) ≡ v + gap + 1 + i = omega arith in
-      subst (λ k. has members k ≡ eqb (bit_at marks (gap + 1 + i)) 1) at (is.flags (gap + 1 + i) (omega arith) (omega arith))
-      ∙ ap (λ b. eqb b 1) (sym (bit_at-behind marks gap i));
-}
+marks_behind members marks v end gap is inside = grind (arith, marks_behind-below, bit_at-behind)
 
 -- ---- behind the last mark
 

@@ -1,12 +1,10 @@
 -- A packing stays feasible with one more cut that fits, and fewer arcs have room left.
-use Rattle.std.proofs.Common.{ℕ, zero, suc, ◌≡◌, ◌+◌, ◌-◌, ◌*◌, ◌≤◌, ◌<◌, true, false, List, [], ◌∷◌, ◌++◌, map, length, slice_get, Contains, Option, Some, None, inl, inr, ⊎_elim, refl, sym, ap, subst, ◌∙◌, arith, add-zero}
-use Rattle.std.proofs.lemmas.Bool.{cases_Bool, cases_lt}
+use Rattle.std.proofs.Common.{ℕ, zero, suc, ◌≡◌, ◌+◌, ◌-◌, ◌*◌, ◌≤◌, ◌<◌, true, List, [], ◌∷◌, ◌++◌, map, length, slice_get, Contains, Option, Some, inl, inr, sym, ap, subst, ◌∙◌, arith}
 use Rattle.std.proofs.lemmas.List.Elements.{All-push}
 use Rattle.std.proofs.lemmas.List.Sums.{sum_by-cons}
 use Rattle.std.proofs.lemmas.Option.{same_Some, slice_get_within, slice_get-get_or, get_or_from_slice_get}
 use Rattle.net_graph.specs.declared.edge.Edge.{Edge}
 use Rattle.net_graph.specs.declared.state.EdgeState.{EdgeState}
-use Rattle.net_graph.specs.declared.state.EdgeState.TheVariants.{Undecided, Inside, Outside}
 use Rattle.net_graph.specs.declared.packing.Cut.{Cut}
 use Rattle.net_graph.specs.Graph.{Graph}
 use Rattle.net_graph.specs.Decision.{Decided, states_of}
@@ -15,31 +13,13 @@ use Rattle.net_graph.specs.Packing.{room_of}
 use Rattle.dual_ascent.specs.declared.costs.EdgeCosts.{EdgeCosts}
 use Rattle.dual_ascent.specs.Costs.{left_after, weight_on, left_of, costs_of, lowered_by, unsaturated_arc, unsaturated_of, unsaturated, EntersWith, Entering}
 use Rattle.dual_ascent.proofs.lemmas.LoadLemmas.{load-push}
-use Rattle.dual_ascent.specs.CostLaws.{left_after-le, left_after-lt, slice_get-costs_of}
-
--- a weight that is no more than what is left stays within the room
-IsWithinRoom-more : (state : EdgeState) (e : Edge) (amount weight : ℕ) → 0 < weight → IsWithinRoom state e amount →
-    ((left : ℕ) → left_after (room_of state e) amount ≡ Some left → weight ≤ left) → IsWithinRoom state e (amount + weight)
-IsWithinRoom-more Undecided e amount weight some within fits =
-    let low : weight ≤ e.length - amount = fits (e.length - amount) (left_after-le e.length amount within) in omega arith
-IsWithinRoom-more Inside e amount weight some within fits =
-    let low : weight ≤ 0 - amount = fits (0 - amount) (left_after-le 0 amount (omega arith)) in absurd (omega arith)
-IsWithinRoom-more Outside e amount weight some within fits = tt
+use Rattle.dual_ascent.specs.CostLaws.{slice_get-costs_of}
 
 -- so does an arc, whether it enters the cut or not
 IsWithinRoom-push : (state : EdgeState) (e : Edge) (packing : List Cut) (cut : Cut) (u v : ℕ) → 0 < cut.weight → IsWithinRoom state e (load packing u v) →
     ((left : ℕ) → enters cut.members u v ≡ true → left_after (room_of state e) (load packing u v) ≡ Some left → cut.weight ≤ left) →
     IsWithinRoom state e (load (packing ++ cut ∷ []) u v)
-IsWithinRoom-push state e packing cut u v some within fits =
-    subst (IsWithinRoom state e) (sym (load-push packing cut u v))
-    (⊎_elim
-    (λ (entered : enters cut.members u v ≡ true).
-    let is : load packing u v + cut.weight ≡ load packing u v + weight_on cut u v = rw entered refl in
-    subst (IsWithinRoom state e) is (IsWithinRoom-more state e (load packing u v) cut.weight some within (λ left. fits left entered)))
-    (λ (apart : enters cut.members u v ≡ false).
-    let is : load packing u v ≡ load packing u v + weight_on cut u v = rw (apart, add-zero) refl in
-    subst (IsWithinRoom state e) is within)
-    (cases_Bool (enters cut.members u v)))
+IsWithinRoom-push state e packing cut u v some within fits = grind (arith, load-push)
 
 -- a list has what stands at a place of it
 Contains-from_slice_get : (costs : List EdgeCosts) (n : ℕ) (room : EdgeCosts) → slice_get costs n ≡ Some room → Contains costs room
@@ -62,70 +42,30 @@ IsFeasible-push g decision packing cut feasible some is_cut fits = record {
 
 -- an arc counts once at most
 unsaturated_arc-le : (room : Option ℕ) → unsaturated_arc room ≤ 1
-unsaturated_arc-le None = omega arith
-unsaturated_arc-le (Some zero) = omega arith
-unsaturated_arc-le (Some (suc left)) = omega arith
-
--- nothing stays nothing
-nothing_left : (amount : ℕ) → amount ≤ 0 → left_after (Some 0) amount ≡ Some 0
-nothing_left amount fits = let none : 0 - amount ≡ 0 = omega arith in left_after-le 0 amount fits ∙ ap (λ left. Some left) none
+unsaturated_arc-le room = grind arith
 
 -- a load leaves no room where there was none
 unsaturated_arc-after : (room : Option ℕ) (amount : ℕ) → unsaturated_arc (left_after room amount) ≤ unsaturated_arc room
-unsaturated_arc-after None amount = omega arith
-unsaturated_arc-after (Some zero) amount =
-    ⊎_elim
-    (λ over. rw (left_after-lt 0 amount over) (omega arith))
-    (λ fits. rw (nothing_left amount fits) (omega arith))
-    (cases_lt 0 amount)
-unsaturated_arc-after (Some (suc room)) amount = unsaturated_arc-le (left_after (Some (suc room)) amount)
-
--- a load of all that is left leaves none
-unsaturated_arc-filled : (amount : ℕ) → 0 < amount → unsaturated_arc (left_after (Some amount) amount) < unsaturated_arc (Some amount)
-unsaturated_arc-filled zero some = absurd (omega arith)
-unsaturated_arc-filled (suc amount) some = let none : suc amount - suc amount ≡ 0 = omega arith in rw (left_after-le (suc amount) (suc amount) (omega arith), none) (omega arith)
+unsaturated_arc-after room amount = grind arith
 
 -- one more cut leaves no more of an edge's arcs with room
 unsaturated_of-lowered_by : (cut : Cut) (room : EdgeCosts) → unsaturated_of (lowered_by cut room) ≤ unsaturated_of room
-unsaturated_of-lowered_by cut room = omega (
-  arith,
-  unsaturated_arc-after room.there (weight_on cut room.edge.a room.edge.b),
-  unsaturated_arc-after room.back (weight_on cut room.edge.b room.edge.a),
-)
+unsaturated_of-lowered_by cut room = omega (arith, unsaturated_arc-after)
 
 -- a cut leaves nothing of an arc that enters it and had its weight left
 unsaturated_arc-entered : (cut : Cut) (room : Option ℕ) (u v : ℕ) → 0 < cut.weight → enters cut.members u v ≡ true → room ≡ Some cut.weight →
     unsaturated_arc (left_after room (weight_on cut u v)) < unsaturated_arc room
-unsaturated_arc-entered cut room u v some entered is =
-    let loaded : weight_on cut u v ≡ cut.weight = rw entered refl in
-    rw (loaded, is) (unsaturated_arc-filled cut.weight some)
+unsaturated_arc-entered cut room u v some entered is = grind arith
 
 -- .. and so fewer of its edge's arcs have room
 unsaturated_of-entered : (cut : Cut) (room : EdgeCosts) → 0 < cut.weight → EntersWith cut.members room cut.weight → unsaturated_of (lowered_by cut room) < unsaturated_of room
-unsaturated_of-entered cut room some ways =
-    ⊎_elim
-    (λ (there : (enters cut.members room.edge.a room.edge.b ≡ true) × (room.there ≡ Some cut.weight)). omega (
-      arith,
-      unsaturated_arc-entered cut room.there room.edge.a room.edge.b some there.0 there.1,
-      unsaturated_arc-after room.back (weight_on cut room.edge.b room.edge.a),
-    ))
-    (λ (back : (enters cut.members room.edge.b room.edge.a ≡ true) × (room.back ≡ Some cut.weight)). omega (
-      arith,
-      unsaturated_arc-entered cut room.back room.edge.b room.edge.a some back.0 back.1,
-      unsaturated_arc-after room.there (weight_on cut room.edge.a room.edge.b),
-    ))
-    ways
+unsaturated_of-entered cut room some ways = grind (arith, unsaturated_arc-entered)
 
 -- one more cut leaves no more arcs with room
 unsaturated-map-le : (cut : Cut) (costs : List EdgeCosts) → unsaturated (map (lowered_by cut) costs) ≤ unsaturated costs
 unsaturated-map-le cut [] = omega arith
-unsaturated-map-le cut (room ∷ costs) = omega (
-  arith,
-  unsaturated_of-lowered_by cut room,
-  unsaturated-map-le cut costs,
-  sum_by-cons unsaturated_of room costs,
-  sum_by-cons unsaturated_of (lowered_by cut room) (map (lowered_by cut) costs),
-)
+unsaturated-map-le cut (room ∷ costs) =
+    omega (arith, unsaturated_of-lowered_by, sum_by-cons, unsaturated-map-le cut costs)
 
 -- .. and fewer, where there are fewer at one edge
 unsaturated-map-lt : (cut : Cut) (costs : List EdgeCosts) (n : ℕ) (room : EdgeCosts) → slice_get costs n ≡ Some room →
@@ -140,13 +80,8 @@ unsaturated-map-lt cut (first ∷ costs) zero room at less =
       sum_by-cons unsaturated_of first costs,
       sum_by-cons unsaturated_of (lowered_by cut first) (map (lowered_by cut) costs),
     )
-unsaturated-map-lt cut (first ∷ costs) (suc n) room at less = omega (
-  arith,
-  unsaturated_of-lowered_by cut first,
-  unsaturated-map-lt cut costs n room at less,
-  sum_by-cons unsaturated_of first costs,
-  sum_by-cons unsaturated_of (lowered_by cut first) (map (lowered_by cut) costs),
-)
+unsaturated-map-lt cut (first ∷ costs) (suc n) room at less =
+    omega (arith, unsaturated_of-lowered_by, sum_by-cons, unsaturated-map-lt cut costs n room at less)
 
 -- a cut whose weight is what was left of an arc that enters it leaves fewer arcs with room
 pub unsaturated-lowered_by : (cut : Cut) (costs : List EdgeCosts) → 0 < cut.weight → Entering costs cut.members cut.weight → unsaturated (map (lowered_by cut) costs) < unsaturated costs

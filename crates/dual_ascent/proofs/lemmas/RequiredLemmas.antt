@@ -31,12 +31,7 @@ IsStrictlyIncreasing-push list v rises below k within =
 
 -- one more vertex, which isn't required
 pub RequiredBelow-skip : (g : Graph) (decision : Decided) (v : ℕ) (list : List ℕ) → RequiredBelow g decision v list → (IsRequired g decision v → ⊥) → RequiredBelow g decision (v + 1) list
-RequiredBelow-skip g decision v list so_far out = record {
-  each = so_far.each;
-  below = All-weaker (λ w. w < v) (λ w. w < v + 1) (λ w low. omega arith) list so_far.below;
-  every = λ w low required. ⊎_elim (λ less. so_far.every w less required) (λ last. let same : w ≡ v = omega arith in absurd (out (subst (IsRequired g decision) same required))) (cases_lt w v);
-  ascending = so_far.ascending;
-}
+RequiredBelow-skip g decision v list so_far out = grind arith
 
 -- one more vertex, which is required
 pub RequiredBelow-take : (g : Graph) (decision : Decided) (v : ℕ) (list : List ℕ) → RequiredBelow g decision v list → IsRequired g decision v → RequiredBelow g decision (v + 1) (list ++ v ∷ [])

@@ -1,5 +1,5 @@
 -- Arcs of which nothing is left are the saturated arcs.
-use Rattle.std.proofs.Common.{ℕ, ◌≡◌, ◌+◌, ◌*◌, ◌/◌, ◌%◌, ◌<◌, Bool, true, List, map, length, get_or, slice_get, Some, ◌↔◌, inl, inr, ⊎_elim, refl, sym, ap, ◌∙◌, arith}
+use Rattle.std.proofs.Common.{ℕ, ◌≡◌, ◌+◌, ◌*◌, ◌<◌, Bool, true, List, map, length, get_or, slice_get, Some, ◌↔◌, inl, inr, ⊎_elim, refl, sym, ap, ◌∙◌, arith}
 use Rattle.std.specs.Option.{option_map}
 use Rattle.std.proofs.lemmas.Option.{slice_get_within, slice_get-get_or, slice_get-map}
 use Rattle.net_graph.specs.declared.edge.Edge.{Edge}
@@ -21,17 +21,11 @@ use Rattle.dual_ascent.specs.CostLaws.{left_after-none, slice_get-costs_of, is_u
 
 -- an edge's first arc is full where nothing is left of it
 is_saturated-even : (costs : List EdgeCosts) (n : ℕ) (room : EdgeCosts) → slice_get costs n ≡ Some room → is_saturated costs (2 * n) ≡ is_used_up room.there
-is_saturated-even costs n room at =
-    let half : 2 * n / 2 ≡ n = omega arith in
-    let even : 2 * n % 2 ≡ 0 = omega arith in
-    rw (half, at, even) refl
+is_saturated-even costs n room at = grind arith
 
 -- .. and so is its second
 is_saturated-odd : (costs : List EdgeCosts) (n : ℕ) (room : EdgeCosts) → slice_get costs n ≡ Some room → is_saturated costs (2 * n + 1) ≡ is_used_up room.back
-is_saturated-odd costs n room at =
-    let half : (2 * n + 1) / 2 ≡ n = omega arith in
-    let odd : (2 * n + 1) % 2 ≡ 1 = omega arith in
-    rw (half, at, odd) refl
+is_saturated-odd costs n room at = grind arith
 
 -- an edge's first arc of which nothing is left may be walked
 there_open : (edges : List Edge) (costs : List EdgeCosts) (n : ℕ) (e : Edge) (room : EdgeCosts) → slice_get edges n ≡ Some e → slice_get costs n ≡ Some room →
@@ -99,8 +93,7 @@ Saturated-from_open g decision packing size u v (arc, (n, e, at, way), full, lea
 -- arcs may be walked where the costs show nothing left exactly where they are saturated
 pub SaturatedStep-iff_open : (g : Graph) (decision : Decided) (packing : List Cut) → IsDecisionFor g decision → (u v : ℕ) →
     OpenStep g.edges (is_saturated (costs_of g.edges (states_of g decision) packing)) u v ↔ SaturatedStep g decision packing u v
-SaturatedStep-iff_open g decision packing size u v =
-    (Saturated-from_open g decision packing size u v, OpenStep-from_saturated g decision packing u v)
+SaturatedStep-iff_open g decision packing size u v = search (Saturated-from_open, OpenStep-from_saturated)
 
 -- an arc that enters a set with nothing left may be walked
 pub OpenStep-from_entering : (edges : List Edge) (costs : List EdgeCosts) (members : List Bool) → map (λ (room : EdgeCosts). room.edge) costs ≡ edges →

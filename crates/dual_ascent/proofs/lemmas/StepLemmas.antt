@@ -1,6 +1,6 @@
 -- The cut of an active vertex.
 use Rattle.std.proofs.Common.{ℕ, zero, suc, ◌≡◌, ◌<◌, Bool, not, List, map, length, get_or, All, Contains, Some, None, ⊎_elim, sym, subst, ◌∙◌, arith}
-use Rattle.std.proofs.lemmas.Bool.{both_ways, and_parts, not-true, false_from_ne_true}
+use Rattle.std.proofs.lemmas.Bool.{both_ways, and_parts, not-true}
 use Rattle.std.proofs.lemmas.List.{length-map}
 use Rattle.net_graph.specs.Flags.{has}
 use Rattle.net_graph.specs.Found.{HasMembers}
@@ -33,11 +33,7 @@ entering_not_full g costs v members of lead entering =
 
 -- the vertices that lead to a vertex which isn't reached part it from the root
 pub Parts-from_unreached : (g : Graph) (costs : List EdgeCosts) (vertices : List ℕ) (v : ℕ) (members : List Bool) → LeadTo g costs v members → IsUnreached g costs vertices v → Parts g vertices members
-Parts-from_unreached g costs vertices v members lead unreached = record {
-  size = lead.size;
-  rootless = false_from_ne_true (has members (root_of g)) (λ inside. unreached.apart ((lead.flags (root_of g)).0 inside));
-  some = (v, unreached.vertex, (lead.flags v).1 (Leads-start (OpenStep g.edges (is_saturated costs)) v));
-}
+Parts-from_unreached g costs vertices v members lead unreached = grind arith
 
 -- the least room of the arcs that enter is some room
 weight_some : (g : Graph) (costs : List EdgeCosts) (v weight : ℕ) (members : List Bool) → map (λ (room : EdgeCosts). room.edge) costs ≡ g.edges → LeadTo g costs v members → Entering costs members weight → 0 < weight
