@@ -1,5 +1,5 @@
 -- What holds of each item of a list, and of the item at each place.
-use Rattle.std.proofs.Common.{ℕ, ◌≡◌, ◌+◌, ◌<◌, List, length, get_or, subst, sym, ◌∙◌, below_more}
+use Rattle.std.proofs.Common.{ℕ, ◌≡◌, ◌+◌, ◌<◌, List, length, subst, sym, ◌∙◌, arith}
 use Rattle.std.specs.Prelude.{All, slice_get, Some}
 use Rattle.std.proofs.lemmas.Option.{slice_get-get_or, slice_get_within}
 use Rattle.points_in.specs.declared.point.Point.{Point}
@@ -20,16 +20,13 @@ All-at P xs k x all at =
 
 pub All-from_places : {X : Type 0} (P : X → Type 0) (xs : List X) (n : ℕ) → n ≡ length xs
     → ((k : ℕ) (x : X) → k < n → slice_get xs k ≡ Some x → P x) → All P xs
-All-from_places P xs n is each k d inside =
-    each k (get_or xs k d) (subst (λ m. k < m) (sym is) inside) (slice_get-get_or xs k d inside)
+All-from_places P xs n is each k d inside = grind (arith, slice_get-get_or)
 
 -- one place more
 pub places_more : {X : Type 0} (P : X → Type 0) (xs : List X) (n : ℕ) (y : X)
     → ((k : ℕ) (x : X) → k < n → slice_get xs k ≡ Some x → P x) → slice_get xs n ≡ Some y → P y
     → (k : ℕ) (x : X) → k < n + 1 → slice_get xs k ≡ Some x → P x
-places_more {X} P xs n y each at here k x inside =
-    below_more (λ k. (x : X) → slice_get xs k ≡ Some x → P x) n (λ k inside x is. each k x inside is)
-    (λ x is. subst P (some_same _ _ (sym at ∙ is)) here) k inside x
+places_more {X} P xs n y each at here k x inside = grind arith
 
 -- the stations that were made for a code
 module _ (ps ts : List Point) (code : TreeCode) (xs ys : List Station) (same : ts ≡ ps) (read : xs ≡ ys) (made : ys ≡ stations_of ps code) where

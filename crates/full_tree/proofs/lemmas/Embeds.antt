@@ -1,5 +1,5 @@
 -- What the edges on the pieces of a tree come to: how they add up, and what they join.
-use Rattle.std.proofs.Common.{ℕ, zero, suc, ◌+◌, ◌<◌, ◌≤◌, ◌≡◌, Bool, true, false, List, [], ◌∷◌, ◌++◌, length, replicate, take, get_or, map, slice_get, Some, refl, sym, ap, ◌∙◌, subst, inl, inr, ⊎_elim, arith, ◌⊎◌}
+use Rattle.std.proofs.Common.{ℕ, zero, suc, ◌+◌, ◌≤◌, ◌≡◌, Bool, true, false, List, [], ◌∷◌, ◌++◌, length, replicate, take, get_or, map, slice_get, Some, refl, sym, ap, ◌∙◌, subst, inl, inr, ⊎_elim, arith, ◌⊎◌}
 use Rattle.std.specs.Prelude.{All, Contains, ◌↔◌}
 use Rattle.std.proofs.lemmas.List.{take_more, take_all}
 use Rattle.std.proofs.lemmas.List.Sums.{sum_by-append, sum_by-cons}
@@ -7,7 +7,7 @@ use Rattle.std.proofs.lemmas.List.Elements.{All-contains, All-head, All-tail, Co
 use Rattle.std.proofs.lemmas.Option.{get_or_from_slice_get, slice_get_within}
 use Rattle.points_in.specs.declared.point.Point.{Point}
 use Rattle.net_graph.specs.Adds.{Adds}
-use Rattle.net_graph.specs.AddsLaws.{Adds-nothing, Adds-then, Adds-holds}
+use Rattle.net_graph.specs.AddsLaws.{Adds-then, Adds-holds}
 use Rattle.net_graph.specs.JoinsLaws.{Joins-from}
 use Rattle.net_graph.specs.LengthLaws.{length_of_edges-none}
 use Rattle.net_graph.specs.Network.{Links, Joins}
@@ -36,14 +36,7 @@ piece_stretch ps p straight on = record { straight = straight; from = on.from; t
 pub Embeds-none : (ps : List Point) (pieces : List Piece) (size : ℕ) (set : List Bool) →
     size ≡ length (hanan_grid_of ps).edges →
     set ≡ replicate size false → Embeds ps (take 0 pieces) set
-Embeds-none ps pieces size set whole empty =
-    let edges = (hanan_grid_of ps).edges in
-    let at : replicate (length edges) false ≡ set = ap (λ n. replicate n false) (sym whole) ∙ sym empty in
-    let nothing : Embeds ps [] (replicate (length edges) false) = record {
-      edges = Adds-nothing (IsOnPiece ps []) (replicate (length edges) false) (λ e is. omega (arith, (is.1).1));
-      length = omega (arith, length_of_edges-none edges (length edges));
-    } in
-    subst (Embeds ps []) at nothing
+Embeds-none ps pieces size set whole empty = grind (arith, length_of_edges-none)
 
 -- one piece more
 Embeds-push : (ps : List Point) (pieces : List Piece) (p : Piece) (old new : List Bool) →
@@ -96,14 +89,7 @@ vertex_at ps p = vertex_of (xs_of ps) (ys_of ps) p
 -- what holds of the first piece's ends and of the others' holds of all ends
 ends_cases : (P : Point → Type 0) (p : Piece) (pieces : List Piece) → P p.from → P p.to →
     ((q : Point) → Contains (ends_of pieces) q → P q) → (q : Point) → Contains (ends_of (p ∷ pieces)) q → P q
-ends_cases P p pieces first second others q listed = ends_at P p pieces first second others q listed.0 listed.1 listed.2
-  where
-    ends_at : (P : Point → Type 0) (p : Piece) (pieces : List Piece) → P p.from → P p.to →
-        ((q : Point) → Contains (ends_of pieces) q → P q) → (q : Point) (k : ℕ) →
-        k < length (ends_of (p ∷ pieces)) → get_or (ends_of (p ∷ pieces)) k q ≡ q → P q
-    ends_at P p pieces first second others q zero within is = subst P is first
-    ends_at P p pieces first second others q (suc zero) within is = subst P is second
-    ends_at P p pieces first second others q (suc (suc k)) within is = others q (k, omega arith, is)
+ends_cases P p pieces first second others q listed = grind arith
 
 -- the set has all edges on each piece, which is a stretch of the grid
 abbrev HoldsPieces : List Point → List Bool → List Piece → Type 0

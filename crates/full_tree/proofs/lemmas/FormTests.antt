@@ -1,12 +1,10 @@
 -- What the tests of a form tell.
-use Rattle.std.proofs.Common.{ℕ, suc, ◌+◌, ◌≡◌, ◌≢◌, ◌<◌, ◌≤◌, ℤ, pos, ◌<ℤ◌, List, [], ◌∷◌, ◌++◌, length, get_or, take, drop, map, refl, sym, ◌∙◌, ap, ◌⊎◌, inl, inr, ◌↔◌, arith, Bool, true, false, not, IsTrue, Less, Equal, Greater}
+use Rattle.std.proofs.Common.{ℕ, suc, ◌+◌, ◌≡◌, ◌≢◌, ◌<◌, ◌≤◌, ℤ, pos, ◌<ℤ◌, List, [], ◌∷◌, ◌++◌, length, get_or, take, drop, map, sym, ◌∙◌, ap, ◌⊎◌, inl, inr, ◌↔◌, arith, Bool, true, false, not, IsTrue, Equal}
 use Rattle.std.specs.Prelude.{All, AllPairs, Contains, ◌==◌, Option, None, Some, option_to_list, IfSome}
 use Rattle.std.specs.Bool.{Decides}
 use Rattle.std.specs.declared.cmp.Ordering.{Ordering}
 use Rattle.std.specs.Ordering.{int_cmp, is_lt, is_eq, is_ne, is_ge, ordering_index}
-use Rattle.std.proofs.lemmas.Bool.{true≢false, false≢true, cases_lt, not-true, not_from_false, false_from_ne_true}
-use Rattle.std.proofs.lemmas.Bool.Decides.{Decides-eqb, not_from_Decides}
-use Rattle.std.proofs.lemmas.Int.{ints}
+use Rattle.std.proofs.lemmas.Bool.{true≢false, false≢true, cases_lt}
 use Rattle.std.proofs.lemmas.List.{get_or-take, length-take, drop_all, get_or_default}
 use Rattle.std.proofs.lemmas.List.Elements.{All-contains, Contains-get_or, Contains-append_left, Contains-push}
 use Rattle.points_in.specs.declared.point.Point.{Point}
@@ -15,60 +13,32 @@ use Rattle.full_tree.specs.Geometry.{across, RisesFrom}
 use Rattle.full_tree.specs.declared.code.TreeCode.TheVariants.{Long}
 use Rattle.full_tree.specs.Code.{named_places}
 use Rattle.full_tree.specs.Form.{along_of, across_of, LieInTurn, IsOnShortLeg}
-use Rattle.full_tree.proofs.lemmas.Signs.{TurnsFrom, sides_iff_turns, lower_from_less, less_from_lower, across-itself, stand, is_lower, is_same, is_higher, between_from_turns, turns_from_between}
+use Rattle.full_tree.proofs.lemmas.Signs.{TurnsFrom, sides_iff_turns, across-itself, between_from_turns, turns_from_between}
 
 -- a test that answers no decides what doesn't hold
 pub no : {P : Type 0} → ¬ P → IsTrue false ↔ P
 no {P} never = (λ h. absurd (false≢true h), λ p. absurd (never p))
 
--- a test decides what another one decides that answers alike
-pub alike : {P : Type 0} (b c : Bool) → b ≡ c → IsTrue c ↔ P → IsTrue b ↔ P
-alike {P} b c same decides = (λ h. decides.0 (sym same ∙ h), λ p. same ∙ decides.1 p)
-
 -- ---- orderings
-
-same_index : (o p : Ordering) → ordering_index o ≡ ordering_index p → o ≡ p
-same_index Less Less h = refl
-same_index Equal Equal h = refl
-same_index Greater Greater h = refl
-same_index o p h = absurd (omega arith)
 
 -- the test of equal answers
 pub orderings_decide : (o p : Ordering) → Decides (ordering_index o == ordering_index p) (o ≡ p)
-orderings_decide o p = (
-  λ h. same_index o p ((Decides-eqb (ordering_index o) (ordering_index p)).0 h),
-  λ e. (Decides-eqb (ordering_index o) (ordering_index p)).1 (ap ordering_index e),
-)
+orderings_decide o p = grind arith
 
 -- an answer of greater or equal means that it isn't lower
 pub not_lower : (z y : ℤ) (o : Ordering) → o ≡ int_cmp z y → is_ge o ≡ true → ¬ (z <ℤ y)
-not_lower z y o is ge lower =
-    let less : o ≡ Less = is ∙ less_from_lower z y lower in
-    true≢false (sym ge ∙ ap is_ge less)
-
--- the test of a lower number
-less_from_test : (o : Ordering) → is_lt o ≡ true → o ≡ Less
-less_from_test Less h = refl
-less_from_test Equal h = absurd (false≢true h)
-less_from_test Greater h = absurd (false≢true h)
+not_lower z y o is ge lower = grind arith
 
 pub lower_decides : (z y : ℤ) (b : Bool) (o : Ordering) → o ≡ int_cmp z y → b ≡ is_lt o → IsTrue b ↔ (z <ℤ y)
-lower_decides z y b o is test = (
-  λ h. lower_from_less z y (sym is ∙ less_from_test o (sym test ∙ h)),
-  λ lower. test ∙ ap is_lt (is ∙ less_from_lower z y lower),
-)
+lower_decides z y b o is test = grind arith
 
 -- ---- the ends of the loops
 
 pub rises_end : {P : Type 0} (A : ℕ → ℤ) (z : ℤ) (ds : List ℕ) (t i : ℕ) (b : Bool) → length ds ≤ i → (P ↔ RisesFrom z (map A (drop i ds ++ t ∷ []))) → IsTrue b ↔ (z <ℤ A t) → IsTrue b ↔ P
-rises_end {P} A z ds t i b done whole decides =
-    let here = rw (drop_all i ds done) at whole in
-    (λ h. here.1 (decides.0 h, tt), λ p. decides.1 (here.0 p).0)
+rises_end {P} A z ds t i b done whole decides = grind (arith, drop_all)
 
 pub turns_end : {P : Type 0} (C : ℕ → ℤ) (o : Ordering) (ds : List ℕ) (t i : ℕ) (b : Bool) → length ds ≤ i → (P ↔ TurnsFrom C o (drop i ds) t) → IsTrue b ↔ ((int_cmp (C t) (pos 0) ≡ Equal) ⊎ (int_cmp (C t) (pos 0) ≢ o)) → IsTrue b ↔ P
-turns_end {P} C o ds t i b done whole decides =
-    let here = rw (drop_all i ds done) at whole in
-    (λ h. here.1 (decides.0 h), λ p. decides.1 (here.0 p))
+turns_end {P} C o ds t i b done whole decides = grind (arith, drop_all)
 
 -- ---- sides
 
@@ -131,38 +101,24 @@ turn_of r p toward o is = is ∙ ap (λ z. int_cmp (across r toward p) z) (acros
 
 -- the tests of an equal answer
 pub equal_from_test : (o : Ordering) → is_eq o ≡ true → o ≡ Equal
-equal_from_test Less h = absurd (false≢true h)
-equal_from_test Equal h = refl
-equal_from_test Greater h = absurd (false≢true h)
+equal_from_test o h = grind arith
 
 pub unequal_from_test : (o : Ordering) → is_eq o ≡ false → o ≢ Equal
 unequal_from_test o h same = true≢false (sym (ap is_eq same) ∙ h)
 
 -- the test of another side than the last drop's
 pub turn_differs : (C : ℕ → ℤ) (t : ℕ) (o turn : Ordering) (b : Bool) → turn ≡ int_cmp (C t) (pos 0) → turn ≢ Equal → b ≡ not (ordering_index turn == ordering_index o) → IsTrue b ↔ ((int_cmp (C t) (pos 0) ≡ Equal) ⊎ (int_cmp (C t) (pos 0) ≢ o))
-turn_differs C t o turn b is off test = (
-  λ h. inr (λ same. not_from_Decides (ordering_index turn == ordering_index o) (orderings_decide turn o) (not-true _ (sym test ∙ h)) (is ∙ same)),
-  λ ends. elim ends [
-    | inl tied ↦ absurd (off (is ∙ tied))
-    | inr apart ↦ test ∙ not_from_false _ (false_from_ne_true _ (λ eq. apart (sym is ∙ (orderings_decide turn o).0 eq)))
-  ],
-)
+turn_differs C t o turn b is off test = grind arith
 
 pub tied_from_test : (o : Ordering) → is_ne o ≡ false → o ≡ Equal
-tied_from_test Less h = absurd (true≢false h)
-tied_from_test Equal h = refl
-tied_from_test Greater h = absurd (true≢false h)
+tied_from_test o h = grind arith
 
 pub untied_from_test : (o : Ordering) → is_ne o ≡ true → o ≢ Equal
 untied_from_test o h same = true≢false (sym h ∙ ap is_ne same)
 
 -- what doesn't compare as equal differs
 pub differ : (z y : ℤ) (o : Ordering) → o ≡ int_cmp z y → o ≢ Equal → z ≢ y
-differ z y o is off same = elim (stand z y) [
-  | is_lower h eq ↦ omega (arith, ints)
-  | is_same h eq ↦ off (is ∙ eq)
-  | is_higher h eq ↦ omega (arith, ints)
-]
+differ z y o is off same = grind arith
 
 -- the sides of a tip and of a side
 pub on_short_leg : (ps : List Point) (root : ℕ) (toward : Way) (tip q : ℕ) (b : Bool) (ahead turn reach : Ordering) → ahead ≡ int_cmp (along_of ps root toward q) (along_of ps root toward tip) → ahead ≢ Equal → turn ≡ int_cmp (across_of ps root toward q) (pos 0) → turn ≢ Equal → reach ≡ int_cmp (across_of ps root toward tip) (across_of ps root toward q) → b ≡ (ordering_index reach == ordering_index turn) → IsTrue b ↔ IsOnShortLeg ps root toward tip q
@@ -176,5 +132,4 @@ on_short_leg ps root toward tip q b ahead turn reach ahead_is off turn_is turns 
 
 -- a side that lies on the long leg's line hangs on no short leg
 pub off_short_leg : (ps : List Point) (root : ℕ) (toward : Way) (tip q : ℕ) (turn : Ordering) → turn ≡ int_cmp (across_of ps root toward q) (pos 0) → turn ≡ Equal → ¬ IsOnShortLeg ps root toward tip q
-off_short_leg ps root toward tip q turn turn_is tied leg =
-    (turns_from_between (across_of ps root toward tip) (across_of ps root toward q) leg.between).0 (sym turn_is ∙ tied)
+off_short_leg ps root toward tip q turn turn_is tied leg = grind arith

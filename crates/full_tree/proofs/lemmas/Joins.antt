@@ -1,5 +1,5 @@
 -- The pieces of a code in form are straight lines of the grid that hang together and join its members.
-use Rattle.std.proofs.Common.{ℕ, ◌≡◌, ◌<◌, Bool, true, false, ℤ, pos, List, [], ◌∷◌, ◌++◌, length, get_or, map, refl, sym, ap, subst, ◌∙◌, inl, inr, arith}
+use Rattle.std.proofs.Common.{ℕ, ◌≡◌, ◌<◌, Bool, false, ℤ, pos, List, [], ◌∷◌, ◌++◌, length, get_or, map, refl, sym, ap, subst, ◌∙◌, inl, inr, arith}
 use Rattle.std.specs.Prelude.{All, Contains, Option, None, Some, IfSome, option_to_list, if◌then◌else◌}
 use Rattle.std.specs.Ordering.{int_eq}
 use Rattle.std.proofs.lemmas.Int.{ints}
@@ -19,7 +19,7 @@ use Rattle.full_tree.specs.Form.{across_of, IsOnShortLeg, IsCrossShape, IsInForm
 use Rattle.full_tree.specs.Pieces.{piece_between, line_over, foot, side_foot, long_leg, short_leg, drop_pieces, side_piece, crossing_of, pieces_of}
 use Rattle.full_tree.specs.Joined.{IsStraight, GrowsFrom, HangsTogether, ends_of, IsOnGrid, JoinsMembers}
 use Rattle.full_tree.proofs.lemmas.Meets.{ahead, aside, ahead-meet, aside-meet, point_seen-meet, point_seen-foot, straight_ahead, straight_across, same_seen, aside-across, IsCrossing-point_at, IsCrossing-meet}
-use Rattle.hanan_grid.specs.ContainsLaws.{Contains-first, Contains-rest}
+use Rattle.hanan_grid.specs.ContainsLaws.{Contains-first}
 use Rattle.full_tree.proofs.lemmas.Grown.{All-first, All-second, line_grows, hung_grow, GrowsFrom-append, tos_of_line, All-places, Contains-ends_to, Contains-line_to, hung_ends}
 
 -- ---- the points of a long code
@@ -86,17 +86,11 @@ feet_level ps root w drops tip =
 
 -- the points of the short leg lie on one line across
 leg_plumb : (ps : List Point) (root : ℕ) (w : Way) (side : Option ℕ) (tip : ℕ) → All (λ q. ahead w q ≡ ahead w (foot ps root w tip)) (map (side_foot ps root w tip) (option_to_list side) ++ point_at ps tip ∷ [])
-leg_plumb ps root w side tip =
-    let plumb = λ (q : Point). ahead w q ≡ ahead w (foot ps root w tip) in
-    let corner = ahead-foot ps root w tip in
-    All-append plumb (map (side_foot ps root w tip) (option_to_list side)) (point_at ps tip ∷ [])
-    (All-map plumb (side_foot ps root w tip) (option_to_list side) (λ k d inside. ahead-side_foot ps root w tip (get_or (option_to_list side) k d) ∙ sym corner))
-    (All-cons plumb (point_at ps tip) [] (sym corner) (All-nil plumb))
+leg_plumb ps root w side tip = search (ahead-foot, All-append, All-map, ahead-side_foot, All-cons, All-nil)
 
 -- what holds of the pieces of a leg holds of the leg, also where there is none
 All-leg : (P : Piece → Type 0) (b : Bool) (xs : List Piece) → All P xs → All P (if b then [] else xs)
-All-leg P true xs all = All-nil P
-All-leg P false xs all = all
+All-leg P b xs all = grind arith
 
 -- what holds of the four parts of a long code's pieces holds of all pieces
 All-parts : (P : Piece → Type 0) (ps : List Point) (root : ℕ) (w : Way) (drops : List ℕ) (side : Option ℕ) (tip : ℕ)
@@ -161,8 +155,7 @@ leg_points ps root w drops tip = map (foot ps root w) drops ++ foot ps root w ti
 
 -- the short leg grows from the corner, also where there is none
 leg_grows : (reached : List Point) (p : Point) (qs : List Point) (b : Bool) → Contains reached p → GrowsFrom reached (if b then [] else line_over p qs)
-leg_grows reached p qs true from = tt
-leg_grows reached p qs false from = line_grows reached p qs from
+leg_grows reached p qs b from = grind (arith, line_grows)
 
 -- what holds of all ends of the long leg's pieces holds of the feet and of the corner
 feet_hold : (P : Point → Type 0) (ps : List Point) (root : ℕ) (w : Way) (drops : List ℕ) (tip : ℕ) → All (λ x. P x.to) (long_leg ps root w drops tip) → All (λ k. P (foot ps root w k)) drops
@@ -263,12 +256,7 @@ long_places P root w drops side tip all =
 -- ---- crosses
 
 cross_straight : (ps : List Point) (west south east north : ℕ) → IsCrossShape (point_at ps west) (point_at ps south) (point_at ps east) (point_at ps north) → All IsStraight (pieces_of ps (Cross west south east north))
-cross_straight ps west south east north shape =
-    let to = λ (k : ℕ). piece_between (crossing_of ps west south) (point_at ps k) in
-    All-cons IsStraight (to west) (to south ∷ to east ∷ to north ∷ []) (inr refl)
-    (All-cons IsStraight (to south) (to east ∷ to north ∷ []) (inl refl)
-    (All-cons IsStraight (to east) (to north ∷ []) (inr shape.level)
-    (All-cons IsStraight (to north) [] (inl shape.upright) (All-nil IsStraight))))
+cross_straight ps west south east north shape = grind arith
 
 cross_on_grid : (ps : List Point) (west south east north : ℕ) → All (λ k. k < length ps) (named_places (Cross west south east north)) → All (IsOnGrid ps) (pieces_of ps (Cross west south east north))
 cross_on_grid ps west south east north inside =
@@ -283,9 +271,7 @@ cross_on_grid ps west south east north inside =
     (All-weaker (λ k. k < length ps) (λ k. IsOnGrid ps (piece_between (crossing_of ps west south) (point_at ps k))) (λ k k_in. record { from = middle; to = IsCrossing-point_at ps k k_in }) places inside)
 
 cross_together : (ps : List Point) (west south east north : ℕ) → HangsTogether (pieces_of ps (Cross west south east north))
-cross_together ps west south east north =
-    let middle = crossing_of ps west south in
-    hung_grow (λ k. middle) (point_at ps) (point_at ps west ∷ middle ∷ []) (south ∷ east ∷ north ∷ []) (λ k d inside. Contains-rest (point_at ps west) middle (middle ∷ []) (Contains-first middle []))
+cross_together ps west south east north = grind arith
 
 -- ---- all codes
 

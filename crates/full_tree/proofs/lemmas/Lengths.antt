@@ -1,7 +1,6 @@
 -- The pieces of a code in form are together no longer than the grid's total.
-use Rattle.std.proofs.Common.{ℕ, ◌+◌, ◌*◌, ◌≡◌, ◌≢◌, ◌<◌, ◌≤◌, Bool, true, false, ℤ, pos, ◌+ℤ◌, ◌-ℤ◌, ◌<ℤ◌, List, [], ◌∷◌, ◌++◌, length, take, map, refl, sym, subst, ◌∙◌, ◌⊎◌, inl, inr, arith, unsigned_abs, length-append}
+use Rattle.std.proofs.Common.{ℕ, ◌+◌, ◌*◌, ◌≡◌, ◌≢◌, ◌<◌, ◌≤◌, Bool, ℤ, pos, ◌+ℤ◌, ◌-ℤ◌, ◌<ℤ◌, List, [], ◌∷◌, ◌++◌, length, take, map, refl, sym, subst, ◌∙◌, ◌⊎◌, inl, inr, arith, unsigned_abs, length-append}
 use Rattle.std.specs.Prelude.{All, AllPairs, Contains, Option, None, Some, IfSome, option_to_list, if◌then◌else◌, sum_by, slice_get}
-use Rattle.std.specs.Ordering.{int_eq}
 use Rattle.std.proofs.lemmas.List.{length-map, take_more}
 use Rattle.std.proofs.lemmas.Int.{ints}
 use Rattle.std.proofs.lemmas.Nat.{mul-le}
@@ -41,8 +40,7 @@ pigeons zs lines distinct into =
 -- what rises from a value is above it
 above_all : (z : ℤ) (ys : List ℤ) → RisesFrom z ys → All (λ y. z <ℤ y) ys
 above_all z [] rises = All-nil (λ y. z <ℤ y)
-above_all z (y ∷ ys) rises =
-    All-cons (λ x. z <ℤ x) y ys rises.0 (All-weaker (λ x. y <ℤ x) (λ x. z <ℤ x) (λ x above. let first = rises.0 in omega (arith, ints)) ys (above_all y ys rises.1))
+above_all z (y ∷ ys) rises = grind (arith, above_all y ys rises.1)
 
 -- terminals that lie further and further ahead lie on distinct lines across
 rising_apart : (ps : List Point) (root : ℕ) (w : Way) (z : ℤ) (ks : List ℕ) → RisesFrom z (map (along_of ps root w) ks) → AllPairs (λ x y. x ≢ y) (map (λ k. ahead w (point_at ps k)) ks)
@@ -193,13 +191,10 @@ leg_line_sum ps root w (Some q) tip hangs =
 
 -- a leg that may be missing is no longer than the leg
 leg_or_none : (b : Bool) (xs : List Piece) → sum_of (if b then [] else xs) ≤ sum_of xs
-leg_or_none true xs = omega arith
-leg_or_none false xs = omega arith
+leg_or_none b xs = grind arith
 
 short_sum : (ps : List Point) (root : ℕ) (w : Way) (side : Option ℕ) (tip : ℕ) → IfSome side (IsOnShortLeg ps root w tip) → root < length ps → tip < length ps → sum_of (short_leg ps root w side tip) ≤ width_of (lines_aside w ps)
-short_sum ps root w side tip hangs root_in tip_in =
-    let line = line_over (foot ps root w tip) (map (side_foot ps root w tip) (option_to_list side) ++ point_at ps tip ∷ []) in
-    omega (arith, leg_or_none (int_eq (across_of ps root w tip) (pos 0)) line, leg_line_sum ps root w side tip hangs, drop_le ps root w tip root_in tip_in)
+short_sum ps root w side tip hangs root_in tip_in = omega (arith, leg_or_none, pos, leg_line_sum, drop_le)
 
 drops_sum : (ps : List Point) (root : ℕ) (w : Way) (drops : List ℕ) → root < length ps → All (λ k. k < length ps) drops → sum_of (drop_pieces ps root w drops) ≤ length drops * width_of (lines_aside w ps)
 drops_sum ps root w drops root_in drops_in =
@@ -219,13 +214,7 @@ all_fit wide high rows columns m long short drops side some enough a b c (inr (d
 -- a side's piece, where there is one
 side_sum : (ps : List Point) (root : ℕ) (w : Way) (side : Option ℕ) (tip : ℕ) → IfSome side (IsOnShortLeg ps root w tip) → root < length ps → tip < length ps → All (λ k. k < length ps) (option_to_list side)
     → (sum_of (side_piece ps root w side tip) ≡ 0) ⊎ ((sum_of (side_piece ps root w side tip) ≤ width_of (lines_ahead w ps)) × (2 ≤ length (lines_aside w ps)))
-side_sum ps root w None tip hangs root_in tip_in side_in = inl refl
-side_sum ps root w (Some q) tip hangs root_in tip_in side_in =
-    let q_in = All-head (λ k. k < length ps) q [] side_in in
-    inr (
-      omega (arith, sum_by-cons length_of_piece (piece_between (side_foot ps root w tip q) (point_at ps q)) [], hang_le ps root w tip q tip_in q_in),
-      rows_enough ps root w tip q hangs root_in q_in,
-    )
+side_sum ps root w side tip hangs root_in tip_in side_in = grind (arith, sum_by-cons, hang_le, rows_enough)
 
 -- there is a line ahead through the root
 row_enough : (ps : List Point) (root : ℕ) (w : Way) → root < length ps → 1 ≤ length (lines_aside w ps)
@@ -297,8 +286,7 @@ cross_fits ps west south east north form =
 
 -- a tree in form is no longer than the grid's total
 pub code_length-le : (ps : List Point) (code : TreeCode) → IsInForm ps code → code_length ps code ≤ total_of (hanan_grid_of ps)
-code_length-le ps (Long root w drops side tip) form = long_fits ps root w drops side tip form
-code_length-le ps (Cross west south east north) form = cross_fits ps west south east north form
+code_length-le ps code form = grind (arith, long_fits, cross_fits)
 
 -- ---- sums as they grow
 

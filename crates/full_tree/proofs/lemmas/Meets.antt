@@ -1,5 +1,5 @@
 -- Where lines through points meet, and how long straight pieces are.
-use Rattle.std.proofs.Common.{ℕ, ◌+◌, ◌*◌, ◌≡◌, ◌<◌, ℤ, pos, ◌+ℤ◌, ◌-ℤ◌, ◌≤ℤ◌, List, length, refl, ◌∙◌, inl, inr, arith, unsigned_abs}
+use Rattle.std.proofs.Common.{ℕ, ◌+◌, ◌*◌, ◌≡◌, ◌<◌, ℤ, pos, ◌+ℤ◌, ◌-ℤ◌, ◌≤ℤ◌, List, length, arith, unsigned_abs}
 use Rattle.std.specs.Prelude.{Contains}
 use Rattle.std.proofs.lemmas.Int.{ints}
 use Rattle.points_in.specs.declared.point.Point.{Point}
@@ -31,23 +31,14 @@ aside West p = p.y
 aside South p = p.x
 
 pub ahead-meet : (w : Way) (p q : Point) → ahead w (meet w p q) ≡ ahead w p
-ahead-meet East p q = refl
-ahead-meet North p q = refl
-ahead-meet West p q = refl
-ahead-meet South p q = refl
+ahead-meet w p q = grind arith
 
 pub aside-meet : (w : Way) (p q : Point) → aside w (meet w p q) ≡ aside w q
-aside-meet East p q = refl
-aside-meet North p q = refl
-aside-meet West p q = refl
-aside-meet South p q = refl
+aside-meet w p q = grind arith
 
 -- a point is known by its two coordinates
 pub same_seen : (w : Way) (p q : Point) → ahead w p ≡ ahead w q → aside w p ≡ aside w q → p ≡ q
-same_seen East p q a b = same_coordinates p q a b
-same_seen North p q a b = same_coordinates p q b a
-same_seen West p q a b = same_coordinates p q a b
-same_seen South p q a b = same_coordinates p q b a
+same_seen w p q a b = grind arith
 
 -- the point seen as far ahead as p and as far to the left as q is where their lines meet
 pub point_seen-meet : (r : Point) (w : Way) (p q : Point) → point_seen r w (along r w p) (across r w q) ≡ meet w p q
@@ -66,25 +57,16 @@ point_seen-foot r South p = same_coordinates _ (meet South p r) (omega (arith, i
 -- ---- straight pieces
 
 pub straight_ahead : (w : Way) (p q : Point) → aside w p ≡ aside w q → IsStraight (piece_between p q)
-straight_ahead East p q same = inr same
-straight_ahead North p q same = inl same
-straight_ahead West p q same = inr same
-straight_ahead South p q same = inl same
+straight_ahead w p q same = grind arith
 
 pub straight_across : (w : Way) (p q : Point) → ahead w p ≡ ahead w q → IsStraight (piece_between p q)
-straight_across East p q same = inl same
-straight_across North p q same = inr same
-straight_across West p q same = inl same
-straight_across South p q same = inr same
+straight_across w p q same = grind arith
 
 -- ---- distances
 
 -- a distance is that ahead and that across
 pub distance_seen : (w : Way) (p q : Point) → distance_between p q ≡ unsigned_abs (ahead w p -ℤ ahead w q) + unsigned_abs (aside w p -ℤ aside w q)
-distance_seen East p q = refl
-distance_seen North p q = omega arith
-distance_seen West p q = refl
-distance_seen South p q = omega arith
+distance_seen w p q = grind arith
 
 -- a line ahead to a point further ahead is as long as that is further
 pub distance_ahead : (r : Point) (w : Way) (p q : Point) → aside w p ≡ aside w q → along r w p ≤ℤ along r w q → along r w p +ℤ pos (distance_between p q) ≡ along r w q
@@ -102,16 +84,10 @@ distance_across r South p q plumb = omega (arith, ints)
 
 -- the coordinates against what is seen
 pub along-same : (r : Point) (w : Way) (p q : Point) → ahead w p ≡ ahead w q → along r w p ≡ along r w q
-along-same r East p q same = omega (arith, ints)
-along-same r North p q same = omega (arith, ints)
-along-same r West p q same = omega (arith, ints)
-along-same r South p q same = omega (arith, ints)
+along-same r w p q same = grind arith
 
 pub across-same : (r : Point) (w : Way) (p q : Point) → aside w p ≡ aside w q → across r w p ≡ across r w q
-across-same r East p q same = omega (arith, ints)
-across-same r North p q same = omega (arith, ints)
-across-same r West p q same = omega (arith, ints)
-across-same r South p q same = omega (arith, ints)
+across-same r w p q same = grind arith
 
 -- ---- the lines of the points' grid
 
@@ -129,16 +105,10 @@ lines_aside West ps = ys_of ps
 lines_aside South ps = xs_of ps
 
 pub IsRising-lines_ahead : (w : Way) (ps : List Point) → IsRising (lines_ahead w ps)
-IsRising-lines_ahead East ps = IsRising-xs_of ps
-IsRising-lines_ahead North ps = IsRising-ys_of ps
-IsRising-lines_ahead West ps = IsRising-xs_of ps
-IsRising-lines_ahead South ps = IsRising-ys_of ps
+IsRising-lines_ahead w ps = grind (arith, IsRising-xs_of, IsRising-ys_of)
 
 pub IsRising-lines_aside : (w : Way) (ps : List Point) → IsRising (lines_aside w ps)
-IsRising-lines_aside East ps = IsRising-ys_of ps
-IsRising-lines_aside North ps = IsRising-xs_of ps
-IsRising-lines_aside West ps = IsRising-ys_of ps
-IsRising-lines_aside South ps = IsRising-xs_of ps
+IsRising-lines_aside w ps = grind (arith, IsRising-ys_of, IsRising-xs_of)
 
 -- a terminal's coordinates are lines
 pub Contains-lines_ahead : (w : Way) (ps : List Point) (k : ℕ) → k < length ps → Contains (lines_ahead w ps) (ahead w (point_at ps k))
@@ -166,10 +136,7 @@ IsCrossing-meet xs ys South p q at at' = record { x = at'.x; y = at.y }
 
 -- the grid's total by the lines ahead and across
 pub total_seen : (w : Way) (ps : List Point) → total_of (hanan_grid_of ps) ≡ length (lines_aside w ps) * width_of (lines_ahead w ps) + length (lines_ahead w ps) * width_of (lines_aside w ps)
-total_seen East ps = total_of-hanan_grid_of ps
-total_seen North ps = total_of-hanan_grid_of ps ∙ omega arith
-total_seen West ps = total_of-hanan_grid_of ps
-total_seen South ps = total_of-hanan_grid_of ps ∙ omega arith
+total_seen w ps = grind (arith, total_of-hanan_grid_of)
 
 -- what lies straight ahead lies on the line ahead
 pub aside-across : (r : Point) (w : Way) (p : Point) → across r w p ≡ pos 0 → aside w p ≡ aside w r

@@ -1,6 +1,6 @@
 -- Which piece stands at which number.
-use Rattle.std.proofs.Common.{ℕ, zero, suc, ◌+◌, ◌≡◌, ◌<◌, false, List, [], ◌∷◌, ◌++◌, length, get_or, map, refl, sym, ap, subst, ◌∙◌, arith, length-append}
-use Rattle.std.specs.Prelude.{pos, All, Option, None, Some, is_some, option_map, option_to_list, slice_get}
+use Rattle.std.proofs.Common.{ℕ, zero, suc, ◌+◌, ◌≡◌, ◌<◌, false, List, [], ◌∷◌, ◌++◌, length, get_or, map, refl, ap, subst, ◌∙◌, arith, length-append}
+use Rattle.std.specs.Prelude.{pos, All, Option, Some, is_some, option_map, option_to_list, slice_get}
 use Rattle.std.specs.Ordering.{int_eq}
 use mir.Val.{bool_byte}
 use Rattle.std.proofs.lemmas.List.{length-map}
@@ -31,9 +31,7 @@ All-slice_get P xs n x all at = subst P (get_or_from_slice_get xs n x x at) (all
 
 -- a piece is known by its ends
 pub same_piece : (x : Piece) (p q : Point) → x.from ≡ p → x.to ≡ q → piece_between p q ≡ x
-same_piece x p q from to =
-    let piece : Point → Point → Piece = λ a b. record { from = a; to = b } in
-    ap (λ a. piece a q) (sym from) ∙ ap (λ b. piece x.from b) (sym to)
+same_piece x p q from to = grind arith
 
 -- a line's pieces lead from each of its points to the next one
 pub slice_get-line_over : (p : Point) (qs : List Point) (n : ℕ) (d : Point) → n < length qs → slice_get (line_over p qs) n ≡ Some (piece_between (get_or (p ∷ qs) n d) (get_or (p ∷ qs) (n + 1) d))
@@ -53,13 +51,11 @@ length-long_leg ps root w drops tip =
 
 -- a side counts as one, and none as nothing
 pub side_counts : (side : Option ℕ) → bool_byte (is_some side) ≡ length (option_to_list side)
-side_counts None = refl
-side_counts (Some q) = refl
+side_counts side = grind arith
 
 -- a short leg has a piece, and one more where there is a side
 pub length-short_leg : (ps : List Point) (root : ℕ) (w : Way) (side : Option ℕ) (tip : ℕ) → int_eq (across_of ps root w tip) (pos 0) ≡ false → length (short_leg ps root w side tip) ≡ 1 + length (option_to_list side)
-length-short_leg ps root w None tip bent = rw bent refl
-length-short_leg ps root w (Some q) tip bent = rw bent refl
+length-short_leg ps root w side tip bent = grind arith
 
 pub length-pieces_of : (ps : List Point) (root : ℕ) (w : Way) (drops : List ℕ) (side : Option ℕ) (tip : ℕ) → length (pieces_of ps (Long root w drops side tip)) ≡ length drops + 1 + length (short_leg ps root w side tip) + length drops + length (option_to_list side)
 length-pieces_of ps root w drops side tip =
@@ -72,14 +68,6 @@ length-pieces_of ps root w drops side tip =
 -- ---- the parts of a long code
 
 module _ (ps : List Point) (root : ℕ) (w : Way) (drops : List ℕ) (side : Option ℕ) (tip : ℕ) (n : ℕ) (x : Piece) where
-  pub nth_of_long_leg : slice_get (long_leg ps root w drops tip) n ≡ Some x → slice_get (pieces_of ps (Long root w drops side tip)) n ≡ Some x
-  nth_of_long_leg at =
-      let long = long_leg ps root w drops tip in
-      let short = short_leg ps root w side tip in
-      let hung = drop_pieces ps root w drops in
-      let last = side_piece ps root w side tip in
-      slice_get-append_left (long ++ short ++ hung) last n x (slice_get-append_left (long ++ short) hung n x (slice_get-append_left long short n x at))
-
   pub nth_of_short_leg : (k : ℕ) → n ≡ length drops + 1 + k → slice_get (short_leg ps root w side tip) k ≡ Some x → slice_get (pieces_of ps (Long root w drops side tip)) n ≡ Some x
   nth_of_short_leg k is at =
       let long = long_leg ps root w drops tip in

@@ -1,12 +1,11 @@
 -- What orderings tell of signed numbers and of points, and the tests of a form.
-use Rattle.std.proofs.Common.{ℕ, ◌+◌, ◌≡◌, ◌≢◌, ◌<◌, ℤ, pos, ◌<ℤ◌, List, [], ◌∷◌, ◌++◌, length, get_or, drop, map, refl, sym, ◌∙◌, ◌⊎◌, inl, inr, ◌↔◌, arith, drop-cons, add-one, Less, Equal, Greater, Some, None, IfSome}
+use Rattle.std.proofs.Common.{ℕ, ◌+◌, ◌≡◌, ◌≢◌, ◌<◌, ℤ, pos, ◌<ℤ◌, List, [], ◌∷◌, ◌++◌, length, get_or, drop, map, sym, ◌∙◌, ◌⊎◌, inl, inr, ◌↔◌, arith, drop-cons, add-one, Less, Equal, Greater, Some, None, IfSome}
 use Rattle.std.specs.Prelude.{All}
 use Rattle.std.specs.List.{last_or}
 use Rattle.std.specs.declared.cmp.Ordering.{Ordering}
 use Rattle.std.specs.Ordering.{int_cmp}
-use Rattle.std.proofs.lemmas.Cmp.{int_ranked, by_ranked}
 use Rattle.std.proofs.lemmas.Int.{ints}
-use Rattle.std.proofs.lemmas.List.Elements.{All-nil, All-cons, All-head, All-tail}
+use Rattle.std.proofs.lemmas.List.Elements.{All-cons, All-head, All-tail}
 use Rattle.points_in.specs.declared.point.Point.{Point}
 use Rattle.full_tree.specs.declared.way.Way.{Way}
 use Rattle.full_tree.specs.declared.way.Way.TheVariants.{East, North, West, South}
@@ -32,21 +31,9 @@ pub data Stand (z y : ℤ) : Type 0 where
   is_higher : y <ℤ z → int_cmp z y ≡ Greater → Stand z y
 
 pub stand : (z y : ℤ) → Stand z y
-stand z y = by_ranked (z <ℤ y) (z ≡ y) (y <ℤ z) (int_cmp z y) (int_ranked z y (int_cmp z y) refl)
-    (λ is h. is_lower h is) (λ is h. is_same h is) (λ is h. is_higher h is)
+stand z y = grind arith
 
 -- ---- rising
-
--- a comparison that answers less tells that the first is lower
-pub lower_from_less : (z y : ℤ) → int_cmp z y ≡ Less → z <ℤ y
-lower_from_less z y less = elim (stand z y) [ is_lower h is ↦ h | is_same h is ↦ cc | is_higher h is ↦ cc ]
-
-pub less_from_lower : (z y : ℤ) → z <ℤ y → int_cmp z y ≡ Less
-less_from_lower z y lower = elim (stand z y) [
-  | is_lower h is ↦ is
-  | is_same h is ↦ absurd (omega (arith, ints))
-  | is_higher h is ↦ absurd (omega (arith, ints))
-]
 
 -- a value that doesn't rise
 pub rises_not : {P : Type 0} (A : ℕ → ℤ) (z : ℤ) (ds ts : List ℕ) (i : ℕ) → i < length ds → (P ↔ RisesFrom z (map A (drop i ds ++ ts))) → ¬ (z <ℤ A (get_or ds i 0)) → ¬ P
@@ -59,55 +46,19 @@ rises_not {P} A z ds ts i inside whole lower p =
 
 -- two numbers that compare with 0 in two ways, none of them as equal, are opposite
 opposite_from_turns : (c d : ℤ) → c ≢ pos 0 → int_cmp d (pos 0) ≢ Equal → int_cmp d (pos 0) ≢ int_cmp c (pos 0) → AreOpposite c d
-opposite_from_turns c d off turns apart = elim (stand c (pos 0)) [
-  | is_lower h is ↦ elim (stand d (pos 0)) [
-    | is_lower h' is' ↦ absurd (apart (is' ∙ sym is))
-    | is_same h' is' ↦ absurd (turns is')
-    | is_higher h' is' ↦ inl (h, h')
-  ]
-  | is_same h is ↦ absurd (off h)
-  | is_higher h is ↦ elim (stand d (pos 0)) [
-    | is_lower h' is' ↦ inr (h, h')
-    | is_same h' is' ↦ absurd (turns is')
-    | is_higher h' is' ↦ absurd (apart (is' ∙ sym is))
-  ]
-]
+opposite_from_turns c d off turns apart = grind arith
 
 -- a number whose comparison with 0 doesn't answer equal isn't 0
 off_from_turns : (c : ℤ) → int_cmp c (pos 0) ≢ Equal → c ≢ pos 0
-off_from_turns c turns same = elim (stand c (pos 0)) [
-  | is_lower h is ↦ omega (arith, ints)
-  | is_same h is ↦ turns is
-  | is_higher h is ↦ omega (arith, ints)
-]
+off_from_turns c turns same = grind arith
 
 turns_from_off : (c : ℤ) → c ≢ pos 0 → int_cmp c (pos 0) ≢ Equal
-turns_from_off c off tied = elim (stand c (pos 0)) [
-  | is_lower h is ↦ cc
-  | is_same h is ↦ off h
-  | is_higher h is ↦ cc
-]
+turns_from_off c off tied = grind arith
 
 -- opposite numbers compare with 0 in two ways
 apart_from_opposite : (c d : ℤ) → AreOpposite c d → int_cmp c (pos 0) ≢ int_cmp d (pos 0)
-apart_from_opposite c d (inl (h, h')) same = elim (stand c (pos 0)) [
-  | is_lower k is ↦ elim (stand d (pos 0)) [
-    | is_lower k' is' ↦ omega (arith, ints)
-    | is_same k' is' ↦ omega (arith, ints)
-    | is_higher k' is' ↦ cc
-  ]
-  | is_same k is ↦ omega (arith, ints)
-  | is_higher k is ↦ omega (arith, ints)
-]
-apart_from_opposite c d (inr (h, h')) same = elim (stand c (pos 0)) [
-  | is_lower k is ↦ omega (arith, ints)
-  | is_same k is ↦ omega (arith, ints)
-  | is_higher k is ↦ elim (stand d (pos 0)) [
-    | is_lower k' is' ↦ cc
-    | is_same k' is' ↦ omega (arith, ints)
-    | is_higher k' is' ↦ omega (arith, ints)
-  ]
-]
+apart_from_opposite c d (inl (h, h')) same = grind arith
+apart_from_opposite c d (inr (h, h')) same = grind arith
 
 -- What the test of the drops asks, one drop after another: o is the side of the drop before, and equal
 -- where there is none.
@@ -123,14 +74,7 @@ record SidesAfter (C : ℕ → ℤ) (e : ℕ) (ds : List ℕ) (t : ℕ) : Type 0
   last : C t ≢ pos 0 → IfSome (last_or (Some e) ds) (λ d. AreOpposite (C t) (C d))
 
 sides_from_turns : (C : ℕ → ℤ) (e : ℕ) (ds : List ℕ) (t : ℕ) → C e ≢ pos 0 → TurnsFrom C (int_cmp (C e) (pos 0)) ds t → SidesAfter C e ds t
-sides_from_turns C e [] t off turns = record {
-  off = All-nil (λ d. C d ≢ pos 0);
-  in_turn = tt;
-  last = λ off'. elim turns [
-    | inl tied ↦ absurd (turns_from_off (C t) off' tied)
-    | inr apart ↦ opposite_from_turns (C t) (C e) off' (turns_from_off (C e) off) (λ same. apart (sym same))
-  ];
-}
+sides_from_turns C e [] t off turns = grind arith
 sides_from_turns C e (d ∷ ds) t off turns =
     let off' = off_from_turns (C d) turns.0 in
     let rest = sides_from_turns C d ds t off' turns.2 in
@@ -142,8 +86,7 @@ sides_from_turns C e (d ∷ ds) t off turns =
 
 -- opposite numbers the other way round
 AreOpposite-sym : (c d : ℤ) → AreOpposite c d → AreOpposite d c
-AreOpposite-sym c d (inl h) = inr (h.1, h.0)
-AreOpposite-sym c d (inr h) = inl (h.1, h.0)
+AreOpposite-sym c d h = grind arith
 
 turns_from_sides : (C : ℕ → ℤ) (e : ℕ) (ds : List ℕ) (t : ℕ) → SidesAfter C e ds t → TurnsFrom C (int_cmp (C e) (pos 0)) ds t
 turns_from_sides C e [] t sides = elim (stand (C t) (pos 0)) [
@@ -166,14 +109,7 @@ abbrev pub SidesOf : (ℕ → ℤ) → List ℕ → ℕ → Type 0
 SidesOf C ds t = All (λ d. C d ≢ pos 0) ds × Alternates (map C ds) × (C t ≢ pos 0 → IfSome (last_or None ds) (λ d. AreOpposite (C t) (C d)))
 
 pub sides_iff_turns : (C : ℕ → ℤ) (ds : List ℕ) (t : ℕ) → SidesOf C ds t ↔ TurnsFrom C Equal ds t
-sides_iff_turns C [] t = (
-  λ sides. elim (stand (C t) (pos 0)) [
-    | is_lower h is ↦ inr (λ same. cc)
-    | is_same h is ↦ inl is
-    | is_higher h is ↦ inr (λ same. cc)
-  ],
-  λ turns. (All-nil (λ d. C d ≢ pos 0), tt, λ off. tt),
-)
+sides_iff_turns C [] t = grind arith
 sides_iff_turns C (d ∷ ds) t = (
   λ sides.
       let off = turns_from_off (C d) (All-head (λ d. C d ≢ pos 0) d ds sides.0) in (
@@ -212,36 +148,7 @@ turns_not {P} C o o' ds t i inside whole is stays p =
 
 -- a number compares with 0 as d compares with it, and not as equal, where it lies between 0 and d
 pub between_from_turns : (d c : ℤ) (o : Ordering) → o ≡ int_cmp c (pos 0) → o ≢ Equal → int_cmp d c ≡ o → IsBetweenZeroAnd d c
-between_from_turns d c o is turns same = elim (stand c (pos 0)) [
-  | is_lower h eq ↦ elim (stand d c) [
-    | is_lower h' eq' ↦ inr (h, h')
-    | is_same h' eq' ↦ absurd (turns (sym same ∙ eq'))
-    | is_higher h' eq' ↦ cc
-  ]
-  | is_same h eq ↦ absurd (turns (is ∙ eq))
-  | is_higher h eq ↦ elim (stand d c) [
-    | is_lower h' eq' ↦ cc
-    | is_same h' eq' ↦ absurd (turns (sym same ∙ eq'))
-    | is_higher h' eq' ↦ inl (h, h')
-  ]
-]
+between_from_turns d c o is turns same = grind arith
 
 pub turns_from_between : (d c : ℤ) → IsBetweenZeroAnd d c → (int_cmp c (pos 0) ≢ Equal) × (int_cmp d c ≡ int_cmp c (pos 0))
-turns_from_between d c (inl (h, h')) = elim (stand c (pos 0)) [
-  | is_lower k eq ↦ absurd (omega (arith, ints))
-  | is_same k eq ↦ absurd (omega (arith, ints))
-  | is_higher k eq ↦ elim (stand d c) [
-    | is_lower k' eq' ↦ absurd (omega (arith, ints))
-    | is_same k' eq' ↦ absurd (omega (arith, ints))
-    | is_higher k' eq' ↦ ((λ tied. cc), eq' ∙ sym eq)
-  ]
-]
-turns_from_between d c (inr (h, h')) = elim (stand c (pos 0)) [
-  | is_lower k eq ↦ elim (stand d c) [
-    | is_lower k' eq' ↦ ((λ tied. cc), eq' ∙ sym eq)
-    | is_same k' eq' ↦ absurd (omega (arith, ints))
-    | is_higher k' eq' ↦ absurd (omega (arith, ints))
-  ]
-  | is_same k eq ↦ absurd (omega (arith, ints))
-  | is_higher k eq ↦ absurd (omega (arith, ints))
-]
+turns_from_between d c h = grind arith

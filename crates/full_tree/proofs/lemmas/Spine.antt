@@ -17,8 +17,7 @@ module _ (ps : List Point) (root : ℕ) (toward : Way) where
       ++ station d (distance_between (last_foot ps root toward from ds) (foot ps root toward d))
       (distance_between (foot ps root toward d) (point_at ps d)) ∷ []
   drop_stations-more from [] d = refl
-  drop_stations-more from (x ∷ ds) d = ap (λ rest. station x (distance_between from (foot ps root toward x))
-      (distance_between (foot ps root toward x) (point_at ps x)) ∷ rest) (drop_stations-more (foot ps root toward x) ds d)
+  drop_stations-more from (x ∷ ds) d = search (drop_stations-more (foot ps root toward x) ds d)
 
   pub last_foot-more : (from : Point) (ds : List ℕ) (d : ℕ) → last_foot ps root toward from (ds ++ d ∷ []) ≡ foot ps root toward d
   last_foot-more from [] d = refl
@@ -70,9 +69,4 @@ first_stations-length ps root toward ds = omega (arith, drop_stations-length ps 
 pub end_stations-room : (ps : List Point) (root : ℕ) (toward : Way) (drops : List ℕ) (side : Option ℕ) (tip : ℕ) (none now : List Station)
     → NamesFew ps root drops side tip → none ≡ [] → now ≡ none ++ first_stations ps root toward drops
     → length now + length (option_to_list side) < 8
-end_stations-room ps root toward drops side tip none now few empty is =
-    let e = ap length is in
-    let a = length-append none (first_stations ps root toward drops) in
-    let b = first_stations-length ps root toward drops in
-    let z = ap length empty in
-    omega (arith, e, a, b, z, few.few)
+end_stations-room ps root toward drops side tip none now few empty is = grind (arith, first_stations-length)
