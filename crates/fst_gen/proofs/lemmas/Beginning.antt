@@ -5,10 +5,8 @@ use Rattle.std.proofs.lemmas.Int.{ints}
 use Rattle.std.proofs.lemmas.List.{append_assoc, get_or_append_left, get_or-append-add, get_or_default}
 use Rattle.std.proofs.lemmas.List.Elements.{All-nil, All-cons, All-head, All-tail, All-append, All-contains, Contains-append_left, Contains-append_right, Contains-append_cases}
 use Rattle.points_in.specs.declared.point.Point.{Point}
-use Rattle.hanan_grid.specs.Distance.{distance_between, distance_of}
-use Rattle.spanning.specs.Bottleneck.{IsHop, IsBottleneck}
-use Rattle.spanning.specs.BottleneckLaws.{Leads-hop, distance_of-same}
-use Rattle.net_graph.specs.Search.{Leads}
+use Rattle.hanan_grid.specs.Distance.{distance_between}
+use Rattle.spanning.specs.Bottleneck.{IsBottleneck}
 use Rattle.full_tree.specs.declared.way.Way.{Way}
 use Rattle.full_tree.specs.declared.way.Way.TheVariants.{East, North, West, South}
 use Rattle.full_tree.specs.declared.straight.Piece.{Piece}
@@ -37,10 +35,7 @@ AllPairs-first R xs ys all i j d before inside =
 -- what rises rises above what it began with
 rises_all : (f : ℕ → ℤ) (z : ℤ) (ys : List ℕ) → RisesFrom z (map f ys) → All (λ y. z <ℤ f y) ys
 rises_all f z [] rises = All-nil (λ y. z <ℤ f y)
-rises_all f z (y ∷ ys) rises =
-    let above = rises.0 in
-    let rest = rises_all f (f y) ys rises.1 in
-    All-cons (λ x. z <ℤ f x) y ys above (λ k d inside. let next = rest k d inside in omega (arith, ints, above, next))
+rises_all f z (y ∷ ys) rises = grind (arith, rises_all f (f y) ys rises.1)
 
 -- .. and later values above earlier ones
 rises_late : (f : ℕ → ℤ) (z : ℤ) (xs ys : List ℕ) → RisesFrom z (map f (xs ++ ys)) → All (λ x. All (λ y. f x <ℤ f y) ys) xs
@@ -144,20 +139,12 @@ module _ (ps : List Point) (root : ℕ) (toward : Way) where
 
 -- two terminals at one point have the bottleneck 0
 IsBottleneck-none : (ps : List Point) (i j : ℕ) → i < length ps → j < length ps → point_at ps j ≡ point_at ps i → IsBottleneck ps i j 0
-IsBottleneck-none ps i j i_in j_in same =
-    let none : distance_of ps i j ≡ 0 = ap (distance_between (point_at ps i)) same ∙ distance_of-same ps i in
-    record {
-      chain = subst (λ n. Leads (IsHop ps n) i j) none (Leads-hop ps i j i_in j_in);
-      least = λ most led. omega arith;
-    }
+IsBottleneck-none ps i j i_in j_in same = grind arith
 
 module _ (ps : List Point) (root : ℕ) (toward : Way) (tip : ℕ) where
   -- a side hangs beside the long leg
   side_off : (side : Option ℕ) → IfSome side (IsOnShortLeg ps root toward tip) → All (λ q. across_of ps root toward q ≢ pos 0) (option_to_list side)
-  side_off None hangs = All-nil (λ q. across_of ps root toward q ≢ pos 0)
-  side_off (Some q) hangs = All-cons (λ k. across_of ps root toward k ≢ pos 0) q []
-      (λ none. ⊎_elim (λ left. let a = left.0 in omega (arith, ints)) (λ right. let a = right.0 in omega (arith, ints)) hangs.between)
-      (All-nil (λ k. across_of ps root toward k ≢ pos 0))
+  side_off side hangs = grind arith
 
   -- .. and at no drop's point, as the drop's piece is no longer than their bottleneck
   side_apart : (ds : List ℕ) (side : Option ℕ) → Passes ps (Long root toward ds side tip)
@@ -226,8 +213,7 @@ module _ (ps : List Point) (root : ℕ) (toward : Way) (drops more : List ℕ) (
   ]
 
   forward : RisesFrom (pos 0) (map ahead (drops ++ late))
-  forward = subst (λ (ds : List ℕ). RisesFrom (pos 0) (map ahead ds)) (append_assoc drops more (tip ∷ []))
-      passes.form.shape.forward
+  forward = grind (arith, append_assoc)
 
   past_root : All (λ y. pos 0 <ℤ ahead y) late
   past_root = All-second (λ y. pos 0 <ℤ ahead y) drops late (rises_all ahead (pos 0) (drops ++ late) forward)
@@ -319,5 +305,4 @@ module _ (ps : List Point) (root : ℕ) (toward : Way) (drops more : List ℕ) (
       }
 
 pub failing_beginning : FailingBeginningNeverPasses
-failing_beginning ps root toward drops fails code (more, side, tip, is) passing =
-    fails (MayBegin-from_passing ps root toward drops more side tip (subst (λ c. Passes ps c) is passing))
+failing_beginning ps root toward drops fails code (more, side, tip, is) passing = grind (arith, MayBegin-from_passing)

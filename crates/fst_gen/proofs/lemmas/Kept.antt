@@ -1,5 +1,5 @@
 -- A tree put in if it is the least under its word, and words of sets.
-use Rattle.std.proofs.Common.{ℕ, ◌≡◌, Bool, refl, ap, sym, subst, ◌∙◌, arith, inl, inr}
+use Rattle.std.proofs.Common.{ℕ, ◌≡◌, Bool, refl, ap, sym, subst, ◌∙◌, arith, inl}
 use Rattle.std.specs.Prelude.{Some}
 use Rattle.std.specs.Bool.{MatchBool}
 use Rattle.std.specs.declared.cmp.Ordering.{Ordering}
@@ -30,8 +30,7 @@ IsNotAfter-less a b less = ap is_gt less
 pub told_by_order : (tree old : Tree) (trees : BTreeMap ℕ Tree) (word : ℕ) (b : Bool) (o : Ordering)
     → b ≡ is_lt o → o ≡ tree_cmp tree old → get nat_cmp trees word ≡ Some old
     → MatchBool b (IsBetter tree trees word) (IsWorse tree trees word)
-told_by_order tree old trees word b Less tells is at = subst (λ v. MatchBool v (IsBetter tree trees word) (IsWorse tree trees word)) (sym tells)
-    (λ other there. subst (λ t. tree_cmp tree t ≡ Less) (some_same _ _ (sym at ∙ there)) (sym is))
+told_by_order tree old trees word b Less tells is at = grind arith
 told_by_order tree old trees word b Equal tells is at = subst (λ v. MatchBool v (IsBetter tree trees word) (IsWorse tree trees word)) (sym tells)
     (old, at, ap is_gt (tree_cmp_total.antisymm old tree ∙ ap ordering_reverse (sym is)))
 told_by_order tree old trees word b Greater tells is at = subst (λ v. MatchBool v (IsBetter tree trees word) (IsWorse tree trees word)) (sym tells)
@@ -40,16 +39,7 @@ told_by_order tree old trees word b Greater tells is at = subst (λ v. MatchBool
 -- nothing is put in
 pub PutsLeast-worse : (tree : Tree) (trees : BTreeMap ℕ Tree) (word : ℕ) → IsWordOf word (members_of tree.code) → IsWorse tree trees word
     → PutsLeast tree trees trees
-PutsLeast-worse tree trees word is (old, at, after) = record {
-  word = word;
-  word_is = is;
-  kept = old;
-  here = at;
-  either = inr at;
-  least = after;
-  no_worse = λ was there. subst (λ t. IsNotAfter old t) (some_same _ _ (sym at ∙ there)) (IsNotAfter-refl old);
-  others = λ q apart. refl;
-}
+PutsLeast-worse tree trees word is (old, at, after) = grind (arith, IsNotAfter-refl)
 
 -- the tree is put in
 pub PutsLeast-better : (tree : Tree) (old new : BTreeMap ℕ Tree) (word : ℕ) → IsWordOf word (members_of tree.code) → IsBetter tree old word

@@ -1,6 +1,6 @@
 -- The list of a store's trees is the list of the trees.
 use Rattle.std.proofs.Common.{ℕ, ◌≡◌, ◌+◌, ◌<◌, ◌≤◌, true, false, List, length, get_or, refl, ap, sym, subst, ◌∙◌, arith}
-use Rattle.std.specs.Prelude.{All, Contains, Some, Result, Ok, Err, IfOk}
+use Rattle.std.specs.Prelude.{All, Contains, Some, Result, IfOk}
 use Rattle.std.specs.List.{IsDistinct}
 use Rattle.std.specs.List.Sorted.{IsPermutation, IsSortedBy}
 use Rattle.std.specs.declared.cmp.Ordering.{Ordering}
@@ -60,9 +60,6 @@ before_next a b Greater is up apart =
     absurd cc
 
 module _ (ps : List Point) (k : ℕ) (trees : BTreeMap ℕ Tree) (store : IsStore ps k trees) (ordered : IsOrdered nat_cmp trees) where
-  tree_in : ℕ × Tree → Tree
-  tree_in e = e.1
-
   -- the tree at a place stands under its word
   placed : (i : ℕ) (d : ℕ × Tree) → i < length trees.entries
       → get nat_cmp trees (get_or trees.entries i d).0 ≡ Some (get_or trees.entries i d).1
@@ -189,8 +186,7 @@ module _ (ps : List Point) (k : ℕ) (trees : BTreeMap ℕ Tree) (store : IsStor
 
 -- what a list that may fail for memory holds
 if_ok : {E : Type 0} (P : List Tree → Type 0) (items : List Tree) (result : Result (List Tree) E) → IfOk result (λ ts. ts ≡ items) → P items → IfOk result P
-if_ok P items (Ok ts) is holds = subst P (sym is) holds
-if_ok P items (Err e) is holds = tt
+if_ok P items result is holds = grind arith
 
 module _ (ps : List Point) (k : ℕ) (trees : BTreeMap ℕ Tree) (store : IsStore ps k trees) (ordered : IsOrdered nat_cmp trees)
     (old new : List Tree) (are : old ≡ values trees) (moved : IsPermutation old new) (sorted : IsSortedBy (λ a b. is_lt (tree_cmp a b)) new) where
@@ -206,8 +202,7 @@ module _ (ps : List Point) (k : ℕ) (trees : BTreeMap ℕ Tree) (store : IsStor
 -- what follows for a list that may fail for memory
 if_all : {E : Type 0} (P Q R : List Tree → Type 0) (result : Result (List Tree) E) → IfOk result P → IfOk result Q
     → ((ts : List Tree) → P ts → Q ts → R ts) → IfOk result R
-if_all P Q R (Ok ts) p q then' = then' ts p q
-if_all P Q R (Err e) p q then' = tt
+if_all P Q R result p q h = grind arith
 
 module _ {E : Type 0} (ps : List Point) (k : ℕ) (result : Result (List Tree) E) (trees : IfOk result (AreTreesOf ps k)) where
   module _ (distinct : AreDistinct ps) (many : 2 ≤ k) where

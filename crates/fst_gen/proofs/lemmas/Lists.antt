@@ -94,8 +94,7 @@ Contains-rest : (u t : Tree) (ts : List Tree) → Contains ts t → Contains (u 
 Contains-rest u t ts (n, inside, is) = (suc n, omega arith, is)
 
 Contains-cases : (u t : Tree) (ts : List Tree) → Contains (u ∷ ts) t → (u ≡ t) ⊎ Contains ts t
-Contains-cases u t ts (zero, inside, is) = inl is
-Contains-cases u t ts (suc n, inside, is) = inr (n, omega arith, is)
+Contains-cases u t ts h = grind arith
 
 -- the first tree is before all others
 before_rest : (u t : Tree) (ts : List Tree) → IsInFileOrder (u ∷ ts) → Contains ts t → tree_cmp u t ≡ Less

@@ -1,16 +1,15 @@
 -- Two terminals whose distance is their bottleneck have a tree by themselves, and such trees join all terminals.
 use Rattle.std.specs.Prelude.{ℕ, ◌≡◌, ◌≢◌, ◌+◌, ◌-◌, ◌<◌, ◌≤◌, ◌⊎◌, ℤ, pos, ◌-ℤ◌, ◌<ℤ◌, ◌≤ℤ◌, Bool, true, false, List, [], ◌∷◌, ◌++◌, length, unsigned_abs, All, Contains, None, if◌then◌else◌}
 use Rattle.std.specs.Ordering.{int_eq}
-use Rattle.std.proofs.Common.{refl, ap, sym, subst, ◌∙◌, arith, inl, inr, ⊎_elim}
-use Rattle.std.proofs.lemmas.Bool.{cases_eq, cases_lt}
-use Rattle.std.proofs.lemmas.Bool.Decides.{nat_tests}
+use Rattle.std.proofs.Common.{refl, ap, sym, subst, ◌∙◌, arith, inl, inr}
+use Rattle.std.proofs.lemmas.Bool.{cases_eq}
 use Rattle.std.proofs.lemmas.Int.{ints, by_lt_z}
 use Rattle.std.proofs.lemmas.List.Elements.{All-nil, All-cons}
 use Rattle.std.proofs.lemmas.List.Kept.{AllPairs-cons}
 use Rattle.points_in.specs.declared.point.Point.{Point}
 use Rattle.points_in.specs.PointLaws.{same_coordinates}
 use Rattle.points_in.specs.Terminals.{AreDistinct}
-use Rattle.hanan_grid.specs.Distance.{origin, distance_between, distance_of}
+use Rattle.hanan_grid.specs.Distance.{distance_between, distance_of}
 use Rattle.net_graph.specs.SearchLaws.{Leads-start, Leads-more, Leads-weaker}
 use Rattle.spanning.specs.Bottleneck.{IsHop, IsBottleneck, IsTight}
 use Rattle.spanning.specs.BottleneckLaws.{IsBottleneck-one}
@@ -46,8 +45,7 @@ at_end a b z same = omega (arith, ints)
 
 -- nothing else lies between a number and itself
 between_same : (a b z : ℤ) → a ≡ b → IsBetween a b z → z ≡ a
-between_same a b z same (inl (low, high)) = omega (arith, ints)
-between_same a b z same (inr (low, high)) = omega (arith, ints)
+between_same a b z same h = grind arith
 
 -- only a number itself is no way from it
 no_way : (a b : ℤ) → unsigned_abs (a -ℤ b) ≡ 0 → a ≡ b
@@ -120,14 +118,7 @@ module _ (r q f : Point) where
 
   -- both legs are as long as the points are apart
   legs : IsCorner r q f → distance_between r f + distance_between f q ≡ distance_between r q
-  legs (inl (fx, fy)) =
-      let a = at_end r.x q.x f.x fx in
-      let b = at_start r.y q.y f.y fy in
-      omega arith
-  legs (inr (fx, fy)) =
-      let a = at_start r.x q.x f.x fx in
-      let b = at_end r.y q.y f.y fy in
-      omega arith
+  legs h = grind (arith, at_end, at_start)
 
 -- points that are no distance apart are one
 pub no_distance : (p q : Point) → distance_between p q ≡ 0 → p ≡ q
@@ -140,10 +131,7 @@ one_is c over under = omega arith
 
 -- two places of distinct points have two points
 apart_at : (ps : List Point) (u v : ℕ) → AreDistinct ps → u < length ps → v < length ps → u ≢ v → point_at ps u ≢ point_at ps v
-apart_at ps u v distinct u_in v_in apart same = ⊎_elim
-    (λ (less : u < v). distinct u v origin less v_in same)
-    (λ (most : v ≤ u). distinct v u origin (omega arith) u_in (sym same))
-    (cases_lt u v)
+apart_at ps u v distinct u_in v_in apart same = grind arith
 
 module _ (ps : List Point) (i j : ℕ) (distinct : AreDistinct ps) (tight : IsTight ps i j) where
   -- no third terminal lies on a shortest way between them
@@ -265,18 +253,13 @@ module _ (ps : List Point) (i j : ℕ) (distinct : AreDistinct ps) (tight : IsTi
 
 -- both places in ascending order
 pair_members : (i j : ℕ) → i ≢ j → (ascending_places (i ∷ j ∷ []) ≡ i ∷ j ∷ []) ⊎ (ascending_places (i ∷ j ∷ []) ≡ j ∷ i ∷ [])
-pair_members i j apart = ⊎_elim
-    (λ (less : i < j). inl (grind (arith, nat_tests)))
-    (λ (most : j ≤ i). inr (grind (arith, nat_tests)))
-    (cases_lt i j)
+pair_members i j apart = grind arith
 
 pair_count : (ms : List ℕ) (i j : ℕ) → (ms ≡ i ∷ j ∷ []) ⊎ (ms ≡ j ∷ i ∷ []) → length ms ≡ 2
-pair_count ms i j (inl is) = ap length is
-pair_count ms i j (inr is) = ap length is
+pair_count ms i j h = grind arith
 
 same_pair : (ms ns : List ℕ) (i j : ℕ) → ms ≡ ns → (ns ≡ i ∷ j ∷ []) ⊎ (ns ≡ j ∷ i ∷ []) → (ms ≡ i ∷ j ∷ []) ⊎ (ms ≡ j ∷ i ∷ [])
-same_pair ms ns i j same (inl is) = inl (same ∙ is)
-same_pair ms ns i j same (inr is) = inr (same ∙ is)
+same_pair ms ns i j same h = grind arith
 
 module _ (ps : List Point) (k : ℕ) (trees : List Tree) (distinct : AreDistinct ps) (many : 2 ≤ k) (are : AreTreesOf ps k trees) where
   -- each tight pair has a tree of its own
@@ -291,21 +274,7 @@ module _ (ps : List Point) (k : ℕ) (trees : List Tree) (distinct : AreDistinct
 
 -- a tree of two members is shared by them
 SharesTree-pair : (trees : List Tree) (i j : ℕ) → HasPair trees i j → SharesTree trees i j
-SharesTree-pair trees i j pair =
-    elim pair.members [
-      | inl is ↦ record {
-        tree = pair.tree;
-        listed = pair.listed;
-        first = subst (λ ms. Contains ms i) (sym is) (0, omega arith, refl);
-        second = subst (λ ms. Contains ms j) (sym is) (1, omega arith, refl);
-      }
-      | inr is ↦ record {
-        tree = pair.tree;
-        listed = pair.listed;
-        first = subst (λ ms. Contains ms i) (sym is) (1, omega arith, refl);
-        second = subst (λ ms. Contains ms j) (sym is) (0, omega arith, refl);
-      }
-    ]
+SharesTree-pair trees i j pair = grind arith
 
 pub pairs-join : (ps : List Point) (k : ℕ) (trees : List Tree) → AreDistinct ps → 2 ≤ k → AreTreesOf ps k trees → PairsJoinAll (length ps) trees
 pairs-join ps k trees distinct many are i j i_in j_in =

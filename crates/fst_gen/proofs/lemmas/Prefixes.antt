@@ -58,8 +58,7 @@ module _ (ps : List Point) (root : ℕ) (toward : Way) where
   drop_stations-append : (from : Point) (xs ys : List ℕ) → drop_stations ps root toward from (xs ++ ys)
       ≡ drop_stations ps root toward from xs ++ drop_stations ps root toward (last_foot ps root toward from xs) ys
   drop_stations-append from [] ys = refl
-  drop_stations-append from (x ∷ xs) ys = ap (λ (rest : List Station). station x (distance_between from (foot ps root toward x))
-      (distance_between (foot ps root toward x) (point_at ps x)) ∷ rest) (drop_stations-append (foot ps root toward x) xs ys)
+  drop_stations-append from (x ∷ xs) ys = search (drop_stations-append (foot ps root toward x) xs ys)
 
   -- a code's stations begin with those of its beginning
   pub stations_begin : (xs ys : List ℕ) (side : Option ℕ) (tip : ℕ)
@@ -192,10 +191,7 @@ IsLongerBy-made ps prefix d at p before leg copied stations kept drops is room i
 -- what the test of a longer beginning's stations tells
 pub keeps_longer : (ps : List Point) (prefix longer : Prefix) (d : ℕ) → IsLongerBy ps prefix d longer
     → longer.stations ≡ first_stations ps prefix.root prefix.toward (prefix.drops ++ d ∷ [])
-keeps_longer ps prefix longer d by = by.is_prefix.stations_are
-    ∙ ap (λ (r : ℕ). first_stations ps r longer.toward longer.drops) by.root
-    ∙ ap (λ (w : Way). first_stations ps prefix.root w longer.drops) by.toward
-    ∙ ap (first_stations ps prefix.root prefix.toward) by.drops
+keeps_longer ps prefix longer d by = search
 
 -- ---- the tip
 
@@ -274,10 +270,7 @@ prefix_stations-in ps ts prefix xs is same read =
 
 pub prefix_stations-length : (ps : List Point) (prefix : Prefix) (xs : List Station) → IsPrefix ps prefix → xs ≡ prefix.stations
     → length xs ≡ 1 + length prefix.drops
-prefix_stations-length ps prefix xs is read =
-    let a = ap length (read ∙ is.stations_are) in
-    let b = drop_stations-length ps prefix.root prefix.toward (point_at ps prefix.root) prefix.drops in
-    omega (arith, a, b)
+prefix_stations-length ps prefix xs is read = grind (arith, drop_stations-length)
 
 pub keeps_moved : (ps ts : List Point) (xs ys : List Station) (m n : ℕ) → ps ≡ ts → xs ≡ ys → m ≡ n → KeepsUpTo ps ys n → KeepsUpTo ts xs m
 keeps_moved ps ts xs ys m n same read count keeps =

@@ -1,6 +1,6 @@
 -- The steps of a generation, one kind of codes after another.
 use Rattle.std.proofs.Common.{ℕ, ◌≡◌, ◌+◌, ◌<◌, ◌≤◌, List, [], ◌∷◌, ◌++◌, length, refl, ap, sym, subst, ◌∙◌, arith, inl, inr, ⊎_elim, length-append}
-use Rattle.std.specs.Prelude.{◌⊎◌, Option, None, Some, Result, option_to_list, ℤ, ◌<ℤ◌}
+use Rattle.std.specs.Prelude.{◌⊎◌, Option, None, Some, Result, option_to_list, ◌<ℤ◌}
 use Rattle.std.specs.BTreeMap.{BTreeMap}
 use Rattle.std.proofs.lemmas.Bool.{cases_eq}
 use Rattle.std.proofs.lemmas.List.{append_assoc, append-nil}
@@ -50,10 +50,7 @@ module _ (ps : List Point) (k : ℕ) (root : ℕ) (toward : Way) (drops : List �
 
   HangsBelow-more : (tip n : ℕ) (code : TreeCode) → HangsBelow root toward drops tip (n + 1) code
       → HangsBelow root toward drops tip n code ⊎ IsHung root toward drops n tip code
-  HangsBelow-more tip n code (side, below, is) = ⊎_elim
-      (λ (same : side ≡ n). inr (subst (λ q. IsHung root toward drops q tip code) same is))
-      (λ (apart : side ≡ n → ⊥). inl (side, omega arith, is))
-      (cases_eq side n)
+  HangsBelow-more tip n code (side, below, is) = grind arith
 
   pub HangsBelow-step : (tip n : ℕ) (old mid new : BTreeMap ℕ Tree) → Stores ps k (HangsBelow root toward drops tip n) old mid
       → Stores ps k (IsHung root toward drops n tip) mid new → Stores ps k (HangsBelow root toward drops tip (n + 1)) old new
@@ -62,10 +59,7 @@ module _ (ps : List Point) (k : ℕ) (root : ℕ) (toward : Way) (drops : List �
 
   pub IsHung-none : (qs : List Point) (side tip : ℕ) (trees : BTreeMap ℕ Tree) → qs ≡ ps → IsStore ps k trees
       → (IsOnShortLeg qs root toward tip side → ⊥) → Stores ps k (IsHung root toward drops side tip) trees trees
-  IsHung-none qs side tip trees same store off = Stores-none ps k (IsHung root toward drops side tip) trees store
-      (λ code is wanted.
-      let there = subst (λ c. IsWanted ps k c) is wanted in
-      off (subst (λ (rs : List Point). IsOnShortLeg rs root toward tip side) (sym same) there.passes.form.shape.hangs))
+  IsHung-none qs side tip trees same store off = grind arith
 
   -- ---- tips
 
@@ -135,15 +129,6 @@ module _ (ps : List Point) (k : ℕ) (root : ℕ) (toward : Way) (drops : List �
       (λ code kind wanted. subst (λ m. GrownBelow root toward drops (length ps) m code) (sym is)
       (grown_only code kind.0 kind.1 kind.2 kind.3 wanted))
 
-  -- .. and at its start
-  pub GrownBelow-start : (old new : BTreeMap ℕ Tree) → Stores ps k (EndsBelow root toward drops (length ps)) old new
-      → Stores ps k (GrownBelow root toward drops (length ps) 0) old new
-  GrownBelow-start old new a = Stores-only ps k (EndsBelow root toward drops (length ps)) (GrownBelow root toward drops (length ps) 0) old new a
-      (λ code kind wanted. ⊎_elim
-      (λ (ends : EndsBelow root toward drops (length ps) code). ends)
-      (λ (next : ContinuesBelow root toward drops 0 code). absurd (omega (arith, next.1)))
-      kind)
-
   GrownBelow-more : (n m : ℕ) (code : TreeCode) → GrownBelow root toward drops n (m + 1) code
       → GrownBelow root toward drops n m code ⊎ HasPrefix root toward (drops ++ m ∷ []) code
   GrownBelow-more n m code kind = ⊎_elim
@@ -186,12 +171,7 @@ module _ (ps : List Point) (k : ℕ) (root : ℕ) (toward : Way) (drops : List �
 pub EndsAt-out : (ps qs : List Point) (k : ℕ) (prefix : Prefix) (tip : ℕ) (trees : BTreeMap ℕ Tree) → qs ≡ ps → IsStore ps k trees
     → (MayEndAt qs prefix.root prefix.toward prefix.drops tip → ⊥)
     → Stores ps k (EndsAt prefix.root prefix.toward prefix.drops tip) trees trees
-EndsAt-out ps qs k prefix tip trees same store out = Stores-none ps k (EndsAt prefix.root prefix.toward prefix.drops tip) trees store
-    (λ code ends wanted.
-    let there = subst (λ c. IsWanted ps k c) ends.1 wanted in
-    let shape = there.passes.form.shape in
-    let may : MayEndAt ps prefix.root prefix.toward prefix.drops tip = record { ahead = shape.forward; sides = shape.sides } in
-    out (subst (λ (rs : List Point). MayEndAt rs prefix.root prefix.toward prefix.drops tip) (sym same) may))
+EndsAt-out ps qs k prefix tip trees same store out = grind arith
 
 -- a tip that is not near
 pub EndsAt-far : (ps qs : List Point) (k : ℕ) (prefix : Prefix) (tip : ℕ) (trees : BTreeMap ℕ Tree) → qs ≡ ps → IsPrefix ps prefix → IsStore ps k trees
@@ -211,8 +191,7 @@ IsPrefix-of ps qs prefix same is = subst (λ (rs : List Point). IsPrefix rs pref
 
 -- the bottleneck of two terminals that were named otherwise
 pub IsBottleneck-there : (ps ts : List Point) (i i' j j' most : ℕ) → ps ≡ ts → i' ≡ i → j' ≡ j → IsBottleneck ts i' j' most → IsBottleneck ps i j most
-IsBottleneck-there ps ts i i' j j' most same e f b =
-    subst (λ (qs : List Point). IsBottleneck qs i j most) (sym same) (subst (λ n. IsBottleneck ts i n most) f (subst (λ n. IsBottleneck ts n j' most) e b))
+IsBottleneck-there ps ts i i' j j' most same e f b = grind arith
 
 pub within-from : (ps : List Point) (i j most n : ℕ) → IsBottleneck ps i j most → n ≤ most → IsWithinBottleneck ps i j n
 within-from ps i j most n b h other c = omega (arith, b.least other c.chain)
@@ -259,10 +238,7 @@ module _ (ps : List Point) (k : ℕ) where
 
 module _ (ps : List Point) (k : ℕ) (Of : ℕ → TreeCode → Type 0) where
   Below-more : (n : ℕ) (code : TreeCode) → Below Of (n + 1) code → Below Of n code ⊎ Of n code
-  Below-more n code (i, below, is) = ⊎_elim
-      (λ (same : i ≡ n). inr (subst (λ j. Of j code) same is))
-      (λ (apart : i ≡ n → ⊥). inl (i, omega arith, is))
-      (cases_eq i n)
+  Below-more n code (i, below, is) = grind arith
 
   pub Below-step : (n : ℕ) (old mid new : BTreeMap ℕ Tree) → Stores ps k (Below Of n) old mid → Stores ps k (Of n) mid new
       → Stores ps k (Below Of (n + 1)) old new
@@ -291,37 +267,17 @@ module _ (ps : List Point) (k west south east north : ℕ) (code : TreeCode) (is
   pub north_in : north < length ps
   north_in = cross.passes.form.terminals 3 0 (omega arith)
 
-  pub is_level : (point_at ps west).y ≡ (point_at ps east).y
-  is_level = cross.passes.form.shape.level
-
-  pub goes_right : ((point_at ps west).x <ℤ (point_at ps south).x) × ((point_at ps south).x <ℤ (point_at ps east).x)
-  goes_right = (cross.passes.form.shape.right_of_west, cross.passes.form.shape.left_of_east)
-
-abbrev x_of : Point → ℤ
-x_of p = p.x
-
-abbrev y_of : Point → ℤ
-y_of p = p.y
-
 -- a west and an east that aren't level, and a south that isn't between them
 pub Crosses-none : (ps : List Point) (k west east : ℕ) (trees : BTreeMap ℕ Tree) (p q : Point) → p ≡ point_at ps west → q ≡ point_at ps east
     → IsStore ps k trees → (p.y ≡ q.y → ⊥) → Stores ps k (CrossesLevel west east) trees trees
-Crosses-none ps k west east trees p q e f store apart = Stores-none ps k (CrossesLevel west east) trees store
-    (λ code kind wanted. apart (ap y_of e ∙ is_level ps k west kind.0 east kind.1.0 code kind.1.1 wanted ∙ sym (ap y_of f)))
+Crosses-none ps k west east trees p q e f store apart = grind arith
 
 pub Crosses-beside : (ps : List Point) (k west east south : ℕ) (trees : BTreeMap ℕ Tree) (p q r : Point)
     → p ≡ point_at ps west → q ≡ point_at ps south → r ≡ point_at ps east
     → IsStore ps k trees → ((p.x <ℤ q.x) × (q.x <ℤ r.x) → ⊥) → Stores ps k (CrossesHalf west east south) trees trees
-Crosses-beside ps k west east south trees p q r e f g store apart = Stores-none ps k (CrossesHalf west east south) trees store
-    (λ code kind wanted.
-    let right = goes_right ps k west south east kind.0 code kind.1 wanted in
-    apart (
-      subst (λ z. p.x <ℤ z) (sym (ap x_of f)) (subst (λ z. z <ℤ (point_at ps south).x) (sym (ap x_of e)) right.0),
-      subst (λ z. q.x <ℤ z) (sym (ap x_of g)) (subst (λ z. z <ℤ (point_at ps east).x) (sym (ap x_of f)) right.1),
-    ))
+Crosses-beside ps k west east south trees p q r e f g store apart = grind arith
 
 -- each wanted code is a long one of some root, or a cross
 pub any_code : (ps : List Point) (k : ℕ) (code : TreeCode) → IsWanted ps k code → IsRootedBelow (length ps) code ⊎ IsAnyCross code
-any_code ps k (Long root toward drops side tip) wanted =
-    inl (root, (long_names_few ps root toward drops side tip wanted.passes.form).root_in, (toward, (drops, side, tip, refl)))
+any_code ps k (Long root toward drops side tip) wanted = grind (arith, long_names_few)
 any_code ps k (Cross west south east north) wanted = inr (west, (east, (south, (north, refl))))

@@ -1,6 +1,6 @@
 -- How steps of a generation follow one another.
 use Rattle.std.specs.Prelude.{ℕ, ◌⊎◌, List, Result, Ok, Err}
-use Rattle.std.proofs.Common.{⊎_elim}
+use Rattle.std.proofs.Common.{⊎_elim, arith}
 use Rattle.std.specs.BTreeMap.{BTreeMap}
 use Rattle.points_in.specs.declared.point.Point.{Point}
 use Rattle.full_tree.specs.declared.code.Tree.{Tree}
@@ -17,11 +17,7 @@ module _ (ps : List Point) (k : ℕ) where
   -- where no wanted code is of the kind, nothing is to be done
   pub Stores-none : (Kind : TreeCode → Type 0) (trees : BTreeMap ℕ Tree) → IsStore ps k trees → NoneWanted ps k Kind
       → Stores ps k Kind trees trees
-  Stores-none Kind trees store none = record {
-    store = store;
-    grows = λ code covered. covered;
-    covers = λ code kind wanted. absurd (none code kind wanted);
-  }
+  Stores-none Kind trees store none = grind arith
 
   -- one step after another stores the codes of both kinds
   pub Stores-then : (First Second Both : TreeCode → Type 0) (old mid new : BTreeMap ℕ Tree)
@@ -40,11 +36,7 @@ module _ (ps : List Point) (k : ℕ) where
   -- a kind within another
   pub Stores-only : (Wide Narrow : TreeCode → Type 0) (old new : BTreeMap ℕ Tree) → Stores ps k Wide old new
       → ((code : TreeCode) → Narrow code → IsWanted ps k code → Wide code) → Stores ps k Narrow old new
-  Stores-only Wide Narrow old new a within = record {
-    store = a.store;
-    grows = a.grows;
-    covers = λ code narrow wanted. a.covers code (within code narrow wanted) wanted;
-  }
+  Stores-only Wide Narrow old new a within = grind arith
 
   -- a step behind another one, which may end the work
   pub Generates-then : (First Second Both : TreeCode → Type 0) (old mid new : BTreeMap ℕ Tree) (result : Result (Unit {0}) GenFault)
@@ -57,5 +49,4 @@ module _ (ps : List Point) (k : ℕ) where
   pub Generates-only : (Wide Narrow : TreeCode → Type 0) (old new : BTreeMap ℕ Tree) (result : Result (Unit {0}) GenFault)
       → Generates ps k Wide old new result → ((code : TreeCode) → Narrow code → IsWanted ps k code → Wide code)
       → Generates ps k Narrow old new result
-  Generates-only Wide Narrow old new (Ok done) a within = Stores-only Wide Narrow old new a within
-  Generates-only Wide Narrow old new (Err fault) a within = a
+  Generates-only Wide Narrow old new result a within = grind arith

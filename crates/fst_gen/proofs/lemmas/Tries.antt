@@ -27,8 +27,7 @@ use Rattle.fst_gen.specs.Store.{IsKept, IsStore, Covers, Generates}
 
 -- a word is of one set of members
 pub same_set : (word : ℕ) (a b : TreeCode) → IsWordOf word (members_of a) → IsWordOf word (members_of b) → members_of a ≡ members_of b
-same_set word a b = same_places word (members_of a) (members_of b)
-    (Climbs-ascending_places (named_places a)) (Climbs-ascending_places (named_places b))
+same_set word a b = search (same_places, Climbs-ascending_places)
 
 some_same : (x y : Tree) → Some x ≡ Some y → x ≡ y
 some_same x y e = cc
@@ -76,16 +75,7 @@ module _ (ps : List Point) (k : ℕ) (tree : Tree) (old new : BTreeMap ℕ Tree)
 
   -- the tree's own code is covered
   pub covers_after : tree.length ≡ code_length ps tree.code → Covers ps new tree.code
-  covers_after long =
-      let sized : ℕ → Tree = λ n. record { length = n; code = tree.code } in
-      let is : tree ≡ tree_of ps tree.code = ap sized long in
-      record {
-        word = puts.word;
-        tree = puts.kept;
-        word_is = puts.word_is;
-        found = puts.here;
-        least = subst (λ t. IsNotAfter puts.kept t) is puts.least;
-      }
+  covers_after long = grind arith
 
 -- the sets of a store with more than 20,000 trees
 pub HasMoreSets-from_store : (ps : List Point) (k : ℕ) (trees : BTreeMap ℕ Tree)
