@@ -154,11 +154,21 @@ impl Smaller {
         Ok(lifted)
     }
 
-    /// Vertices of the smaller graph by their numbers in the given one. An `Err` is want of memory.
-    pub fn vertices(&self, alloc: Global, vertices: &[u32]) -> Result<Vec<u32>, AllocError> {
-        let mut lifted = Vec::new(alloc);
-        for vertex in vertices {
-            lifted.push(at(&self.vertices, *vertex, NONE))?;
+    /// Of each vertex of the given graph the score that it has in the smaller one; 0 where it went. Empty where no scores
+    /// are given. An `Err` is want of memory.
+    pub fn scores(
+        &self,
+        alloc: Global,
+        graph: &NetGraph,
+        scores: &[u32],
+    ) -> Result<Vec<u32>, AllocError> {
+        if scores.is_empty() {
+            return Ok(Vec::new(alloc));
+        }
+        let mut lifted = vec![in alloc; 0u32; graph.vertex_count() as usize]?;
+        for number in 0..count(&self.vertices) {
+            let vertex = at(&self.vertices, number, NONE);
+            set(&mut lifted, vertex, at(scores, number, 0));
         }
         Ok(lifted)
     }

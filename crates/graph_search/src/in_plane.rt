@@ -32,6 +32,7 @@ const SPLITTING: Splitting = Splitting {
     most: 60,
     edge_splits: 75_000,
     after_spent: true,
+    patience: 4,
     budget: Budget {
         rounds: 120,
         searches: 200_000,

@@ -4,6 +4,7 @@
 
 mod answering;
 mod chains;
+mod children;
 mod exchanging;
 mod guiding;
 mod in_plane;
@@ -13,6 +14,7 @@ mod raised_search;
 mod raising;
 mod shortening;
 mod splitting;
+mod trials;
 mod under;
 
 pub use answering::answer_with;

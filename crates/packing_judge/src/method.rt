@@ -181,7 +181,8 @@ fn lifted(
         is_impossible: proposal.is_impossible,
         guesses: Guesses {
             shares: smaller.shares(alloc, graph, &proposal.guesses.shares)?,
-            vertices: smaller.vertices(alloc, &proposal.guesses.vertices)?,
+            scores: smaller.scores(alloc, graph, &proposal.guesses.scores)?,
+            gap: proposal.guesses.gap,
         },
     })
 }

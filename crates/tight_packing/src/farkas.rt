@@ -15,6 +15,8 @@ pub struct FarkasTest {
     pub overs: Vec<i64>,
     /// The price of a cheapest cut of each group.
     pub cheapest: Vec<i64>,
+    /// By how much the groups would pay more than the arcs could.
+    pub gain: i128,
     // The prices of the arcs in the last test.
     prices: Vec<i64>,
 }
@@ -25,6 +27,7 @@ impl FarkasTest {
         FarkasTest {
             overs: Vec::new(alloc),
             cheapest: Vec::new(alloc),
+            gain: 0,
             prices: Vec::new(alloc),
         }
     }
@@ -47,6 +50,7 @@ impl FarkasTest {
             need = need.wrapping_add(product(least, length));
             self.cheapest.push(least)?;
         }
+        self.gain = need.wrapping_sub(have);
         Ok(need > have)
     }
 

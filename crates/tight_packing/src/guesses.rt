@@ -7,19 +7,23 @@ use cut_groups::{NONE, Tree, at, ends_of, set};
 use net_graph::NetGraph;
 use std::alloc::{AllocError, Global};
 
-// So many vertices to split on are told.
-const MOST_VERTICES: usize = 8;
-
 // A vertex counts up to one and this much more times as much by what it branches.
 const BRANCH_FACTOR: i128 = 3;
+
+// Parts of one are counted in so many.
+const PARTS: i128 = 1 << 20;
 
 /// What a test that there is no packing shows. Nothing is promised of it.
 #[derive(Debug, Drop)]
 pub struct Guesses {
     /// Of each edge the share in percent that shorter networks have of it; empty where there was no test.
     pub shares: Vec<u32>,
-    /// Vertices that the shorter fractional network feeds in part, and branches from: the ones to split on first.
-    pub vertices: Vec<u32>,
+    /// Of each vertex how good it is to split on, in parts of 2^20: it is best where the shorter fractional network feeds
+    /// it by half, and branches from it. 0 at a terminal; empty where there was no test.
+    pub scores: Vec<u32>,
+    /// By how much a whole step in the direction makes the network shorter, rounded down, in sixteenths of the unit of the
+    /// lengths; 0 where it doesn't.
+    pub gap: u64,
 }
 
 impl Guesses {
@@ -27,17 +31,14 @@ impl Guesses {
     pub fn none(alloc: Global) -> Guesses {
         Guesses {
             shares: Vec::new(alloc),
-            vertices: Vec::new(alloc),
+            scores: Vec::new(alloc),
+            gap: 0,
         }
     }
 
-    /// These, and others where they tell no vertex.
+    /// These, and others where there was no test.
     pub fn or(self, others: Guesses) -> Guesses {
-        if self.vertices.is_empty() {
-            others
-        } else {
-            self
-        }
+        if self.scores.is_empty() { others } else { self }
     }
 }
 
@@ -51,12 +52,13 @@ struct Flow {
 const NO_FLOW: Flow = Flow { into: 0, out: 0 };
 
 impl FarkasTest {
-    /// What the last test shows along a tree, if there was one. An `Err` is want of memory.
+    /// What the last test shows along a tree, if there was one, with lengths in a unit. An `Err` is want of memory.
     pub fn guesses(
         &self,
         alloc: Global,
         graph: &NetGraph,
         tree: &Tree,
+        unit: u64,
     ) -> Result<Guesses, AllocError> {
         let mut guesses = Guesses::none(alloc);
         if self.cheapest.is_empty() {
@@ -76,7 +78,9 @@ impl FarkasTest {
         }
         let one = most.saturating_mul(2);
         let flows = self.flows(alloc, graph, tree, one)?;
-        choose_vertices(alloc, graph, &flows, one, &mut guesses.vertices)?;
+        guesses.scores = scores(alloc, graph, &flows, one)?;
+        let step = self.gain.checked_div(i128::from(most)).unwrap_or(0);
+        guesses.gap = u64::try_from(step).unwrap_or(0).saturating_mul(unit);
         Ok(guesses)
     }
 
@@ -120,34 +124,36 @@ impl FarkasTest {
     }
 }
 
-// Chooses the vertices to split on by what flows into them and out of them. One that is fed in part has to be met or
+// How good it is to split on each vertex by what flows into it and out of it. One that is fed in part has to be met or
 // missed: the nearer what flows into it is to a half, and the more flows out of it than into it, the better. An `Err`
 // is want of memory.
-fn choose_vertices(
+fn scores(
     alloc: Global,
     graph: &NetGraph,
     flows: &[Flow],
     one: i64,
-    vertices: &mut Vec<u32>,
-) -> Result<(), AllocError> {
-    let mut scored = Vec::new(alloc);
+) -> Result<Vec<u32>, AllocError> {
+    let mut scores = Vec::new(alloc);
     for vertex in 0..graph.vertex_count() {
-        let score = score(at(flows, vertex, NO_FLOW), one);
-        if score > 0 && !graph.terminals().contains(&vertex) {
-            scored.push((score.wrapping_neg(), vertex))?;
-        }
+        scores.push(score(at(flows, vertex, NO_FLOW), one))?;
     }
-    scored.sort()?;
-    for (_, vertex) in scored.iter().take(MOST_VERTICES) {
-        vertices.push(*vertex)?;
+    for terminal in graph.terminals() {
+        set(&mut scores, *terminal, 0);
     }
-    Ok(())
+    Ok(scores)
 }
 
-// How good it is to split on a vertex with this flow; not above 0 where it isn't fed in part.
-fn score(flow: Flow, one: i64) -> i128 {
-    let part = flow.into.min(one.saturating_sub(flow.into));
+// How good it is to split on a vertex with this flow, in parts of 2^20; 0 where it isn't fed in part.
+fn score(flow: Flow, one: i64) -> u32 {
+    let fed = flow.into.min(one.saturating_sub(flow.into)).max(0);
     let branched = flow.out.saturating_sub(flow.into).max(0).min(one);
-    let factor = BRANCH_FACTOR.wrapping_mul(i128::from(branched));
-    i128::from(part).wrapping_mul(i128::from(one).wrapping_add(factor))
+    let factor = PARTS.wrapping_add(BRANCH_FACTOR.wrapping_mul(parts(branched, one)));
+    let score = parts(fed, one).wrapping_mul(factor) / PARTS;
+    u32::try_from(score).unwrap_or(0)
+}
+
+// A number as a share of one, in parts of 2^20.
+fn parts(number: i64, one: i64) -> i128 {
+    let counted = i128::from(number).wrapping_mul(PARTS);
+    counted.checked_div(i128::from(one)).unwrap_or(0)
 }

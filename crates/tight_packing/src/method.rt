@@ -111,7 +111,7 @@ fn play_rounds<F: CutFinder>(
     state.start(&mut seeker, finder)?;
     let mut rounds = Rounds::new(alloc, &state, graph.terminals().len(), settings)?;
     let ending = rounds.play(&mut state, &mut seeker, finder, budget)?;
-    let guesses = rounds.guesses(alloc, graph, &state)?;
+    let guesses = rounds.guesses(alloc, graph, &state, scale.unit)?;
     let packing = rounds.into_packing(alloc, graph, &state, scale.unit)?;
     Ok(Played {
         tree: state.groups.into_tree(),

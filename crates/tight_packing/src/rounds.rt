@@ -160,14 +160,15 @@ impl Rounds {
         Ok(false)
     }
 
-    /// What the last test that there is no packing shows. An `Err` is want of memory.
+    /// What the last test that there is no packing shows, with lengths in a unit. An `Err` is want of memory.
     pub fn guesses(
         &self,
         alloc: Global,
         graph: &NetGraph,
         state: &State,
+        unit: u64,
     ) -> Result<Guesses, AllocError> {
-        self.test.guesses(alloc, graph, state.groups.tree())
+        self.test.guesses(alloc, graph, state.groups.tree(), unit)
     }
 
     /// The best packing met, with weights in a unit, from which what has overload is taken back. An `Err` is want of

@@ -3,7 +3,7 @@ use Rattle.std.proofs.Common.{Option, subst}
 use Rattle.std.specs.Option.{IfSome}
 use Rattle.packing_judge.specs.declared.bound.Bound.{Bound}
 use Rattle.packing_judge.specs.Bound.{IsBoundOf}
-use Rattle.graph_search.proofs.splitting.packing_of.Goals as goal
+use Rattle.graph_search.proofs.children.packing_of.Goals as goal
 
 pub returns-in-Some : goal.returns-in-Some
 returns-in-Some c = λ g aim wanted of.
