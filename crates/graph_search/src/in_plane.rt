@@ -32,7 +32,7 @@ const SPLITTING: Splitting = Splitting {
     most: 60,
     edge_splits: 75_000,
     after_spent: true,
-    patience: 4,
+    patience: 3,
     budget: Budget {
         rounds: 120,
         searches: 200_000,
@@ -40,7 +40,7 @@ const SPLITTING: Splitting = Splitting {
         moves: 2_000_000,
         seed: 20240609,
     },
-    draws: 4,
+    draws: 2,
     descents: DESCENTS,
 };
 

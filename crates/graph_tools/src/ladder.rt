@@ -50,7 +50,7 @@ const SPLITTING: Splitting = Splitting {
     most: 60,
     edge_splits: 20_000,
     after_spent: false,
-    patience: 4,
+    patience: 3,
     budget: Budget {
         rounds: 120,
         searches: 100_000,
