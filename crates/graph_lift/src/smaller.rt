@@ -154,8 +154,8 @@ impl Smaller {
         Ok(lifted)
     }
 
-    /// Of each vertex of the given graph the score that it has in the smaller one; 0 where it went. Empty where no scores
-    /// are given. An `Err` is want of memory.
+    /// Of each vertex of the given graph the score that it has in the smaller one; 0 where it went. Empty where no
+    /// scores are given. An `Err` is want of memory.
     pub fn scores(
         &self,
         alloc: Global,

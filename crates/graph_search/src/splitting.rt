@@ -26,7 +26,8 @@ pub struct Splitting {
     /// Whether a leaf is split whose exchange has spent its budget, beside those for which it told that there is no
     /// packing of the wanted value.
     pub after_spent: bool,
-    /// Before a leaf is split, splits of it are tried until so many in succession are no better than one before.
+    /// Before a leaf is split, splits of it are tried until so many in succession are no better than one before; where
+    /// none may be, the first is made.
     pub patience: u8,
     /// What the exchange of a child may do.
     pub budget: Budget,

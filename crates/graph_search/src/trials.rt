@@ -90,7 +90,8 @@ impl Splitting {
             scores: plan.guesses.scores.clone()?,
         };
         for _ in 0..exchanges {
-            let is_done = trials.exchanges >= exchanges || trials.failed >= self.patience;
+            let is_spent = exchanges.saturating_sub(trials.exchanges) < 2;
+            let is_done = is_spent || trials.best.is_some() && trials.failed >= self.patience;
             if is_done || !self.try_next(alloc, graph, ground, search, leaf, plan, &mut trials)? {
                 break;
             }

@@ -50,7 +50,7 @@ const SPLITTING: Splitting = Splitting {
     most: 60,
     edge_splits: 20_000,
     after_spent: false,
-    patience: 3,
+    patience: 0,
     budget: Budget {
         rounds: 120,
         searches: 100_000,

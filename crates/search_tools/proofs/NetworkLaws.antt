@@ -23,10 +23,6 @@ pub have_members : ((ps : List Point) (tree : Tree) → IsInForm ps tree.code �
 have_members law ps trees are =
     λ k d inside. law ps (slice_index_or trees k d) (All-from_recursion (IsTreeOf ps) trees are.trees k d inside).form
 
--- Its trees are in form, with their lengths.
-pub in_form : (ps : List Point) (trees : List Tree) → AreTreesOf ps trees → All (λ tree. IsInForm ps tree.code) trees
-in_form ps trees are = λ k d inside. (All-from_recursion (IsTreeOf ps) trees are.trees k d inside).form
-
 -- The chosen places are below the number of trees.
 pub chosen_below : (n : ℕ) (trees : List Tree) (places : List ℕ) (total : ℕ) → IsChosen n trees places total → All (λ k. k < length trees) places
 chosen_below n trees places total chosen = places-below trees places chosen.set chosen.is chosen.joins.size

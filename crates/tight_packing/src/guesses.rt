@@ -18,11 +18,11 @@ const PARTS: i128 = 1 << 20;
 pub struct Guesses {
     /// Of each edge the share in percent that shorter networks have of it; empty where there was no test.
     pub shares: Vec<u32>,
-    /// Of each vertex how good it is to split on, in parts of 2^20: it is best where the shorter fractional network feeds
-    /// it by half, and branches from it. 0 at a terminal; empty where there was no test.
+    /// Of each vertex how good it is to split on, in parts of 2^20: it is best where the shorter fractional network
+    /// feeds it by half, and branches from it. 0 at a terminal; empty where there was no test.
     pub scores: Vec<u32>,
-    /// By how much a whole step in the direction makes the network shorter, rounded down, in sixteenths of the unit of the
-    /// lengths; 0 where it doesn't.
+    /// By how much a whole step in the direction makes the network shorter, rounded down, in sixteenths of the unit of
+    /// the lengths; 0 where it doesn't.
     pub gap: u64,
 }
 

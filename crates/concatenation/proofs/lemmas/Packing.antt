@@ -18,12 +18,6 @@ loads_of layers [] set = 0
 loads_of layers (tree ∷ trees) [] = 0
 loads_of layers (tree ∷ trees) (flag ∷ set) = (if flag then load_of layers tree else 0) + loads_of layers trees set
 
-loads_of-none : (trees : List Tree) (set : List Bool) → loads_of [] trees set ≡ 0
-loads_of-none [] set = refl
-loads_of-none (tree ∷ trees) [] = refl
-loads_of-none (tree ∷ trees) (false ∷ set) = omega (arith, loads_of-none trees set)
-loads_of-none (tree ∷ trees) (true ∷ set) = omega (arith, loads_of-none trees set)
-
 -- they take of each amount as often as they touch its parts
 loads_of-cons : (layer : Layer) (layers : List Layer) (trees : List Tree) (set : List Bool) →
     loads_of (layer ∷ layers) trees set ≡ layer.amount * touches_of (slice_index layer.labels) trees set + loads_of layers trees set

@@ -35,11 +35,6 @@ kept_fault ps ts n kept t f fifty e stands (inr (inl wrong)) =
 kept_fault ps ts n kept t f fifty e stands (inr (inr late)) =
     subst (λ s. IsTreeFault ps ts n s f) (same_tree kept t e (stands ps fifty (inr late.0.form))) (inr (inr late))
 
--- trees name few members
-pub few_members : (ps : List Point) (ts : List Tree) → AllByRecursion (IsTreeOf ps) ts → All (λ t. HasFewMembers t.code) ts
-few_members ps [] all = All-nil (λ t. HasFewMembers t.code)
-few_members ps (t ∷ ts) all = All-cons (λ s. HasFewMembers s.code) t ts all.0.form.members (few_members ps ts all.1)
-
 -- one more of them
 pub trees_push : (ps : List Point) (ts : List Tree) (t : Tree) → AllByRecursion (IsTreeOf ps) ts → IsTreeOf ps t
     → AllByRecursion (IsTreeOf ps) (ts ++ t ∷ [])

@@ -9,10 +9,6 @@ pub record HoldsBelow (P : ℕ → Type 0) (bound : ℕ) (set : List Bool) : Typ
   pub below : (k : ℕ) → slice_get set k ≡ Some true → k < bound
   pub only : (k : ℕ) → slice_get set k ≡ Some true → P k
 
--- nothing is in the empty set
-none_inside : (size k : ℕ) → slice_get (replicate size false) k ≡ Some true → ⊥
-none_inside size k inside = let same : false ≡ true = slice_get-replicate size k false true inside in cc
-
 -- the next number has P and was put in
 pub HoldsBelow-yes : (P : ℕ → Type 0) (n : ℕ) (set : List Bool) → n < length set → P n → HoldsBelow P n set → HoldsBelow P (n + 1) (slice_set set n true)
 HoldsBelow-yes P n set within is so_far = record {

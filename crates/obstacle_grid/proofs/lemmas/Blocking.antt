@@ -28,9 +28,6 @@ is_amid-decides low high z = Decides-and _ _ (int_lt-decides low z) (int_lt-deci
 amid_twice : (low high z : ℤ) → low <ℤ z → z <ℤ high → IsAmid low high (twice z)
 amid_twice low high z lower higher = record { above = omega (arith, ints); below = omega (arith, ints) }
 
-amid_once : (low high z : ℤ) → IsAmid low high (twice z) → (low <ℤ z) × (z <ℤ high)
-amid_once low high z amid = (omega (arith, ints, amid.above), omega (arith, ints, amid.below))
-
 -- two stretches that overlap have the middle of what they share in common
 abbrev middle : ℤ → ℤ → ℤ → ℤ → ℤ
 middle low high low' high' = int_max low low' +ℤ int_min high high'
@@ -63,11 +60,6 @@ common_overlaps low high low' high' number amid amid' =
 amid_between : (low high number : ℤ) → low <ℤ high → IsBetween low high number → IsAmid low high number
 amid_between low high number lower (inl amid) = amid
 amid_between low high number lower (inr amid) = absurd (omega (arith, ints, amid.above, amid.below))
-
--- nothing is between a number and itself
-none_between : {P : Type 0} (y z number : ℤ) → y ≡ z → IsBetween y z number → P
-none_between y z number same (inl amid) = absurd (omega (arith, ints, amid.above, amid.below))
-none_between y z number same (inr amid) = absurd (omega (arith, ints, amid.above, amid.below))
 
 -- ---- in the plane
 

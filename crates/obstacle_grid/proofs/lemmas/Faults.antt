@@ -102,9 +102,3 @@ pub joined_by_all : (g : Graph) (all : List Bool) (place : Option ℕ) → all �
     → IfNone place (IsNetwork g all) → IsNetwork g (all_edges g)
 joined_by_all g all place same none known =
     subst (IsNetwork g) same (subst (λ o. IfNone o (IsNetwork g all)) none known)
-
--- the first one that is
-pub apart_by_all : (g : Graph) (all : List Bool) (place : Option ℕ) (p : ℕ) → all ≡ all_edges g → place ≡ Some p
-    → IfSome place (IsFirstApart g all) → IsFirstApart g (all_edges g) p
-apart_by_all g all place p same is known =
-    subst (λ set. IsFirstApart g set p) same (subst (λ o. IfSome o (IsFirstApart g all)) is known)
