@@ -99,19 +99,27 @@ module _ (g : Graph) (first later : ℕ) (longer : first ≤ later) where
     plain = ends.plain;
   }
 
--- What closes by chains is told as it is, in place of what was stopped.
+-- What a search by chains found is told as it is, in place of what was stopped, where it made all openings or closes.
 pub chains_told : (g : Graph) (asked : SplitKind) (openings first_length : ℕ) (stopped found : Solved) →
     asked ≡ kind.Edges → IsTold g asked openings first_length stopped →
-    IsFoundByChains g (length_of g stopped.network) openings found → found.optimal ≡ true →
-    IsTold g asked openings first_length found
-chains_told g asked openings first_length stopped found edges was is optimal =
+    IsFoundByChains g (length_of g stopped.network) openings found →
+    (found.optimal ≡ false → split_count found.tree ≡ openings) → IsTold g asked openings first_length found
+chains_told g asked openings first_length stopped found edges was is whole =
     let short : length_of g stopped.network ≤ first_length =
     (let no_longer = was.no_longer in let same = was.length in omega (arith, no_longer, same)) in
     let ends = by_kind_longer g (length_of g stopped.network) first_length short kind.Edges found.network found.tree is.by_kind in
     told g asked openings first_length found
-    (solved_longer g (length_of g stopped.network) first_length short found is.solved) is.few
-    (λ no. let never : true ≡ false = sym optimal ∙ no in absurd cc)
+    (solved_longer g (length_of g stopped.network) first_length short found is.solved) is.few whole
     (subst (λ (k : SplitKind). EndsByKind g k first_length found.network found.tree) (sym edges) ends)
+
+-- so it is where it closes
+pub closed_told : (g : Graph) (asked : SplitKind) (openings first_length : ℕ) (stopped found : Solved) →
+    asked ≡ kind.Edges → IsTold g asked openings first_length stopped →
+    IsFoundByChains g (length_of g stopped.network) openings found → found.optimal ≡ true →
+    IsTold g asked openings first_length found
+closed_told g asked openings first_length stopped found edges was is optimal =
+    chains_told g asked openings first_length stopped found edges was is
+    (λ no. let never : true ≡ false = sym optimal ∙ no in absurd cc)
 
 -- What a search found that was ahead of a leaf.
 pub found_by_chains : (g : Graph) (first_length openings : ℕ) (leaf last : SearchState) (found : Solved) →

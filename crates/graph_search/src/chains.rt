@@ -1,7 +1,7 @@
 //! Searches that close one child of nearly each split, so that their splits are a chain, for graphs in which whole
 //! weights leave no packing to make anew.
 
-ghost use Rattle.std.specs.Prelude.{ℕ, ◌≡◌, ◌+◌, ◌<◌, ◌≤◌, true, length, IfOk, IfSome};
+ghost use Rattle.std.specs.Prelude.{ℕ, ◌≡◌, ◌+◌, ◌<◌, ◌≤◌, false, true, length, IfOk, IfSome, IsTrue};
 ghost use Rattle.net_graph.specs.Network.{length_of};
 ghost use Rattle.dual_ascent.specs.Choosing.{IsCallableOnSome, AnswersAPlace};
 ghost use Rattle.cert_tree.specs.Preorder.{split_count};
@@ -23,6 +23,9 @@ use strong_branching::{Draws, drawn_again, drawn_place, is_of, place_of};
 const MOST_SEARCHES: u8 = 200;
 
 const SEED: u64 = 20240610;
+
+// In graphs of more edges a search by the values of children takes longer than all before, and seldom gains.
+const MOST_EDGES_BY_VALUES: u32 = 3_000;
 
 // What the rules of a search by chains go by: the edge that is split on next, and the seed of the order in which the
 // ascents of both children take their candidates.
@@ -65,14 +68,60 @@ fn closed_on_edges(
     ensures { (first_length : ℕ) → IsTold graph.now SplitKind.Edges openings first_length stopped
         → IfOk result (IsTold graph.now SplitKind.Edges openings first_length) }
 {
-    let is_light = stopped.length <= 2 * u64::from(graph.edge_count());
-    if stopped.optimal || !is_light {
+    if stopped.optimal {
         return Ok(stopped);
     }
-    match found_closed(alloc, graph, &stopped.network, first, openings)? {
-        Some(found) => Ok(found),
-        None => Ok(stopped),
+    if stopped.length <= 2 * u64::from(graph.edge_count()) {
+        let begun = first.copy()?;
+        match found_closed(alloc, graph, &stopped.network, begun, openings)? {
+            Some(found) => return Ok(found),
+            None => {}
+        }
     }
+    raised_by_values(alloc, graph, stopped, first, openings)
+}
+
+// What a search finds that begins with the first leaf's packing and splits by the values of children, where its bound
+// is greater than that of what was stopped; else what is given. An `Err` is want of memory.
+fn raised_by_values(
+    alloc: Global,
+    graph: &NetGraph,
+    stopped: Solved,
+    first: Packing,
+    openings: u8,
+) -> Result<Solved, AllocError>
+    requires { IsNetworkOf graph.now stopped.network }
+    ensures { (first_length : ℕ) → IsTold graph.now SplitKind.Edges openings first_length stopped
+        → IfOk result (IsTold graph.now SplitKind.Edges openings first_length) }
+{
+    if openings == 0 || graph.edge_count() > MOST_EDGES_BY_VALUES {
+        return Ok(stopped);
+    }
+    let proposal = Proposal::Values;
+    let mut draws = Draws::new(SEED, proposal.most_arcs());
+    let mut proposing = proposal.begin(alloc, graph)?;
+    let begun = stopped.network.copy()?;
+    let found = search(
+        alloc,
+        graph,
+        begun,
+        first,
+        openings,
+        &mut proposing,
+        &mut draws,
+    )?;
+    if found.bound > stopped.bound && is_whole(&found, openings) {
+        Ok(found)
+    } else {
+        Ok(stopped)
+    }
+}
+
+// Whether a search closes, or has made as many splits as are allowed.
+fn is_whole(found: &Solved, openings: u8) -> bool
+    ensures { IsTrue result → found.now.optimal ≡ false → split_count found.now.tree ≡ openings }
+{
+    found.optimal || found.tree.splits() == u32::from(openings)
 }
 
 // What a search by chains finds that closes, whose splits go along cuts where any are allowed, or else as the bounds of

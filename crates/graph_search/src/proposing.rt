@@ -5,7 +5,7 @@ ghost use Rattle.net_graph.specs.Decision.{IsDecisionFor};
 
 use net_graph::{Decision, EdgeSet, NetGraph, Packing, length};
 use std::alloc::{AllocError, Global};
-use strong_branching::{Choice, CutPlan, Draws, choose};
+use strong_branching::{Choice, CutPlan, Draws, choose, choose_by_values};
 
 // So many arcs are looked at where splits go along cuts, which takes a second or two.
 const MOST_ARCS_OF_CUTS: u64 = 750_000;
@@ -13,13 +13,20 @@ const MOST_ARCS_OF_CUTS: u64 = 750_000;
 // So many arcs are looked at where both children are bounded, which takes some seconds.
 const MOST_ARCS: u64 = 1_500_000;
 
+// Where splits go by their children's values so many arcs are looked at for each, in no more than so many candidates.
+const ARCS_A_SPLIT: u32 = 5_000;
+
+const MOST_CANDIDATES: u32 = 8;
+
 /// What proposes the edges that are split on.
 #[derive(Clone, Copy)]
 pub(crate) enum Proposal {
     /// A least cut of the saturated ways from the root to a required vertex.
     Cut,
-    /// The bounds of both children of each candidate.
+    /// The bounds of both children of each candidate, for one that closes.
     BothChildren,
+    /// The values of both children, for a greater bound.
+    Values,
 }
 
 impl Proposal {
@@ -28,6 +35,7 @@ impl Proposal {
         match self {
             Proposal::Cut => MOST_ARCS_OF_CUTS,
             Proposal::BothChildren => MOST_ARCS,
+            Proposal::Values => u64::MAX,
         }
     }
 
@@ -36,6 +44,7 @@ impl Proposal {
         match self {
             Proposal::Cut => Ok(Proposing::Cut(CutPlan::none(alloc, graph)?)),
             Proposal::BothChildren => Ok(Proposing::BothChildren),
+            Proposal::Values => Ok(Proposing::Values(candidates_in(graph))),
         }
     }
 }
@@ -45,6 +54,8 @@ impl Proposal {
 pub(crate) enum Proposing {
     Cut(CutPlan),
     BothChildren,
+    // How many candidates of a leaf are looked at.
+    Values(u32),
 }
 
 impl Proposing {
@@ -66,6 +77,15 @@ impl Proposing {
         match self {
             Proposing::Cut(plan) => plan.next(alloc, graph, decision, packing, aim, left, draws),
             Proposing::BothChildren => choose(alloc, graph, decision, packing, network, aim, draws),
+            Proposing::Values(most) => {
+                choose_by_values(alloc, graph, decision, packing, aim, *most, draws)
+            }
         }
     }
+}
+
+// How many candidates of a leaf are looked at where splits go by their children's values.
+fn candidates_in(graph: &NetGraph) -> u32 {
+    let candidates = ARCS_A_SPLIT.checked_div(graph.edge_count()).unwrap_or(0);
+    candidates.clamp(1, MOST_CANDIDATES)
 }

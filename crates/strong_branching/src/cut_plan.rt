@@ -1,8 +1,8 @@
 //! Splits along a least cut of the saturated ways from the root to a required vertex: once all of its edges are left
 //! out, more can be packed.
 
-ghost use Rattle.std.specs.Prelude.{◌≡◌, length, IsTrue};
-ghost use Rattle.net_graph.specs.Decision.{IsDecisionFor, IsUndecided};
+ghost use Rattle.std.specs.Prelude.{◌≡◌, length};
+ghost use Rattle.net_graph.specs.Decision.{IsDecisionFor};
 ghost use Rattle.strong_branching.specs.Leaf.{IsLeafOf};
 
 use crate::choice::Choice;
@@ -101,7 +101,7 @@ impl CutPlan {
         }
         let mut rooms = self.rooms(alloc, leaf)?;
         for edge in &self.edges {
-            if is_undecided(leaf, *edge) {
+            if leaf.is_undecided(*edge) {
                 set(&mut rooms, edge.wrapping_mul(2), 0);
                 set(&mut rooms, edge.wrapping_mul(2).wrapping_add(1), 0);
             }
@@ -216,7 +216,7 @@ impl CutPlan {
         requires { IsLeafOf leaf.now }
     {
         for edge in &self.edges {
-            if is_undecided(leaf, *edge) && *edge < own.len() && own.has(*edge) {
+            if leaf.is_undecided(*edge) && *edge < own.len() && own.has(*edge) {
                 let seed = match at(&self.insides, *edge, None) {
                     Some(inside) => inside.seed,
                     None => draws.seed(),
@@ -226,14 +226,6 @@ impl CutPlan {
         }
         None
     }
-}
-
-// Whether a number is that of an undecided edge.
-fn is_undecided(leaf: &Leaf<'_>, edge: u32) -> bool
-    requires { IsLeafOf leaf.now }
-    ensures { IsTrue result → IsUndecided leaf.now.graph.now leaf.now.decision.now edge }
-{
-    edge < leaf.graph.edge_count() && leaf.decision.state(leaf.graph, edge) == EdgeState::Undecided
 }
 
 // What ascents in drawn orders make of an edge's inside child. An `Err` is want of memory.
@@ -247,7 +239,7 @@ fn bounded(
 {
     let mut best = 0;
     let mut best_seed = 0;
-    if is_undecided(leaf, edge) {
+    if leaf.is_undecided(edge) {
         for _ in 0..ORDERS {
             if best >= leaf.aim {
                 break;

@@ -18,6 +18,9 @@ const MOVES: u16 = 200;
 // At most so many cuts are taken out at once.
 const MOST_OUT: u32 = 4;
 
+// To judge so many cuts takes as long as two ascents for children, in which the arcs of all edges are looked at.
+const CUTS_A_LOOK: u32 = 100;
+
 /// A packing of the value of a given one or more: again and again some drawn cuts are taken out, and an ascent in a
 /// drawn order is made, which stands where it is worth no less. An `Err` is want of memory.
 pub fn drawn_again(
@@ -37,7 +40,7 @@ pub fn drawn_again(
             break;
         }
         let fewer = with_some_out(alloc, &best, draws)?;
-        draws.spend(graph.edge_count());
+        draws.spend(cost_of(graph, &best));
         if fewer.len() > 2 * graph.edge_count() as usize
             || !is_of(graph, &fewer)
             || !feasible(graph, &none, &fewer)
@@ -64,6 +67,12 @@ pub fn drawn_again(
         }
     }
     Ok(best)
+}
+
+// What a move is counted as, in arcs: all edges are looked at once for so many cuts.
+fn cost_of(graph: &NetGraph, packing: &Packing) -> u32 {
+    let cuts = u32::try_from(packing.len()).unwrap_or(u32::MAX);
+    graph.edge_count().saturating_mul(1 + cuts / CUTS_A_LOOK)
 }
 
 // The ascent that begins with given cuts, by any rule. An `Err` is want of memory.

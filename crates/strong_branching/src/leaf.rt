@@ -1,6 +1,6 @@
 //! A leaf that is to be split, and what ascents in drawn orders make of its children.
 
-ghost use Rattle.std.specs.Prelude.{◌<◌, length};
+ghost use Rattle.std.specs.Prelude.{◌<◌, length, IsTrue};
 ghost use Rattle.net_graph.specs.Decision.{IsDecisionFor, IsUndecided};
 ghost use Rattle.dual_ascent.specs.Carried.{DecidesOneMore};
 ghost use Rattle.dual_ascent.specs.Choosing.{IsCallableOnSome, AnswersAPlace};
@@ -9,7 +9,7 @@ ghost use Rattle.strong_branching.specs.Leaf.{IsLeafOf};
 use crate::drawn_order::drawn_place;
 use crate::relevant::relevant_arcs;
 use dual_ascent::{Candidate, Chooser, ReducedCosts, Rule, ascend_with, carry, carry_costs};
-use net_graph::{Decision, NetGraph, Packing, value};
+use net_graph::{Decision, EdgeState, NetGraph, Packing, value};
 use std::alloc::{AllocError, Global};
 
 // What a unit of a child's value is worth beside the wishes.
@@ -38,6 +38,15 @@ struct Child {
 }
 
 impl Leaf<'_> {
+    /// Whether a number is that of an undecided edge.
+    pub fn is_undecided(&self, edge: u32) -> bool
+        requires { IsLeafOf self.now }
+        ensures { IsTrue result → IsUndecided self.now.graph.now self.now.decision.now edge }
+    {
+        edge < self.graph.edge_count()
+            && self.decision.state(self.graph, edge) == EdgeState::Undecided
+    }
+
     /// What a split on an edge is worth by ascents in the order of a seed, where so many of the leaf's saturated arcs
     /// are relevant, and whether it closes a child and brings the other one closer to its end. An `Err` is want of
     /// memory.
@@ -56,6 +65,19 @@ impl Leaf<'_> {
         let inside = self.decision.with_inside(self.graph, edge)?;
         let inside = self.child(alloc, &inside, seed)?;
         Ok(self.worth_of(outside, inside, relevant))
+    }
+
+    /// What the children of a split on an edge are worth by ascents in the order of a seed: five times the lesser value
+    /// and once the greater one (Linderoth and Savelsbergh 1999). An `Err` is want of memory.
+    pub fn worth_by_values(&self, alloc: Global, edge: u32, seed: u64) -> Result<u64, AllocError>
+        requires leaf { IsLeafOf self.now }
+        requires edge { IsUndecided self.now.graph.now self.now.decision.now edge }
+    {
+        let outside = self.decision.with_outside(self.graph, edge)?;
+        let outside = self.child(alloc, &outside, seed)?.value;
+        let inside = self.inside_value(alloc, edge, seed)?;
+        let lesser = outside.min(inside);
+        Ok(lesser.saturating_mul(5).saturating_add(outside.max(inside)))
     }
 
     /// What an ascent in the order of a seed makes of the inside child of an edge: its value, at most the one that

@@ -2,6 +2,7 @@
 //! chosen is proposed; nothing rests on it.
 #![tactic(auto)]
 
+mod by_values;
 mod choice;
 mod cut_plan;
 mod drawn_order;
@@ -12,6 +13,7 @@ mod leaf;
 mod relevant;
 mod sizes;
 
+pub use by_values::choose_by_values;
 pub use choice::{Choice, choose};
 pub use cut_plan::CutPlan;
 pub use drawn_order::{drawn_place, place_of};

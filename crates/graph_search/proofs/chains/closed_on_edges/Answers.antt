@@ -5,7 +5,7 @@ use Rattle.net_graph.specs.Network.{length_of}
 use Rattle.branch.specs.declared.solved.Solved.{Solved}
 use Rattle.branch.specs.declared.split_kind.SplitKind.TheVariants as kind
 use Rattle.graph_search.specs.Chains.{IsFoundByChains}
-use Rattle.graph_search.proofs.ChainLemmas.{chains_told}
+use Rattle.graph_search.proofs.ChainLemmas.{closed_told}
 use Rattle.graph_search.proofs.chains.closed_on_edges.Goals as goal
 
 pub returns-in-Some : goal.returns-in-Some
@@ -15,4 +15,4 @@ returns-in-Some c =
     (length_of c.args.graph.now c.args.stopped.network) c.args.openings s × (s.optimal ≡ true)))
     c.in-Some.is c.in_ok-found.ensures in
     λ first_length told.
-    chains_told c.args.graph.now kind.Edges c.args.openings first_length c.args.stopped c.in-Some.found refl told is.0 is.1
+    closed_told c.args.graph.now kind.Edges c.args.openings first_length c.args.stopped c.in-Some.found refl told is.0 is.1
