@@ -64,7 +64,7 @@ const SPLITTING: Splitting = Splitting {
 
 // The looks of each exchange in a graph that can be drawn in the plane are so many divided by the square of the number
 // of edges.
-const LOOKS_IN_PLANE: u64 = 800_000_000_000_000;
+const LOOKS_IN_PLANE: u64 = 2_400_000_000_000_000;
 
 // So many rounds are played there for each terminal at most, and so many in an exchange for a child of a split. Where
 // the network is a little too long or there is a gap, rounds are played in vain; what can be closed takes fewer rounds
