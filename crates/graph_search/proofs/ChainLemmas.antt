@@ -1,4 +1,4 @@
--- Searches by chains.
+-- Searches that begin anew.
 use Rattle.std.proofs.Common.{ℕ, zero, suc, ◌≡◌, ◌<◌, ◌≤◌, Bool, List, length, true, false, refl, sym, ◌∙◌, subst, arith}
 use Rattle.std.proofs.Common.{length-append}
 use Rattle.net_graph.specs.Graph.{Graph}
@@ -18,7 +18,7 @@ use Rattle.branch.specs.RunLaws.{EndsRunOfOpenings-longer}
 use Rattle.branch.specs.Runs.{EndsRunOfOpenings}
 use Rattle.branch.specs.Searching.{SearchState, TakesStep}
 use Rattle.branch.specs.Solving.{IsSolved}
-use Rattle.graph_search.specs.Chains.{IsAhead, IsFoundByChains}
+use Rattle.graph_search.specs.Chains.{IsAhead, IsFoundOnEdges}
 use Rattle.graph_search.specs.Searched.{EndsByKind, IsTold}
 use Rattle.graph_search.proofs.SearchedLaws.{told}
 
@@ -99,12 +99,12 @@ module _ (g : Graph) (first later : ℕ) (longer : first ≤ later) where
     plain = ends.plain;
   }
 
--- What a search by chains found is told as it is, in place of what was stopped, where it made all openings or closes.
-pub chains_told : (g : Graph) (asked : SplitKind) (openings first_length : ℕ) (stopped found : Solved) →
+-- What a search that began anew found is told as it is, in place of what was stopped, where it made all openings or closes.
+pub anew_told : (g : Graph) (asked : SplitKind) (openings first_length : ℕ) (stopped found : Solved) →
     asked ≡ kind.Edges → IsTold g asked openings first_length stopped →
-    IsFoundByChains g (length_of g stopped.network) openings found →
+    IsFoundOnEdges g (length_of g stopped.network) openings found →
     (found.optimal ≡ false → split_count found.tree ≡ openings) → IsTold g asked openings first_length found
-chains_told g asked openings first_length stopped found edges was is whole =
+anew_told g asked openings first_length stopped found edges was is whole =
     let short : length_of g stopped.network ≤ first_length =
     (let no_longer = was.no_longer in let same = was.length in omega (arith, no_longer, same)) in
     let ends = by_kind_longer g (length_of g stopped.network) first_length short kind.Edges found.network found.tree is.by_kind in
@@ -115,19 +115,19 @@ chains_told g asked openings first_length stopped found edges was is whole =
 -- so it is where it closes
 pub closed_told : (g : Graph) (asked : SplitKind) (openings first_length : ℕ) (stopped found : Solved) →
     asked ≡ kind.Edges → IsTold g asked openings first_length stopped →
-    IsFoundByChains g (length_of g stopped.network) openings found → found.optimal ≡ true →
+    IsFoundOnEdges g (length_of g stopped.network) openings found → found.optimal ≡ true →
     IsTold g asked openings first_length found
 closed_told g asked openings first_length stopped found edges was is optimal =
-    chains_told g asked openings first_length stopped found edges was is
+    anew_told g asked openings first_length stopped found edges was is
     (λ no. let never : true ≡ false = sym optimal ∙ no in absurd cc)
 
 -- What a search found that was ahead of a leaf.
-pub found_by_chains : (g : Graph) (first_length openings : ℕ) (leaf last : SearchState) (found : Solved) →
+pub found_on_edges : (g : Graph) (first_length openings : ℕ) (leaf last : SearchState) (found : Solved) →
     leaf.graph ≡ g → leaf.kind ≡ kind.Edges → leaf.first_length ≡ first_length → split_count leaf.tree ≡ 0 →
     EndsRunOfOpenings leaf.graph leaf.first_length leaf.network leaf.tree → IsAhead leaf last →
     split_count last.tree ≤ openings → found.network ≡ last.network → found.tree ≡ last.tree →
-    IsSolved last.graph last.first_length found → IsFoundByChains g first_length openings found
-found_by_chains g first_length openings leaf last found graph edges first none run ahead few network tree solved =
+    IsSolved last.graph last.first_length found → IsFoundOnEdges g first_length openings found
+found_on_edges g first_length openings leaf last found graph edges first none run ahead few network tree solved =
     let run_in : EndsRunOfOpenings g first_length leaf.network leaf.tree =
     subst (λ (h : Graph). EndsRunOfOpenings h first_length leaf.network leaf.tree) graph
     (subst (λ (n : ℕ). EndsRunOfOpenings leaf.graph n leaf.network leaf.tree) first run) in

@@ -1,4 +1,4 @@
--- What searches by chains come to.
+-- What searches come to that begin anew and split on edges.
 use Rattle.std.specs.Prelude.{ℕ, ◌≡◌, ◌≤◌}
 use Rattle.net_graph.specs.Graph.{Graph}
 use Rattle.cert_tree.specs.Preorder.{split_count}
@@ -17,7 +17,7 @@ pub record IsAhead (old new : SearchState) : Type 0 where
   pub leads : LeadsByOpenings old.kind old.graph old.network old.tree new.network new.tree
 
 -- a search found it by at most so many plain openings on edges
-pub record IsFoundByChains (g : Graph) (first_length openings : ℕ) (s : Solved) : Type 0 where
+pub record IsFoundOnEdges (g : Graph) (first_length openings : ℕ) (s : Solved) : Type 0 where
   pub solved : IsSolved g first_length s
   pub few : split_count s.tree ≤ openings
   pub by_kind : EndsByKind g kind.Edges first_length s.network s.tree

@@ -1,20 +1,17 @@
 //! Searches that close one child of nearly each split, so that their splits are a chain, for graphs in which whole
 //! weights leave no packing to make anew.
 
-ghost use Rattle.std.specs.Prelude.{ℕ, ◌≡◌, ◌+◌, ◌<◌, ◌≤◌, false, true, length, IfOk, IfSome, IsTrue};
+ghost use Rattle.std.specs.Prelude.{◌≡◌, ◌+◌, ◌<◌, ◌≤◌, true, length, IfOk, IfSome};
 ghost use Rattle.net_graph.specs.Network.{length_of};
 ghost use Rattle.dual_ascent.specs.Choosing.{IsCallableOnSome, AnswersAPlace};
 ghost use Rattle.cert_tree.specs.Preorder.{split_count};
 ghost use Rattle.branch.specs.States.{IsNetworkOf};
-ghost use Rattle.graph_search.specs.Chains.{IsAhead, IsFoundByChains};
-ghost use Rattle.graph_search.specs.Kinds.{kind_of};
-ghost use Rattle.graph_search.specs.Searched.{IsTold};
+ghost use Rattle.graph_search.specs.Chains.{IsAhead, IsFoundOnEdges};
 
 use crate::proposing::{Proposal, Proposing};
 use branch::{Search, Solved, SplitKind, Step};
 use dual_ascent::{Candidate, Chooser, Rule};
 use net_graph::{Decision, EdgeSet, NetGraph, Packing, feasible};
-use search_rules::SplitRule;
 use std::alloc::{AllocError, Global};
 use std::cell::Cell;
 use strong_branching::{Draws, drawn_again, drawn_place, is_of, place_of};
@@ -22,10 +19,8 @@ use strong_branching::{Draws, drawn_again, drawn_place, is_of, place_of};
 // So many searches are begun at most.
 const MOST_SEARCHES: u8 = 200;
 
-const SEED: u64 = 20240610;
-
-// In graphs of more edges a search by the values of children takes longer than all before, and seldom gains.
-const MOST_EDGES_BY_VALUES: u32 = 3_000;
+/// What the draws of each search that begins anew begin with.
+pub(crate) const SEED: u64 = 20240610;
 
 // What the rules of a search by chains go by: the edge that is split on next, and the seed of the order in which the
 // ascents of both children take their candidates.
@@ -35,98 +30,9 @@ struct Next {
     seed: Cell<u64>,
 }
 
-/// What a search by chains finds that closes, where one does; else what is given. So it is as well where another rule
-/// of splits than the usual one is asked for, where what is given is optimal, and where its length is one that packings
-/// have which can be made anew. An `Err` is want of memory.
-pub(crate) fn closed_by_chains(
-    alloc: Global,
-    graph: &NetGraph,
-    stopped: Solved,
-    first: Packing,
-    rule: SplitRule,
-    openings: u8,
-) -> Result<Solved, AllocError>
-    requires { IsNetworkOf graph.now stopped.network }
-    ensures { (first_length : ℕ) → IsTold graph.now (kind_of rule) openings first_length stopped
-        → IfOk result (IsTold graph.now (kind_of rule) openings first_length) }
-{
-    match rule {
-        SplitRule::Longest => closed_on_edges(alloc, graph, stopped, first, openings),
-        SplitRule::First | SplitRule::Vertex => Ok(stopped),
-    }
-}
-
-// The same where splits are on edges.
-fn closed_on_edges(
-    alloc: Global,
-    graph: &NetGraph,
-    stopped: Solved,
-    first: Packing,
-    openings: u8,
-) -> Result<Solved, AllocError>
-    requires { IsNetworkOf graph.now stopped.network }
-    ensures { (first_length : ℕ) → IsTold graph.now SplitKind.Edges openings first_length stopped
-        → IfOk result (IsTold graph.now SplitKind.Edges openings first_length) }
-{
-    if stopped.optimal {
-        return Ok(stopped);
-    }
-    if stopped.length <= 2 * u64::from(graph.edge_count()) {
-        let begun = first.copy()?;
-        match found_closed(alloc, graph, &stopped.network, begun, openings)? {
-            Some(found) => return Ok(found),
-            None => {}
-        }
-    }
-    raised_by_values(alloc, graph, stopped, first, openings)
-}
-
-// What a search finds that begins with the first leaf's packing and splits by the values of children, where its bound
-// is greater than that of what was stopped; else what is given. An `Err` is want of memory.
-fn raised_by_values(
-    alloc: Global,
-    graph: &NetGraph,
-    stopped: Solved,
-    first: Packing,
-    openings: u8,
-) -> Result<Solved, AllocError>
-    requires { IsNetworkOf graph.now stopped.network }
-    ensures { (first_length : ℕ) → IsTold graph.now SplitKind.Edges openings first_length stopped
-        → IfOk result (IsTold graph.now SplitKind.Edges openings first_length) }
-{
-    if openings == 0 || graph.edge_count() > MOST_EDGES_BY_VALUES {
-        return Ok(stopped);
-    }
-    let proposal = Proposal::Values;
-    let mut draws = Draws::new(SEED, proposal.most_arcs());
-    let mut proposing = proposal.begin(alloc, graph)?;
-    let begun = stopped.network.copy()?;
-    let found = search(
-        alloc,
-        graph,
-        begun,
-        first,
-        openings,
-        &mut proposing,
-        &mut draws,
-    )?;
-    if found.bound > stopped.bound && is_whole(&found, openings) {
-        Ok(found)
-    } else {
-        Ok(stopped)
-    }
-}
-
-// Whether a search closes, or has made as many splits as are allowed.
-fn is_whole(found: &Solved, openings: u8) -> bool
-    ensures { IsTrue result → found.now.optimal ≡ false → split_count found.now.tree ≡ openings }
-{
-    found.optimal || found.tree.splits() == u32::from(openings)
-}
-
-// What a search by chains finds that closes, whose splits go along cuts where any are allowed, or else as the bounds of
-// both children choose; none where no one closes within the budget. An `Err` is want of memory.
-fn found_closed(
+/// What a search by chains finds that closes, whose splits go along cuts where any are allowed, or else as the bounds of
+/// both children choose; none where no one closes within the budget. An `Err` is want of memory.
+pub(crate) fn found_closed(
     alloc: Global,
     graph: &NetGraph,
     network: &EdgeSet,
@@ -135,7 +41,7 @@ fn found_closed(
 ) -> Result<Option<Solved>, AllocError>
     requires { IsNetworkOf graph.now network.now }
     ensures { IfOk result (λ found. IfSome found (λ s.
-        IsFoundByChains graph.now (length_of graph.now network.now) openings s × (s.optimal ≡ true))) }
+        IsFoundOnEdges graph.now (length_of graph.now network.now) openings s × (s.optimal ≡ true))) }
 {
     if openings > 0 {
         let begun = first.copy()?;
@@ -160,7 +66,7 @@ fn found_by(
 ) -> Result<Option<Solved>, AllocError>
     requires { IsNetworkOf graph.now network.now }
     ensures { IfOk result (λ found. IfSome found (λ s.
-        IsFoundByChains graph.now (length_of graph.now network.now) openings s × (s.optimal ≡ true))) }
+        IsFoundOnEdges graph.now (length_of graph.now network.now) openings s × (s.optimal ≡ true))) }
 {
     let mut draws = Draws::new(SEED, proposal.most_arcs());
     let mut first = first;
@@ -187,8 +93,8 @@ fn found_by(
     Ok(None)
 }
 
-// What a search by chains finds that begins with a network and a packing. An `Err` is want of memory.
-fn search(
+/// What a search finds that begins with a network and a packing and splits on edges. An `Err` is want of memory.
+pub(crate) fn search(
     alloc: Global,
     graph: &NetGraph,
     network: EdgeSet,
@@ -198,7 +104,7 @@ fn search(
     draws: &mut Draws,
 ) -> Result<Solved, AllocError>
     requires { IsNetworkOf graph.now network }
-    ensures { IfOk result (IsFoundByChains graph.now (length_of graph.now network) openings) }
+    ensures { IfOk result (IsFoundOnEdges graph.now (length_of graph.now network) openings) }
 {
     let next = Next {
         edge: Cell::new(0),
@@ -242,7 +148,7 @@ fn search_by<F: Rule, G: Rule>(
     requires ascent_place { AnswersAPlace (F.chooses ascent) }
     requires split_callable { IsCallableOnSome (G.may_choose split) }
     requires split_place { AnswersAPlace (G.chooses split) }
-    ensures { IfOk result (IsFoundByChains graph.now (length_of graph.now network) openings) }
+    ensures { IfOk result (IsFoundOnEdges graph.now (length_of graph.now network) openings) }
 {
     let mut search = Search::start(
         alloc,

@@ -2,6 +2,7 @@
 //! network, and goes by the rules that the words choose.
 #![tactic(auto)]
 
+mod anew;
 mod answering;
 mod chains;
 mod children;

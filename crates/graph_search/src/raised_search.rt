@@ -7,7 +7,7 @@ ghost use Rattle.branch.specs.States.{IsNetworkOf};
 ghost use Rattle.graph_search.specs.Kinds.{kind_of};
 ghost use Rattle.graph_search.specs.Searched.{IsTold};
 
-use crate::chains::closed_by_chains;
+use crate::anew::searched_anew;
 use crate::raising::Raising;
 use branch::{Search, Solved, SplitKind};
 use dual_ascent::{Candidate, Chooser, Rule};
@@ -91,5 +91,5 @@ fn searched_by<F: Rule, G: Rule, A: Raising>(
     raising.raise(alloc, &mut search, openings)?;
     let first = search.tree().packing(0).copy()?;
     let solved = search.solve(openings)?;
-    closed_by_chains(alloc, g, solved, first, rule, openings)
+    searched_anew(alloc, g, solved, first, rule, openings)
 }

@@ -1,16 +1,13 @@
 //! Splits by what ascents in drawn orders make of both children's values.
 
-ghost use Rattle.std.specs.Prelude.{◌≡◌, ◌<◌, length};
+ghost use Rattle.std.specs.Prelude.{◌<◌, length};
 ghost use Rattle.net_graph.specs.Decision.{IsDecisionFor};
 ghost use Rattle.strong_branching.specs.Leaf.{IsLeafOf};
 
 use crate::choice::Choice;
 use crate::draws::Draws;
 use crate::leaf::Leaf;
-use crate::sizes::is_of;
-use branch::saturated_network;
-use dual_ascent::{ReducedCosts, maximal};
-use net_graph::{Cut, Decision, EdgeSet, EdgeState, NetGraph, Packing, feasible};
+use net_graph::{Cut, Decision, NetGraph, Packing};
 use std::alloc::{AllocError, Global};
 
 // An undecided edge of a leaf's own network, and by how much the cuts that it drops where it is taken in outweigh it.
@@ -41,22 +38,10 @@ pub fn choose_by_values(
 ) -> Result<Option<Choice>, AllocError>
     requires { IsDecisionFor graph.now decision.now }
 {
-    if !is_of(graph, packing)
-        || !feasible(graph, decision, packing)
-        || !maximal(alloc, graph, decision, packing)?
-    {
+    let Some(leaf) = Leaf::of(alloc, graph, decision, packing, aim)? else {
         return Ok(None);
-    }
-    let costs = ReducedCosts::of(alloc, graph, decision, packing)?;
-    let own = saturated_network(alloc, graph, decision, packing)?;
-    let leaf = Leaf {
-        graph,
-        decision,
-        packing,
-        costs,
-        aim,
     };
-    let edges = by_loss(alloc, &leaf, &own)?;
+    let edges = by_loss(alloc, &leaf)?;
     if most <= 1 {
         let seed = draws.seed();
         return Ok(
@@ -74,14 +59,12 @@ pub fn choose_by_values(
 }
 
 // The undecided edges of a leaf's own network, those first that lose least. An `Err` is want of memory.
-fn by_loss(alloc: Global, leaf: &Leaf<'_>, own: &EdgeSet) -> Result<Vec<Losing>, AllocError>
-    requires leaf { IsLeafOf leaf.now }
-    requires own { length own.now ≡ length leaf.now.graph.now.edges }
+fn by_loss(alloc: Global, leaf: &Leaf<'_>) -> Result<Vec<Losing>, AllocError>
+    requires { IsLeafOf leaf.now }
 {
-    let graph = leaf.graph;
     let mut edges = Vec::new(alloc);
-    for edge in 0..graph.edge_count() {
-        if own.has(edge) && leaf.decision.state(graph, edge) == EdgeState::Undecided {
+    for edge in 0..leaf.graph.edge_count() {
+        if leaf.is_candidate(edge) {
             let loss = loss_of(leaf, edge);
             edges.push(Losing { edge, loss })?;
         }

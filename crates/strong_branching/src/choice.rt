@@ -7,11 +7,7 @@ ghost use Rattle.strong_branching.specs.Leaf.{IsLeafOf};
 
 use crate::draws::Draws;
 use crate::leaf::Leaf;
-use crate::relevant::relevant_arcs;
-use crate::sizes::is_of;
-use branch::saturated_network;
-use dual_ascent::{ReducedCosts, maximal};
-use net_graph::{Decision, EdgeSet, EdgeState, NetGraph, Packing, feasible};
+use net_graph::{Decision, EdgeSet, NetGraph, Packing};
 use std::alloc::{AllocError, Global};
 
 // So many orders are drawn for the ascents of each candidate's children.
@@ -56,31 +52,18 @@ pub fn choose(
     requires decision { IsDecisionFor graph.now decision.now }
     requires known { length known.now ≡ length graph.now.edges }
 {
-    if !is_of(graph, packing)
-        || !feasible(graph, decision, packing)
-        || !maximal(alloc, graph, decision, packing)?
-    {
+    let Some(leaf) = Leaf::of(alloc, graph, decision, packing, aim)? else {
         return Ok(None);
-    }
-    let costs = ReducedCosts::of(alloc, graph, decision, packing)?;
-    let own = saturated_network(alloc, graph, decision, packing)?;
-    let relevant = relevant_arcs(alloc, graph, decision, &costs)?;
-    let leaf = Leaf {
-        graph,
-        decision,
-        packing,
-        costs,
-        aim,
     };
     let mut best = Best {
         choice: None,
         worth: 0,
         is_good: false,
         candidates: 0,
-        relevant,
+        relevant: leaf.relevant(alloc)?,
     };
-    best.look_at(alloc, &leaf, &own, known, true, draws)?;
-    best.look_at(alloc, &leaf, &own, known, false, draws)?;
+    best.look_at(alloc, &leaf, known, true, draws)?;
+    best.look_at(alloc, &leaf, known, false, draws)?;
     Ok(best.choice)
 }
 
@@ -91,22 +74,18 @@ impl Best {
         &mut self,
         alloc: Global,
         leaf: &Leaf<'_>,
-        own: &EdgeSet,
         known: &EdgeSet,
         is_known: bool,
         draws: &mut Draws,
     ) -> Result<(), AllocError>
         requires leaf { IsLeafOf leaf.now }
-        requires own { length own.now ≡ length leaf.now.graph.now.edges }
         requires known { length known.now ≡ length leaf.now.graph.now.edges }
     {
-        let graph = leaf.graph;
-        for edge in 0..graph.edge_count() {
+        for edge in 0..leaf.graph.edge_count() {
             if self.is_good && self.candidates >= ENOUGH {
                 break;
             }
-            let is_candidate = own.has(edge) && known.has(edge) == is_known;
-            if is_candidate && leaf.decision.state(graph, edge) == EdgeState::Undecided {
+            if known.has(edge) == is_known && leaf.is_candidate(edge) {
                 self.try_edge(alloc, leaf, edge, draws)?;
             }
         }

@@ -10,11 +10,9 @@ use crate::draws::Draws;
 use crate::flow::Flow;
 use crate::leaf::Leaf;
 use crate::relevant::required_ends;
-use crate::sizes::is_of;
-use branch::saturated_network;
 use cut_groups::{at, set};
-use dual_ascent::{ReducedCosts, maximal};
-use net_graph::{Decision, EdgeSet, EdgeState, NetGraph, Packing, Passage, feasible};
+use dual_ascent::ReducedCosts;
+use net_graph::{Decision, EdgeState, NetGraph, Packing, Passage};
 use std::alloc::{AllocError, Global};
 
 // So many orders are drawn at most for the ascents of an edge's inside child.
@@ -71,25 +69,13 @@ impl CutPlan {
     ) -> Result<Option<Choice>, AllocError>
         requires { IsDecisionFor graph.now decision.now }
     {
-        if !is_of(graph, packing)
-            || !feasible(graph, decision, packing)
-            || !maximal(alloc, graph, decision, packing)?
-        {
+        let Some(leaf) = Leaf::of(alloc, graph, decision, packing, aim)? else {
             return Ok(None);
-        }
-        let costs = ReducedCosts::of(alloc, graph, decision, packing)?;
-        let own = saturated_network(alloc, graph, decision, packing)?;
-        let leaf = Leaf {
-            graph,
-            decision,
-            packing,
-            costs,
-            aim,
         };
         if !self.parts(alloc, &leaf)? && !self.make(alloc, &leaf, most, draws)? {
             return Ok(None);
         }
-        Ok(self.edge_of(&leaf, &own, draws))
+        Ok(self.edge_of(&leaf, draws))
     }
 
     // Whether the cut parts its vertex from the root under a leaf. An `Err` is want of memory.
@@ -212,11 +198,11 @@ impl CutPlan {
     }
 
     // The first undecided edge of the cut that a leaf's own network has.
-    fn edge_of(&self, leaf: &Leaf<'_>, own: &EdgeSet, draws: &mut Draws) -> Option<Choice>
+    fn edge_of(&self, leaf: &Leaf<'_>, draws: &mut Draws) -> Option<Choice>
         requires { IsLeafOf leaf.now }
     {
         for edge in &self.edges {
-            if leaf.is_undecided(*edge) && *edge < own.len() && own.has(*edge) {
+            if leaf.is_candidate(*edge) {
                 let seed = match at(&self.insides, *edge, None) {
                     Some(inside) => inside.seed,
                     None => draws.seed(),

@@ -1,6 +1,6 @@
 //! A leaf that is to be split, and what ascents in drawn orders make of its children.
 
-ghost use Rattle.std.specs.Prelude.{◌<◌, length, IsTrue};
+ghost use Rattle.std.specs.Prelude.{◌≡◌, ◌<◌, length, IfOk, IfSome, IsTrue};
 ghost use Rattle.net_graph.specs.Decision.{IsDecisionFor, IsUndecided};
 ghost use Rattle.dual_ascent.specs.Carried.{DecidesOneMore};
 ghost use Rattle.dual_ascent.specs.Choosing.{IsCallableOnSome, AnswersAPlace};
@@ -8,20 +8,27 @@ ghost use Rattle.strong_branching.specs.Leaf.{IsLeafOf};
 
 use crate::drawn_order::drawn_place;
 use crate::relevant::relevant_arcs;
-use dual_ascent::{Candidate, Chooser, ReducedCosts, Rule, ascend_with, carry, carry_costs};
-use net_graph::{Decision, EdgeState, NetGraph, Packing, value};
+use crate::sizes::is_of;
+use branch::saturated_network;
+use dual_ascent::{
+    Candidate, Chooser, ReducedCosts, Rule, ascend_with, carry, carry_costs, maximal,
+};
+use net_graph::{Decision, EdgeSet, EdgeState, NetGraph, Packing, feasible, value};
 use std::alloc::{AllocError, Global};
 
 // What a unit of a child's value is worth beside the wishes.
 const UNIT: i64 = 1000;
 
-/// A leaf that is to be split: a feasible packing under a decision, and what it leaves of the rooms of all arcs.
+/// A leaf that is to be split: a feasible packing under a decision, what it leaves of the rooms of all arcs, and its own
+/// network.
 #[derive(Drop)]
 pub(crate) struct Leaf<'a> {
     pub graph: &'a NetGraph,
     pub decision: &'a Decision,
     pub packing: &'a Packing,
     pub costs: ReducedCosts,
+    /// The network of its saturated arcs.
+    pub own: EdgeSet,
     /// The value that closes a child.
     pub aim: u64,
 }
@@ -37,7 +44,54 @@ struct Child {
     relevant: u32,
 }
 
+impl<'a> Leaf<'a> {
+    /// The leaf of a packing under a decision; none where the packing isn't a maximal one. An `Err` is want of memory.
+    pub fn of(
+        alloc: Global,
+        graph: &'a NetGraph,
+        decision: &'a Decision,
+        packing: &'a Packing,
+        aim: u64,
+    ) -> Result<Option<Leaf<'a>>, AllocError>
+        requires { IsDecisionFor graph.now decision.now }
+        ensures leaf { IfOk result (λ found. IfSome found IsLeafOf) }
+        ensures graph { IfOk result (λ found. IfSome found (λ leaf. leaf.graph.now ≡ graph.now)) }
+    {
+        if !is_of(graph, packing)
+            || !feasible(graph, decision, packing)
+            || !maximal(alloc, graph, decision, packing)?
+        {
+            return Ok(None);
+        }
+        let costs = ReducedCosts::of(alloc, graph, decision, packing)?;
+        let own = saturated_network(alloc, graph, decision, packing)?;
+        Ok(Some(Leaf {
+            graph,
+            decision,
+            packing,
+            costs,
+            own,
+            aim,
+        }))
+    }
+}
+
 impl Leaf<'_> {
+    /// How many of its saturated arcs are relevant. An `Err` is want of memory.
+    pub fn relevant(&self, alloc: Global) -> Result<u32, AllocError>
+        requires { IsLeafOf self.now }
+    {
+        relevant_arcs(alloc, self.graph, self.decision, &self.costs)
+    }
+
+    /// Whether a number is that of an undecided edge of its own network.
+    pub fn is_candidate(&self, edge: u32) -> bool
+        requires { IsLeafOf self.now }
+        ensures { IsTrue result → IsUndecided self.now.graph.now self.now.decision.now edge }
+    {
+        edge < self.own.len() && self.own.has(edge) && self.is_undecided(edge)
+    }
+
     /// Whether a number is that of an undecided edge.
     pub fn is_undecided(&self, edge: u32) -> bool
         requires { IsLeafOf self.now }

@@ -1,12 +1,12 @@
 -- Plain openings lead from the leaf to what is found.
 use Rattle.std.proofs.Common.{◌∙◌}
 use Rattle.net_graph.specs.Network.{length_of}
-use Rattle.graph_search.proofs.ChainLemmas.{found_by_chains}
+use Rattle.graph_search.proofs.ChainLemmas.{found_on_edges}
 use Rattle.graph_search.proofs.chains.search_by.Goals as goal
 
 pub returns : goal.returns
 returns _ c =
-    found_by_chains c.args.graph.now (length_of c.args.graph.now c.args.network) c.args.openings c.raise.new.search
+    found_on_edges c.args.graph.now (length_of c.args.graph.now c.args.network) c.args.openings c.raise.new.search
     c.split_in_turn.new.search c.finish.result
     (c.in_ok-raise.ensures.graph ∙ c.in_ok-search.ensures.graph)
     (c.in_ok-raise.ensures.kind ∙ c.in_ok-search.ensures.kind)

@@ -1,4 +1,4 @@
--- What the search found is told as it is, and so is what chains find in its place.
+-- What the search found is told as it is, and so is what a search that begins anew finds in its place.
 use Rattle.std.proofs.Common.{Ok, ◌∙◌}
 use Rattle.net_graph.specs.Network.{length_of}
 use Rattle.graph_search.specs.Kinds.{kind_of}
@@ -10,8 +10,8 @@ use Rattle.graph_search.proofs.raised_search.searched_by.Goals as goal
 pub packing-requires : goal.packing-requires
 packing-requires _ c = some_packing c.tree.result.now
 
-pub closed_by_chains-requires : goal.closed_by_chains-requires
-closed_by_chains-requires _ c =
+pub searched_anew-requires : goal.searched_anew-requires
+searched_anew-requires _ c =
     let told : IsTold c.args.g.now (kind_of c.args.rule) c.args.openings (length_of c.args.g.now c.args.first) c.in_ok-solved.solved =
     told_or_not {E = Unit {0}} c.args.g.now (kind_of c.args.rule) c.args.openings (length_of c.args.g.now c.args.first)
     c.raise.new.search (Ok c.in_ok-solved.solved)
@@ -24,7 +24,7 @@ closed_by_chains-requires _ c =
 
 pub returns : goal.returns
 returns _ c =
-    c.closed_by_chains.ensures (length_of c.args.g.now c.args.first)
+    c.searched_anew.ensures (length_of c.args.g.now c.args.first)
     (told_or_not {E = Unit {0}} c.args.g.now (kind_of c.args.rule) c.args.openings (length_of c.args.g.now c.args.first)
     c.raise.new.search (Ok c.in_ok-solved.solved)
     (c.raise.ensures.graph ∙ c.in_ok-search.ensures.graph)

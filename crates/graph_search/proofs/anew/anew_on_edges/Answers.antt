@@ -4,14 +4,14 @@ use Rattle.std.specs.Option.{IfSome}
 use Rattle.net_graph.specs.Network.{length_of}
 use Rattle.branch.specs.declared.solved.Solved.{Solved}
 use Rattle.branch.specs.declared.split_kind.SplitKind.TheVariants as kind
-use Rattle.graph_search.specs.Chains.{IsFoundByChains}
+use Rattle.graph_search.specs.Chains.{IsFoundOnEdges}
 use Rattle.graph_search.proofs.ChainLemmas.{closed_told}
-use Rattle.graph_search.proofs.chains.closed_on_edges.Goals as goal
+use Rattle.graph_search.proofs.anew.anew_on_edges.Goals as goal
 
 pub returns-in-Some : goal.returns-in-Some
 returns-in-Some c =
     let is =
-    subst (λ (o : Option Solved). IfSome o (λ (s : Solved). IsFoundByChains c.args.graph.now
+    subst (λ (o : Option Solved). IfSome o (λ (s : Solved). IsFoundOnEdges c.args.graph.now
     (length_of c.args.graph.now c.args.stopped.network) c.args.openings s × (s.optimal ≡ true)))
     c.in-Some.is c.in_ok-found.ensures in
     λ first_length told.
