@@ -30,8 +30,8 @@ struct Next {
     seed: Cell<u64>,
 }
 
-/// What a search by chains finds that closes, whose splits go along cuts where any are allowed, or else as the bounds of
-/// both children choose; none where no one closes within the budget. An `Err` is want of memory.
+/// What a search by chains finds that closes, whose splits go along cuts where any are allowed, or else as the bounds
+/// of both children choose; none where no one closes within the budget. An `Err` is want of memory.
 pub(crate) fn found_closed(
     alloc: Global,
     graph: &NetGraph,

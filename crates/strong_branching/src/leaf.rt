@@ -19,8 +19,8 @@ use std::alloc::{AllocError, Global};
 // What a unit of a child's value is worth beside the wishes.
 const UNIT: i64 = 1000;
 
-/// A leaf that is to be split: a feasible packing under a decision, what it leaves of the rooms of all arcs, and its own
-/// network.
+/// A leaf that is to be split: a feasible packing under a decision, what it leaves of the rooms of all arcs, and its
+/// own network.
 #[derive(Drop)]
 pub(crate) struct Leaf<'a> {
     pub graph: &'a NetGraph,
