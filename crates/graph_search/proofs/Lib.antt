@@ -1,3 +1,3 @@
 pub mod SearchedLaws
 pub mod SplitLemmas
-pub mod ChainLemmas
+pub mod AnewLemmas

@@ -1,7 +1,7 @@
 pub mod Kinds
 pub mod Plans
 pub mod Searched
-pub mod Chains
+pub mod Anew
 pub mod Answering
 pub mod TreeLaws
 pub mod AnsweringLaws

@@ -6,7 +6,7 @@ ghost use Rattle.net_graph.specs.Network.{length_of};
 ghost use Rattle.dual_ascent.specs.Choosing.{IsCallableOnSome, AnswersAPlace};
 ghost use Rattle.cert_tree.specs.Preorder.{split_count};
 ghost use Rattle.branch.specs.States.{IsNetworkOf};
-ghost use Rattle.graph_search.specs.Chains.{IsAhead, IsFoundOnEdges};
+ghost use Rattle.graph_search.specs.Anew.{IsAhead, IsFoundOnEdges};
 
 use crate::proposing::{Proposal, Proposing};
 use branch::{Search, Solved, SplitKind, Step};
@@ -189,7 +189,7 @@ fn raise<F: Rule, G: Rule>(
 }
 
 // Makes splits as is proposed, at most so many. An `Err` is want of memory.
-#[tactic(auto, using(crate::proofs::ChainLemmas::ahead_refl))]
+#[tactic(auto, using(crate::proofs::AnewLemmas::ahead_refl))]
 fn split_in_turn<F: Rule, G: Rule>(
     alloc: Global,
     graph: &NetGraph,

@@ -4,8 +4,8 @@ use Rattle.std.specs.Option.{IfSome}
 use Rattle.net_graph.specs.Network.{length_of}
 use Rattle.branch.specs.declared.solved.Solved.{Solved}
 use Rattle.branch.specs.declared.split_kind.SplitKind.TheVariants as kind
-use Rattle.graph_search.specs.Chains.{IsFoundOnEdges}
-use Rattle.graph_search.proofs.ChainLemmas.{closed_told}
+use Rattle.graph_search.specs.Anew.{IsFoundOnEdges}
+use Rattle.graph_search.proofs.AnewLemmas.{closed_told}
 use Rattle.graph_search.proofs.anew.anew_on_edges.Goals as goal
 
 pub returns-in-Some : goal.returns-in-Some

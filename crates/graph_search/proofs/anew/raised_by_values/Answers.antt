@@ -2,8 +2,8 @@
 use Rattle.std.proofs.Common.{List, Bool, refl, subst}
 use Rattle.net_graph.specs.Network.{length_of}
 use Rattle.branch.specs.declared.split_kind.SplitKind.TheVariants as kind
-use Rattle.graph_search.specs.Chains.{IsFoundOnEdges}
-use Rattle.graph_search.proofs.ChainLemmas.{anew_told}
+use Rattle.graph_search.specs.Anew.{IsFoundOnEdges}
+use Rattle.graph_search.proofs.AnewLemmas.{anew_told}
 use Rattle.graph_search.proofs.anew.raised_by_values.Goals as goal
 
 pub returns-then-is_whole : goal.returns-then-is_whole

@@ -1,7 +1,7 @@
 -- Plain openings lead from the leaf to what is found.
 use Rattle.std.proofs.Common.{◌∙◌}
 use Rattle.net_graph.specs.Network.{length_of}
-use Rattle.graph_search.proofs.ChainLemmas.{found_on_edges}
+use Rattle.graph_search.proofs.AnewLemmas.{found_on_edges}
 use Rattle.graph_search.proofs.chains.search_by.Goals as goal
 
 pub returns : goal.returns

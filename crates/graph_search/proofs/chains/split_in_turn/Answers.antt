@@ -1,6 +1,6 @@
 -- Each turn leads on.
 use Rattle.std.proofs.Common.{arith}
-use Rattle.graph_search.proofs.ChainLemmas.{ahead_trans}
+use Rattle.graph_search.proofs.AnewLemmas.{ahead_trans}
 use Rattle.graph_search.proofs.chains.split_in_turn.Goals as goal
 
 pub returns-in_err-split_next-clause-ahead : goal.returns-in_err-split_next-clause-ahead

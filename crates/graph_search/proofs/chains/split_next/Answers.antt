@@ -1,5 +1,5 @@
 -- A step of the search leads on.
-use Rattle.graph_search.proofs.ChainLemmas.{step_ahead}
+use Rattle.graph_search.proofs.AnewLemmas.{step_ahead}
 use Rattle.graph_search.proofs.chains.split_next.Goals as goal
 
 pub returns-clause-ahead : goal.returns-clause-ahead

@@ -3,7 +3,7 @@ use Rattle.std.proofs.Common.{Ok, ◌∙◌}
 use Rattle.net_graph.specs.Network.{length_of}
 use Rattle.graph_search.specs.Kinds.{kind_of}
 use Rattle.graph_search.specs.Searched.{IsTold}
-use Rattle.graph_search.proofs.ChainLemmas.{some_packing}
+use Rattle.graph_search.proofs.AnewLemmas.{some_packing}
 use Rattle.graph_search.proofs.SearchedLaws.{told_or_not}
 use Rattle.graph_search.proofs.raised_search.searched_by.Goals as goal
 

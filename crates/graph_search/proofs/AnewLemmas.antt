@@ -18,7 +18,7 @@ use Rattle.branch.specs.RunLaws.{EndsRunOfOpenings-longer}
 use Rattle.branch.specs.Runs.{EndsRunOfOpenings}
 use Rattle.branch.specs.Searching.{SearchState, TakesStep}
 use Rattle.branch.specs.Solving.{IsSolved}
-use Rattle.graph_search.specs.Chains.{IsAhead, IsFoundOnEdges}
+use Rattle.graph_search.specs.Anew.{IsAhead, IsFoundOnEdges}
 use Rattle.graph_search.specs.Searched.{EndsByKind, IsTold}
 use Rattle.graph_search.proofs.SearchedLaws.{told}
 
