@@ -54,6 +54,12 @@ length-costs_of (e ∷ edges) [] packing size = absurd (omega arith)
 length-costs_of (e ∷ edges) (state ∷ decision) packing size =
     ap suc (length-costs_of edges decision packing (omega arith))
 
+-- .. so what a packing leaves under a decision has as many parts as the graph has edges
+pub length-left : (g : Graph) (d : Decided) (packing : List Cut) (costs : List EdgeCosts) → IsDecisionFor g d →
+    costs ≡ costs_of g.edges (states_of g d) packing → length costs ≡ length g.edges
+length-left g d packing costs decision left =
+    ap length left ∙ length-costs_of g.edges (states_of g d) packing (length-states_of g d decision.edges)
+
 -- nothing is left exactly where the amount left is 0
 pub is_used_up-some : (left : Option ℕ) → is_used_up left ≡ true → left ≡ Some 0
 is_used_up-some None holds = absurd cc

@@ -1,27 +1,22 @@
-use Rattle.std.proofs.Common.{ℕ, ◌≡◌, ◌↔◌, ◌∙◌, true, Bool, List, length, slice_get, Some, ap, subst, Contains}
+use Rattle.std.proofs.Common.{ℕ, ◌≡◌, ◌↔◌, true, Bool, List, slice_get, Some, subst, Contains}
 use Rattle.std.proofs.lemmas.List.Elements.{All-contains}
 use Rattle.std.proofs.lemmas.Result.{IfOk-weaker}
 use Rattle.net_graph.specs.declared.arcs.Arc.{Arc}
-use Rattle.net_graph.specs.DecisionLaws.{length-states_of}
 use Rattle.dual_ascent.specs.Costs.{costs_of, is_saturated}
 use Rattle.net_graph.specs.declared.packing.Cut.{Cut}
 use Rattle.net_graph.specs.Decision.{Decided, IsDecisionFor, states_of}
 use Rattle.net_graph.specs.Graph.{Graph}
 use Rattle.dual_ascent.specs.declared.costs.EdgeCosts.{EdgeCosts}
-use Rattle.dual_ascent.specs.CostLaws.{length-costs_of, saturated_edge}
+use Rattle.dual_ascent.specs.CostLaws.{length-left, saturated_edge}
 use Rattle.branch.specs.SaturatedArcs.{HasSaturatedArc, IsOfSaturated, IsUsedUpEdge}
 use Rattle.branch.proofs.lemmas.SaturatedLemmas.{IsNetwork-saturated, HasSaturatedArc-used_up}
 use Rattle.branch.proofs.saturated.saturated_network_by.Goals as goal
 
 pub found_arcs-requires : goal.found_arcs-requires
-found_arcs-requires c =
-    ap length c.requires.costs ∙ length-costs_of c.args.g.now.edges (states_of c.args.g.now c.args.d.now)
-    c.args.packing.now (length-states_of c.args.g.now c.args.d.now c.requires.decision.edges)
+found_arcs-requires c = length-left _ _ _ _ c.requires.decision c.requires.costs
 
 pub saturated_edges-requires : goal.saturated_edges-requires
-saturated_edges-requires c =
-    ap length c.requires.costs ∙ length-costs_of c.args.g.now.edges (states_of c.args.g.now c.args.d.now)
-    c.args.packing.now (length-states_of c.args.g.now c.args.d.now c.requires.decision.edges)
+saturated_edges-requires c = length-left _ _ _ _ c.requires.decision c.requires.costs
 
 pub returns-then-branch-clause-saturated : goal.returns-then-branch-clause-saturated
 returns-then-branch-clause-saturated c n inside =

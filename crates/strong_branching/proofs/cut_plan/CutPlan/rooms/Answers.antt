@@ -1,15 +1,6 @@
 -- What a packing leaves has as many parts as the graph has edges.
-use Rattle.std.proofs.Common.{length, ap, ◌∙◌}
-use Rattle.net_graph.specs.Decision.{states_of}
-use Rattle.net_graph.specs.DecisionLaws.{length-states_of}
-use Rattle.dual_ascent.specs.CostLaws.{length-costs_of}
+use Rattle.dual_ascent.specs.CostLaws.{length-left}
 use Rattle.strong_branching.proofs.cut_plan.CutPlan.rooms.Goals as goal
 
 pub rooms_by-requires-clause-costs : goal.rooms_by-requires-clause-costs
-rooms_by-requires-clause-costs c =
-    let leaf = c.args.leaf.now in
-    let graph = leaf.graph.now in
-    let decision = leaf.decision.now in
-    ap length c.requires.costs
-    ∙ length-costs_of graph.edges (states_of graph decision) leaf.packing.now
-    (length-states_of graph decision c.requires.decision.edges)
+rooms_by-requires-clause-costs c = length-left _ _ _ _ c.requires.decision c.requires.costs
