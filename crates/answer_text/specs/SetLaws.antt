@@ -28,9 +28,7 @@ length-set_text (a ∷ b ∷ c ∷ d ∷ set) = omega (arith, length-set_text se
 -- behind the first four flags stand the flags of the rest
 has-further : (a b c d : Bool) (set : List Bool) (place k : ℕ) →
     has (a ∷ b ∷ c ∷ d ∷ set) (4 * suc place + k) ≡ has set (4 * place + k)
-has-further a b c d set place k =
-    let at : 4 * suc place + k ≡ suc (suc (suc (suc (4 * place + k)))) = omega arith in
-    rw at refl
+has-further a b c d set place k = grind arith
 
 -- they stand in the order of the flags
 pub get_or-set_text : (set : List Bool) (place : ℕ) → place < length (set_text set) →

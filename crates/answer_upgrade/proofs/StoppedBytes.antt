@@ -22,17 +22,11 @@ moved_on front rest n =
 
 -- no digit and one byte are one byte
 pub one_byte : (bytes piece : List ℕ) (n : ℕ) → n ≤ 0 → 0 < length piece → (bytes ++ take n piece) ++ get_or piece 0 0 ∷ [] ≡ bytes ++ take 1 piece
-one_byte bytes piece n none some =
-    let is : n ≡ 0 = omega arith in
-    ap (λ k. (bytes ++ take k piece) ++ get_or piece 0 0 ∷ []) is ∙ ap (λ x. x ++ get_or piece 0 0 ∷ []) (append-nil bytes)
-    ∙ ap (λ x. bytes ++ x) (sym (take_more piece 0 0 some))
+one_byte bytes piece n none some = grind (arith, append-nil bytes, take_more piece 0 0 some)
 
 -- no digit, the first byte and the others are all
 pub all_bytes : (bytes piece : List ℕ) (n : ℕ) → n ≤ 0 → 0 < length piece → (bytes ++ take n piece) ++ get_or piece 0 0 ∷ drop 1 piece ≡ bytes ++ piece
-all_bytes bytes piece n none some =
-    let is : n ≡ 0 = omega arith in
-    ap (λ k. (bytes ++ take k piece) ++ get_or piece 0 0 ∷ drop 1 piece) is ∙ ap (λ x. x ++ get_or piece 0 0 ∷ drop 1 piece) (append-nil bytes)
-    ∙ ap (λ x. bytes ++ x) (sym (drop-cons piece 0 0 some))
+all_bytes bytes piece n none some = grind (arith, append-nil bytes, drop-cons piece 0 0 some)
 
 -- a list without length is empty
 pub empty_of : (xs : List ℕ) → length xs ≡ 0 → xs ≡ []

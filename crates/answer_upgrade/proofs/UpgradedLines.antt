@@ -62,10 +62,7 @@ head_becomes V version.Graph h of = absurd of
 
 pub answer_becomes : (V : ℕ) (a : WrittenAnswer) → IsVersionOf (form.OnGrid V) a.version → map upgraded_line (answer_lines a) ≡ answer_lines (upgraded a)
 answer_becomes V a of =
-    map-append upgraded_line (head_lines a.version a.head) (body_lines a)
-    ∙ ap (λ x. x ++ map upgraded_line (body_lines a)) (head_becomes V a.version a.head of)
-    ∙ ap (λ x. head_lines version.Two a.head ++ x)
-    (map-append upgraded_line (network_lines a.edges) (proof_lines a.version a.tree) ∙ (λ k. network_stays a.edges k ++ proof_becomes a.version a.tree k))
+    grind (arith, map-append upgraded_line (head_lines a.version a.head) (body_lines a), head_becomes V a.version a.head of, map-append upgraded_line (network_lines a.edges) (proof_lines a.version a.tree), network_stays, proof_becomes)
 
 -- ---- one line after another
 
@@ -104,9 +101,7 @@ done_more done left behind here ls parts is = parts ∙ ap (λ x. done ++ x) is 
 
 pub text_more : (done : List Line) (here : Line) → lines_text (map upgraded_line done) ++ line_text (upgraded_line here) ≡ lines_text (map upgraded_line (done ++ here ∷ []))
 text_more done here =
-    ap (λ x. lines_text (map upgraded_line done) ++ x) (sym (append-nil (line_text (upgraded_line here))))
-    ∙ sym (flat_map-append line_text (map upgraded_line done) (upgraded_line here ∷ []))
-    ∙ ap lines_text (sym (map-append upgraded_line done (here ∷ [])))
+    grind (arith, append-nil (line_text (upgraded_line here)), flat_map-append line_text (map upgraded_line done) (upgraded_line here ∷ []), map-append upgraded_line done (here ∷ []))
 
 -- where no line feed is left, no line is
 pub none_left : (left : List Line) (rest : List ℕ) → rest ≡ lines_text left → Lacks rest 10 → left ≡ []

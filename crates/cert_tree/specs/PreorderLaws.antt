@@ -15,12 +15,7 @@ pub trees_of-parts : {S : Type 0} (t : Tree S) (nodes : List (Option S)) (packin
     trees_of (nodes_of t ++ nodes) (packings_of t ++ packings) ≡ t ∷ trees_of nodes packings
 trees_of-parts (Leaf cuts) nodes packings = refl
 trees_of-parts (Split on o i) nodes packings =
-    rw (
-      append_assoc (nodes_of o) (nodes_of i) nodes,
-      append_assoc (packings_of o) (packings_of i) packings,
-      trees_of-parts o (nodes_of i ++ nodes) (packings_of i ++ packings),
-      trees_of-parts i nodes packings,
-    )
+    grind (arith, append_assoc (nodes_of o) (nodes_of i) nodes, append_assoc (packings_of o) (packings_of i) packings, trees_of-parts o (nodes_of i ++ nodes) (packings_of i ++ packings), trees_of-parts i nodes packings)
 
 -- a tree's nodes and packings give it back
 pub tree_of-parts : {S : Type 0} (t : Tree S) → tree_of (nodes_of t) (packings_of t) ≡ t
@@ -29,11 +24,7 @@ tree_of-parts t = ap first_tree (rw (append-nil (nodes_of t), append-nil (packin
 -- .. so they are those of one tree, where it has few leaves
 pub IsPreorder-parts : {S : Type 0} (t : Tree S) → length (packings_of t) ≤ 2 ^ 31 →
     IsPreorder (nodes_of t) (packings_of t)
-IsPreorder-parts t few = record {
-  nodes_same = ap nodes_of (tree_of-parts t);
-  packings_same = ap packings_of (tree_of-parts t);
-  few = few;
-}
+IsPreorder-parts t few = grind (arith, tree_of-parts t)
 
 -- a tree has one leaf more than splits
 pub length-packings_of : {S : Type 0} (t : Tree S) → length (packings_of t) ≡ split_count t + 1
@@ -45,13 +36,7 @@ length-packings_of (Split on o i) =
 pub length-nodes_of : {S : Type 0} (t : Tree S) → length (nodes_of t) + 1 ≡ 2 * length (packings_of t)
 length-nodes_of (Leaf cuts) = omega arith
 length-nodes_of (Split on o i) =
-    omega (
-      arith,
-      length-append (nodes_of o) (nodes_of i),
-      length-append (packings_of o) (packings_of i),
-      length-nodes_of o,
-      length-nodes_of i,
-    )
+    grind (arith, length-append (nodes_of o) (nodes_of i), length-append (packings_of o) (packings_of i), length-nodes_of o, length-nodes_of i)
 
 -- the leaves of two lists
 pub leaves_in-append : {S : Type 0} (xs ys : List (Option S)) → leaves_in (xs ++ ys) ≡ leaves_in xs + leaves_in ys
@@ -63,13 +48,7 @@ leaves_in-append (Some on ∷ xs) ys = leaves_in-append xs ys
 pub leaves_in-nodes_of : {S : Type 0} (t : Tree S) → leaves_in (nodes_of t) ≡ length (packings_of t)
 leaves_in-nodes_of (Leaf cuts) = omega arith
 leaves_in-nodes_of (Split on o i) =
-    omega (
-      arith,
-      leaves_in-append (nodes_of o) (nodes_of i),
-      leaves_in-nodes_of o,
-      leaves_in-nodes_of i,
-      length-append (packings_of o) (packings_of i),
-    )
+    grind (arith, leaves_in-append (nodes_of o) (nodes_of i), leaves_in-nodes_of o, leaves_in-nodes_of i, length-append (packings_of o) (packings_of i))
 
 -- cuts are stored as the pair of their parts
 abbrev pub cut_code : Coded Cut

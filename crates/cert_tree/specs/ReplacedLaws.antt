@@ -1,5 +1,5 @@
 -- What a tree's parts are once a leaf is replaced.
-use Rattle.std.proofs.Common.{ℕ, ◌≡◌, ◌+◌, ◌-◌, ◌<◌, ◌≤◌, ◌⊎◌, inl, inr, ⊎_elim, true, false, ltb, List, [], ◌∷◌, ◌++◌, length, Option, Some, None, refl, ap, sym, ◌∙◌, arith, append_assoc, length-append}
+use Rattle.std.proofs.Common.{ℕ, ◌≡◌, ◌+◌, ◌-◌, ◌<◌, ◌≤◌, ◌⊎◌, inl, inr, ⊎_elim, true, ltb, List, [], ◌∷◌, ◌++◌, length, Option, Some, None, refl, ap, sym, ◌∙◌, arith, append_assoc, length-append}
 use Rattle.std.proofs.lemmas.List.{append-nil}
 use Rattle.std.proofs.lemmas.Bool.{cases_lt}
 use Rattle.net_graph.specs.declared.packing.Cut.{Cut}
@@ -51,10 +51,7 @@ replaced-outside on leaf new o i below = let test : ltb leaf (length (packings_o
 -- .. and into the inside child where it isn't
 pub replaced-inside : {S : Type 0} (on : S) (leaf more : ℕ) (new o i : Tree S) → leaf ≡ length (packings_of o) + more →
     replaced leaf new (Split on o i) ≡ Split on o (replaced more new i)
-replaced-inside on leaf more new o i past =
-    let test : ltb leaf (length (packings_of o)) ≡ false = grind arith in
-    let rest : leaf - length (packings_of o) ≡ more = omega arith in
-    rw (test, rest)
+replaced-inside on leaf more new o i past = grind arith
 
 module _ {S : Type 0} (new : Tree S) where
   -- the nodes of the replacement stand where the leaf stood

@@ -1,6 +1,6 @@
 -- What packed cuts leave of the room of arcs, and which arcs they saturate.
 use Rattle.std.specs.Prelude.{ℕ, zero, suc, ◌≡◌, ◌-◌, ◌/◌, ◌%◌, ◌<◌, ◌≤◌, true, List, [], ◌∷◌, length, slice_get, Option, Some, None, ◌⊎◌}
-use Rattle.std.proofs.Common.{get_or, inl, inr, sym, ap, ◌∙◌, ⊎_elim, eqb-true, arith, refl}
+use Rattle.std.proofs.Common.{get_or, ap, ◌∙◌, eqb-true, arith, refl}
 use Rattle.std.proofs.lemmas.Bool.{cases_lt, cases_eq, le-leb, lt-leb}
 use Rattle.std.proofs.lemmas.Option.{same_Some, slice_get-get_or, slice_get_past}
 use Rattle.net_graph.specs.declared.edge.Edge.{Edge}
@@ -12,7 +12,7 @@ use Rattle.net_graph.specs.Decision.{Decided, IsDecisionFor, states_of}
 use Rattle.net_graph.specs.DecisionLaws.{length-states_of}
 use Rattle.net_graph.specs.Packing.{load, room_of}
 use Rattle.dual_ascent.specs.declared.costs.EdgeCosts.{EdgeCosts}
-use Rattle.dual_ascent.specs.Costs.{left_after, left_of, costs_of, is_used_up, cost_in, is_saturated}
+use Rattle.dual_ascent.specs.Costs.{left_after, left_of, costs_of, is_used_up, is_saturated}
 
 -- a load within a room leaves the rest
 pub left_after-le : (room amount : ℕ) → amount ≤ room → left_after (Some room) amount ≡ Some (room - amount)
@@ -26,11 +26,7 @@ left_after-lt room amount over = rw (lt-leb amount room over) refl
 pub left_after-none : (room : Option ℕ) (amount : ℕ) → left_after room amount ≡ Some 0 → room ≡ Some amount
 left_after-none None amount none = absurd cc
 left_after-none (Some room) amount none =
-    ⊎_elim
-    (λ over. let missing : left_after (Some room) amount ≡ None = left_after-lt room amount over in absurd cc)
-    (λ fits. let rest : room - amount ≡ 0 = same_Some (room - amount) 0 (sym (left_after-le room amount fits) ∙ none) in
-    ap (λ n. Some n) (omega arith))
-    (cases_lt room amount)
+    grind (arith, Some room, left_after-lt, same_Some, left_after-le, cases_lt room amount)
 
 -- the room of an edge
 pub slice_get-costs_of : (edges : List Edge) (decision : List EdgeState) (packing : List Cut) (n : ℕ) (e : Edge)
@@ -40,9 +36,7 @@ pub slice_get-costs_of : (edges : List Edge) (decision : List EdgeState) (packin
 slice_get-costs_of [] decision packing n e state at decided = absurd cc
 slice_get-costs_of (x ∷ edges) [] packing n e state at decided = absurd cc
 slice_get-costs_of (x ∷ edges) (s ∷ decision) packing zero e state at decided =
-    let same_edge : x ≡ e = same_Some x e at in
-    let same_state : s ≡ state = same_Some s state decided in
-    cc
+    grind (arith, same_Some x e, same_Some s state decided)
 slice_get-costs_of (x ∷ edges) (s ∷ decision) packing (suc n) e state at decided =
     slice_get-costs_of edges decision packing n e state at decided
 
@@ -71,20 +65,7 @@ loaded_full : (g : Graph) (d : Decided) (packing : List Cut) (arc n : ℕ) (e : 
     is_saturated (costs_of g.edges (states_of g d) packing) arc ≡ true →
     (room_of state e ≡ Some (load packing e.a e.b)) ⊎ (room_of state e ≡ Some (load packing e.b e.a))
 loaded_full g d packing arc n e state half at decided full =
-    let costs : List EdgeCosts = costs_of g.edges (states_of g d) packing in
-    let here : slice_get costs (arc / 2) ≡ Some (left_of e state packing) =
-    ap (slice_get costs) (sym half) ∙ slice_get-costs_of g.edges (states_of g d) packing n e state at decided in
-    let used : is_used_up (cost_in (Some (left_of e state packing)) arc) ≡ true =
-    ap (λ o. is_used_up (cost_in o arc)) (sym here) ∙ full in
-    ⊎_elim
-    (λ (even : arc % 2 ≡ 0).
-    let first : is_used_up (left_after (room_of state e) (load packing e.a e.b)) ≡ true = rw even at used in
-    inl (left_after-none (room_of state e) (load packing e.a e.b) (is_used_up-some _ first)))
-    (λ odd.
-    let one : arc % 2 ≡ 1 = omega arith in
-    let second : is_used_up (left_after (room_of state e) (load packing e.b e.a)) ≡ true = rw one at used in
-    inr (left_after-none (room_of state e) (load packing e.b e.a) (is_used_up-some _ second)))
-    (cases_eq (arc % 2) 0)
+    grind (arith, slice_get-costs_of g.edges (states_of g d) packing n e state, left_after-none, is_used_up-some, cases_eq (arc % 2) 0)
 
 -- An arc of which packed cuts leave nothing is one of an edge whose room one of its two loads fills.
 pub saturated_edge : (g : Graph) (d : Decided) (packing : List Cut) → IsDecisionFor g d → (arc : ℕ) →
@@ -93,21 +74,12 @@ pub saturated_edge : (g : Graph) (d : Decided) (packing : List Cut) → IsDecisi
     × (slice_get (states_of g d) (arc / 2) ≡ Some state)
     × ((room_of state e ≡ Some (load packing e.a e.b)) ⊎ (room_of state e ≡ Some (load packing e.b e.a)))
 saturated_edge g d packing size arc full =
-    let n : ℕ = arc / 2 in
-    let states : List EdgeState = states_of g d in
-    let costs : List EdgeCosts = costs_of g.edges states packing in
-    let many : length states ≡ length g.edges = length-states_of g d size.edges in
-    ⊎_elim
-    (λ (within : n < length g.edges).
-    let none : Edge = record { a = 0; b = 0; length = 0 } in
-    let e : Edge = get_or g.edges n none in
-    let state : EdgeState = get_or states n Undecided in
-    let at : slice_get g.edges n ≡ Some e = slice_get-get_or g.edges n none within in
-    let decided : slice_get states n ≡ Some state = slice_get-get_or states n Undecided (omega arith) in
-    (e, state, at, decided, loaded_full g d packing arc n e state refl at decided full))
-    (λ (past : length g.edges ≤ n).
-    let gone : slice_get costs n ≡ None =
-    slice_get_past costs n (omega (arith, length-costs_of g.edges states packing many)) in
-    let unused : is_used_up (cost_in None arc) ≡ true = ap (λ o. is_used_up (cost_in o arc)) (sym gone) ∙ full in
-    absurd cc)
-    (cases_lt n (length g.edges))
+    grind (
+      arith,
+      length-states_of g d size.edges,
+      slice_get-get_or,
+      loaded_full g d packing arc (arc / 2) (get_or g.edges (arc / 2) (record { a = 0; b = 0; length = 0 })) (get_or (states_of g d) (arc / 2) Undecided) refl,
+      slice_get_past,
+      length-costs_of g.edges (states_of g d) packing (length-states_of g d size.edges),
+      cases_lt (arc / 2) (length g.edges),
+    )

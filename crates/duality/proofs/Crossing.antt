@@ -1,5 +1,5 @@
 -- A walk that starts outside a set of vertices and ends inside it enters the set by an arc that leads away from the root.
-use Rattle.std.proofs.Common.{ℕ, zero, suc, ◌≡◌, ⊎_elim, Bool, true, false, List, ap, ◌∙◌, eqb-true}
+use Rattle.std.proofs.Common.{ℕ, zero, suc, ◌≡◌, ⊎_elim, Bool, true, false, List, ap, ◌∙◌, eqb-true, arith}
 use Rattle.std.proofs.lemmas.Bool.{or_left, or_right, and_from, both_ways, cases_Bool, not_from_false}
 use Rattle.net_graph.specs.Flags.{has}
 use Rattle.net_graph.specs.Graph.{Graph, root_of}
@@ -17,25 +17,13 @@ pub record Entry (g : Graph) (set : List Bool) (hops : ℕ) (members : List Bool
 
 -- an entry stays one under a larger bound
 Entry-more : (g : Graph) (set : List Bool) (hops : ℕ) (members : List Bool) → Entry g set hops members → Entry g set (suc hops) members
-Entry-more g set hops members entry = record {
-  tail = entry.tail;
-  head = entry.head;
-  link = entry.link;
-  away = or_left _ _ entry.away;
-  entered = entry.entered;
-}
+Entry-more g set hops members entry = grind (arith, or_left)
 
 -- the last step enters the members where its tail is no member
 Entry-from_last : (g : Graph) (set : List Bool) (hops : ℕ) (members : List Bool) (v w : ℕ) → Links g set v w →
     is_within g set hops v ≡ true → is_within g set hops w ≡ false → has members v ≡ false → has members w ≡ true →
     Entry g set (suc hops) members
-Entry-from_last g set hops members v w link near far outside inside = record {
-  tail = v;
-  head = w;
-  link = link;
-  away = or_right _ _ (and_from _ _ near (not_from_false _ far));
-  entered = and_from _ _ inside (not_from_false _ outside);
-}
+Entry-from_last g set hops members v w link near far outside inside = grind (arith, or_right, and_from, not_from_false)
 
 -- members without the root are entered before a walk of the set comes to one of them
 pub Entry-from_within : (g : Graph) (set : List Bool) (hops : ℕ) (members : List Bool) (w : ℕ) → has members (root_of g) ≡ false →

@@ -1,12 +1,12 @@
 -- Weak duality: what the edges of a network carry, and the inside edges, are no longer than the network.
-use Rattle.std.proofs.Common.{ℕ, zero, suc, ◌≡◌, ◌+◌, ◌≤◌, ◌⊎◌, ◌↔◌, inl, inr, ⊎_elim, le_refl, Bool, true, false, List, [], ◌∷◌, length, slice_get, Some, refl, ap, ◌∙◌, arith}
+use Rattle.std.proofs.Common.{ℕ, zero, suc, ◌≡◌, ◌+◌, ◌≤◌, ◌⊎◌, ◌↔◌, ⊎_elim, le_refl, Bool, true, false, List, [], ◌∷◌, length, slice_get, Some, refl, ap, arith}
 use Rattle.std.proofs.lemmas.List.Elements.{recursion_from_All}
 use Rattle.net_graph.specs.declared.edge.Edge.{Edge}
 use Rattle.net_graph.specs.declared.state.EdgeState.{EdgeState}
 use Rattle.net_graph.specs.declared.state.EdgeState.TheVariants.{Undecided, Inside, Outside}
 use Rattle.net_graph.specs.declared.packing.Cut.{Cut}
 use Rattle.net_graph.specs.Graph.{Graph}
-use Rattle.net_graph.specs.Network.{Reaches, length_of_edges}
+use Rattle.net_graph.specs.Network.{length_of_edges}
 use Rattle.net_graph.specs.Decision.{Decided, IsMissed, IsFree, IsDecisionFor, InRootPart, Agrees, states_of}
 use Rattle.net_graph.specs.DecisionLaws.{length-states_of, states_of-inside, states_of-from_inside, states_of-free}
 use Rattle.net_graph.specs.Packing.{IsWithinRoom, IsFeasible, inside_length}
@@ -45,13 +45,7 @@ edge_load-le-open_length : (g : Graph) (d : Decided) (packing : List Cut) (set :
     slice_get set n ≡ Some true → slice_get g.edges n ≡ Some e → slice_get (states_of g d) n ≡ Some state →
     edge_load (is_away g set hops) packing e ≤ open_length state e
 edge_load-le-open_length g d packing set hops feasible agrees n e state in_set in_graph decided =
-    let room = feasible.room n e state in_graph decided in
-    let not_free = λ (reached : Reaches g set e.a ⊎ Reaches g set e.b) (same : state ≡ Outside).
-    free_apart g d set n agrees (states_of-free g d n (decided ∙ ap Some same)) (e, in_set, in_graph, reached) in
-    edge_load-le (is_away g set hops) packing e (open_length state e)
-    (is_away_one_way g set hops e.a e.b)
-    (λ away. open_length-from_room state e _ room.0 (not_free (inl (Reaches-from_away g set hops e.a e.b away))))
-    (λ away. open_length-from_room state e _ room.1 (not_free (inr (Reaches-from_away g set hops e.b e.a away))))
+    grind (arith, feasible.room n e state in_graph decided, free_apart, states_of-free, edge_load-le, is_away g set hops, is_away_one_way g set hops e.a e.b, open_length-from_room, Reaches-from_away)
 
 -- where no edge is inside there is no inside length
 inside_length-none : (es : List Edge) (states : List EdgeState) → ((n : ℕ) → slice_get states n ≡ Some Inside → ⊥) →
@@ -89,20 +83,15 @@ length-from_covered away packing (e ∷ es) (state ∷ states) [] covered =
     omega (arith, inside_length-none (e ∷ es) (state ∷ states) (λ n inside. let absent = covered.inside n inside in cc))
 length-from_covered away packing (e ∷ es) (Inside ∷ states) (false ∷ set) covered = let absent = covered.inside zero refl in cc
 length-from_covered away packing (e ∷ es) (Inside ∷ states) (true ∷ set) covered =
-    let rest = length-from_covered away packing es states set (IsCovered-rest covered) in
-    omega (arith, rest, covered.carried zero e Inside refl refl refl)
+    grind (arith, length-from_covered away packing es states set (IsCovered-rest covered), covered.carried zero e Inside refl refl refl)
 length-from_covered away packing (e ∷ es) (Undecided ∷ states) (false ∷ set) covered =
-    let rest = length-from_covered away packing es states set (IsCovered-rest covered) in
-    omega (arith, rest)
+    grind (arith, length-from_covered away packing es states set (IsCovered-rest covered))
 length-from_covered away packing (e ∷ es) (Undecided ∷ states) (true ∷ set) covered =
-    let rest = length-from_covered away packing es states set (IsCovered-rest covered) in
-    omega (arith, rest, covered.carried zero e Undecided refl refl refl)
+    grind (arith, length-from_covered away packing es states set (IsCovered-rest covered), covered.carried zero e Undecided refl refl refl)
 length-from_covered away packing (e ∷ es) (Outside ∷ states) (false ∷ set) covered =
-    let rest = length-from_covered away packing es states set (IsCovered-rest covered) in
-    omega (arith, rest)
+    grind (arith, length-from_covered away packing es states set (IsCovered-rest covered))
 length-from_covered away packing (e ∷ es) (Outside ∷ states) (true ∷ set) covered =
-    let rest = length-from_covered away packing es states set (IsCovered-rest covered) in
-    omega (arith, rest, covered.carried zero e Outside refl refl refl)
+    grind (arith, length-from_covered away packing es states set (IsCovered-rest covered), covered.carried zero e Outside refl refl refl)
 
 -- the inside edges, seen with their ends or without, have the same length
 inside_length-same : (es : List Edge) (bare states : List EdgeState) → length bare ≡ length states →
@@ -131,11 +120,8 @@ inside_length-same (e ∷ es) (own ∷ bare) (state ∷ states) size same =
 IsCovered-from_agrees : (g : Graph) (d : Decided) (packing : List Cut) (set : List Bool) (hops : ℕ) →
     IsDecisionFor g d → IsFeasible g d packing → Agrees g d set →
     IsCovered (is_away g set hops) packing g.edges (states_of g d) set
-IsCovered-from_agrees g d packing set hops decision feasible agrees = record {
-  size = length-states_of g d decision.edges;
-  inside = λ n inside. (agrees.inside n (states_of-inside g d n inside)).1;
-  carried = edge_load-le-open_length g d packing set hops feasible agrees;
-}
+IsCovered-from_agrees g d packing set hops decision feasible agrees =
+    grind (arith, length-states_of g d decision.edges, states_of-inside, edge_load-le-open_length g d packing set hops feasible agrees)
 
 -- no network that agrees with a decision is shorter than the value of a feasible packing
 pub weak_duality_lem : WeakDuality

@@ -34,10 +34,7 @@ joins_from near e v w (inr ends) passes = or_left _ _ (and_from _ _ (eq-eqb e.a 
 -- and nothing else
 joins_parts : (near : ℕ → Bool) (e : Edge) (w : ℕ) → joins near e w ≡ true → (v : ℕ) × HasEnds e v w × (near v ≡ true)
 joins_parts near e w holds =
-    ⊎_elim
-    (λ left. let parts = and_parts (eqb e.a w) (near e.b) left in (e.b, inr (eqb-true e.a w parts.0, refl), parts.1))
-    (λ right. let parts = and_parts (eqb e.b w) (near e.a) right in (e.a, inl (refl, eqb-true e.b w parts.0), parts.1))
-    (or_cases (eqb e.a w && near e.b) (eqb e.b w && near e.a) holds)
+    grind (arith, and_parts, near e.b, eqb-true, near e.a, or_cases (eqb e.a w && near e.b) (eqb e.b w && near e.a) holds)
 
 -- an edge of the set that joins the vertex to one that passes is found
 is_linked_from : (near : ℕ → Bool) (es : List Edge) (set : List Bool) (w n : ℕ) (e : Edge) →
@@ -102,11 +99,7 @@ is_away_parts : (g : Graph) (set : List Bool) (hops v w : ℕ) → is_away g set
     (k : ℕ) × (is_within g set k v ≡ true) × (is_within g set k w ≡ false)
 is_away_parts g set zero v w holds = cc
 is_away_parts g set (suc hops) v w holds =
-    ⊎_elim
-    (is_away_parts g set hops v w)
-    (λ last. let parts = and_parts (is_within g set hops v) (not (is_within g set hops w)) last in
-    (hops, parts.0, not-true _ parts.1))
-    (or_cases (is_away g set hops v w) (is_within g set hops v && not (is_within g set hops w)) holds)
+    grind (arith, is_away_parts g set hops v w, and_parts, not-true, or_cases (is_away g set hops v w) (is_within g set hops v && not (is_within g set hops w)) holds)
 
 -- an arc that leads away starts at a reached vertex
 pub Reaches-from_away : (g : Graph) (set : List Bool) (hops v w : ℕ) → is_away g set hops v w ≡ true → Reaches g set v

@@ -47,9 +47,7 @@ inside_none (x ∷ edges) = inside_none edges
 inside_taken_in : (edges : List Edge) (e : ℕ) (x : Edge) → slice_get edges e ≡ Some x →
     inside_length edges (slice_set (replicate (length edges) Undecided) e Inside) ≡ x.length
 inside_taken_in [] e x at = absurd cc
-inside_taken_in (y ∷ edges) zero x at =
-    let same : y ≡ x = same_Some y x at in
-    omega (arith, inside_none edges, ap (λ z. z.length) same)
+inside_taken_in (y ∷ edges) zero x at = grind (arith, same_Some y x, inside_none edges)
 inside_taken_in (y ∷ edges) (suc e) x at = inside_taken_in edges e x at
 
 -- what is known of an edge where an ascent takes it in behind some cuts

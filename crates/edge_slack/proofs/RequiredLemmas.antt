@@ -1,5 +1,5 @@
 -- The required vertices where an edge is taken in are those of nothing decided and its ends.
-use Rattle.std.proofs.Common.{ℕ, ◌≡◌, ◌<◌, ◌⊎◌, Bool, true, false, List, length, replicate, slice_get, slice_set, Some, inl, inr, ⊎_elim, sym, ap, ◌∙◌, arith}
+use Rattle.std.proofs.Common.{ℕ, ◌≡◌, ◌<◌, ◌⊎◌, Bool, true, false, List, length, replicate, slice_get, slice_set, Some, inl, inr, ⊎_elim, sym, arith}
 use Rattle.std.proofs.lemmas.List.{length-replicate}
 use Rattle.std.proofs.lemmas.Option.{same_Some}
 use Rattle.net_graph.specs.declared.edge.Edge.{Edge}
@@ -22,21 +22,14 @@ OrAnEnd g x v = (IsRequired g (nothing_decided g) v ⊎ (v ≡ x.a)) ⊎ (v ≡ 
 -- an end of the edge is required
 end_required : (g : Graph) (e : ℕ) (x : Edge) (v : ℕ) → slice_get g.edges e ≡ Some x → e < length g.edges →
     (x.a ≡ v) ⊎ (x.b ≡ v) → IsRequired g (edge_taken_in g e) v
-end_required g e x v at within ends =
-    let size : e < length (nothing_decided g).edges = omega (arith, length-replicate (length g.edges) Undecided) in
-    inr (inl (e, x, slice_get-set_same (nothing_decided g).edges e Inside size, at, ends))
+end_required g e x v at within ends = grind (arith, length-replicate (length g.edges) Undecided, slice_get-set_same)
 
 -- no other vertex becomes required
 required_before : (g : Graph) (e : ℕ) (x : Edge) (v : ℕ) → slice_get g.edges e ≡ Some x → e < length g.edges →
     IsRequired g (edge_taken_in g e) v → OrAnEnd g x v
 required_before g e x v at within (inl terminal) = inl (inl (inl terminal))
 required_before g e x v at within (inr (inl (n, y, inside, there, ends))) =
-    ⊎_elim
-    (λ (here : (n ≡ e) × (Inside ≡ Inside)).
-    let same : y ≡ x = same_Some y x (sym there ∙ ap (slice_get g.edges) here.0 ∙ at) in
-    ⊎_elim (λ (a : y.a ≡ v). inl (inr (sym a ∙ ap (λ z. z.a) same))) (λ (b : y.b ≡ v). inr (sym b ∙ ap (λ z. z.b) same)) ends)
-    (λ (other : Inside ≡ Undecided). cc)
-    (state_taken_in g e n Inside within inside)
+    grind (arith, same_Some, slice_get g.edges, state_taken_in g e n Inside within inside)
 required_before g e x v at within (inr (inr met)) =
     let not : Met ≡ vertex.Undecided = vertex_taken_in g e v Met met in cc
 

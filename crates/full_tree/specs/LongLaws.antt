@@ -13,14 +13,10 @@ use Rattle.full_tree.specs.Form.{IsInForm}
 
 -- what holds of each item of two lists joined holds of each item of the first, and of the second
 pub All-first : {X : Type 0} (P : X → Type 0) (xs ys : List X) → All P (xs ++ ys) → All P xs
-All-first P xs ys all k d inside =
-    let e = length-append xs ys in
-    subst P (get_or_append_left xs ys d k inside) (all k d (omega arith))
+All-first P xs ys all k d inside = grind (arith, length-append xs ys, get_or_append_left xs ys d k inside)
 
 pub All-second : {X : Type 0} (P : X → Type 0) (xs ys : List X) → All P (xs ++ ys) → All P ys
-All-second P xs ys all k d inside =
-    let e = length-append xs ys in
-    subst P (get_or-append-add xs ys k d) (all (length xs + k) d (omega arith))
+All-second P xs ys all k d inside = grind (arith, length-append xs ys, get_or-append-add xs ys k d)
 
 -- the places that a long code names are places of the points, and no more than 8
 pub record NamesFew (ps : List Point) (root : ℕ) (drops : List ℕ) (side : Option ℕ) (tip : ℕ) : Type 0 where

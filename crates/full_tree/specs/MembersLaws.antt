@@ -1,5 +1,5 @@
 -- Ascending places: they climb, they are the places that were given, and they are what a sort makes.
-use Rattle.std.proofs.Common.{ℕ, suc, ◌+◌, ◌≡◌, ◌≢◌, ◌<◌, ◌≤◌, true, false, List, [], ◌∷◌, length, refl, sym, subst}
+use Rattle.std.proofs.Common.{ℕ, suc, ◌+◌, ◌≡◌, ◌≢◌, ◌<◌, ◌≤◌, true, List, [], ◌∷◌, length, refl, sym, subst}
 use Rattle.std.proofs.Common.{arith, inl, inr, ◌⊎◌}
 use Rattle.std.specs.Prelude.{All, AllPairs, Contains, nat_lt, ◌==◌}
 use Rattle.std.specs.List.{AllByRecursion}
@@ -38,17 +38,11 @@ with_place-below p q qs below = let test : nat_lt p q ≡ true = grind (arith, n
 
 -- one that is the first changes nothing
 pub with_place-same : (p q : ℕ) (qs : List ℕ) → p ≡ q → with_place p (q ∷ qs) ≡ q ∷ qs
-with_place-same p q qs same =
-    let lower : nat_lt p q ≡ false = grind (arith, nat_tests) in
-    let equal : (p == q) ≡ true = grind (arith, nat_tests) in
-    rw (lower, equal) refl
+with_place-same p q qs same = grind (arith, nat_tests, p == q)
 
 -- one above the first comes into the rest
 pub with_place-above : (p q : ℕ) (qs : List ℕ) → q < p → with_place p (q ∷ qs) ≡ q ∷ with_place p qs
-with_place-above p q qs above =
-    let lower : nat_lt p q ≡ false = grind (arith, nat_tests) in
-    let equal : (p == q) ≡ false = grind (arith, nat_tests) in
-    rw (lower, equal) refl
+with_place-above p q qs above = grind (arith, nat_tests, p == q)
 
 -- ---- they climb
 
@@ -59,11 +53,8 @@ below_all p q (r ∷ rs) first rest = (omega (arith, rest.0), below_all p q rs f
 below_with_place : (p q : ℕ) (qs : List ℕ) → p < q → AllByRecursion (λ r. p < r) qs
     → AllByRecursion (λ r. p < r) (with_place q qs)
 below_with_place p q [] first rest = (first, tt)
-below_with_place p q (r ∷ rs) first rest = elim (order_of q r) [
-  | is_below b ↦ rw (with_place-below q r rs b) (first, (rest.0, rest.1))
-  | is_same s ↦ rw (with_place-same q r rs s) rest
-  | is_above a ↦ rw (with_place-above q r rs a) (rest.0, below_with_place p q rs first rest.1)
-]
+below_with_place p q (r ∷ rs) first rest =
+    grind (arith, order_of q r, with_place-below, with_place-same, with_place-above, below_with_place p q rs first rest.1)
 
 Climbs-with_place : (p : ℕ) (qs : List ℕ) → Climbs qs → Climbs (with_place p qs)
 Climbs-with_place p [] climbs = (tt, tt)
@@ -81,11 +72,8 @@ Climbs-ascending_places (p ∷ ps) = Climbs-with_place p (ascending_places ps) (
 
 Contains-with_place : (p : ℕ) (qs : List ℕ) → Contains (with_place p qs) p
 Contains-with_place p [] = Contains-first p []
-Contains-with_place p (q ∷ qs) = elim (order_of p q) [
-  | is_below b ↦ rw (with_place-below p q qs b) (Contains-first p (q ∷ qs))
-  | is_same s ↦ rw (with_place-same p q qs s) (subst (λ r. Contains (q ∷ qs) r) (sym s) (Contains-first q qs))
-  | is_above a ↦ rw (with_place-above p q qs a) (Contains-rest q p (with_place p qs) (Contains-with_place p qs))
-]
+Contains-with_place p (q ∷ qs) =
+    grind (arith, order_of p q, with_place-below, Contains-first p (q ∷ qs), with_place-same, Contains-first q qs, with_place-above, Contains-rest q p (with_place p qs) (Contains-with_place p qs))
 
 Contains-with_place_more : (p r : ℕ) (qs : List ℕ) → Contains qs r → Contains (with_place p qs) r
 Contains-with_place_more p r [] member = Contains-none r member
@@ -178,10 +166,8 @@ same_first p q ps qs climbs climbs' p_in q_in = elim (Contains-cases q p qs p_in
 
 same_rest : (p q r : ℕ) (ps qs : List ℕ) → p ≡ q → Climbs (p ∷ ps)
     → ((s : ℕ) → Contains (p ∷ ps) s → Contains (q ∷ qs) s) → Contains ps r → Contains qs r
-same_rest p q r ps qs same climbs into member = elim (Contains-cases q r qs (into r (Contains-rest p r ps member))) [
-  | inl is ↦ absurd (omega (arith, member_above p r ps climbs.0 member))
-  | inr later ↦ later
-]
+same_rest p q r ps qs same climbs into member =
+    grind (arith, Contains-cases q r qs (into r (Contains-rest p r ps member)), member_above p r ps climbs.0 member)
 
 pub same_from_members : (ps qs : List ℕ) → Climbs ps → Climbs qs → ((r : ℕ) → Contains ps r → Contains qs r)
     → ((r : ℕ) → Contains qs r → Contains ps r) → ps ≡ qs

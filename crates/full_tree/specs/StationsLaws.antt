@@ -1,6 +1,6 @@
 -- What the stations of a code come to.
-use Rattle.std.specs.Prelude.{ℕ, ◌≡◌, ◌<◌, List, [], ◌∷◌, ◌++◌, length, map, All, Option, None, Some, option_to_list}
-use Rattle.std.proofs.Common.{refl, ap, sym, ◌∙◌, subst, arith, get_or}
+use Rattle.std.specs.Prelude.{ℕ, ◌≡◌, List, [], ◌∷◌, ◌++◌, map, All, Option, None, Some, option_to_list}
+use Rattle.std.proofs.Common.{refl, ap, arith}
 use Rattle.std.proofs.lemmas.List.{append_assoc, get_or-map, length-map}
 use Rattle.points_in.specs.declared.point.Point.{Point}
 use Rattle.full_tree.specs.declared.way.Way.{Way}
@@ -34,25 +34,17 @@ module _ (ps : List Point) (root : ℕ) (toward : Way) where
 -- the stations' members are the places that the code names, in the same order
 pub stations_of-members : (ps : List Point) (code : TreeCode) → map member_of (stations_of ps code) ≡ named_places code
 stations_of-members ps (Long root toward drops side tip) =
-    let start = point_at ps root in
-    let ends = end_stations ps root toward (last_foot ps root toward start drops) side tip in
-    let a = map-append (drop_stations ps root toward start drops) ends in
-    let b = drop_stations-members ps root toward start drops in
-    let c = end_stations-members ps root toward (last_foot ps root toward start drops) side tip in
-    let d = append_assoc drops (option_to_list side) (tip ∷ []) in
-    let whole : map member_of (drop_stations ps root toward start drops ++ ends)
-    ≡ (drops ++ option_to_list side) ++ tip ∷ [] = cc in
-    ap (λ (rest : List ℕ). root ∷ rest) whole
+    grind (
+      arith,
+      map-append (drop_stations ps root toward (point_at ps root) drops) (end_stations ps root toward (last_foot ps root toward (point_at ps root) drops) side tip),
+      drop_stations-members ps root toward (point_at ps root) drops,
+      end_stations-members ps root toward (last_foot ps root toward (point_at ps root) drops) side tip,
+      append_assoc drops (option_to_list side) (tip ∷ []),
+    )
 stations_of-members ps (Cross w s e n) = refl
 
 -- what holds of each place that a code names holds of each station's member
 pub All-stations : (P : ℕ → Type 0) (ps : List Point) (code : TreeCode) → All P (named_places code)
     → All (λ s. P s.member) (stations_of ps code)
 All-stations P ps code all k d inside =
-    let is = stations_of-members ps code in
-    let size = length-map (stations_of ps code) member_of in
-    let at = get_or-map member_of (stations_of ps code) k d (member_of d) inside in
-    let long : k < length (named_places code) = subst (λ (xs : List ℕ). k < length xs) is (omega arith) in
-    let here : get_or (named_places code) k (member_of d) ≡ (get_or (stations_of ps code) k d).member =
-    ap (λ (xs : List ℕ). get_or xs k (member_of d)) (sym is) ∙ at in
-    subst P here (all k (member_of d) long)
+    grind (arith, stations_of-members ps code, length-map (stations_of ps code) member_of, get_or-map member_of (stations_of ps code) k d (member_of d) inside)

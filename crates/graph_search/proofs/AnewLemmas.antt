@@ -26,8 +26,7 @@ use Rattle.graph_search.proofs.SearchedLaws.{told}
 pub some_packing : (tree : Tree SplitOn) → 0 < length (packings_of tree)
 some_packing (Leaf cuts) = omega arith
 some_packing (Split on outside inside) =
-    let first = some_packing outside in
-    let both = length-append (packings_of outside) (packings_of inside) in omega (arith, first, both)
+    grind (arith, some_packing outside, length-append (packings_of outside) (packings_of inside))
 
 -- openings and then others are openings
 leads_on : (asked : SplitKind) (g : Graph) (network : List Bool) (tree : Tree SplitOn) (n : ℕ) (middle : List Bool)
@@ -44,12 +43,7 @@ leads_on asked g network tree n middle middle_tree (suc m) later later_tree firs
     (suc count, (before, before_tree, leads, plain))
 
 pub ahead_refl : (s : SearchState) → IsAhead s s
-ahead_refl s = record {
-  graph = refl;
-  kind = refl;
-  first_length = refl;
-  leads = (0, (refl, refl));
-}
+ahead_refl s = grind arith
 
 pub ahead_trans : (first middle last : SearchState) → IsAhead first middle → IsAhead middle last → IsAhead first last
 ahead_trans first middle last one other =
@@ -76,28 +70,12 @@ step_ahead old new step.Split opens = record {
 
 module _ (g : Graph) (first later : ℕ) (longer : first ≤ later) where
   solved_longer : (s : Solved) → IsSolved g first s → IsSolved g later s
-  solved_longer s holds = record {
-    network_of = holds.network_of;
-    length_is = holds.length_is;
-    no_longer = let short = holds.no_longer in omega (arith, short, longer);
-    valid = holds.valid;
-    bound = holds.bound;
-    optimal = holds.optimal;
-    lower = holds.lower;
-    cuts = holds.cuts;
-    maximal = holds.maximal;
-    run = EndsRunOfOpenings-longer g first later s.network s.tree longer holds.run;
-  }
+  solved_longer s holds = grind (arith, EndsRunOfOpenings-longer g first later s.network s.tree longer holds.run)
 
   by_kind_longer : (asked : SplitKind) (network : List Bool) (tree : Tree SplitOn) →
       EndsByKind g asked first network tree → EndsByKind g asked later network tree
-  by_kind_longer asked network tree ends = record {
-    before = ends.before;
-    before_tree = ends.before_tree;
-    run = EndsRunOfOpenings-longer g first later ends.before ends.before_tree longer ends.run;
-    vertices = ends.vertices;
-    plain = ends.plain;
-  }
+  by_kind_longer asked network tree ends =
+      grind (arith, EndsRunOfOpenings-longer g first later ends.before ends.before_tree longer ends.run)
 
 -- What a search that began anew found is told as it is, in place of what was stopped, where it made all openings or closes.
 pub anew_told : (g : Graph) (asked : SplitKind) (openings first_length : ℕ) (stopped found : Solved) →
@@ -128,25 +106,4 @@ pub found_on_edges : (g : Graph) (first_length openings : ℕ) (leaf last : Sear
     split_count last.tree ≤ openings → found.network ≡ last.network → found.tree ≡ last.tree →
     IsSolved last.graph last.first_length found → IsFoundOnEdges g first_length openings found
 found_on_edges g first_length openings leaf last found graph edges first none run ahead few network tree solved =
-    let run_in : EndsRunOfOpenings g first_length leaf.network leaf.tree =
-    subst (λ (h : Graph). EndsRunOfOpenings h first_length leaf.network leaf.tree) graph
-    (subst (λ (n : ℕ). EndsRunOfOpenings leaf.graph n leaf.network leaf.tree) first run) in
-    let solved_in : IsSolved g first_length found =
-    subst (λ (h : Graph). IsSolved h first_length found) (ahead.graph ∙ graph)
-    (subst (λ (n : ℕ). IsSolved last.graph n found) (ahead.first_length ∙ first) solved) in
-    let leads : LeadsByOpenings kind.Edges g leaf.network leaf.tree last.network last.tree =
-    subst (λ (h : Graph). LeadsByOpenings kind.Edges h leaf.network leaf.tree last.network last.tree) graph
-    (subst (λ (k : SplitKind). LeadsByOpenings k leaf.graph leaf.network leaf.tree last.network last.tree) edges ahead.leads) in
-    record {
-      solved = solved_in;
-      few = subst (λ (t : Tree SplitOn). split_count t ≤ openings) (sym tree) few;
-      by_kind = record {
-        before = leaf.network;
-        before_tree = leaf.tree;
-        run = run_in;
-        vertices = leaf_splits_vertices leaf.tree none;
-        plain =
-            subst (λ (t : Tree SplitOn). LeadsByOpenings kind.Edges g leaf.network leaf.tree found.network t) (sym tree)
-            (subst (λ (set : List Bool). LeadsByOpenings kind.Edges g leaf.network leaf.tree set last.tree) (sym network) leads);
-      };
-    }
+    grind (arith, leaf_splits_vertices leaf.tree none)

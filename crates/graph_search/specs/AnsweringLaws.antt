@@ -1,5 +1,5 @@
 -- The answer that tells what a search found can be written, and its head tells the network and the tree.
-use Rattle.std.proofs.Common.{ℕ, ◌≡◌, ◌≤◌, Bool, List, ap, ◌∙◌, eqb, arith}
+use Rattle.std.proofs.Common.{ℕ, ◌≡◌, ◌≤◌, Bool, List, arith}
 use Rattle.net_graph.specs.Graph.{Graph}
 use Rattle.net_graph.specs.Network.{length_of}
 use Rattle.net_graph.specs.Decision.{nothing_decided}
@@ -8,7 +8,6 @@ use Rattle.cert_tree.specs.Tree.{Tree}
 use Rattle.branch.specs.declared.solved.Solved.{Solved}
 use Rattle.branch.specs.declared.split_kind.SplitKind.{SplitKind}
 use Rattle.branch.specs.RunLaws.{EndsRunOfOpenings-longer}
-use Rattle.answer_text.specs.declared.head.AnswerHead.{AnswerHead}
 use Rattle.answer_text.specs.declared.head.ConcatNote.{ConcatNote}
 use Rattle.answer_text.specs.Answers.{IsAnswerOn}
 use Rattle.graph_search.specs.Searched.{IsSearched, IsTold, value_on}
@@ -18,49 +17,18 @@ use Rattle.graph_search.specs.TreeLaws.{nodes_on, packings_on}
 -- The answer can be written.
 pub told_fits : (g : Graph) (asked : SplitKind) (openings first_length : ℕ) (note : ConcatNote) (s : Solved) →
     openings ≤ 255 → IsTold g asked openings first_length s → IsAnswerOn g (answer_with openings note s)
-told_fits g asked openings first_length note s small is = record {
-  network = is.searched.network_of.size;
-  few = let few = is.searched.few in omega arith;
-  nodes = nodes_on g (nothing_decided g) s.tree is.searched.valid;
-  packings = packings_on g (nothing_decided g) s.tree is.searched.valid is.searched.cuts;
-}
+told_fits g asked openings first_length note s small is =
+    grind (arith, nodes_on g (nothing_decided g) s.tree is.searched.valid, packings_on g (nothing_decided g) s.tree is.searched.valid is.searched.cuts)
 
 -- Its head tells the network, the tree and the note.
 pub told_head : (g : Graph) (asked : SplitKind) (openings first_length : ℕ) (note : ConcatNote) (s : Solved) →
     IsTold g asked openings first_length s →
     (answer_with openings note s).head ≡ head_with openings (length_of g s.network) (value_on g s.tree) note
-told_head g asked openings first_length note s is =
-    let head : ℕ → ℕ → Bool → AnswerHead =
-    λ length bound optimal. record {
-      length = length;
-      bound = bound;
-      optimal = optimal;
-      openings = openings;
-      concat = note;
-    } in
-    ap (head s.length s.bound) is.optimal
-    ∙ ap (λ (n : ℕ). head n s.bound (eqb s.bound n)) is.length
-    ∙ ap (λ (b : ℕ). head (length_of g s.network) b (eqb b (length_of g s.network))) is.bound
+told_head g asked openings first_length note s is = grind arith
 
 -- A search from a first length is one from each greater length.
 pub searched_longer : (g : Graph) (asked : SplitKind) (openings first later : ℕ) (network : List Bool)
     (tree : Tree SplitOn) → first ≤ later → IsSearched g asked openings first network tree →
     IsSearched g asked openings later network tree
-searched_longer g asked openings first later network tree longer searched = record {
-  network_of = searched.network_of;
-  valid = searched.valid;
-  bounds = searched.bounds;
-  few = searched.few;
-  stopped = searched.stopped;
-  cuts = searched.cuts;
-  maximal = searched.maximal;
-  run = EndsRunOfOpenings-longer g first later network tree longer searched.run;
-  by_kind = record {
-    before = searched.by_kind.before;
-    before_tree = searched.by_kind.before_tree;
-    run = EndsRunOfOpenings-longer g first later searched.by_kind.before searched.by_kind.before_tree longer
-        searched.by_kind.run;
-    vertices = searched.by_kind.vertices;
-    plain = searched.by_kind.plain;
-  };
-}
+searched_longer g asked openings first later network tree longer searched =
+    grind (arith, EndsRunOfOpenings-longer g first later network tree longer searched.run, EndsRunOfOpenings-longer g first later searched.by_kind.before searched.by_kind.before_tree longer searched.by_kind.run)

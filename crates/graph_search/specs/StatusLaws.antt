@@ -1,6 +1,6 @@
 -- What the status tells of the bound and the length.
 use Rattle.std.specs.Prelude.{ℕ, ◌≡◌, ◌<◌, ◌↔◌, min}
-use Rattle.std.proofs.Common.{inl, inr, ⊎_elim, ◌≤◌, arith}
+use Rattle.std.proofs.Common.{arith}
 use Rattle.std.proofs.Math.Nat.{min-eq_right}
 use Rattle.std.proofs.lemmas.Bool.{cases_lt}
 use Rattle.std.proofs.lemmas.Bool.Decides.{eqb_tells}
@@ -10,19 +10,9 @@ use Rattle.graph_search.specs.Status.{status_of_bound}
 -- The status is 0 exactly where the bound is the length.
 pub zero_where_equal : (bound length status : ℕ) → status ≡ answer_code (status_of_bound bound length) →
     (status ≡ 0) ↔ (bound ≡ length)
-zero_where_equal bound length status is = elim (eqb_tells bound length) [
-  | inl (holds, equal) ↦ let ends : status ≡ 0 = rw holds at is in (λ zero. equal, λ same. ends)
-  | inr (fails, apart) ↦
-      let ends : status ≡ 3 = rw fails at is in (λ zero. absurd (omega arith), λ same. absurd (apart same))
-]
+zero_where_equal bound length status is = grind (arith, eqb_tells bound length)
 
 -- Where the status is 3 the value is below the length.
 pub value_below : (value length status : ℕ) → (status ≡ 0) ↔ (min value length ≡ length) → status ≡ 3 →
     value < length
-value_below value length status exact three =
-    ⊎_elim
-    (λ (below : value < length). below)
-    (λ (above : length ≤ value).
-    let same : min value length ≡ length = min-eq_right above in
-    let zero = exact.1 same in absurd (omega arith))
-    (cases_lt value length)
+value_below value length status exact three = grind (arith, min-eq_right, cases_lt value length)

@@ -1,5 +1,5 @@
 -- A network that was found in a reduction can be lifted.
-use Rattle.std.proofs.Common.{ℕ, ◌≡◌, ◌<◌, ◌^◌, Bool, true, List, length, Some, Result, Ok, Err, IfOk, ap, ◌∙◌, arith}
+use Rattle.std.proofs.Common.{ℕ, ◌≡◌, ◌<◌, ◌^◌, Bool, true, List, length, Some, Result, Ok, Err, IfOk, arith}
 use Rattle.std.specs.Prelude.{slice_get}
 use Rattle.std.proofs.lemmas.List.{get_or-replicate, length-replicate}
 use Rattle.std.proofs.lemmas.List.Elements.{All-weaker}
@@ -9,7 +9,6 @@ use Rattle.net_graph.specs.LengthLaws.{length_of-small}
 use Rattle.net_graph.specs.Network.{IsNetwork, Links, Reaches}
 use Rattle.net_graph.specs.SearchLaws.{Leads-weaker}
 use Rattle.answer_text.specs.declared.answer.Answer.{Answer}
-use Rattle.answer_text.specs.declared.head.AnswerHead.{AnswerHead}
 use Rattle.graph_reduce.specs.Fitness.{IsFitFor}
 use Rattle.graph_reduce.specs.Lifting.{KeepsNetworks}
 use Rattle.graph_reduce.specs.Reduction.{Reduction}
@@ -24,8 +23,7 @@ use Rattle.graph_tools.specs.SolutionLaws.{permitted_answer}
 -- each edge is one of all
 has_edge : (g : Graph) (e : ℕ) → e < length g.edges → slice_get (all_edges g) e ≡ Some true
 has_edge g e within =
-    slice_get-get_or (all_edges g) e true (omega (arith, length-replicate (length g.edges) true))
-    ∙ ap Some (get_or-replicate (length g.edges) e true true within)
+    grind (arith, slice_get-get_or, length-replicate (length g.edges) true, get_or-replicate (length g.edges) e true true within)
 
 -- what any set links all edges link
 links_all : (g : Graph) (set : List Bool) (v w : ℕ) → Links g set v w → Links g (all_edges g) v w
@@ -50,20 +48,15 @@ offset_small g r graph fits = omega (arith, graph.total, fits.offset)
 -- length and bound of an answer, with the offset, are numbers of 64 bits
 pub length_small : (r : Reduction) (a : Answer) → IsGraph r.graph → IsAnswerFor usual_in_graph r.graph a →
     a.head.length < 2 ^ 63
-length_small r a graph is =
-    let same = ap (λ (h : AnswerHead). h.length) is.head in
-    let small = length_of-small r.graph a.network graph in omega (arith, same, small)
+length_small r a graph is = grind (arith, length_of-small r.graph a.network graph)
 
 pub bound_small : (r : Reduction) (a : Answer) → IsGraph r.graph → IsAnswerFor usual_in_graph r.graph a → a.head.bound < 2 ^ 63
-bound_small r a graph is =
-    let same = ap (λ (h : AnswerHead). h.bound) is.head in
-    let small = length_of-small r.graph a.network graph in omega (arith, same, small)
+bound_small r a graph is = grind (arith, length_of-small r.graph a.network graph)
 
 -- the network of an answer in the reduced graph, lifted, is one that is lifted in the graph
 pub lifted_for : {E : Type 0} (g : Graph) (r : Reduction) (a : Answer) (result : Result Lifted E) → IsReduced g r →
     IsAnswerFor usual_in_graph r.graph a → IsSpelled (record { graph = r.graph; answer = a }) →
     IfOk result (λ l. l ≡ lifted_by r a.network a.tree) → IfOk result (IsLiftedFor g)
 lifted_for g r a (Ok l) reduced is spells same =
-    let permitted = permitted_answer usual_in_graph r.graph (record { graph = r.graph; answer = a }) is spells in
-    (r, a.network, a.tree, reduced, permitted, same)
+    grind (arith, permitted_answer usual_in_graph r.graph (record { graph = r.graph; answer = a }) is spells)
 lifted_for g r a (Err memory) reduced is spells same = tt

@@ -88,8 +88,6 @@ same_file : (bytes : List ℕ) (file other : StpValue) → stp_of bytes ≡ Ok f
 same_file bytes file other is are = let both : Ok file ≡ Ok other = sym is ∙ are in cc
 
 pub no_fault : TaskHasNoFault
-no_fault bytes file (InFile fault) is (due, told) =
-    let both : Ok file ≡ Err fault = sym is.text ∙ due in absurd cc
+no_fault bytes file (InFile fault) is (due, told) = let both : Ok file ≡ Err fault = sym is.text ∙ due in absurd cc
 no_fault bytes file (InGraph fault) is (other, text, (first, told)) =
-    let same = same_file bytes other file text is.text in
-    task_faultless file fault is.task (subst (λ f. IsFirstFault f fault) same first) told
+    grind (arith, same_file bytes other file text is.text, task_faultless)

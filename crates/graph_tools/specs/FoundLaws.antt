@@ -1,5 +1,5 @@
 -- A tool that finds something in the graph that a text gives finds no fault in a text without one.
-use Rattle.std.proofs.Common.{ℕ, List, Result, Err, subst}
+use Rattle.std.proofs.Common.{ℕ, List, Result, Err, arith}
 use Rattle.net_graph.specs.Graph.{Graph}
 use Rattle.tool_frame.specs.declared.take.TheConstants.{TEXT_LIMIT}
 use Rattle.tool_frame.specs.declared.text_fault.TextFault.{TextFault}
@@ -18,5 +18,4 @@ module _ {F : Type 0} (Reads : List ℕ → Result Graph F → Type 0) where
   found_faultless Is before after bytes has none (Input fault) is =
       input_is_taken TEXT_LIMIT before.input after.input bytes fault has is
   found_faultless Is before after bytes has none (Text fault) (taken, whole, is) =
-      none fault
-      (subst (λ b. Reads b (Err fault)) (whole_input_is TEXT_LIMIT before.input after.input bytes taken has whole) is)
+      grind (arith, whole_input_is TEXT_LIMIT before.input after.input bytes taken has whole)

@@ -31,13 +31,7 @@ use Rattle.graph_tools.specs.Solution.{IsPermittedGraphAnswer}
 
 -- whether two numbers agree is whether they do with the offset
 agree_with_offset : (bound length offset : ℕ) → ((bound == length) ≡ true) ↔ (bound + offset ≡ length + offset)
-agree_with_offset bound length offset = (
-  λ holds. ap (λ n. n + offset) (eqb-true bound length holds),
-  λ same. elim (eqb_tells bound length) [
-    | inl (holds, equal) ↦ holds
-    | inr (fails, apart) ↦ absurd (apart (omega (arith, same)))
-  ],
-)
+agree_with_offset bound length offset = grind (arith, eqb-true, eqb_tells bound length)
 
 -- What is told of a lifted network, with its status, is true.
 lifts_truly : (g : Graph) (r : Reduction) (network : List Bool) (tree : Tree SplitOn) (before after : Outside)

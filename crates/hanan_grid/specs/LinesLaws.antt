@@ -53,20 +53,14 @@ below_all x y (z ∷ zs) first rest = (omega (arith, ints, rest.0), below_all x 
 below_with_value : (x z : ℤ) (ys : List ℤ) → x <ℤ z → AllByRecursion (λ y. x <ℤ y) ys
     → AllByRecursion (λ y. x <ℤ y) (with_value z ys)
 below_with_value x z [] first rest = (first, tt)
-below_with_value x z (y ∷ ys) first rest = elim (order_of z y) [
-  | is_below b ↦ rw (with_value-below z y ys b) (first, (rest.0, rest.1))
-  | is_same s ↦ rw (with_value-same z y ys s) rest
-  | is_above a ↦ rw (with_value-above z y ys a) (rest.0, below_with_value x z ys first rest.1)
-]
+below_with_value x z (y ∷ ys) first rest =
+    grind (arith, order_of z y, with_value-below, with_value-same, with_value-above, below_with_value x z ys first rest.1)
 
 -- rising lines rise with one more value
 IsRising-with_value : (z : ℤ) (ys : List ℤ) → IsRising ys → IsRising (with_value z ys)
 IsRising-with_value z [] rising = (tt, tt)
-IsRising-with_value z (y ∷ ys) rising = elim (order_of z y) [
-  | is_below b ↦ rw (with_value-below z y ys b) ((b, below_all z y ys b rising.0), rising)
-  | is_same s ↦ rw (with_value-same z y ys s) rising
-  | is_above a ↦ rw (with_value-above z y ys a) (below_with_value y z ys a rising.0, IsRising-with_value z ys rising.1)
-]
+IsRising-with_value z (y ∷ ys) rising =
+    grind (arith, order_of z y, with_value-below, below_all, with_value-same, with_value-above, below_with_value, IsRising-with_value z ys rising.1)
 
 -- ascending values rise
 pub IsRising-ascending : (zs : List ℤ) → IsRising (ascending zs)
@@ -86,11 +80,8 @@ member_above x z (y ∷ ys) above member = elim (Contains-cases y z ys member) [
 -- a value is among the lines with it
 Contains-with_value : (z : ℤ) (ys : List ℤ) → Contains (with_value z ys) z
 Contains-with_value z [] = Contains-first z []
-Contains-with_value z (y ∷ ys) = elim (order_of z y) [
-  | is_below b ↦ rw (with_value-below z y ys b) (Contains-first z (y ∷ ys))
-  | is_same s ↦ rw (with_value-same z y ys s) (subst (λ w. Contains (y ∷ ys) w) (sym s) (Contains-first y ys))
-  | is_above a ↦ rw (with_value-above z y ys a) (Contains-rest y z (with_value z ys) (Contains-with_value z ys))
-]
+Contains-with_value z (y ∷ ys) =
+    grind (arith, order_of z y, with_value-below, Contains-first z (y ∷ ys), with_value-same, Contains-first y ys, with_value-above, Contains-rest y z (with_value z ys) (Contains-with_value z ys))
 
 -- what was a line is one
 Contains-with_value_more : (z x : ℤ) (ys : List ℤ) → Contains ys x → Contains (with_value z ys) x
@@ -150,10 +141,8 @@ same_first x y xs ys rises rises' x_in y_in = elim (Contains-cases y x ys x_in) 
 -- a member of the rest of rising lines is a member of the rest of others that have the same first line
 same_rest : (x y z : ℤ) (xs ys : List ℤ) → x ≡ y → IsRising (x ∷ xs)
     → ((w : ℤ) → Contains (x ∷ xs) w → Contains (y ∷ ys) w) → Contains xs z → Contains ys z
-same_rest x y z xs ys same rises into member = elim (Contains-cases y z ys (into z (Contains-rest x z xs member))) [
-  | inl is ↦ absurd (omega (arith, ints, member_above x z xs rises.0 member))
-  | inr later ↦ later
-]
+same_rest x y z xs ys same rises into member =
+    grind (arith, Contains-cases y z ys (into z (Contains-rest x z xs member)), ints, member_above x z xs rises.0 member)
 
 -- two rising lists with the same members are one
 pub same_from_members : (xs ys : List ℤ) → IsRising xs → IsRising ys → ((z : ℤ) → Contains xs z → Contains ys z)
@@ -243,11 +232,8 @@ gap_after-positive lines i inside rises =
 -- one value more makes at most one line more
 length-with_value-le : (z : ℤ) (ys : List ℤ) → length (with_value z ys) ≤ length ys + 1
 length-with_value-le z [] = omega arith
-length-with_value-le z (y ∷ ys) = elim (order_of z y) [
-  | is_below b ↦ rw (with_value-below z y ys b) (omega arith)
-  | is_same s ↦ rw (with_value-same z y ys s) (omega arith)
-  | is_above a ↦ rw (with_value-above z y ys a) (omega (arith, length-with_value-le z ys))
-]
+length-with_value-le z (y ∷ ys) =
+    grind (arith, order_of z y, with_value-below, with_value-same, with_value-above, length-with_value-le z ys)
 
 -- there are at most as many lines as values
 pub length-ascending-le : (zs : List ℤ) → length (ascending zs) ≤ length zs

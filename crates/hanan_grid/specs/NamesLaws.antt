@@ -33,34 +33,26 @@ row_of-below nx ny v inside = div_below v nx ny (grind arith) (omega arith)
 -- the point of a vertex is a crossing
 pub IsCrossing-point_of_vertex : (xs ys : List ℤ) (v : ℕ) → v < length xs * length ys
     → IsCrossing xs ys (point_of_vertex xs ys v)
-IsCrossing-point_of_vertex xs ys v inside = record {
-  x = Contains-line_at xs (v % length xs) (column_of-below (length xs) (length ys) v inside);
-  y = Contains-line_at ys (v / length xs) (row_of-below (length xs) (length ys) v inside);
-}
+IsCrossing-point_of_vertex xs ys v inside =
+    grind (arith, Contains-line_at xs (v % length xs) (column_of-below (length xs) (length ys) v inside), Contains-line_at ys (v / length xs) (row_of-below (length xs) (length ys) v inside))
 
 -- the vertex of a vertex's point is that vertex
 pub vertex_of-point_of_vertex : (xs ys : List ℤ) (v : ℕ) → IsRising xs → IsRising ys → v < length xs * length ys
     → vertex_of xs ys (point_of_vertex xs ys v) ≡ v
 vertex_of-point_of_vertex xs ys v rises rises' inside =
-    rw (
-      place_of-line_at xs (v % length xs) (column_of-below (length xs) (length ys) v inside) rises,
-      place_of-line_at ys (v / length xs) (row_of-below (length xs) (length ys) v inside) rises',
-    )
-    (vertex_number-parts (length xs) v)
+    grind (arith, place_of-line_at xs (v % length xs) (column_of-below (length xs) (length ys) v inside) rises, place_of-line_at ys (v / length xs) (row_of-below (length xs) (length ys) v inside) rises', vertex_number-parts (length xs) v)
 
 -- the vertex of a crossing is one
 pub vertex_of-crossing-below : (xs ys : List ℤ) (p : Point) → IsRising xs → IsRising ys → IsCrossing xs ys p
     → vertex_of xs ys p < length xs * length ys
 vertex_of-crossing-below xs ys p rises rises' at =
-    mul-add-lt (place_of p.y ys) (length xs) (place_of p.x xs) (length ys) (place_of-below p.y ys at.y rises')
-    (place_of-below p.x xs at.x rises)
+    grind (arith, mul-add-lt (place_of p.y ys) (length xs) (place_of p.x xs) (length ys) (place_of-below p.y ys at.y rises') (place_of-below p.x xs at.x rises))
 
 -- the point of a crossing's vertex is that crossing
 pub point_of_vertex-vertex_of : (xs ys : List ℤ) (p : Point) → IsRising xs → IsRising ys → IsCrossing xs ys p
     → point_of_vertex xs ys (vertex_of xs ys p) ≡ p
 point_of_vertex-vertex_of xs ys p rises rises' at =
-    point_of_vertex-at xs ys (place_of p.x xs) (place_of p.y ys) (place_of-below p.x xs at.x rises)
-    ∙ rw (line_at-place_of p.x xs at.x rises, line_at-place_of p.y ys at.y rises') refl
+    grind (arith, point_of_vertex-at xs ys (place_of p.x xs) (place_of p.y ys) (place_of-below p.x xs at.x rises), line_at-place_of p.x xs at.x rises, line_at-place_of p.y ys at.y rises')
 
 -- ---- edges and names
 
@@ -79,24 +71,12 @@ pub record IsVertical (xs ys : List ℤ) (e j i : ℕ) : Type 0 where
 -- a number below the horizontal edges' is one of theirs
 horizontal_from : (xs ys : List ℤ) (e : ℕ) → e < length ys * (length xs - 1)
     → IsHorizontal xs ys e (e / (length xs - 1)) (e % (length xs - 1))
-horizontal_from xs ys e inside =
-    let column = column_of-below (length xs - 1) (length ys) e (omega arith) in
-    record {
-      row = row_of-below (length xs - 1) (length ys) e (omega arith);
-      column = omega arith;
-      number = sym (vertex_number-parts (length xs - 1) e);
-    }
+horizontal_from xs ys e inside = grind (arith, column_of-below, row_of-below, vertex_number-parts (length xs - 1) e)
 
 -- a number that is as far behind them as this one is a vertical edge's
 vertical_from : (xs ys : List ℤ) (e k : ℕ) → e ≡ length ys * (length xs - 1) + k → k < (length ys - 1) * length xs
     → IsVertical xs ys e (k / length xs) (k % length xs)
-vertical_from xs ys e k behind inside =
-    let row = row_of-below (length xs) (length ys - 1) k (omega arith) in
-    record {
-      row = omega arith;
-      column = column_of-below (length xs) (length ys - 1) k (omega arith);
-      number = omega (arith, vertex_number-parts (length xs) k);
-    }
+vertical_from xs ys e k behind inside = grind (arith, row_of-below, column_of-below, vertex_number-parts (length xs) k)
 
 -- an edge is horizontal or vertical
 pub edge_cases : (xs ys : List ℤ) (e : ℕ) → e < length (edges_of_lines xs ys)
@@ -123,40 +103,26 @@ pub name_of-horizontal : (xs ys : List ℤ) (e j i : ℕ) → IsHorizontal xs ys
     → name_of xs ys (slice_index_or (edges_of_lines xs ys) e no_edge)
     ≡ name_between (crossing xs ys i j) (crossing xs ys (i + 1) j)
 name_of-horizontal xs ys e j i is =
-    let from = point_of_vertex-at xs ys i j (omega (arith, is.column)) in
-    let to = point_of_vertex-at xs ys (i + 1) j is.column in
-    rw (is.number, get_or-horizontal xs ys j i no_edge is.row is.column)
-    (same_between (point_of_vertex xs ys (vertex_number (length xs) i j)) (crossing xs ys i j)
-    (point_of_vertex xs ys (vertex_number (length xs) (i + 1) j)) (crossing xs ys (i + 1) j) from to)
+    grind (arith, point_of_vertex-at, point_of_vertex-at xs ys (i + 1) j is.column, get_or-horizontal xs ys j i no_edge is.row is.column, same_between)
 
 -- a vertical edge is named by its crossings
 pub name_of-vertical : (xs ys : List ℤ) (e j i : ℕ) → IsVertical xs ys e j i
     → name_of xs ys (slice_index_or (edges_of_lines xs ys) e no_edge)
     ≡ name_between (crossing xs ys i j) (crossing xs ys i (j + 1))
 name_of-vertical xs ys e j i is =
-    let from = point_of_vertex-at xs ys i j is.column in
-    let to = point_of_vertex-at xs ys i (j + 1) is.column in
-    rw (is.number, get_or-vertical xs ys j i no_edge is.row is.column)
-    (same_between (point_of_vertex xs ys (vertex_number (length xs) i j)) (crossing xs ys i j)
-    (point_of_vertex xs ys (vertex_number (length xs) i (j + 1))) (crossing xs ys i (j + 1)) from to)
+    grind (arith, point_of_vertex-at xs ys i j is.column, point_of_vertex-at xs ys i (j + 1) is.column, get_or-vertical xs ys j i no_edge is.row is.column)
 
 -- two horizontal edges with one name are one
 same_horizontal : (xs ys : List ℤ) (e f j i l k : ℕ) → IsRising xs → IsRising ys → IsHorizontal xs ys e j i
     → IsHorizontal xs ys f l k → name_between (crossing xs ys i j) (crossing xs ys (i + 1) j)
     ≡ name_between (crossing xs ys k l) (crossing xs ys (k + 1) l) → e ≡ f
-same_horizontal xs ys e f j i l k rises rises' is is' same =
-    let column = same_place xs i k (omega arith) (omega arith) rises (ap (λ n. n.x1) same) in
-    let row = same_place ys j l is.row is'.row rises' (ap (λ n. n.y1) same) in
-    cc
+same_horizontal xs ys e f j i l k rises rises' is is' same = grind (arith, same_place)
 
 -- two vertical edges with one name are one
 same_vertical : (xs ys : List ℤ) (e f j i l k : ℕ) → IsRising xs → IsRising ys → IsVertical xs ys e j i
     → IsVertical xs ys f l k → name_between (crossing xs ys i j) (crossing xs ys i (j + 1))
     ≡ name_between (crossing xs ys k l) (crossing xs ys k (l + 1)) → e ≡ f
-same_vertical xs ys e f j i l k rises rises' is is' same =
-    let column = same_place xs i k is.column is'.column rises (ap (λ n. n.x1) same) in
-    let row = same_place ys j l (omega arith) (omega arith) rises' (ap (λ n. n.y1) same) in
-    cc
+same_vertical xs ys e f j i l k rises rises' is is' same = grind (arith, same_place)
 
 -- a horizontal and a vertical edge have two names
 names_apart : {P : Type 0} (xs ys : List ℤ) (e f j i l k : ℕ) → IsRising xs → IsHorizontal xs ys e j i

@@ -1,6 +1,6 @@
 -- Laws of the edges of a row and of a column: how they add up in a set, and where they lead.
 use Rattle.std.proofs.Common.{ℕ, zero, suc, ◌≡◌, ◌+◌, ◌-◌, ◌<◌, ◌≤◌, min, max, Bool, true, List, length, slice_get}
-use Rattle.std.proofs.Common.{slice_set, Some, ◌⊎◌, inl, inr, ⊎_elim, sym, ap, ◌∙◌, subst, arith}
+use Rattle.std.proofs.Common.{slice_set, Some, ◌⊎◌, inl, inr, sym, ap, ◌∙◌, subst, arith}
 use Rattle.std.proofs.lemmas.Bool.{cases_lt}
 use Rattle.std.proofs.lemmas.Option.{get_or_from_slice_get, slice_get_within}
 use Rattle.points_in.specs.declared.point.Point.{Point}
@@ -32,25 +32,16 @@ pub IsVertical-from_edge : (ps : List Point) (e row column : ℕ) → row + 1 < 
     column < length (xs_of ps) →
     slice_get (hanan_grid_of ps).edges e ≡ Some (vertical (length (xs_of ps)) (ys_of ps) row column) →
     IsVertical (xs_of ps) (ys_of ps) e row column
-IsVertical-from_edge ps e row column row_in column_in at = record {
-  row = row_in;
-  column = column_in;
-  number = same_number ps e (vertical_number (xs_of ps) (ys_of ps) row column)
-      (vertical (length (xs_of ps)) (ys_of ps) row column) at
-      (slice_get-vertical (xs_of ps) (ys_of ps) row column row_in column_in);
-}
+IsVertical-from_edge ps e row column row_in column_in at =
+    grind (arith, same_number ps e (vertical_number (xs_of ps) (ys_of ps) row column) (vertical (length (xs_of ps)) (ys_of ps) row column), slice_get-vertical (xs_of ps) (ys_of ps) row column row_in column_in)
 
 -- the number of a horizontal edge
 pub IsHorizontal-from_edge : (ps : List Point) (e row column : ℕ) → row < length (ys_of ps) →
     column + 1 < length (xs_of ps) →
     slice_get (hanan_grid_of ps).edges e ≡ Some (horizontal (xs_of ps) row column) →
     IsHorizontal (xs_of ps) (ys_of ps) e row column
-IsHorizontal-from_edge ps e row column row_in column_in at = record {
-  row = row_in;
-  column = column_in;
-  number = same_number ps e (horizontal_number (xs_of ps) row column) (horizontal (xs_of ps) row column) at
-      (slice_get-horizontal (xs_of ps) (ys_of ps) row column row_in column_in);
-}
+IsHorizontal-from_edge ps e row column row_in column_in at =
+    grind (arith, same_number ps e (horizontal_number (xs_of ps) row column) (horizontal (xs_of ps) row column), slice_get-horizontal (xs_of ps) (ys_of ps) row column row_in column_in)
 
 -- ---- sets
 
@@ -65,38 +56,13 @@ pub row_more : (ps : List Point) (row low column n : ℕ) (old set : List Bool) 
     Adds (IsInRowBelow ps row low column) old set →
     Adds (IsInRowBelow ps row low (column + 1)) old (slice_set set n true)
 row_more ps row low column n old set above within is adds =
-    Adds-then (IsInRowBelow ps row low column) (λ e. e ≡ n) (IsInRowBelow ps row low (column + 1)) old set
-    (slice_set set n true) adds (Adds-one set n within)
-    (λ e below. (below.0, below.1, omega (arith, below.2), below.3))
-    (λ e here. (column, above, omega arith, subst (λ m. IsHorizontal (xs_of ps) (ys_of ps) m row column) (sym here) is))
-    (λ e one. elim (cases_lt one.0 column) [
-      | inl below ↦ inl (one.0, one.1, below, one.3)
-      | inr at ↦ let same : one.0 ≡ column = omega (arith, one.2) in
-          inr (one.3.number ∙ ap (λ i. horizontal_number (xs_of ps) row i) same ∙ sym is.number)
-    ])
+    grind (arith, Adds-then, slice_set set n true, Adds-one set n within, IsHorizontal, cases_lt, horizontal_number)
 
 -- all edges of a row between two columns
 pub row_all : (ps : List Point) (row from to bound : ℕ) (old set : List Bool) → max from to ≤ bound →
     bound ≤ max from to → Adds (IsInRowBelow ps row (min from to) bound) old set →
     Adds (IsInRow ps row from to) old set
-row_all ps row from to bound old set top end adds = record {
-  size = adds.size;
-  kept = adds.kept;
-  put = λ e is. adds.put e (
-    is.0,
-    ⊎_elim (λ p. omega (arith, p.0)) (λ p. omega (arith, p.0)) is.2,
-    ⊎_elim (λ p. omega (arith, p.1)) (λ p. omega (arith, p.1)) is.2,
-    is.1,
-  );
-  only = λ e inside. ⊎_elim (λ before. inl before) (λ is. inr (
-    is.0,
-    is.3,
-    elim (cases_lt from to) [
-      | inl up ↦ inl (omega (arith, is.1), omega (arith, is.2))
-      | inr down ↦ inr (omega (arith, is.1), omega (arith, is.2))
-    ],
-  )) (adds.only e inside);
-}
+row_all ps row from to bound old set top end adds = grind (arith, cases_lt from to)
 
 -- the edges of a column from the lower of two rows to a row
 abbrev pub IsInColumnPart : List Point → ℕ → ℕ → ℕ → ℕ → Type 0
@@ -109,39 +75,14 @@ pub column_part_more : (ps : List Point) (column low row n : ℕ) (old set : Lis
     Adds (IsInColumnPart ps column low row) old set →
     Adds (IsInColumnPart ps column low (row + 1)) old (slice_set set n true)
 column_part_more ps column low row n old set above within is adds =
-    Adds-then (IsInColumnPart ps column low row) (λ e. e ≡ n) (IsInColumnPart ps column low (row + 1)) old set
-    (slice_set set n true) adds (Adds-one set n within)
-    (λ e below. (below.0, below.1, omega (arith, below.2), below.3))
-    (λ e here. (row, above, omega arith, subst (λ m. IsVertical (xs_of ps) (ys_of ps) m row column) (sym here) is))
-    (λ e one. elim (cases_lt one.0 row) [
-      | inl below ↦ inl (one.0, one.1, below, one.3)
-      | inr at ↦ let same : one.0 ≡ row = omega (arith, one.2) in
-          inr (one.3.number ∙ ap (λ i. vertical_number (xs_of ps) (ys_of ps) i column) same ∙ sym is.number)
-    ])
+    grind (arith, Adds-then, slice_set set n true, Adds-one set n within, IsVertical, cases_lt, vertical_number)
 
 -- all edges of a column between two rows
 pub column_part_all : (ps : List Point) (column from to bound : ℕ) (old set : List Bool) →
     max from to ≤ bound → bound ≤ max from to →
     Adds (IsInColumnPart ps column (min from to) bound) old set →
     Adds (IsInColumnBetween ps column from to) old set
-column_part_all ps column from to bound old set top end adds = record {
-  size = adds.size;
-  kept = adds.kept;
-  put = λ e is. adds.put e (
-    is.0,
-    ⊎_elim (λ p. omega (arith, p.0)) (λ p. omega (arith, p.0)) is.2,
-    ⊎_elim (λ p. omega (arith, p.1)) (λ p. omega (arith, p.1)) is.2,
-    is.1,
-  );
-  only = λ e inside. ⊎_elim (λ before. inl before) (λ is. inr (
-    is.0,
-    is.3,
-    elim (cases_lt from to) [
-      | inl up ↦ inl (omega (arith, is.1), omega (arith, is.2))
-      | inr down ↦ inr (omega (arith, is.1), omega (arith, is.2))
-    ],
-  )) (adds.only e inside);
-}
+column_part_all ps column from to bound old set top end adds = grind (arith, cases_lt from to)
 
 -- ---- walks
 

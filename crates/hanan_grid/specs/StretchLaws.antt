@@ -82,20 +82,8 @@ between_from_passed : (lines : List ℤ) (a b t : ℕ) → a < length lines → 
     IsPassed a b t →
     IsBetween (line_at lines a) (line_at lines b) (line_at lines t)
     × IsBetween (line_at lines a) (line_at lines b) (line_at lines (t + 1))
-between_from_passed lines a b t a_in b_in t_in rises (inl up) = (
-  inl (line_le lines a t (omega arith) rises up.0, line_le lines t b b_in rises (omega (arith, up.1))),
-  inl (
-    line_le lines a (t + 1) t_in rises (omega (arith, up.0)),
-    line_le lines (t + 1) b b_in rises (omega (arith, up.1)),
-  ),
-)
-between_from_passed lines a b t a_in b_in t_in rises (inr down) = (
-  inr (line_le lines b t (omega arith) rises down.0, line_le lines t a a_in rises (omega (arith, down.1))),
-  inr (
-    line_le lines b (t + 1) t_in rises (omega (arith, down.0)),
-    line_le lines (t + 1) a a_in rises (omega (arith, down.1)),
-  ),
-)
+between_from_passed lines a b t a_in b_in t_in rises (inl up) = grind (arith, line_le)
+between_from_passed lines a b t a_in b_in t_in rises (inr down) = grind (arith, line_le)
 
 -- what is passed on the way to a line between two is passed on the way between them
 passed_further : (lines : List ℤ) (a b t s : ℕ) → a < length lines → b < length lines → t < length lines →
@@ -133,37 +121,35 @@ crossing-places : (ps : List Point) (p : Point) (x y : ℤ) → IsCrossing (xs_o
     y ≡ p.y →
     crossing (xs_of ps) (ys_of ps) (place_of x (xs_of ps)) (place_of y (ys_of ps)) ≡ p
 crossing-places ps p x y at same_x same_y =
-    rw (
-      same_x,
-      same_y,
-      line_at-place_of p.x (xs_of ps) at.x (IsRising-xs_of ps),
-      line_at-place_of p.y (ys_of ps) at.y
-          (IsRising-ys_of ps),
-    ) refl
+    grind (arith, line_at-place_of p.x (xs_of ps) at.x (IsRising-xs_of ps), line_at-place_of p.y (ys_of ps) at.y (IsRising-ys_of ps))
 
 -- crossings of one y are the ends of a stretch in a row
 pub IsRowStretch-from_same : (ps : List Point) (p q : Point) → IsCrossing (xs_of ps) (ys_of ps) p →
     IsCrossing (xs_of ps) (ys_of ps) q → p.y ≡ q.y →
     IsRowStretch ps p q (place_of p.y (ys_of ps)) (place_of p.x (xs_of ps)) (place_of q.x (xs_of ps))
-IsRowStretch-from_same ps p q from to same = record {
-  row_in = place_of-below p.y (ys_of ps) from.y (IsRising-ys_of ps);
-  a_in = place_of-below p.x (xs_of ps) from.x (IsRising-xs_of ps);
-  b_in = place_of-below q.x (xs_of ps) to.x (IsRising-xs_of ps);
-  from = crossing-places ps p p.x p.y from refl refl;
-  to = crossing-places ps q q.x p.y to refl same;
-}
+IsRowStretch-from_same ps p q from to same =
+    grind (
+      arith,
+      place_of-below p.y (ys_of ps) from.y (IsRising-ys_of ps),
+      place_of-below p.x (xs_of ps) from.x (IsRising-xs_of ps),
+      place_of-below q.x (xs_of ps) to.x (IsRising-xs_of ps),
+      crossing-places ps p p.x p.y from refl refl,
+      crossing-places ps q q.x p.y to refl same,
+    )
 
 -- crossings of one x are the ends of a stretch in a column
 pub IsColumnStretch-from_same : (ps : List Point) (p q : Point) → IsCrossing (xs_of ps) (ys_of ps) p →
     IsCrossing (xs_of ps) (ys_of ps) q → p.x ≡ q.x →
     IsColumnStretch ps p q (place_of p.x (xs_of ps)) (place_of p.y (ys_of ps)) (place_of q.y (ys_of ps))
-IsColumnStretch-from_same ps p q from to same = record {
-  column_in = place_of-below p.x (xs_of ps) from.x (IsRising-xs_of ps);
-  a_in = place_of-below p.y (ys_of ps) from.y (IsRising-ys_of ps);
-  b_in = place_of-below q.y (ys_of ps) to.y (IsRising-ys_of ps);
-  from = crossing-places ps p p.x p.y from refl refl;
-  to = crossing-places ps q p.x q.y to same refl;
-}
+IsColumnStretch-from_same ps p q from to same =
+    grind (
+      arith,
+      place_of-below p.x (xs_of ps) from.x (IsRising-xs_of ps),
+      place_of-below p.y (ys_of ps) from.y (IsRising-ys_of ps),
+      place_of-below q.y (ys_of ps) to.y (IsRising-ys_of ps),
+      crossing-places ps p p.x p.y from refl refl,
+      crossing-places ps q p.x q.y to same refl,
+    )
 
 -- a horizontal edge's ends
 horizontal_ends : (ps : List Point) (p q : Point) (e j i : ℕ) (edge : Edge) →
@@ -451,18 +437,7 @@ pub record StretchSet (ps : List Point) (p q : Point) : Type 0 where
 apart_by : (lines : List ℤ) (a b n : ℕ) →
     line_at lines (min a b) +ℤ pos n ≡ line_at lines (min a b + (max a b - min a b)) →
     unsigned_abs (line_at lines a -ℤ line_at lines b) ≡ n
-apart_by lines a b n long = elim (cases_lt a b) [
-  | inl up ↦ let low : min a b ≡ a = omega arith in
-      let high : min a b + (max a b - min a b) ≡ b = omega arith in
-      let first : line_at lines (min a b) ≡ line_at lines a = ap (line_at lines) low in
-      let last : line_at lines (min a b + (max a b - min a b)) ≡ line_at lines b = ap (line_at lines) high in
-      omega (arith, ints, long, first, last)
-  | inr down ↦ let low : min a b ≡ b = omega arith in
-      let high : min a b + (max a b - min a b) ≡ a = omega arith in
-      let first : line_at lines (min a b) ≡ line_at lines b = ap (line_at lines) low in
-      let last : line_at lines (min a b + (max a b - min a b)) ≡ line_at lines a = ap (line_at lines) high in
-      omega (arith, ints, long, first, last)
-]
+apart_by lines a b n long = grind (arith, cases_lt a b, ints)
 
 -- there is one for a stretch in a row
 row_stretch_set : (ps : List Point) (p q : Point) (row a b : ℕ) → IsRowStretch ps p q row a b →
@@ -593,18 +568,12 @@ column_leads ps set column a b t column_in a_in b_in t_in between holds =
 -- an edge of the row is on the stretch
 IsOnStretch-row : (ps : List Point) (p q : Point) (row a b e : ℕ) → IsRowStretch ps p q row a b →
     IsInRow ps row a b e → IsOnStretch ps p q e
-IsOnStretch-row ps p q row a b e is on =
-    subst (λ z. IsOnStretch ps p z e) is.to
-    (subst (λ z. IsOnStretch ps z (crossing (xs_of ps) (ys_of ps) b row) e) is.from
-    (IsOnStretch-in_row ps row a b e is.a_in is.b_in on))
+IsOnStretch-row ps p q row a b e is on = grind (arith, IsOnStretch-in_row ps row a b e is.a_in is.b_in on)
 
 -- an edge of the column is on the stretch
 IsOnStretch-column : (ps : List Point) (p q : Point) (column a b e : ℕ) →
     IsColumnStretch ps p q column a b → IsInColumnBetween ps column a b e → IsOnStretch ps p q e
-IsOnStretch-column ps p q column a b e is on =
-    subst (λ z. IsOnStretch ps p z e) is.to
-    (subst (λ z. IsOnStretch ps z (crossing (xs_of ps) (ys_of ps) column b) e) is.from
-    (IsOnStretch-in_column ps column a b e is.a_in is.b_in on))
+IsOnStretch-column ps p q column a b e is on = grind (arith, IsOnStretch-in_column ps column a b e is.a_in is.b_in on)
 
 -- a number that is between two is between what these are equal to
 IsBetween-same : (a b a' b' z : ℤ) → a' ≡ a → b' ≡ b → IsBetween a b z → IsBetween a' b' z
@@ -671,34 +640,32 @@ either_le a b =
 
 -- a number is between itself and another
 first_between : (a b : ℤ) → IsBetween a b a
-first_between a b = elim (either_le a b) [
-  | inl up ↦ inl (omega (arith, ints), up)
-  | inr down ↦ inr (down, omega (arith, ints))
-]
+first_between a b = grind (arith, either_le a b, ints)
 
 -- .. and so is the other
 last_between : (a b : ℤ) → IsBetween a b b
-last_between a b = elim (either_le a b) [
-  | inl up ↦ inl (up, omega (arith, ints))
-  | inr down ↦ inr (omega (arith, ints), down)
-]
+last_between a b = grind (arith, either_le a b, ints)
 
 -- the first end of a stretch is on it
 pub IsVertexOnStretch-from : (ps : List Point) (p q : Point) → IsGridStretch ps p q →
     IsVertexOnStretch ps p q (vertex_of (xs_of ps) (ys_of ps) p)
-IsVertexOnStretch-from ps p q is = record {
-  below = vertex_of-crossing-below (xs_of ps) (ys_of ps) p (IsRising-xs_of ps) (IsRising-ys_of ps) is.from;
-  between = subst (LiesBetween p q)
-      (sym (point_of_vertex-vertex_of (xs_of ps) (ys_of ps) p (IsRising-xs_of ps) (IsRising-ys_of ps) is.from))
-      (record { x = first_between p.x q.x; y = first_between p.y q.y });
-}
+IsVertexOnStretch-from ps p q is =
+    grind (
+      arith,
+      vertex_of-crossing-below (xs_of ps) (ys_of ps) p (IsRising-xs_of ps) (IsRising-ys_of ps) is.from,
+      point_of_vertex-vertex_of (xs_of ps) (ys_of ps) p (IsRising-xs_of ps) (IsRising-ys_of ps) is.from,
+      first_between p.x q.x,
+      first_between p.y q.y,
+    )
 
 -- .. and so is the other
 pub IsVertexOnStretch-to : (ps : List Point) (p q : Point) → IsGridStretch ps p q →
     IsVertexOnStretch ps p q (vertex_of (xs_of ps) (ys_of ps) q)
-IsVertexOnStretch-to ps p q is = record {
-  below = vertex_of-crossing-below (xs_of ps) (ys_of ps) q (IsRising-xs_of ps) (IsRising-ys_of ps) is.to;
-  between = subst (LiesBetween p q)
-      (sym (point_of_vertex-vertex_of (xs_of ps) (ys_of ps) q (IsRising-xs_of ps) (IsRising-ys_of ps) is.to))
-      (record { x = last_between p.x q.x; y = last_between p.y q.y });
-}
+IsVertexOnStretch-to ps p q is =
+    grind (
+      arith,
+      vertex_of-crossing-below (xs_of ps) (ys_of ps) q (IsRising-xs_of ps) (IsRising-ys_of ps) is.to,
+      point_of_vertex-vertex_of (xs_of ps) (ys_of ps) q (IsRising-xs_of ps) (IsRising-ys_of ps) is.to,
+      last_between p.x q.x,
+      last_between p.y q.y,
+    )

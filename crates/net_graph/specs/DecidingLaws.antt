@@ -1,7 +1,7 @@
 -- What stays as it is where one more edge or vertex is decided: what was required is required, and what is undecided
 -- was undecided.
 use Rattle.std.specs.Prelude.{ℕ, ◌≡◌, ◌⊎◌, true, false, slice_get, Some}
-use Rattle.std.proofs.Common.{sym, ap, ◌∙◌, inl, inr, ⊎_elim, subst}
+use Rattle.std.proofs.Common.{sym, ap, ◌∙◌, inl, inr, ⊎_elim, arith}
 use Rattle.std.proofs.lemmas.Bool.{cases_eq}
 use Rattle.std.proofs.lemmas.Option.{same_Some}
 use Rattle.net_graph.specs.declared.edge.Edge.{Edge}
@@ -15,9 +15,7 @@ use Rattle.net_graph.specs.EntryLaws.{slice_get-set_other}
 
 -- an undecided edge is so by itself, and neither of its ends is missed
 undecided_itself : (g : Graph) (d : Decided) (n : ℕ) → IsUndecided g d n → slice_get d.edges n ≡ Some Undecided
-undecided_itself g d n undecided =
-    let (e, bare, at, decided, so) = states_of-parts g d n Undecided undecided in
-    decided ∙ ap Some (state_at_ends-undecided d.vertices e bare so).0
+undecided_itself g d n undecided = grind (arith, states_of-parts g d n Undecided undecided, state_at_ends-undecided)
 
 -- what was required is so where one more edge is decided
 pub IsRequired-with_edge : (g : Graph) (d : Decided) (n v : ℕ) (state : EdgeState) → IsUndecided g d n →
@@ -36,22 +34,14 @@ IsRequired-with_edge g d n v state undecided required =
 -- .. and where one more vertex is
 pub IsRequired-with_vertex : (g : Graph) (d : Decided) (v w : ℕ) (state : VertexState) → IsVertexUndecided g d v →
     IsRequired g d w → IsRequired g (with_vertex d v state) w
-IsRequired-with_vertex g d v w state undecided required = elim (cases_eq w v) [
-  | inl here ↦ absurd (undecided.not_required (subst (IsRequired g d) here required))
-  | inr apart ↦
-      IsRequired-fewer g d (with_vertex d v state) w (λ n inside. inside)
-      (λ met. slice_get-set_other d.vertices v w state apart ∙ met) required
-]
+IsRequired-with_vertex g d v w state undecided required =
+    grind (arith, cases_eq w v, IsRequired-fewer, slice_get-set_other)
 
 -- an edge that is undecided where one more edge is decided was so before
 pub IsUndecided-before_edge : (g : Graph) (d : Decided) (n k : ℕ) (state : EdgeState) → IsUndecided g d n →
     IsUndecided g (with_edge d n state) k → IsUndecided g d k
-IsUndecided-before_edge g d n k state undecided is = elim (cases_eq k n) [
-  | inl here ↦ subst (IsUndecided g d) (sym here) undecided
-  | inr apart ↦
-      let (e, bare, at, decided, so) = states_of-parts g (with_edge d n state) k Undecided is in
-      states_of-at g d k e bare at (sym (slice_get-set_other d.edges n k state apart) ∙ decided) ∙ ap Some so
-]
+IsUndecided-before_edge g d n k state undecided is =
+    grind (arith, cases_eq k n, states_of-parts g (with_edge d n state) k Undecided is, states_of-at, slice_get-set_other)
 
 -- .. and so was one that is undecided where one more vertex is decided
 pub IsUndecided-before_vertex : (g : Graph) (d : Decided) (v k : ℕ) (state : VertexState) → IsVertexUndecided g d v →

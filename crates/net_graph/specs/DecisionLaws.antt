@@ -1,6 +1,6 @@
 -- Laws of decisions: which edges are free, what is undecided, and that one more state keeps a decision one.
-use Rattle.std.specs.Prelude.{ℕ, zero, suc, ◌≡◌, ◌≢◌, ◌<◌, ◌↔◌, ◌⊎◌, Bool, true, false, List, [], ◌∷◌, length, replicate, slice_get, slice_set, Option, Some, Contains, if◌then◌else◌}
-use Rattle.std.proofs.Common.{refl, sym, ap, ◌∙◌, inl, inr, ⊎_elim, arith, length-set, subst}
+use Rattle.std.specs.Prelude.{ℕ, zero, suc, ◌≡◌, ◌≢◌, ◌<◌, ◌↔◌, ◌⊎◌, Bool, true, false, List, [], ◌∷◌, length, replicate, slice_get, slice_set, Option, Some, Contains}
+use Rattle.std.proofs.Common.{refl, sym, ap, ◌∙◌, inl, inr, ⊎_elim, arith, length-set}
 use Rattle.std.proofs.lemmas.Bool.{cases_eq, cases_Bool, or_cases, or_left, or_right}
 use Rattle.std.proofs.lemmas.List.{length-replicate}
 use Rattle.std.proofs.lemmas.Option.{same_Some, slice_get-get_or, slice_get_within}
@@ -22,27 +22,14 @@ is_missed-true _ is = cc
 -- an edge has a missed end where the test says so
 pub has_missed_end-iff : (d : Decided) (e : Edge) →
     (has_missed_end d.vertices e ≡ true) ↔ (IsMissed d e.a ⊎ IsMissed d e.b)
-has_missed_end-iff d e = (
-  λ holds. ⊎_elim
-      (λ (a : is_missed (slice_get d.vertices e.a) ≡ true). inl (is_missed-true _ a))
-      (λ (b : is_missed (slice_get d.vertices e.b) ≡ true). inr (is_missed-true _ b))
-      (or_cases _ _ holds),
-  λ missed. ⊎_elim
-      (λ (a : IsMissed d e.a). or_left _ _ (ap is_missed a))
-      (λ (b : IsMissed d e.b). or_right _ _ (ap is_missed b))
-      missed,
-)
+has_missed_end-iff d e = grind (arith, is_missed-true, or_cases, or_left, or_right)
 
 -- no other edge becomes inside at its ends
 state_at_ends-inside : (vertices : List VertexState) (e : Edge) (state : EdgeState) →
     state_at_ends vertices e state ≡ Inside → state ≡ Inside
 state_at_ends-inside vertices e Inside is = refl
 state_at_ends-inside vertices e Outside is = is
-state_at_ends-inside vertices e Undecided is = absurd (neither (has_missed_end vertices e) is)
-  where
-    neither : (missed : Bool) → (if missed then Outside else Undecided) ≡ Inside → ⊥
-    neither true is = cc
-    neither false is = cc
+state_at_ends-inside vertices e Undecided is = grind arith
 
 -- an edge is free at its ends where it is outside or one of them is missed
 state_at_ends-outside : (vertices : List VertexState) (e : Edge) (state : EdgeState) →
@@ -50,11 +37,7 @@ state_at_ends-outside : (vertices : List VertexState) (e : Edge) (state : EdgeSt
     (state ≡ Outside) ⊎ (has_missed_end vertices e ≡ true)
 state_at_ends-outside vertices e Outside is = inl refl
 state_at_ends-outside vertices e Inside is = inl is
-state_at_ends-outside vertices e Undecided is = inr (cases (has_missed_end vertices e) is)
-  where
-    cases : (missed : Bool) → (if missed then Outside else Undecided) ≡ Outside → missed ≡ true
-    cases true is = refl
-    cases false is = cc
+state_at_ends-outside vertices e Undecided is = grind arith
 
 -- an edge is undecided at its ends where it is so without them and none is missed
 pub state_at_ends-undecided : (vertices : List VertexState) (e : Edge) (state : EdgeState) →
@@ -62,11 +45,7 @@ pub state_at_ends-undecided : (vertices : List VertexState) (e : Edge) (state : 
     (state ≡ Undecided) × (has_missed_end vertices e ≡ false)
 state_at_ends-undecided vertices e Inside is = cc
 state_at_ends-undecided vertices e Outside is = cc
-state_at_ends-undecided vertices e Undecided is = (refl, cases (has_missed_end vertices e) is)
-  where
-    cases : (missed : Bool) → (if missed then Outside else Undecided) ≡ Undecided → missed ≡ false
-    cases true is = cc
-    cases false is = refl
+state_at_ends-undecided vertices e Undecided is = grind arith
 
 states_at_ends-at : (es : List Edge) (states : List EdgeState) (vertices : List VertexState) (n : ℕ) (e : Edge)
     (state : EdgeState) → slice_get es n ≡ Some e → slice_get states n ≡ Some state →
@@ -124,18 +103,12 @@ decided_at g d n decision within =
 pub inside-not_missed : (g : Graph) (d : Decided) (n : ℕ) (e : Edge) → IsDecisionFor g d →
     slice_get d.edges n ≡ Some Inside →
     slice_get g.edges n ≡ Some e → IsMissed d e.a ⊎ IsMissed d e.b → ⊥
-inside-not_missed g d n e decision inside at missed =
-    ⊎_elim
-    (λ (a : IsMissed d e.a). decision.missed e.a a (inr (inl (n, e, inside, at, inl refl))))
-    (λ (b : IsMissed d e.b). decision.missed e.b b (inr (inl (n, e, inside, at, inr refl))))
-    missed
+inside-not_missed g d n e decision inside at missed = grind arith
 
 -- an edge's state is Inside where it is inside
 pub states_of-inside : (g : Graph) (d : Decided) (n : ℕ) → slice_get (states_of g d) n ≡ Some Inside →
     slice_get d.edges n ≡ Some Inside
-states_of-inside g d n is =
-    let (e, bare, at, decided, so) = states_of-parts g d n Inside is in
-    decided ∙ ap Some (state_at_ends-inside d.vertices e bare so)
+states_of-inside g d n is = grind (arith, states_of-parts g d n Inside is, state_at_ends-inside)
 
 -- .. and only there
 pub states_of-from_inside : (g : Graph) (d : Decided) (n : ℕ) → IsDecisionFor g d → slice_get d.edges n ≡ Some Inside →
@@ -147,12 +120,7 @@ states_of-from_inside g d n decision inside =
 
 -- an edge's state is Outside where it is free
 pub states_of-free : (g : Graph) (d : Decided) (n : ℕ) → slice_get (states_of g d) n ≡ Some Outside → IsFree g d n
-states_of-free g d n is =
-    let (e, bare, at, decided, so) = states_of-parts g d n Outside is in
-    ⊎_elim
-    (λ (outside : bare ≡ Outside). inl (decided ∙ ap Some outside))
-    (λ (missed : has_missed_end d.vertices e ≡ true). inr (e, at, (has_missed_end-iff d e).0 missed))
-    (state_at_ends-outside d.vertices e bare so)
+states_of-free g d n is = grind (arith, states_of-parts g d n Outside is, has_missed_end-iff, state_at_ends-outside)
 
 -- a missed end makes every edge but an inside one free
 state_at_missed : (vertices : List VertexState) (e : Edge) (state : EdgeState) →
@@ -179,33 +147,20 @@ states_of-from_free g d n decision within free =
 pub states_of-from_missed : (g : Graph) (d : Decided) (n : ℕ) (e : Edge) → slice_get g.edges n ≡ Some e →
     slice_get d.edges n ≡ Some Undecided →
     IsMissed d e.a ⊎ IsMissed d e.b → slice_get (states_of g d) n ≡ Some Outside
-states_of-from_missed g d n e at decided missed =
-    states_of-at g d n e Undecided at decided
-    ∙ ap (λ test. Some (if test then Outside else Undecided)) ((has_missed_end-iff d e).1 missed)
+states_of-from_missed g d n e at decided missed = grind (arith, states_of-at g d n e Undecided, has_missed_end-iff d e)
 
 -- .. and undecided where none is
 pub states_of-from_kept : (g : Graph) (d : Decided) (n : ℕ) (e : Edge) → slice_get g.edges n ≡ Some e →
     slice_get d.edges n ≡ Some Undecided →
     (IsMissed d e.a ⊎ IsMissed d e.b → ⊥) → slice_get (states_of g d) n ≡ Some Undecided
 states_of-from_kept g d n e at decided kept =
-    states_of-at g d n e Undecided at decided
-    ∙ ap (λ test. Some (if test then Outside else Undecided)) (⊎_elim
-    (λ (missed : has_missed_end d.vertices e ≡ true). absurd (kept ((has_missed_end-iff d e).0 missed)))
-    (λ (is : has_missed_end d.vertices e ≡ false). is)
-    (cases_Bool (has_missed_end d.vertices e)))
+    grind (arith, states_of-at g d n e Undecided, has_missed_end-iff d e, cases_Bool (has_missed_end d.vertices e))
 
 -- an undecided edge is neither inside nor free
 pub IsUndecided-parts : (g : Graph) (d : Decided) (n : ℕ) → IsDecisionFor g d → IsUndecided g d n →
     (n < length g.edges) × (slice_get d.edges n ≡ Some Undecided) × (IsFree g d n → ⊥)
 IsUndecided-parts g d n decision undecided =
-    let (e, bare, at, decided, so) = states_of-parts g d n Undecided undecided in
-    let within : n < length g.edges = slice_get_within g.edges n e at in (
-      within,
-      decided ∙ ap Some (state_at_ends-undecided d.vertices e bare so).0,
-      λ free. let outside : slice_get (states_of g d) n ≡ Some Outside =
-          states_of-from_free g d n decision within free in
-          let same : Undecided ≡ Outside = same_Some _ _ (sym undecided ∙ outside) in cc,
-    )
+    grind (arith, states_of-parts g d n Undecided undecided, slice_get_within, state_at_ends-undecided, states_of-from_free, same_Some)
 
 -- no end of an undecided edge is missed
 pub undecided-not_missed : (g : Graph) (d : Decided) (n : ℕ) (e : Edge) → IsDecisionFor g d → IsUndecided g d n →
@@ -224,20 +179,12 @@ no_vertex_decided g v state is = slice_get-replicate g.vertices v vertex.Undecid
 
 -- nothing decided is a decision on each graph
 pub IsDecisionFor-nothing : (g : Graph) → IsDecisionFor g (nothing_decided g)
-IsDecisionFor-nothing g = record {
-  edges = length-replicate (length g.edges) Undecided;
-  vertices = length-replicate g.vertices vertex.Undecided;
-  missed = λ v missed required. let same : vertex.Undecided ≡ Missed = no_vertex_decided g v Missed missed in cc;
-}
+IsDecisionFor-nothing g =
+    grind (arith, length-replicate (length g.edges) Undecided, length-replicate g.vertices vertex.Undecided, no_vertex_decided)
 
 -- .. with which every edge set agrees
 pub Agrees-nothing : (g : Graph) (set : List Bool) → Agrees g (nothing_decided g) set
-Agrees-nothing g set = record {
-  inside = λ n inside. let same : Undecided ≡ Inside = no_edge_decided g n Inside inside in cc;
-  outside = λ n outside part. let same : Undecided ≡ Outside = no_edge_decided g n Outside outside in cc;
-  met = λ v met. let same : vertex.Undecided ≡ Met = no_vertex_decided g v Met met in cc;
-  missed = λ v missed reached. let same : vertex.Undecided ≡ Missed = no_vertex_decided g v Missed missed in cc;
-}
+Agrees-nothing g set = grind (arith, no_edge_decided, no_vertex_decided)
 
 -- .. and every edge is undecided
 pub states_of-nothing : (g : Graph) → states_of g (nothing_decided g) ≡ replicate (length g.edges) Undecided
@@ -258,25 +205,13 @@ states_of-nothing g = each g.edges
 pub IsRequired-fewer : (g : Graph) (fewer more : Decided) (v : ℕ) →
     ((n : ℕ) → slice_get fewer.edges n ≡ Some Inside → slice_get more.edges n ≡ Some Inside) →
     (IsMet fewer v → IsMet more v) → IsRequired g fewer v → IsRequired g more v
-IsRequired-fewer g fewer more v inside met required =
-    ⊎_elim
-    (λ (terminal : Contains g.terminals v). inl terminal)
-    (λ (rest : EndsInside g fewer v ⊎ IsMet fewer v). ⊎_elim
-    (λ (ends : EndsInside g fewer v). inr (inl (ends.0, ends.1, inside ends.0 ends.2, ends.3, ends.4)))
-    (λ (is : IsMet fewer v). inr (inr (met is)))
-    rest)
-    required
+IsRequired-fewer g fewer more v inside met required = grind arith
 
 -- a vertex met or missed in a decision that changes another vertex is so before
 vertex_before : (d : Decided) (v w : ℕ) (state is : VertexState) → v < length d.vertices → (state ≡ is → ⊥) →
     slice_get (with_vertex d v state).vertices w ≡ Some is → slice_get d.vertices w ≡ Some is
-vertex_before d v w state is within other found = elim (cases_eq w v) [
-  | inl here ↦
-      let written : slice_get (slice_set d.vertices v state) w ≡ Some state =
-      rw here (slice_get-set_same d.vertices v state within) in
-      absurd (other (same_Some state is (sym written ∙ found)))
-  | inr apart ↦ sym (slice_get-set_other d.vertices v w state apart) ∙ found
-]
+vertex_before d v w state is within other found =
+    grind (arith, cases_eq w v, slice_get-set_same d.vertices v state within, same_Some, slice_get-set_other)
 
 -- an edge inside in a decision that changes another edge is so before
 edge_before : (d : Decided) (n k : ℕ) (state : EdgeState) → k ≢ n →
@@ -332,33 +267,10 @@ IsDecisionFor-with_outside g d n decision within = record {
 -- an undecided vertex may be met: it becomes required, and it isn't missed
 pub IsDecisionFor-with_met : (g : Graph) (d : Decided) (v : ℕ) → IsDecisionFor g d → IsVertexUndecided g d v →
     IsDecisionFor g (with_vertex d v Met)
-IsDecisionFor-with_met g d v decision undecided = record {
-  edges = decision.edges;
-  vertices = length-set d.vertices v Met ∙ decision.vertices;
-  missed = λ w missed required.
-      let within : v < length d.vertices = omega (arith, decision.vertices, undecided.vertex) in
-      let before : IsMissed d w = vertex_before d v w Met Missed within (λ same. cc) missed in
-      ⊎_elim
-      (λ (terminal : Contains g.terminals w). decision.missed w before (inl terminal))
-      (λ (rest : EndsInside g d w ⊎ IsMet (with_vertex d v Met) w). ⊎_elim
-      (λ (ends : EndsInside g d w). decision.missed w before (inr (inl ends)))
-      (λ (met : IsMet (with_vertex d v Met) w). let same : Met ≡ Missed = same_Some _ _ (sym met ∙ missed) in cc)
-      rest)
-      required;
-}
+IsDecisionFor-with_met g d v decision undecided = grind (arith, length-set d.vertices v Met, vertex_before, same_Some)
 
 -- an undecided vertex may be missed: it isn't required, and no more is
 pub IsDecisionFor-with_missed : (g : Graph) (d : Decided) (v : ℕ) → IsDecisionFor g d →
     IsVertexUndecided g d v → IsDecisionFor g (with_vertex d v Missed)
-IsDecisionFor-with_missed g d v decision undecided = record {
-  edges = decision.edges;
-  vertices = length-set d.vertices v Missed ∙ decision.vertices;
-  missed = λ w missed required.
-      let within : v < length d.vertices = omega (arith, decision.vertices, undecided.vertex) in
-      let before : IsRequired g d w = IsRequired-fewer g (with_vertex d v Missed) d w (λ n inside. inside)
-      (vertex_before d v w Missed Met within (λ same. cc)) required in
-      elim (cases_eq w v) [
-        | inl here ↦ undecided.not_required (subst (IsRequired g d) here before)
-        | inr apart ↦ decision.missed w (sym (slice_get-set_other d.vertices v w Missed apart) ∙ missed) before
-      ];
-}
+IsDecisionFor-with_missed g d v decision undecided =
+    grind (arith, length-set d.vertices v Missed, IsRequired-fewer, vertex_before, cases_eq, slice_get-set_other)

@@ -1,6 +1,6 @@
 -- Entries of a list in which one was written, and of a list of one entry again and again.
 use Rattle.std.specs.Prelude.{ℕ, zero, suc, ◌≡◌, ◌≢◌, ◌<◌, List, length, replicate, slice_get, slice_set, Some}
-use Rattle.std.proofs.Common.{sym, ap, ◌∙◌, inl, inr, arith, length-set}
+use Rattle.std.proofs.Common.{arith, length-set}
 use Rattle.std.proofs.lemmas.Bool.{cases_lt}
 use Rattle.std.proofs.lemmas.Option.{same_Some, slice_get-get_or, slice_get_past}
 use Rattle.std.proofs.lemmas.List.{get_or-set_same, get_or-set_other}
@@ -8,18 +8,13 @@ use Rattle.std.proofs.lemmas.List.{get_or-set_same, get_or-set_other}
 -- the entry that was written
 pub slice_get-set_same : {A : Type 0} (xs : List A) (n : ℕ) (x : A) → n < length xs →
     slice_get (slice_set xs n x) n ≡ Some x
-slice_get-set_same xs n x within =
-    slice_get-get_or (slice_set xs n x) n x (omega (arith, length-set xs n x))
-    ∙ ap Some (get_or-set_same xs n x x within)
+slice_get-set_same xs n x within = grind (arith, slice_get-get_or, length-set xs n x, get_or-set_same xs n x x within)
 
 -- an entry that was not
 pub slice_get-set_other : {A : Type 0} (xs : List A) (n k : ℕ) (x : A) → k ≢ n →
     slice_get (slice_set xs n x) k ≡ slice_get xs k
-slice_get-set_other xs n k x apart = elim (cases_lt k (length xs)) [
-  | inl within ↦ slice_get-get_or (slice_set xs n x) k x (omega (arith, length-set xs n x))
-      ∙ ap Some (get_or-set_other xs n k x x apart) ∙ sym (slice_get-get_or xs k x within)
-  | inr past ↦ slice_get_past (slice_set xs n x) k (omega (arith, length-set xs n x)) ∙ sym (slice_get_past xs k past)
-]
+slice_get-set_other xs n k x apart =
+    grind (arith, cases_lt k (length xs), slice_get-get_or, length-set xs n x, get_or-set_other xs n k x x apart, slice_get_past)
 
 -- each entry of a list of one entry again and again
 pub slice_get-replicate : {A : Type 0} (size n : ℕ) (x y : A) → slice_get (replicate size x) n ≡ Some y → x ≡ y

@@ -43,19 +43,6 @@ length_of_edges-none [] n = refl
 length_of_edges-none (e ∷ edges) zero = refl
 length_of_edges-none (e ∷ edges) (suc n) = omega (arith, length_of_edges-none edges n)
 
--- an edge of the set is no longer than the set
-pub length-le-length_of_edges : (edges : List Edge) (set : List Bool) (n : ℕ) (e : Edge) → slice_get set n ≡ Some true →
-    slice_get edges n ≡ Some e → e.length ≤ length_of_edges edges set
-length-le-length_of_edges [] set n e inside is = absurd cc
-length-le-length_of_edges (x ∷ edges) [] n e inside is = absurd cc
-length-le-length_of_edges (x ∷ edges) (true ∷ set) zero e inside is =
-    let same : x ≡ e = same_Some x e is in rw same (omega arith)
-length-le-length_of_edges (x ∷ edges) (false ∷ set) zero e inside is = absurd cc
-length-le-length_of_edges (x ∷ edges) (true ∷ set) (suc n) e inside is =
-    omega (arith, length-le-length_of_edges edges set n e inside is)
-length-le-length_of_edges (x ∷ edges) (false ∷ set) (suc n) e inside is =
-    omega (arith, length-le-length_of_edges edges set n e inside is)
-
 -- an edge that is put in adds its length
 pub length_of_edges-add : (edges : List Edge) (set : List Bool) (n : ℕ) (e : Edge) → slice_get set n ≡ Some false →
     slice_get edges n ≡ Some e → length_of_edges edges (slice_set set n true) ≡ length_of_edges edges set + e.length

@@ -77,9 +77,4 @@ pub inside_length_yes-le-sum : (edges : List Edge) (decision : List EdgeState) (
     slice_get decision n ≡ Some Inside →
     inside_length (take n edges) decision + (get_or edges n e).length ≤ sum_by (λ e. e.length) edges
 inside_length_yes-le-sum edges decision n e below inside =
-    omega (
-      arith,
-      inside_length_yes edges decision n e below inside,
-      inside_length-le-sum (take (n + 1) edges) decision,
-      sum_by-take-le (λ (e : Edge). e.length) edges (n + 1),
-    )
+    grind (arith, inside_length_yes, inside_length-le-sum (take (n + 1) edges) decision, sum_by-take-le)

@@ -9,7 +9,7 @@ use Rattle.points_in.specs.declared.fault.PointFault.TheVariants.{NoPoints, Memo
 use Rattle.points_in.specs.Number.{IsNumber}
 use Rattle.points_in.specs.Terminals.{terminals_of}
 use Rattle.points_in.specs.TerminalLaws.{length-terminals_of-push}
-use Rattle.points_in.specs.Text.{AreNumbers, point_of, points_of, IsPointText, AreSound, FailsAt, FirstFailure}
+use Rattle.points_in.specs.Text.{AreNumbers, points_of, IsPointText, AreSound, FailsAt, FirstFailure}
 use Rattle.points_in.specs.Text.{EndsWithoutY, PointFaultOf}
 use Rattle.points_in.specs.Words.{Word, words_of}
 
@@ -17,20 +17,13 @@ use Rattle.points_in.specs.Words.{Word, words_of}
 pub length-terminals_of-append : (ps qs : List Point) → length (terminals_of ps) ≤ length (terminals_of (ps ++ qs))
 length-terminals_of-append ps [] = omega (arith, ap (λ rs. length (terminals_of rs)) (append-nil ps))
 length-terminals_of-append ps (q ∷ qs) =
-    omega (
-      arith,
-      length-terminals_of-push ps q,
-      length-terminals_of-append (ps ++ q ∷ []) qs,
-      ap (λ rs. length (terminals_of rs)) (append_assoc ps (q ∷ []) qs),
-    )
+    grind (arith, length-terminals_of-push ps q, length-terminals_of-append (ps ++ q ∷ []) qs, append_assoc ps (q ∷ []) qs)
 
 -- more words list the same points and more
 pub points_of-append : (xs ys : List Word) → (more : List Point) × (points_of (xs ++ ys) ≡ points_of xs ++ more)
 points_of-append [] ys = (points_of ys, refl)
 points_of-append (x ∷ []) ys = (points_of (x ∷ ys), refl)
-points_of-append (x ∷ y ∷ xs) ys =
-    let rest = points_of-append xs ys in
-    (rest.0, ap (λ ps. point_of x y ∷ ps) rest.1)
+points_of-append (x ∷ y ∷ xs) ys = grind (arith, points_of-append xs ys)
 
 -- the front of numbers
 numbers_front : (xs ys : List Word) → AreNumbers (xs ++ ys) → AreNumbers xs
@@ -45,16 +38,7 @@ number_among (x ∷ xs) y ys numbers = number_among xs y ys numbers.1
 -- the front of words that raise no fault raises none
 pub sound_front : (xs ys : List Word) → AreSound (xs ++ ys) → AreSound xs
 sound_front xs ys sound =
-    let more = points_of-append xs ys in
-    record {
-      numbers = numbers_front xs ys sound.numbers;
-      few = omega (
-        arith,
-        sound.few,
-        length-terminals_of-append (points_of xs) more.0,
-        ap (λ ps. length (terminals_of ps)) more.1,
-      );
-    }
+    grind (arith, points_of-append xs ys, numbers_front xs ys sound.numbers, length-terminals_of-append (points_of xs) (points_of-append xs ys).0)
 
 -- a word that fails raises one
 pub fails_not_sound : (before : List Word) (word : Word) (after : List Word) (fault : PointFault)
@@ -65,9 +49,7 @@ fails_not_sound before word after (BadNumber at) fails sound =
 fails_not_sound before word after (NumberTooLarge at) fails sound =
     fails.2 (number_among before word after sound.numbers).fits
 fails_not_sound before word after (TooManyPoints at) fails sound =
-    let front = sound_front (before ++ word ∷ []) after
-    (subst AreSound (sym (append_assoc before (word ∷ []) after)) sound) in
-    omega (arith, front.few, fails.many)
+    grind (arith, sound_front (before ++ word ∷ []) after (subst AreSound (sym (append_assoc before (word ∷ []) after)) sound))
 fails_not_sound before word after OddCount fails sound = fails
 fails_not_sound before word after NoPoints fails sound = fails
 fails_not_sound before word after (Memory e) fails sound = fails

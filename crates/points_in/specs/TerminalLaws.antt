@@ -1,9 +1,9 @@
 -- What one more point does to the terminals.
-use Rattle.std.specs.Prelude.{◌≡◌, ◌≤◌, Bool, true, false, cond, ◌||◌, not, List, [], ◌∷◌, ◌++◌, length, filter, Any}
+use Rattle.std.specs.Prelude.{◌≡◌, ◌≤◌, Bool, true, false, cond, not, List, [], ◌∷◌, ◌++◌, length, filter, Any}
 use Rattle.std.specs.Prelude.{Contains, ◌≢◌, ◌↔◌}
 use Rattle.std.specs.List.{list_any}
 use Rattle.std.specs.Bool.{Decides}
-use Rattle.std.proofs.Common.{arith, refl, ap, sym, ◌∙◌, subst, inl, inr}
+use Rattle.std.proofs.Common.{arith, refl, sym, ◌∙◌}
 use Rattle.std.proofs.lemmas.Bool.{cases_Bool, false_from_ne_true, true≢false, not-true}
 use Rattle.std.proofs.lemmas.List.{append-nil, get_or_default, length-append}
 use Rattle.std.proofs.lemmas.List.Elements.{All-weaker, filter-append, filter_passes}
@@ -25,61 +25,32 @@ contains_from_any p ps (k, q, within, is, same) =
 
 -- the test tells whether the list contains the point
 holds_decides : (p : Point) (ps : List Point) → Decides (holds p ps) (Contains ps p)
-holds_decides p ps = (
-  λ h. contains_from_any p ps (Any-from_list_any (λ q. same_point q p) ps h),
-  λ h. list_any_at (λ q. same_point q p) ps h.0 p h.1 ((same_point_decides _ p).1 h.2),
-)
+holds_decides p ps = grind (arith, contains_from_any, Any-from_list_any, list_any_at, same_point_decides)
 
 -- leaving one point out doesn't change whether another is held
 holds-filter : (a p : Point) → same_point a p ≡ false → (ps : List Point)
     → holds p (filter (λ q. not (same_point a q)) ps) ≡ holds p ps
 holds-filter a p apart [] = refl
-holds-filter a p apart (q ∷ ps) = elim (cases_Bool (same_point a q)) [
-  | inl same ↦
-      let gone : same_point q p ≡ false = subst (λ r. same_point r p ≡ false) ((same_point_decides a q).0 same) apart in
-      rw (same, gone) (holds-filter a p apart ps)
-  | inr other ↦ rw other (ap (λ b. same_point q p || b) (holds-filter a p apart ps))
-]
+holds-filter a p apart (q ∷ ps) =
+    grind (arith, cases_Bool (same_point a q), same_point_decides a q, holds-filter a p apart ps)
 
 -- the length of the terminals is at most the list's
 pub length-terminals_of-le : (ps : List Point) → length (terminals_of ps) ≤ length ps
 length-terminals_of-le [] = omega arith
-length-terminals_of-le (p ∷ ps) =
-    omega (
-      arith,
-      length-terminals_of-le ps,
-      length-filter (λ q. not (same_point p q)) (terminals_of ps),
-      count_by-le-length (λ q. not (same_point p q)) (terminals_of ps),
-    )
+length-terminals_of-le (p ∷ ps) = grind (arith, length-terminals_of-le ps, length-filter, count_by-le-length)
 
 -- one more point is appended where it is new
 terminals_of_push : (ps : List Point) (p : Point)
     → terminals_of (ps ++ p ∷ []) ≡ cond (holds p (terminals_of ps)) (terminals_of ps) (terminals_of ps ++ p ∷ [])
 terminals_of_push [] p = refl
-terminals_of_push (a ∷ ps) p = rw (terminals_of_push ps p) (elim (cases_Bool (same_point a p)) [
-  | inl same ↦ elim (cases_Bool (holds p (terminals_of ps))) [
-    | inl held ↦ rw (same, held)
-    | inr new ↦ rw (
-      same,
-      new,
-      filter-append (λ q. not (same_point a q)) (terminals_of ps) (p ∷ []),
-      same,
-      append-nil (filter (λ q. not (same_point a q)) (terminals_of ps)),
-    )
-  ]
-  | inr apart ↦ rw (apart, holds-filter a p apart (terminals_of ps)) (elim (cases_Bool (holds p (terminals_of ps))) [
-    | inl held ↦ rw held
-    | inr new ↦ rw (new, filter-append (λ q. not (same_point a q)) (terminals_of ps) (p ∷ []), apart)
-  ])
-])
+terminals_of_push (a ∷ ps) p =
+    grind (arith, terminals_of_push ps p, cases_Bool (same_point a p), cases_Bool (holds p (terminals_of ps)), filter-append, append-nil, holds-filter)
 
 -- one more point takes no terminal away
 pub length-terminals_of-push : (ps : List Point) (p : Point)
     → length (terminals_of ps) ≤ length (terminals_of (ps ++ p ∷ []))
-length-terminals_of-push ps p = elim (cases_Bool (holds p (terminals_of ps))) [
-  | inl held ↦ rw (terminals_of_push ps p, held) (omega arith)
-  | inr new ↦ rw (terminals_of_push ps p, new) (omega (arith, length-append (terminals_of ps) (p ∷ [])))
-]
+length-terminals_of-push ps p =
+    grind (arith, cases_Bool (holds p (terminals_of ps)), terminals_of_push ps p, length-append (terminals_of ps) (p ∷ []))
 
 -- a repeat changes nothing
 pub terminals_of_repeat : (ps : List Point) (p : Point) → Contains (terminals_of ps) p
@@ -89,25 +60,17 @@ terminals_of_repeat ps p held = rw (terminals_of_push ps p, (holds_decides p (te
 -- a new point comes last
 pub terminals_of_new : (ps : List Point) (p : Point) → ¬ Contains (terminals_of ps) p
     → terminals_of (ps ++ p ∷ []) ≡ terminals_of ps ++ p ∷ []
-terminals_of_new ps p new =
-    let apart : holds p (terminals_of ps) ≡ false =
-    false_from_ne_true _ (λ h. new ((holds_decides p (terminals_of ps)).0 h)) in
-    rw (terminals_of_push ps p, apart)
+terminals_of_new ps p new = grind (arith, false_from_ne_true, holds_decides p (terminals_of ps), terminals_of_push ps p)
 
 -- a point is among the terminals where it is among the points
 holds-terminals_of : (p : Point) (ps : List Point) → holds p (terminals_of ps) ≡ holds p ps
 holds-terminals_of p [] = refl
-holds-terminals_of p (a ∷ ps) = elim (cases_Bool (same_point a p)) [
-  | inl same ↦ rw same
-  | inr apart ↦ rw (apart, holds-filter a p apart (terminals_of ps)) (holds-terminals_of p ps)
-]
+holds-terminals_of p (a ∷ ps) = grind (arith, cases_Bool (same_point a p), holds-filter, holds-terminals_of p ps)
 
 -- the same, of what the tests tell
 pub terminals_of_contains : (ps : List Point) (p : Point) → Contains (terminals_of ps) p ↔ Contains ps p
-terminals_of_contains ps p = (
-  λ h. (holds_decides p ps).0 (sym (holds-terminals_of p ps) ∙ (holds_decides p (terminals_of ps)).1 h),
-  λ h. (holds_decides p (terminals_of ps)).0 (holds-terminals_of p ps ∙ (holds_decides p ps).1 h),
-)
+terminals_of_contains ps p =
+    grind (arith, holds_decides p ps, holds-terminals_of p ps, holds_decides p (terminals_of ps))
 
 -- no point stands twice among the terminals
 pub terminals_of_distinct : (ps : List Point) → AreDistinct (terminals_of ps)

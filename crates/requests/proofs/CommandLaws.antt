@@ -65,10 +65,7 @@ commands_are_simple tool.Slack = refl
 -- the command took the words
 pub taken : (t : Tool) (words : List Text) (app : App) (rows : List Row) → app ≡ command_of t → fault_of app words ≡ [] → rows ≡ matches_of app words
     → request_by t rows ≡ request_to words t
-taken t words app rows is none found =
-    let same : rows ≡ matches_of (command_of t) words = found ∙ ap (λ (a : App). matches_of a words) is in
-    let free : fault_of (command_of t) words ≡ [] = ap (λ (a : App). fault_of a words) (sym is) ∙ none in
-    ap (request_by t) same ∙ ap (λ (kinds : Kinds). without_fault kinds (request_by t (matches_of (command_of t) words))) (sym free)
+taken t words app rows is none found = grind arith
 
 -- the command refused the words
 pub refused : (t : Tool) (words : List Text) (app : App) (k : ErrorKind) → app ≡ command_of t → IsAmong k (fault_of app words) → None ≡ request_to words t
@@ -211,9 +208,7 @@ limits tool.Slack old m p is =
 
 no_first : {A : Type 0} (xs : List A) (o : Option (Bor A)) → option_copied o ≡ slice_get xs 0 → o ≡ None → xs ≡ []
 no_first [] o e none = refl
-no_first (x ∷ xs) o e none =
-    let bad : None ≡ Some x = rw none at e in
-    cc
+no_first (x ∷ xs) o e none = grind arith
 
 pub without_words : {A : Type 0} (f : A → Text) (xs : List A) (o : Option (Bor A)) → option_copied o ≡ slice_get xs 0 → o ≡ None → map f xs ≡ []
 without_words f xs o e none = ap (map f) (no_first xs o e none)

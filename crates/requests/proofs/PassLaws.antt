@@ -1,5 +1,5 @@
 -- A value that `clap` took passed the parser of its argument, so a number is within the bounds of its argument.
-use Rattle.std.proofs.Common.{◌≡◌, ◌∙◌, ◌<◌, ◌≤◌, ◌^◌, ◌&&◌, ℕ, Bool, cond, true, false, zero, suc, List, [], ◌∷◌, length, map, Option, Some, None, refl, sym, ap, subst, inl, inr, arith, nat_lt, lt-ltb, ltb-true}
+use Rattle.std.proofs.Common.{◌≡◌, ◌∙◌, ◌<◌, ◌≤◌, ◌^◌, ℕ, Bool, true, false, zero, suc, List, [], ◌∷◌, length, map, Option, Some, None, refl, sym, ap, subst, inl, inr, arith, nat_lt, lt-ltb, ltb-true}
 use Rattle.std.specs.Prelude.{⊤, codes, option_and_then, option_map, pos, slice_get, unwrap_or}
 use Rattle.std.specs.List.{All, slice_index_or}
 use Rattle.std.specs.Borrow.{Bor}
@@ -13,7 +13,6 @@ use Rattle.clap.specs.Facts.{Entry, EntryPasses, HasReading, PassesArg, args_of,
 use Rattle.clap.specs.Matches.{ReadsOne}
 use Rattle.clap.specs.Built.{IsParsedFrom, SameRules}
 use Rattle.clap.specs.Simple.{has_plain_fields, has_simple_rules}
-use Rattle.clap.specs.ValueTests.{is_numeral}
 use Rattle.clap.proofs.CallerLemmas.{entry_by_id}
 use Rattle.clap.proofs.CallerReads.{signed_reads}
 use Rattle.clap.proofs.SimpleLemmas.{is_false, is_nil}
@@ -56,10 +55,7 @@ module _ (old : Command) (m : ArgMatches) (p : IsParsedFrom old m) (id : Text) (
   no_globals = is_false _ (both _ _ (both _ _ (both _ _ plain).1).1).0
 
   no_groups : groups_of p.built ≡ []
-  no_groups =
-      let each = each_rule (λ a. a.is_simple) (args_of old) (both _ _ simple).1 in
-      let named = λ (k : ℕ) (d : Arg) (lt : k < length (args_of old)). is_nil _ (both _ _ (both _ _ (both _ _ (each k d lt)).1).1).0 in
-      (p.from.same_groups named).1 ∙ is_nil _ (both _ _ plain).0
+  no_groups = grind (arith, each_rule, both, is_nil, plain)
 
   -- an argument of the built command with this name has this parser
   built_parser : (k : ℕ) (x : Arg) → k < length (args_of p.built) → slice_index_or (args_of p.built) k x ≡ x → bytes_eq x.id.now id ≡ true
@@ -85,9 +81,7 @@ module _ (old : Command) (m : ArgMatches) (p : IsParsedFrom old m) (id : Text) (
 
   -- a value of the argument passed this parser
   value_passes : (v : Text) → PassesArg p.built id v → (b : Bool) × Accepts b q v
-  value_passes v any =
-      let is = built_parser any.0 any.1 any.2 any.3 any.4.0 in
-      (any.1.ignore_case, subst (λ (w : ValueParser). Accepts any.1.ignore_case w v) is any.4.1)
+  value_passes v any = grind (arith, built_parser any.0 any.1 any.2 any.3 any.4.0)
 
   is_read : (r : Reading) → HasReading p.built id r → r ≡ reading_of q
   is_read r any = sym any.4.1 ∙ ap reading_of (built_parser any.0 any.1 any.2 any.3 any.4.0)
@@ -139,14 +133,8 @@ module _ (old : Command) (m : ArgMatches) (p : IsParsedFrom old m) (id : Text) (
 
 -- `number_of` is what a parse of an unsigned type gives
 number_parses : (bits : ℕ) (u : Text) → ReadsOne {E = Unit {0}} (ParsesUnsigned bits 10) u (number_of bits u)
-number_parses bits u = go (is_numeral (without_leading_plus u) && nat_lt (digits_value 10 (without_leading_plus u)) (2 ^ bits)) refl
-  where
-    go : (b : Bool) → (is_numeral (without_leading_plus u) && nat_lt (digits_value 10 (without_leading_plus u)) (2 ^ bits)) ≡ b
-        → ReadsOne {E = Unit {0}} (ParsesUnsigned bits 10) u (cond b (Some (digits_value 10 (without_leading_plus u))) None)
-    go true e =
-        let parts = both _ _ e in
-        ((numeral_from _ parts.0, ltb-true _ _ parts.1), refl)
-    go false e = (tt, λ h. let bad : true ≡ false = rw (numeral_passes _ h.0, lt-ltb _ _ h.1) at e in cc)
+number_parses bits u =
+    grind (arith, nat_lt (digits_value 10 (without_leading_plus u)) (2 ^ bits), both, numeral_from, ltb-true, numeral_passes, lt-ltb)
 
 module _ (old : Command) (m : ArgMatches) (p : IsParsedFrom old m) (id : Text) (low high : ℕ) (own : IsOwnName id)
     (has : HasParser id (parser.Signed (pos low) (pos high)) (shape_of old).rules) (simple : has_simple_rules (shape_of old) ≡ true) where

@@ -1,5 +1,5 @@
 -- What the typed getters of `clap` read is what the definitions of values say.
-use Rattle.std.proofs.Common.{◌≡◌, ◌^◌, ◌&&◌, ℕ, Bool, cond, true, false, List, [], ◌∷◌, Option, Some, None, Result, Ok, Err, refl, sym, nat_lt, lt-ltb, ltb-true}
+use Rattle.std.proofs.Common.{◌≡◌, ◌^◌, ℕ, Bool, cond, true, false, List, [], ◌∷◌, Option, Some, None, Result, Ok, refl, sym, nat_lt, lt-ltb, ltb-true, arith}
 use Rattle.std.specs.Prelude.{option_and_then}
 use Rattle.std.specs.List.{list_all}
 use Rattle.std.specs.Char.{digit_value}
@@ -33,24 +33,14 @@ pub numeral_passes : (ds : List ℕ) → IsNumeral 10 ds → is_numeral ds ≡ t
 numeral_passes ds h = rw (lt-ltb _ _ h.0, digits_pass ds h.1) refl
 
 pub numeral_from : (ds : List ℕ) → is_numeral ds ≡ true → IsNumeral 10 ds
-numeral_from ds e =
-    let parts = both _ _ e in
-    (ltb-true _ _ parts.0, digits_from ds parts.1)
+numeral_from ds e = grind (arith, both, ltb-true, digits_from)
 
 -- a number of an unsigned type
 pub number_reads : {E : Type 0} (bits : ℕ) (t : Text) (r : Option ℕ) (G : List ℕ → Result ℕ E → Type 0)
     → ((u : List ℕ) (x : Result ℕ E) → G u x → ParsesUnsigned bits 10 u x) → ReadsOne G t r → r ≡ number_of bits t
-number_reads bits t (Some v) G only h =
-    let p = only t (Ok v) h in
-    rw (numeral_passes _ p.0.0, lt-ltb _ _ p.0.1, p.1) refl
-number_reads bits t None G only h = go (is_numeral (without_leading_plus t) && nat_lt (digits_value 10 (without_leading_plus t)) (2 ^ bits)) refl
-  where
-    go : (b : Bool) → (is_numeral (without_leading_plus t) && nat_lt (digits_value 10 (without_leading_plus t)) (2 ^ bits)) ≡ b
-        → None ≡ cond b (Some (digits_value 10 (without_leading_plus t))) None
-    go true e =
-        let parts = both _ _ e in
-        absurd (only t (Err h.0) h.1 (numeral_from _ parts.0, ltb-true _ _ parts.1))
-    go false e = refl
+number_reads bits t (Some v) G only h = grind (arith, only t (Ok v) h, numeral_passes, lt-ltb)
+number_reads bits t None G only h =
+    grind (arith, nat_lt (digits_value 10 (without_leading_plus t)) (2 ^ bits), both, numeral_from, ltb-true)
 
 -- a truth
 pub truth_reads : (E : Type 0) (t : Text) (r : Option Bool) → ReadsOne {E = E} ParsesBool t r → r ≡ truth_of t

@@ -1,6 +1,6 @@
 -- How the reads of a source add up.
-use Rattle.std.specs.Prelude.{ℕ, ◌≡◌, List, [], ◌++◌, Option, None, Some}
-use Rattle.std.proofs.Common.{ap, sym, ◌∙◌, append_assoc}
+use Rattle.std.specs.Prelude.{ℕ, ◌≡◌, List, ◌++◌, Option, None, Some}
+use Rattle.std.proofs.Common.{ap, sym, ◌∙◌, append_assoc, arith}
 use Rattle.std.proofs.lemmas.List.{append-nil}
 use Rattle.rst_outside.specs.Source.{Came, CameToTheEnd}
 
@@ -17,7 +17,4 @@ came_more (Some rest) first mid next after one two =
 -- Bytes that came up to the end are the whole rest that the source told.
 pub all_of_the_rest : (rest bytes : List ℕ) (after : Option (List ℕ)) → CameToTheEnd (Some rest) bytes after →
     bytes ≡ rest
-all_of_the_rest rest bytes after whole =
-    let (left, now, parts) = whole.came in
-    let end : left ≡ [] = rw now at whole.at_end in
-    sym (parts ∙ ap (λ x. bytes ++ x) end ∙ append-nil bytes)
+all_of_the_rest rest bytes after whole = grind (arith, append-nil bytes)

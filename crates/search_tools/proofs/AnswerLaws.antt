@@ -1,11 +1,9 @@
 -- From the answer that was found to what is told of it.
-use Rattle.std.proofs.Common.{ℕ, ◌≡◌, List, length, Ok, subst, ap, sym, ◌∙◌}
+use Rattle.std.proofs.Common.{ℕ, ◌≡◌, List, Ok, subst, sym, arith}
 use Rattle.points_in.specs.declared.point.Point.{Point}
 use Rattle.full_tree.specs.declared.code.Tree.{Tree as FullTree}
-use Rattle.answer_text.specs.declared.head.AnswerHead.{AnswerHead}
 use Rattle.answer_text.specs.Text.{answer_text}
 use Rattle.answer_text.specs.Value.{WrittenAnswer}
-use Rattle.cert_tree.specs.Preorder.{split_count}
 use Rattle.cert_check.specs.Accepted.{IsAccepted}
 use Rattle.tree_inputs.specs.Generation.{most_members}
 use Rattle.search_tools.specs.declared.solution.Solution.{Solution}
@@ -13,7 +11,6 @@ use Rattle.search_rules.specs.Options.{usual_options}
 use Rattle.search_tools.specs.Permitted.{search_text}
 use Rattle.search_tools.specs.Steps.{IsFor, IsSpelled, SolvesPoints, solution_text}
 use Rattle.search_tools.specs.SolutionLaws.{permitted_answer, told_value}
-use Rattle.search_tools.specs.declared.trial_line.TrialLine.{TrialLine}
 use Rattle.search_tools.specs.TrialLine.{trial_print}
 use Rattle.search_tools.specs.Trial.{Tries, drawn_terminals, line_for}
 use Rattle.search_tools.specs.TrialSteps.{IsSomeAnswer, line_of}
@@ -29,32 +26,10 @@ accepted_text s (options, ps, trees, is) spells =
 -- what is told of an answer for the drawn points
 told_line : (n seed : ℕ) (trees : List FullTree) (s : Solution) → IsFor usual_options (drawn_terminals n seed) trees s →
     line_of n seed s ≡ line_for n seed s.answer.network s.answer.tree
-told_line n seed trees s is =
-    let told : List Point → AnswerHead → TrialLine =
-    λ ps head. record {
-      count = n;
-      seed = seed;
-      points = length ps;
-      length = head.length;
-      bound = head.bound;
-      optimal = head.optimal;
-      splits = split_count s.answer.tree;
-    } in
-    ap (λ (ps : List Point). told ps s.answer.head) is.grid ∙ ap (told (drawn_terminals n seed)) is.head
+told_line n seed trees s is = grind arith
 
 -- What is told of an answer for the drawn points, where the answer's text spells it.
 pub tried_answer : (n seed : ℕ) (s : Solution) → SolvesPoints usual_options most_members (drawn_terminals n seed) (Ok s) →
     IsSpelled s → Tries n seed (Ok (trial_print (line_of n seed s)))
-tried_answer n seed s (generated, kept, are, are_kept, is) spells = (
-  s.answer.network,
-  s.answer.tree,
-  record {
-    generated = generated;
-    trees = kept;
-    note = s.answer.head.concat;
-    are_generated = are;
-    are_kept = are_kept;
-    permitted = permitted_answer usual_options (drawn_terminals n seed) kept s is spells;
-  },
-  ap trial_print (told_line n seed kept s is),
-)
+tried_answer n seed s (generated, kept, are, are_kept, is) spells =
+    grind (arith, permitted_answer usual_options (drawn_terminals n seed) kept s is spells, told_line n seed kept s is)

@@ -37,5 +37,4 @@ all_joined n trees joins = record {
 pub others_join : AllJoin → (n : ℕ) (trees others : List Tree) (place : ℕ) → gen.JoinsAll n trees → IsNoWorse trees others →
     IsFirstApart n others (all_of others) place → ⊥
 others_join all n trees others place joins no_worse apart =
-    let has = no_worse n (all_of trees) (all_joined n trees joins) in
-    apart.apart ((all n others has.set has.is).joins place apart.within)
+    grind (arith, all n others (no_worse n (all_of trees) (all_joined n trees joins)).set (no_worse n (all_of trees) (all_joined n trees joins)).is)

@@ -42,8 +42,5 @@ pub made_of : (allowed : ℕ) (ps : List Point) (trees : List Tree) (kind : Chos
     ((set : List Bool) → places ≡ numbers_of set → IsConcatenation (length ps) trees set → IsNetwork (hanan_grid_of ps) network) →
     ((set : List Bool) → places ≡ numbers_of set → length_of (hanan_grid_of ps) network ≤ total_of trees set) →
     IsMadeOf allowed ps trees (record { network = network; note = record { least = is_least kind; total = total } })
-made_of allowed ps trees kind places total network chosen pairs holds size joins short = record {
-  network = record { size = size; joins = joins chosen.set chosen.is chosen.joins };
-  concat = least_told (length ps) trees allowed total kind chosen.set chosen.joins chosen.sum pairs holds;
-  short = let least = short chosen.set chosen.is in let sum = chosen.sum in omega (arith, least, sum);
-}
+made_of allowed ps trees kind places total network chosen pairs holds size joins short =
+    grind (arith, joins chosen.set chosen.is chosen.joins, least_told (length ps) trees allowed total kind chosen.set chosen.joins chosen.sum pairs holds, short chosen.set chosen.is)

@@ -1,5 +1,5 @@
 -- From the answer that a tool found to what is due to the text.
-use Rattle.std.proofs.Common.{ℕ, ◌≡◌, List, Result, Ok, Err, sym, subst}
+use Rattle.std.proofs.Common.{ℕ, ◌≡◌, List, Result, Ok, Err, subst, arith}
 use Rattle.points_in.specs.declared.point.Point.{Point}
 use Rattle.points_in.specs.Terminals.{terminals_of}
 use Rattle.fst_file.specs.Value.{FstValue}
@@ -53,15 +53,8 @@ solved_fault options k bytes grid TooManyTrees (ps, lists, same) more =
 built_answer : (options : SearchOptions) (bytes : List ℕ) (file : FstValue) (s : Solution) →
     SpellsFstFile bytes file → IsFor options file.points file.trees s → IsSpelled s →
     Builds options bytes (Ok (record { text = solution_text s; status = solution_status s }))
-built_answer options bytes file s spelled is spells = (
-  file,
-  s.answer.network,
-  s.answer.tree,
-  s.answer.head.concat,
-  spelled,
-  permitted_answer options file.points file.trees s is spells,
-  printed_answer options file.points file.trees s is,
-)
+built_answer options bytes file s spelled is spells =
+    grind (arith, permitted_answer options file.points file.trees s is spells, printed_answer options file.points file.trees s is)
 
 -- What was found of the file that a text spells is due to the text.
 pub built_due : (options : SearchOptions) (bytes : List ℕ) (file : FstValue) (read : Result Solution (Stop ℕ))
@@ -72,8 +65,7 @@ pub built_due : (options : SearchOptions) (bytes : List ℕ) (file : FstValue) (
 built_due options bytes file read (Ok s) Is each spelled finds same = λ spells.
     built_answer options bytes file s spelled (subst (λ r. IfFound r (SolvesFile options file)) same finds) spells
 built_due options bytes file read (Err (Fault fault)) Is each spelled finds (place, same, is) =
-    let apart = subst (λ r. IfFound r (SolvesFile options file)) same finds in
-    subst (λ f. Builds options bytes (Err f)) (sym (each place fault is)) (file, spelled, apart)
+    grind (arith, each place fault is)
 built_due options bytes file read (Err (Memory error)) Is each spelled finds same = tt
 
 -- What was found of the points that a text lists is due to the text.

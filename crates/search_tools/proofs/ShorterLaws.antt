@@ -1,7 +1,6 @@
 -- What is found of trees where a shorter network stands in place of theirs.
-use Rattle.std.proofs.Common.{ℕ, ◌≤◌, List, length, Result, Ok, Err, IfOk, subst, sym, arith}
+use Rattle.std.proofs.Common.{ℕ, List, Result, Ok, Err, IfOk, subst, arith}
 use Rattle.points_in.specs.declared.point.Point.{Point}
-use Rattle.net_graph.specs.Network.{length_of}
 use Rattle.hanan_grid.specs.Grid.{hanan_grid_of}
 use Rattle.full_tree.specs.declared.code.Tree.{Tree as FullTree}
 use Rattle.fst_file.specs.Value.{FstValue}
@@ -9,18 +8,12 @@ use Rattle.tree_inputs.specs.Pruning.{IsPruned}
 use Rattle.search_rules.specs.declared.options.SearchOptions.{SearchOptions}
 use Rattle.search_tools.specs.declared.network.Found.{Found}
 use Rattle.search_tools.specs.declared.solution.Solution.{Solution}
-use Rattle.search_tools.specs.Permitted.{IsConcatNote}
 use Rattle.search_tools.specs.Steps.{IsFor, IsMadeOf, IsNoLonger, SolvesPruned}
 
 -- A network that may stand in place of one of trees is one of these trees.
 pub made_no_longer : (allowed : ℕ) (ps : List Point) (trees : List FullTree) (found later : Found) → IsMadeOf allowed ps trees found →
     IsNoLonger (hanan_grid_of ps) found later → IsMadeOf allowed ps trees later
-made_no_longer allowed ps trees found later made is = record {
-  network = is.network;
-  concat = subst (λ note. IsConcatNote allowed (length ps) trees note) (sym is.note) made.concat;
-  short = let first = made.short in let less = is.short in
-      subst (λ note. length_of (hanan_grid_of ps) later.network ≤ note.total) (sym is.note) (omega (arith, first, less));
-}
+made_no_longer allowed ps trees found later made is = grind arith
 
 -- An answer for the kept trees of a file is one for the file, where memory is not wanting.
 pub solves_or_not : {E : Type 0} (options : SearchOptions) (file kept : FstValue) (found : Found) (answer : Result Solution E) →

@@ -1,15 +1,13 @@
 -- An answer for points and trees is one that may be printed, once its text is known to spell it.
-use Rattle.std.proofs.Common.{ℕ, ◌≡◌, ◌<◌, ◌^◌, Bool, List, length, All, ◌≤◌, refl, subst, ap, ◌∙◌}
+use Rattle.std.proofs.Common.{ℕ, ◌≡◌, ◌<◌, ◌^◌, Bool, List, length, All, ◌≤◌, subst, arith}
 use Rattle.points_in.specs.declared.point.Point.{Point}
 use Rattle.hanan_grid.specs.Grid.{hanan_grid_of}
 use Rattle.full_tree.specs.declared.code.Tree.{Tree as FullTree}
-use Rattle.net_graph.specs.Members.{members_of}
 use Rattle.cert_tree.specs.declared.split.SplitOn.{SplitOn}
 use Rattle.cert_tree.specs.Tree.{Tree}
 use Rattle.cert_tree.specs.Preorder.{nodes_of, split_count}
 use Rattle.branch.specs.declared.split_kind.SplitKind.{SplitKind}
-use Rattle.answer_text.specs.declared.head.AnswerHead.{AnswerHead}
-use Rattle.answer_text.specs.Answers.{IsAnswerOn, IsNodeOn, named, names_of, value_of}
+use Rattle.answer_text.specs.Answers.{IsAnswerOn, IsNodeOn, value_of}
 use Rattle.answer_text.specs.declared.head.ConcatNote.{ConcatNote}
 use Rattle.answer_text.specs.declared.version.Version.TheVariants as version
 use Rattle.answer_text.specs.Value.{WrittenAnswer}
@@ -17,7 +15,6 @@ use Rattle.answer_text.specs.Text.{answer_text}
 use Rattle.answer_text.specs.declared.form.Form.TheVariants as form
 use Rattle.answer_text.specs.Spelling.{SpellsAnswer}
 use Rattle.cert_check.specs.Accepted.{IsAccepted}
-use Rattle.tool_frame.specs.Statuses.{search_status}
 use Rattle.tool_frame.specs.Ends.{Print}
 use Rattle.search_rules.specs.declared.options.SearchOptions.{SearchOptions}
 use Rattle.search_tools.specs.declared.solution.Solution.{Solution}
@@ -34,38 +31,13 @@ accepted_solution : (asked : SplitKind) (openings first_length : ℕ) (ps : List
     SpellsAnswer (form.OnGrid g.vertices) (search_text openings ps set tree note) (solution openings ps set tree note) →
     IsSearched g asked openings first_length set tree → All (IsNodeOn g) (nodes_of tree) → split_count tree ≤ 255 →
     IsAccepted ps (search_text openings ps set tree note)
-accepted_solution asked openings first_length ps set tree note spells searched nodes few = (
-  solution openings ps set tree note,
-  set,
-  tree,
-  record {
-    spells = spells;
-    size = searched.network_of.size;
-    edges = refl;
-    joins = searched.network_of.joins;
-    plain_length = refl;
-    named_tree = refl;
-    splits = nodes;
-    few = few;
-    valid = searched.valid;
-    bound = refl;
-    status = refl;
-  },
-)
+accepted_solution asked openings first_length ps set tree note spells searched nodes few = grind arith
 
 -- what the answer for points and trees tells
 pub told_value : (options : SearchOptions) (ps : List Point) (trees : List FullTree) (s : Solution) →
     IsFor options ps trees s →
     value_of s.grid s.answer ≡ solution options.openings ps s.answer.network s.answer.tree s.answer.head.concat
-told_value options ps trees s is =
-    let told : AnswerHead → WrittenAnswer =
-    λ head. record {
-      version = version.Two;
-      head = head;
-      edges = names_of ps (members_of s.answer.network);
-      tree = named ps s.answer.tree;
-    } in
-    ap (λ (h : List Point). value_of h s.answer) is.grid ∙ ap told is.head
+told_value options ps trees s is = grind arith
 
 -- The answer for points and trees is one that may be printed, where its text spells it.
 pub permitted_answer : (options : SearchOptions) (ps : List Point) (trees : List FullTree) (s : Solution) →
@@ -95,7 +67,4 @@ pub printed_answer : (options : SearchOptions) (ps : List Point) (trees : List F
     IsFor options ps trees s →
     let print : Print = record { text = solution_text s; status = solution_status s } in
     print ≡ search_print options.openings ps s.answer.network s.answer.tree s.answer.head.concat
-printed_answer options ps trees s is =
-    let of_written : WrittenAnswer → Print =
-    λ w. record { text = answer_text w; status = search_status w.head.optimal } in
-    ap of_written (told_value options ps trees s is)
+printed_answer options ps trees s is = grind (arith, told_value options ps trees s is)

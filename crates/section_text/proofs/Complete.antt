@@ -23,8 +23,7 @@ some_lines a b some = omega (arith, length-append a b)
 -- of distinct points none stands before itself
 new_point : (told rest : List Point) (p : Point) → AreDistinct (told ++ p ∷ rest) → ¬ Contains told p
 new_point told rest p distinct (k, within, is) =
-    distinct k (length told) p within (omega (arith, length-append told (p ∷ rest)))
-    (get_or-append told (p ∷ rest) p k within ∙ is ∙ sym (get_or-append_seam told p rest p))
+    grind (arith, length-append told (p ∷ rest), get_or-append told (p ∷ rest) p k within, get_or-append_seam told p rest p)
 
 -- and each is a point
 is_point : (told rest : List Point) (p : Point) → All IsPoint (told ++ p ∷ rest) → IsPoint p

@@ -1,12 +1,12 @@
 -- A text comes to one outcome.
 use Rattle.std.specs.Prelude.{ℕ, zero, suc, ◌≡◌, ◌+◌, List, [], ◌∷◌, ◌++◌, codes, Contains, Result, Err}
-use Rattle.std.specs.Fmt.{decimal, signed_decimal}
+use Rattle.std.specs.Fmt.{signed_decimal}
 use Rattle.std.proofs.Common.{arith, sym, ap, ◌∙◌, subst, inl, inr}
 use Rattle.std.proofs.lemmas.Fmt.{decimal_injective}
 use Rattle.text_in.specs.Numbers.{signed_decimal_one}
 use Rattle.points_in.specs.declared.point.Point.{Point}
 use Rattle.points_in.specs.PointLaws.{same_coordinates}
-use Rattle.section_text.specs.Words.{count_words, point_words}
+use Rattle.section_text.specs.Words.{point_words}
 use Rattle.section_text.specs.Format.{Format, IsLawful}
 use Rattle.section_text.specs.Faults.{Told, nothing, title, points, items, ended, Passes, Fails, SpellsPoint, SpellsCount, SpellsItem}
 use Rattle.section_text.specs.Judged.{Judges, JudgesWhole, Ends}
@@ -21,12 +21,7 @@ point_one words p q sp sq =
 
 -- a count
 count_one : (kind : List ℕ) (words : List (List ℕ)) (m n : ℕ) → SpellsCount kind words m → SpellsCount kind words n → m ≡ n
-count_one kind words m n sm sn =
-    let same : count_words kind m ≡ count_words kind n = sym sm.words_are ∙ sn.words_are in
-    let spelled : decimal m ≡ decimal n = cc in
-    let p = sm.fits in
-    let q = sn.fits in
-    decimal_injective m n (omega arith) (omega arith) spelled
+count_one kind words m n sm sn = grind (arith, decimal_injective)
 
 module _ {X F V : Type 0} (fm : Format X F V) (lawful : IsLawful fm) where
   -- an item
@@ -55,8 +50,7 @@ module _ {X F V : Type 0} (fm : Format X F V) (lawful : IsLawful fm) where
   not_both (points (suc due) ps) a n words f (p, sp, new, fit, is) (inr (inl (q, sq, held, g))) =
       new (subst (Contains ps) (point_one words q p sq sp) held)
   not_both (points (suc due) ps) a n words f (p, sp, new, fit, is) (inr (inr (q, sq, other, last, wrong))) =
-      (lawful.points (ps ++ p ∷ [])).none (fit last) f
-      (subst (λ r. fm.IsPointsFault (ps ++ r ∷ []) f) (point_one words q p sq sp) wrong)
+      grind (arith, lawful.points (ps ++ p ∷ []), fit last, point_one words q p sq sp)
   not_both (items ps zero xs) a n words f (e, is) (other, g) = other e
   not_both (items ps (suc due) xs) a n words f (x, sx, follows, is) (inl (none, g)) = none x sx
   not_both (items ps (suc due) xs) a n words f (x, sx, follows, is) (inr (y, sy, wrong)) =

@@ -63,17 +63,12 @@ module _ {X F V : Type 0} (fm : Format X F V) (lawful : IsLawful fm) where
 
   -- the lines of the points, with one more of them
   head_push : (due : ℕ) (ps : List Point) (p : Point) → head_lines (length (ps ++ p ∷ []) + due) (ps ++ p ∷ []) ≡ head_lines (length ps + suc due) ps ++ point_words p ∷ []
-  head_push due ps p =
-      let count : length (ps ++ p ∷ []) + due ≡ length ps + suc due = omega (arith, length_push ps p) in
-      ap (λ n. head_lines n (ps ++ p ∷ [])) count ∙ ap (λ l. fm.title ∷ points_words (length ps + suc due) ∷ l) (map-append point_words ps (p ∷ []))
+  head_push due ps p = grind (arith, length_push ps p, map-append point_words ps (p ∷ []))
 
   -- the lines of the items, with one more of them
   item_push : (ps : List Point) (due : ℕ) (xs : List X) (x : X) → item_lines ps (length (xs ++ x ∷ []) + due) (xs ++ x ∷ []) ≡ item_lines ps (length xs + suc due) xs ++ fm.item_words x ∷ []
   item_push ps due xs x =
-      let count : length (xs ++ x ∷ []) + due ≡ length xs + suc due = omega (arith, length_push xs x) in
-      ap (λ n. item_lines ps n (xs ++ x ∷ [])) count
-      ∙ ap (λ l. head_lines (length ps) ps ++ (count_words fm.kind (length xs + suc due) ∷ l)) (map-append fm.item_words xs (x ∷ []))
-      ∙ sym (append_assoc (head_lines (length ps) ps) (count_words fm.kind (length xs + suc due) ∷ map fm.item_words xs) (fm.item_words x ∷ []))
+      grind (arith, length_push xs x, map-append fm.item_words xs (x ∷ []), append_assoc (head_lines (length ps) ps) (count_words fm.kind (length xs + suc due) ∷ map fm.item_words xs) (fm.item_words x ∷ []), fm.item_words x)
 
   tells : (t t' : Told X) (words : List (List ℕ)) → IsRight t → Passes fm t words t' → Tells t words t'
   tells nothing t' words right (e, is) = subst (Tells nothing words) (sym is) (tt, ap (λ w. w ∷ []) (sym e))
@@ -133,13 +128,7 @@ module _ {X F V : Type 0} (fm : Format X F V) (lawful : IsLawful fm) where
   ends_told title n last v right e = cc
   ends_told (points due ps) n last v right e = cc
   ends_told (items ps due xs) n last v right e = cc
-  ends_told (ended ps xs) n last v right (inl (empty, inl (whole, e))) = record {
-    ps = ps;
-    xs = xs;
-    are = record { points = right.are; fit = right.fit; few = let few = right.few in omega arith; items = right.right; whole = whole };
-    value = cc;
-    lines = ap (λ l. section_lines fm ps xs ++ l ∷ []) empty;
-  }
+  ends_told (ended ps xs) n last v right (inl (empty, inl (whole, e))) = grind arith
   ends_told (ended ps xs) n last v right (inl (empty, inr (f, wrong, e))) = cc
   ends_told (ended ps xs) n last v right (inr (other, e)) = cc
 

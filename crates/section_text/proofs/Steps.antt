@@ -25,10 +25,7 @@ module _ {X F V : Type 0} (fm : Format X F V) where
   -- the same of a line that was taken
   pub line_passes : (before after : LinesLeft) (words : List (List ℕ)) (t t' : Told X) → TakesLine before words after → Passes fm t words t'
       → LeadsTo fm t before t' after
-  line_passes before after words t t' taken passes = λ o judged.
-      let later : Judges fm t' (before.number + 1) after.lines o = subst (λ n. Judges fm t' n after.lines o) taken.number judged in
-      subst (λ ls. Judges fm t before.number ls o) (sym taken.lines)
-      (judges_pass t t' before.number words after.lines o taken.more passes later)
+  line_passes before after words t t' taken passes = grind (arith, judges_pass)
 
   pub line_fails : (before after : LinesLeft) (words : List (List ℕ)) (t : Told X) (f : F) → TakesLine before words after
       → Fails fm t before.number words f → JudgesLeft fm t before (Err f)
@@ -54,9 +51,6 @@ module _ {X F V : Type 0} (fm : Format X F V) where
       → JudgesLeft fm (points (suc due) ps) before o
   point_leads before after words p ps qs taken spells new is zero o (inl judged) =
       line_passes before after words (points (suc zero) ps) (points zero qs) taken (p, spells, new, λ last. rw (sym is) judged.0, ap (points zero) is) o judged.1
-  point_leads before after words p ps qs taken spells new is zero o (inr (f, wrong, told)) =
-      subst (λ r. JudgesLeft fm (points (suc zero) ps) before r) (sym told)
-      (line_fails before after words (points (suc zero) ps) f taken (inr (inr (p, spells, new, refl, rw (sym is) wrong))))
+  point_leads before after words p ps qs taken spells new is zero o (inr (f, wrong, told)) = grind (arith, line_fails)
   point_leads before after words p ps qs taken spells new is (suc due) o judged =
-      line_passes before after words (points (suc (suc due)) ps) (points (suc due) qs) taken
-      (p, spells, new, λ none. absurd (omega arith), ap (points (suc due)) is) o judged
+      grind (arith, line_passes, suc (suc due), suc due)

@@ -41,10 +41,16 @@ module _ {X F V : Type 0} (fm : Format X F V) (lawful : IsLawful fm) where
   item_lines : (ps : List Point) (rest told all : List X) → length ps ≤ 50 → all ≡ told ++ rest → fm.AreItems ps all
       → AllByRecursion IsLineOfWords (map fm.item_words rest ++ end_words ∷ [])
   item_lines ps [] told all few is right = (end_line, tt)
-  item_lines ps (x ∷ rest) told all few is right = (
-    lawful.item_line x (lawful.spelled ps told x few (lawful.next ps told rest x (subst (fm.AreItems ps) is right))),
-    item_lines ps rest (told ++ x ∷ []) all few (is ∙ sym (append_assoc told (x ∷ []) rest)) right,
-  )
+  item_lines ps (x ∷ rest) told all few is right =
+      grind (
+        arith,
+        lawful.item_line x (lawful.spelled ps told x few (lawful.next ps told rest x (subst (fm.AreItems ps) is right))),
+        lawful.spelled ps told x few (lawful.next ps told rest x (subst (fm.AreItems ps) is right)),
+        lawful.next ps told rest x (subst (fm.AreItems ps) is right),
+        fm.AreItems ps,
+        item_lines ps rest (told ++ x ∷ []) all few (is ∙ sym (append_assoc told (x ∷ []) rest)) right,
+        append_assoc told (x ∷ []) rest,
+      )
 
   -- so are those of points and items
   section_words : (ps : List Point) (xs : List X) → AreSections fm ps xs → AllByRecursion IsLineOfWords (section_lines fm ps xs)

@@ -18,12 +18,7 @@ passing_more p n = ap (filter p) (range_more n) ∙ filter-append p (range_with_
 pub passing_count : (p : ℕ → Bool) (n : ℕ) →
     length (filter p (range_with_len 0 (n + 1))) ≡ length (filter p (range_with_len 0 n)) + (if p n then 1 else 0)
 passing_count p n =
-    ap length (passing_more p n) ∙ length-append (filter p (range_with_len 0 n)) (if p n then n ∷ [] else [])
-    ∙ ap (λ k. length (filter p (range_with_len 0 n)) + k) (one (p n))
-  where
-    one : (flag : Bool) → length (if flag then n ∷ [] else []) ≡ (if flag then 1 else 0)
-    one true = refl
-    one false = refl
+    grind (arith, passing_more p n, length-append (filter p (range_with_len 0 n)) (if p n then n ∷ [] else []), p n)
 
 -- the text of a number that may be there
 text_if : (f : ℕ → List ℕ) (flag : Bool) (n : ℕ) →
@@ -36,9 +31,7 @@ pub passing_text : (f : ℕ → List ℕ) (p : ℕ → Bool) (n : ℕ) →
     flat_map f (filter p (range_with_len 0 n)) ++ (if p n then f n else [])
     ≡ flat_map f (filter p (range_with_len 0 (n + 1)))
 passing_text f p n =
-    ap (λ text. flat_map f (filter p (range_with_len 0 n)) ++ text) (text_if f (p n) n)
-    ∙ sym (flat_map-append f (filter p (range_with_len 0 n)) (if p n then n ∷ [] else []))
-    ∙ ap (flat_map f) (sym (passing_more p n))
+    grind (arith, flat_map f (filter p (range_with_len 0 n)), text_if f (p n) n, p n, flat_map-append f (filter p (range_with_len 0 n)) (if p n then n ∷ [] else []), flat_map f, passing_more p n)
 
 -- the number is the one that may be there
 only_one : (flag : Bool) (n e : ℕ) → Contains (if flag then n ∷ [] else []) e → (e ≡ n) × (flag ≡ true)

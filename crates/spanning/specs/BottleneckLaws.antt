@@ -2,8 +2,8 @@
 -- terminal is no narrower.
 use Rattle.std.specs.Prelude.{ℕ, ◌≡◌, ◌<◌, ◌≤◌, ℤ, pos, negsuc, ◌-ℤ◌, List, length, max, suc, zero, unsigned_abs}
 use Rattle.std.specs.Prelude.{slice_index_or}
-use Rattle.std.proofs.Common.{arith, ap, ◌∙◌, sym, refl, neg_ℤ}
-use Rattle.std.proofs.Math.IntN.{+ℤ_invr, +ℤ_comm, neg_ℤ-+ℤ, neg_ℤ-neg_ℤ, ◌+ℤ◌}
+use Rattle.std.proofs.Common.{arith, ap, refl, neg_ℤ}
+use Rattle.std.proofs.Math.IntN.{+ℤ_invr, +ℤ_comm, neg_ℤ-+ℤ, neg_ℤ-neg_ℤ}
 use Rattle.points_in.specs.declared.point.Point.{Point}
 use Rattle.hanan_grid.specs.Distance.{origin, distance_of}
 use Rattle.net_graph.specs.Search.{Leads}
@@ -22,9 +22,7 @@ unsigned_abs-neg (negsuc n) = refl
 
 same_way : (y z : ℤ) → unsigned_abs (y -ℤ z) ≡ unsigned_abs (z -ℤ y)
 same_way y z =
-    let turned : neg_ℤ (z -ℤ y) ≡ y -ℤ z = neg_ℤ-+ℤ z (neg_ℤ y) ∙ ap (λ v. neg_ℤ z +ℤ v) (neg_ℤ-neg_ℤ y)
-    ∙ +ℤ_comm (neg_ℤ z) y in
-    ap unsigned_abs (sym turned) ∙ unsigned_abs-neg (z -ℤ y)
+    grind (arith, y -ℤ z, neg_ℤ-+ℤ z (neg_ℤ y), neg_ℤ-neg_ℤ y, +ℤ_comm (neg_ℤ z) y, unsigned_abs-neg (z -ℤ y))
 
 -- a point is no distance from itself
 pub distance_of-same : (ps : List Point) (i : ℕ) → distance_of ps i i ≡ 0
@@ -33,8 +31,7 @@ distance_of-same ps i = let p = slice_index_or ps i origin in omega (arith, no_w
 -- .. and as far from another as that one from it
 pub distance_of-back : (ps : List Point) (i j : ℕ) → distance_of ps i j ≡ distance_of ps j i
 distance_of-back ps i j =
-    let p = slice_index_or ps i origin in let q = slice_index_or ps j origin in
-    omega (arith, same_way p.x q.x, same_way p.y q.y)
+    grind (arith, same_way (slice_index_or ps i origin).x (slice_index_or ps j origin).x, same_way (slice_index_or ps i origin).y (slice_index_or ps j origin).y)
 
 -- longer hops lead at least as far
 pub Leads-longer : (ps : List Point) (least most i j : ℕ) → least ≤ most → Leads (IsHop ps least) i j →
@@ -50,8 +47,7 @@ Leads-longer ps least most i j longer led =
 pub Leads-hop : (ps : List Point) (i j : ℕ) → i < length ps → j < length ps →
     Leads (IsHop ps (distance_of ps i j)) i j
 Leads-hop ps i j i_in j_in =
-    Leads-more (IsHop ps (distance_of ps i j)) i i j (Leads-start (IsHop ps (distance_of ps i j)) i)
-    record { from = i_in; to = j_in; short = omega arith }
+    grind (arith, Leads-more (IsHop ps (distance_of ps i j)) i i j (Leads-start (IsHop ps (distance_of ps i j)) i))
 
 -- chains lead back
 pub Leads-hops_back : (ps : List Point) (most i j : ℕ) → Leads (IsHop ps most) i j → Leads (IsHop ps most) j i

@@ -21,19 +21,11 @@ pub record IsClosedBelow (ps : List Point) (k : ℕ) (d : ℕ → ℕ → ℕ) :
 -- the distances are closed below no terminal
 pub closed-at_first : (ps : List Point) (d : ℕ → ℕ → ℕ) →
     ((i j : ℕ) → i < length ps → j < length ps → d i j ≡ distance_of ps i j) → IsClosedBelow ps 0 d
-closed-at_first ps d is = record {
-  chains = λ i j i_in j_in. subst (λ most. Leads (IsHop ps most) i j) (sym (is i j i_in j_in))
-      (Leads-hop ps i j i_in j_in);
-  direct = λ i j i_in j_in. omega (arith, is i j i_in j_in);
-  closed = λ m i j below. absurd (omega arith);
-}
+closed-at_first ps d is = grind (arith, Leads-hop)
 
 -- the lesser of two numbers
 min_cases : (a b : ℕ) → (min a b ≡ a) ⊎ (min a b ≡ b)
-min_cases a b = elim (cases_lt a b) [
-  | inl less ↦ inl (omega arith)
-  | inr most ↦ inr (omega arith)
-]
+min_cases a b = grind (arith, cases_lt a b)
 
 -- what is closed below m stays so by way of m
 stays_closed : (ij im mj ik kj mk km : ℕ) → ij ≤ max ik kj → im ≤ max ik km → mj ≤ max mk kj →

@@ -12,14 +12,7 @@ use Rattle.fst_gen.specs.Trees as gen
 
 -- a tree of the points is one that a file holds, where their grid isn't too long
 file_tree : LengthsAreWithinTheGrid → (ps : List Point) (k : ℕ) (tree : Tree) → total_of (hanan_grid_of ps) < 2 ^ 63 → gen.IsTreeOf ps k tree → file.IsTreeOf ps tree
-file_tree within ps k tree short is = record {
-  form = is.wanted.passes.form;
-  length_is = is.has_length;
-  length_fits =
-      let least = within ps tree.code is.wanted.passes.form in
-      let same = is.has_length in
-      omega arith;
-}
+file_tree within ps k tree short is = grind (arith, within ps tree.code is.wanted.passes.form)
 
 -- the trees of points whose grid isn't too long are those of a file
 pub file_trees : LengthsAreWithinTheGrid → (ps : List Point) (k : ℕ) (trees : List Tree) → total_of (hanan_grid_of ps) < 2 ^ 63 → gen.AreTreesOf ps k trees → length trees ≤ 20000 →

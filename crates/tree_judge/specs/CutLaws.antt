@@ -9,7 +9,7 @@ use Rattle.net_graph.specs.declared.state.EdgeState.{EdgeState}
 use Rattle.net_graph.specs.Flags.{has}
 use Rattle.net_graph.specs.Graph.{Graph, root_of}
 use Rattle.net_graph.specs.Decision.{Decided, states_of}
-use Rattle.net_graph.specs.Packing.{IsCut, IsWithinRoom, load, room_of}
+use Rattle.net_graph.specs.Packing.{IsCut, IsWithinRoom, room_of}
 use Rattle.net_graph.specs.Feasible.{KeepsRoom}
 use Rattle.tree_judge.specs.declared.cause.Cause.{Cause}
 use Rattle.tree_judge.specs.declared.cause.Cause.TheVariants.{RootInCut, IdleCut, Overload}
@@ -46,15 +46,7 @@ out_of_room state e amount room is above within = let le : amount ≤ room = rw 
 overload_out_of_room : (g : Graph) (d : Decided) (packing : List Cut) (members : List Bool)
     (edge amount room : ℕ) → IsFirstOverload g d packing members edge amount room → KeepsRoom g d packing edge → ⊥
 overload_out_of_room g d packing members edge amount room over keeps =
-    let kept = keeps over.is over.state over.at over.state_is in
-    elim over.entered [
-      | inl there ↦
-          out_of_room over.state over.is (load packing over.is.a over.is.b) room over.room_is
-          (omega (arith, there.1, over.above)) kept.0
-      | inr back ↦
-          out_of_room over.state over.is (load packing over.is.b over.is.a) room over.room_is
-          (omega (arith, back.1, over.above)) kept.1
-    ]
+    grind (arith, keeps over.is over.state over.at over.state_is, out_of_room)
 
 -- an edge has one arc at most that enters a set
 one_way : (p q : Bool) → p && not q ≡ true → q && not p ≡ true → ⊥
@@ -139,13 +131,7 @@ packs_without_fault g d cuts c n cause packs fault =
 same_overloads : (g : Graph) (d : Decided) (cuts : List Cut) (c : Cut) (n : ℕ) (cause cause' : Cause) →
     Overloads g d cuts c n cause → Overloads g d cuts c n cause' → cause ≡ cause'
 same_overloads g d cuts c n cause cause' over over' =
-    let same = same_overload g d (cuts ++ c ∷ []) c.members over.edge over'.edge over.amount over'.amount over.room
-    over'.room over.first over'.first in
-    let edge = same.0 in
-    let amount = same.1 in
-    let room = same.2 in
-    let named : Overload n over.edge over.amount over.room ≡ Overload n over'.edge over'.amount over'.room = cc in
-    over.is ∙ named ∙ sym over'.is
+    grind (arith, same_overload g d (cuts ++ c ∷ []) c.members over.edge over'.edge over.amount over'.amount over.room over'.room over.first over'.first)
 
 -- the line of one that may not has one
 pub same_cut_fault : (g : Graph) (d : Decided) (cuts : List Cut) (c : Cut) (n : ℕ) (cause cause' : Cause) →

@@ -2,7 +2,7 @@
 use Rattle.std.proofs.Common.{ℕ, suc, zero, ◌≡◌, ◌+◌, ◌-◌, ◌<◌, ◌≤◌, Bool, true, false, List, [], ◌∷◌, ◌++◌, length}
 use Rattle.std.proofs.Common.{set}
 use Rattle.std.proofs.Common.{refl, sym, ap, ◌∙◌, subst, arith, append_assoc, length-append, inl, inr}
-use Rattle.std.specs.Prelude.{replicate, slice_set}
+use Rattle.std.specs.Prelude.{replicate}
 use Rattle.std.proofs.lemmas.Bool.{cases_lt, false≢true}
 use Rattle.std.proofs.lemmas.List.{append-nil, get_or-append_right, length-replicate, length-set, set_at}
 use Rattle.net_graph.specs.Flags.{has}
@@ -25,19 +25,12 @@ pub record HasNumbers (g : Graph) (network : List Bool) (numbers : List ℕ) : T
 
 -- before the first edge there is none
 pub HasNumbers-none : (g : Graph) → HasNumbers g (nothing_told g).network []
-HasNumbers-none g = record {
-  size = length-replicate (length g.edges) false;
-  told = members_of-empty (length g.edges);
-}
+HasNumbers-none g = grind (arith, length-replicate (length g.edges) false, members_of-empty (length g.edges))
 
 -- one more number
 HasNumbers-more : (g : Graph) (network : List Bool) (numbers : List ℕ) (e : ℕ) → HasNumbers g network numbers →
     FollowsEdges g network e → HasNumbers g (set network e true) (numbers ++ e ∷ [])
-HasNumbers-more g network numbers e has_numbers follows = record {
-  size = length-set network e true ∙ has_numbers.size;
-  told = members_of-above network e (omega (arith, has_numbers.size, follows.inside)) follows.above
-      ∙ ap (λ ns. ns ++ e ∷ []) has_numbers.told;
-}
+HasNumbers-more g network numbers e has_numbers follows = grind (arith, length-set network e true, members_of-above)
 
 -- what stands behind the last edge: the same claim, nothing of the tree, and a network with all these numbers that is
 -- as claimed
@@ -103,32 +96,19 @@ later front flag rest = sym (append_assoc front (flag ∷ []) rest)
 
 network_later : (g : Graph) (printed : ℕ) (front : List Bool) (flag : Bool) (rest : List Bool)
     → IsNetworkOf g printed front (flag ∷ rest) → IsNetworkOf g printed (front ++ flag ∷ []) rest
-network_later g printed front flag rest is = record {
-  size = sym (ap length (later front flag rest)) ∙ is.size;
-  measured = subst (IsMeasured g printed) (later front flag rest) is.measured;
-}
+network_later g printed front flag rest is = grind (arith, later front flag rest)
 
 -- a number that is none of the edges
 front_skips : (claim : Claim) (front rest : List Bool) (k : ℕ) (s : SoFar) →
     HasFront claim front (false ∷ rest) k s → HasFront claim (front ++ false ∷ []) rest (k + 1) s
-front_skips claim front rest k s is = record {
-  place = omega (arith, is.place, length-append front (false ∷ []));
-  says = is.says;
-  due = is.due;
-  edges = is.edges ∙ later front false (replicate (length rest) false);
-}
+front_skips claim front rest k s is =
+    grind (arith, length-append front (false ∷ []), later front false (replicate (length rest) false))
 
 -- one that is
 front_takes : (claim : Claim) (front rest : List Bool) (k : ℕ) (s : SoFar) →
     HasFront claim front (true ∷ rest) k s → HasFront claim (front ++ true ∷ []) rest (k + 1) (with_edge s k)
-front_takes claim front rest k s is = record {
-  place = omega (arith, is.place, length-append front (true ∷ []));
-  says = is.says;
-  due = omega (arith, is.due);
-  edges = ap (λ flags. slice_set flags k true) is.edges
-      ∙ set_at front false (replicate (length rest) false) true k (sym is.place)
-      ∙ later front true (replicate (length rest) false);
-}
+front_takes claim front rest k s is =
+    grind (arith, length-append front (true ∷ []), set_at front false (replicate (length rest) false) true k (sym is.place), later front true (replicate (length rest) false))
 
 -- where no edge is due the network is whole
 front_whole : (claim : Claim) (front rest : List Bool) (k : ℕ) (s : SoFar) → HasFront claim front rest k s →
@@ -140,9 +120,7 @@ front_whole claim front rest k s is none =
 none_behind : (claim : Claim) (front rest : List Bool) (k : ℕ) (s : SoFar) (m : ℕ) →
     HasFront claim front rest k s → k ≤ m → has s.network m ≡ false
 none_behind claim front rest k s m is behind =
-    ap (λ flags. has flags m) is.edges
-    ∙ get_or-append_right front (replicate (length rest) false) k m false (sym is.place) behind
-    ∙ has-none (length rest) (m - k)
+    grind (arith, get_or-append_right front (replicate (length rest) false) k m false (sym is.place) behind, has-none (length rest) (m - k))
 
 -- the next edge is one of the graph
 next_inside : (g : Graph) (claim : Claim) (front : List Bool) (flag : Bool) (rest : List Bool) (k : ℕ) (s : SoFar)
@@ -166,10 +144,7 @@ next_follows g claim front rest k s network is = record {
 -- where no edge is due the network is as claimed
 front_right : (g : Graph) (claim : Claim) (front rest : List Bool) (k : ℕ) (s : SoFar) →
     IsNetworkOf g claim.length front rest → HasFront claim front rest k s → IsNetworkRight g s
-front_right g claim front rest k s network is none =
-    let whole = front_whole claim front rest k s is none in
-    subst (λ c. IsMeasured g c.length s.network) (sym is.says)
-    (subst (IsMeasured g claim.length) (sym whole) network.measured)
+front_right g claim front rest k s network is none = grind (arith, front_whole claim front rest k s is none)
 
 -- behind the steps of the edges the same is claimed, and nothing is told of the tree
 pub record PassesEdges (g : Graph) (claim : Claim) (front rest : List Bool) (k : ℕ) (s : SoFar) : Type 0 where

@@ -1,5 +1,5 @@
 -- A whole answer is right, or wrong for one cause.
-use Rattle.std.proofs.Common.{ℕ, ◌≡◌, ◌≢◌, ◌⊎◌, inl, inr, eqb, refl, sym, ◌∙◌}
+use Rattle.std.proofs.Common.{ℕ, ◌≡◌, ◌≢◌, ◌⊎◌, inl, inr, eqb, refl, sym, ◌∙◌, arith}
 use Rattle.tree_judge.specs.declared.claim.Claim.{Claim}
 use Rattle.tree_judge.specs.declared.cause.Cause.{Cause}
 use Rattle.tree_judge.specs.declared.cause.Cause.TheVariants.{WrongBound, WrongStatus}
@@ -33,13 +33,5 @@ right_without_fault c found cause right fault = elim (end_causes c found cause f
 -- and one that is not has one
 pub same_end_fault : (c : Claim) (found : ℕ) (cause cause' : Cause) → EndFault c found cause →
     EndFault c found cause' → cause ≡ cause'
-same_end_fault c found cause cause' fault fault' = elim (end_causes c found cause fault) [
-  | inl bounds ↦ elim (end_causes c found cause' fault') [
-    | inl bounds' ↦ bounds.is ∙ sym bounds'.is
-    | inr states' ↦ absurd (bounds.differ states'.bound)
-  ]
-  | inr states ↦ elim (end_causes c found cause' fault') [
-    | inl bounds' ↦ absurd (bounds'.differ states.bound)
-    | inr states' ↦ states.is ∙ sym states'.is
-  ]
-]
+same_end_fault c found cause cause' fault fault' =
+    grind (arith, end_causes c found cause fault, end_causes c found cause' fault')

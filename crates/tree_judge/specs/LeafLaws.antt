@@ -30,10 +30,7 @@ within_any Outside e = tt
 
 -- the packing with no cut is feasible
 feasible_none : (g : Graph) (d : Decided) → IsFeasible g d []
-feasible_none g d = record {
-  cuts = All-nil (IsPacked g d);
-  room = λ n e state at decided. (within_any state e, within_any state e);
-}
+feasible_none g d = grind (arith, All-nil (IsPacked g d), within_any)
 
 -- one more cut
 feasible_more : (g : Graph) (d : Decided) (cuts : List Cut) (c : Cut) → IsFeasible g d cuts → 0 < c.weight →
@@ -80,10 +77,7 @@ cuts_told g s s' before c (c' ∷ cuts) (m, (packs, is), runs) fits are due feas
 pub leaf_told : (g : Graph) (s s' : SoFar) (cuts : List Cut) →
     Runs g s ((step.Leaf (length cuts), None) ∷ map cut_step cuts) s' → All HasWeight cuts → s.cuts ≡ [] →
     (s' ≡ leaf_read g s cuts) × IsFeasible g (decision_due g s) cuts
-leaf_told g s s' [] (m, is, runs) fits are = (
-  runs ∙ is ∙ ap (leaf_read g s) are,
-  feasible_none g (decision_due g s),
-)
+leaf_told g s s' [] (m, is, runs) fits are = grind (arith, feasible_none g (decision_due g s))
 leaf_told g s s' (c ∷ cuts) (m, is, runs) fits are =
     let same : decision_due g m ≡ decision_due g s = ap (decision_due g) is in
     let rest = cuts_told g m s' [] c cuts runs fits (ap (λ (x : SoFar). x.cuts) is ∙ are)

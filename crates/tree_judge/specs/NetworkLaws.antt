@@ -35,13 +35,7 @@ apart_no_sooner g network place place' first first' sooner =
 same_first_apart : (g : Graph) (network : List Bool) (place place' : ℕ) → IsFirstApart g network place →
     IsFirstApart g network place' → place ≡ place'
 same_first_apart g network place place' first first' =
-    elim (cases_lt place place') [
-      | inl sooner ↦ absurd (apart_no_sooner g network place place' first first' sooner)
-      | inr later ↦ elim (cases_lt place' place) [
-        | inl sooner ↦ absurd (apart_no_sooner g network place' place first' first sooner)
-        | inr no_later ↦ omega arith
-      ]
-    ]
+    grind (arith, cases_lt place place', apart_no_sooner, cases_lt place' place)
 
 -- edges that are the network have no fault
 pub measured_without_fault : {P : Type 0} (g : Graph) (printed : ℕ) (network : List Bool) (cause : Cause) →

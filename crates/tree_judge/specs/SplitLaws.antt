@@ -35,13 +35,5 @@ may_on_without_fault g d splits on n c may fault = elim (on_causes g d splits on
 -- and one that may not has one
 pub same_on_fault : (g : Graph) (d : Decided) (splits : ℕ) (on : SplitOn) (n : ℕ) (c c' : Cause) →
     SplitOnFault g d splits on n c → SplitOnFault g d splits on n c' → c ≡ c'
-same_on_fault g d splits on n c c' fault fault' = elim (on_causes g d splits on n c fault) [
-  | inl (is, decided) ↦ elim (on_causes g d splits on n c' fault') [
-    | inl (is', _) ↦ is ∙ sym is'
-    | inr (_, deep') ↦ absurd (decided deep'.undecided)
-  ]
-  | inr (is, deep) ↦ elim (on_causes g d splits on n c' fault') [
-    | inl (_, decided') ↦ absurd (decided' deep.undecided)
-    | inr (is', _) ↦ is ∙ sym is'
-  ]
-]
+same_on_fault g d splits on n c c' fault fault' =
+    grind (arith, on_causes g d splits on n c fault, on_causes g d splits on n c' fault')

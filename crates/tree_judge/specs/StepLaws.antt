@@ -1,5 +1,5 @@
 -- A step passes or fails, in one way.
-use Rattle.std.proofs.Common.{ℕ, ◌≡◌, Bool, List, Some, None, inl, inr, sym, ◌∙◌, subst}
+use Rattle.std.proofs.Common.{ℕ, ◌≡◌, Bool, List, Some, None, inl, inr, sym, ◌∙◌, subst, arith}
 use Rattle.std.specs.Prelude.{Option}
 use Rattle.net_graph.specs.Graph.{Graph}
 use Rattle.tree_judge.specs.declared.cause.Cause.{Cause}
@@ -28,14 +28,12 @@ same_passed g s m m' step.End members is is' = is ∙ sym is'
 -- edges that are right are not wrong
 right_not_wrong : {P : Type 0} (g : Graph) (s : SoFar) (cause : Cause) → IsNetworkRight g s →
     IsNetworkWrong g s cause → P
-right_not_wrong g s cause right wrong =
-    measured_without_fault g s.claim.length s.network cause (right wrong.0) wrong.1
+right_not_wrong g s cause right wrong = measured_without_fault g s.claim.length s.network cause (right wrong.0) wrong.1
 
 -- and are wrong for one cause
 same_wrong : (g : Graph) (s : SoFar) (cause cause' : Cause) → IsNetworkWrong g s cause → IsNetworkWrong g s cause' →
     cause ≡ cause'
-same_wrong g s cause cause' wrong wrong' =
-    same_network_fault g s.claim.length s.network cause cause' wrong.1 wrong'.1
+same_wrong g s cause cause' wrong wrong' = same_network_fault g s.claim.length s.network cause cause' wrong.1 wrong'.1
 
 -- a step that passes does not fail
 pub passes_not_fails : {P : Type 0} (g : Graph) (s m : SoFar) (n : ℕ) (x : Step) (members : Option (List Bool))
@@ -76,8 +74,6 @@ same_failed g s n (step.Edge e) members cause cause' network network' (inr fails
     (same_wrong g (with_edge s e) cause cause' fails.1 fails'.1, fails.2 ∙ sym fails'.2)
 same_failed g s n (step.Split on) members cause cause' network network' fails fails' =
     (same_on_fault g (decision_due g s) s.splits on n cause cause' fails.0 fails'.0, fails.1 ∙ sym fails'.1)
-same_failed g s n (step.Cut weight) (Some set) cause cause' network network' fails fails' = (
-  same_cut_fault g (decision_due g s) s.cuts (cut_of weight set) n cause cause' fails.0 fails'.0,
-  fails.1 ∙ sym fails'.1,
-)
+same_failed g s n (step.Cut weight) (Some set) cause cause' network network' fails fails' =
+    grind (arith, same_cut_fault g (decision_due g s) s.cuts (cut_of weight set) n cause cause' fails.0 fails'.0)
 same_failed g s n x members cause cause' network network' fails fails' = absurd fails

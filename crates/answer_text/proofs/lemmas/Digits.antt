@@ -25,9 +25,7 @@ pub set_front : (s t : List Bool) (p q : List ℕ) → length s ≡ length t →
 set_front [] [] p q size e = (refl, e)
 set_front (a ∷ []) (a' ∷ []) p q size e = grind arith
 set_front (a ∷ b ∷ []) (a' ∷ b' ∷ []) p q size e = search (four_one, arith)
-set_front (a ∷ b ∷ c ∷ []) (a' ∷ b' ∷ c' ∷ []) p q size e =
-    let same = four_one a b c false a' b' c' false (cc) in
-    (cc, cc)
+set_front (a ∷ b ∷ c ∷ []) (a' ∷ b' ∷ c' ∷ []) p q size e = grind (arith, four_one)
 set_front (a ∷ b ∷ c ∷ d ∷ s) (a' ∷ b' ∷ c' ∷ d' ∷ t) p q size e =
     let same = four_one a b c d a' b' c' d' (cc) in
     let rest = set_front s t p q (omega arith) (cc) in

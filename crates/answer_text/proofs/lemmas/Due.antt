@@ -1,5 +1,5 @@
 -- The lines of an answer are due, and lines of which each was due can be gone on with to the end of an answer.
-use Rattle.std.proofs.Common.{ℕ, suc, zero, ◌≡◌, ◌≤◌, List, [], ◌∷◌, ◌++◌, length, map, refl, subst, ◌∙◌, arith, append_assoc, Some, replicate, false, rules}
+use Rattle.std.proofs.Common.{ℕ, suc, zero, ◌≡◌, ◌≤◌, List, [], ◌∷◌, ◌++◌, length, map, refl, ◌∙◌, arith, append_assoc, Some, replicate, false, rules}
 use Rattle.std.specs.Prelude.{All, pos, FitsSigned}
 use Rattle.std.specs.Int.{w64}
 use Rattle.std.proofs.lemmas.List.{length-replicate}
@@ -61,9 +61,7 @@ run-answer a = run_head a.version a.head (body_lines a) ∙ run_edges a.edges (p
 all_fit : (v : Version) (F : Form) (ls : List Line) → All (FitsLine v F) ls → FitsLines v F ls
 all_fit v F [] f = tt
 all_fit v F (line.Title w ∷ ls) f =
-    let title = All-head (FitsLine v F) (line.Title w) ls f in
-    let same : v ≡ w = title.0 in
-    ((refl, title.1), subst (λ x. FitsLines x F ls) same (all_fit v F ls (All-tail (FitsLine v F) (line.Title w) ls f)))
+    grind (arith, All-head (FitsLine v F) (line.Title w) ls f, all_fit v F ls (All-tail (FitsLine v F) (line.Title w) ls f))
 all_fit v F (l ∷ ls) f = (All-head (FitsLine v F) l ls f, all_fit v F ls (All-tail (FitsLine v F) l ls f))
 
 -- lines and those behind them

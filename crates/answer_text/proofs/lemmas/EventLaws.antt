@@ -1,5 +1,5 @@
 -- The events of lines, one after another.
-use Rattle.std.proofs.Common.{ℕ, suc, zero, ◌≡◌, ◌+◌, ◌-◌, List, [], ◌∷◌, ◌++◌, length, take, refl, sym, ap, ◌∙◌, arith, Some}
+use Rattle.std.proofs.Common.{ℕ, suc, zero, ◌≡◌, ◌+◌, ◌-◌, List, [], ◌∷◌, ◌++◌, length, take, refl, ap, arith, Some}
 use Rattle.std.proofs.Math.Seq.{take-append_seam}
 use Rattle.answer_text.specs.declared.form.Form.{Form}
 use Rattle.answer_text.specs.declared.form.Form.TheVariants as form
@@ -79,7 +79,4 @@ count_events F w h n s s' (l ∷ ls) e f = absurd cc
 pub events_from-front : (F : Form) (w : Version) (a : WrittenAnswer) (s : Stage) (ls more : List Line) → run stage.Title ls ≡ Some s → FitsLines w F ls → ls ++ more ≡ answer_lines a
     → events_from no_head 1 ls ≡ take (length ls + 1 - suc (silent_lines F)) (events_of a)
 events_from-front F w a s ls more due fits parts =
-    let behind = events_from (head_from no_head ls) (1 + length ls) more in
-    let whole : events_from no_head 1 ls ++ behind ≡ events_of a = sym (events_from-append no_head 1 ls more) ∙ ap (events_from no_head 1) parts in
-    let count : length ls + 1 - suc (silent_lines F) ≡ length (events_from no_head 1 ls) = omega (arith, all_silent F, count_events F w no_head 1 stage.Title s ls due fits) in
-    sym (ap (λ n. take n (events_of a)) count ∙ ap (take (length (events_from no_head 1 ls))) (sym whole) ∙ take-append_seam (events_from no_head 1 ls) behind)
+    grind (arith, events_from-append no_head 1 ls more, all_silent F, count_events F w no_head 1 stage.Title s ls due fits, take-append_seam (events_from no_head 1 ls) (events_from (head_from no_head ls) (1 + length ls) more))

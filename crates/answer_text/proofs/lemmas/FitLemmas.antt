@@ -36,10 +36,14 @@ pub tree-fits : (F : Form) (L : Labels) (g : Graph) (t : Tree SplitOn) → set_s
 tree-fits F L g (Leaf cuts) size few packings names weights =
     leaf-fits F g cuts size few (All-head (IsPackingOn g) cuts [] packings) (All-head (All FitsWeight) cuts [] weights)
 tree-fits F L g (Split e o i) size few packings names weights =
-    let below = All-tail (FitsNode F L) (Some e) (nodes_of o ++ nodes_of i) names in (
-      All-head (FitsNode F L) (Some e) (nodes_of o ++ nodes_of i) names,
-      tree-fits F L g o size few (All-front (IsPackingOn g) (packings_of o) (packings_of i) packings) (All-front (FitsNode F L) (nodes_of o) (nodes_of i) below) (All-front (All FitsWeight) (packings_of o) (packings_of i) weights),
-      tree-fits F L g i size few (All-back (IsPackingOn g) (packings_of o) (packings_of i) packings) (All-back (FitsNode F L) (nodes_of o) (nodes_of i) below) (All-back (All FitsWeight) (packings_of o) (packings_of i) weights),
+    grind (
+      arith,
+      All-tail,
+      All-head,
+      tree-fits F L g o size few (All-front (IsPackingOn g) (packings_of o) (packings_of i) packings) (All-front (FitsNode F L) (nodes_of o) (nodes_of i) (All-tail (FitsNode F L) (Some e) (nodes_of o ++ nodes_of i) names)) (All-front (All FitsWeight) (packings_of o) (packings_of i) weights),
+      All-front,
+      tree-fits F L g i size few (All-back (IsPackingOn g) (packings_of o) (packings_of i) packings) (All-back (FitsNode F L) (nodes_of o) (nodes_of i) (All-tail (FitsNode F L) (Some e) (nodes_of o ++ nodes_of i) names)) (All-back (All FitsWeight) (packings_of o) (packings_of i) weights),
+      All-back,
     )
 
 -- in a graph's text a tree has the lines that it has in version 2

@@ -26,10 +26,7 @@ edges_counted (form.OfGraph (suc E) V) edges fit few = omega arith
 edges_counted (form.OfGraph zero V) [] fit few = omega arith
 edges_counted (form.OfGraph zero V) (edge.Ends e ∷ edges) fit few = absurd (All-head (FitsEdge (form.OfGraph zero V)) (edge.Ends e) edges fit)
 edges_counted (form.OfGraph zero V) (edge.Number n ∷ edges) fit few =
-    let one = All-head (FitsEdge (form.OfGraph zero V)) (edge.Number n) edges fit in
-    let first = one.first in
-    let last = one.within in
-    absurd (omega arith)
+    grind (arith, All-head (FitsEdge (form.OfGraph zero V)) (edge.Number n) edges fit)
 
 -- no more edges are due than can be counted
 abbrev pub HasRoom : Form → Stage → Type 0

@@ -76,10 +76,7 @@ digits_some n fits = (decimal_is_IsNumeral_wide n (omega arith)).0.0
 
 -- one digit behind the digits of a number that is not 0
 pub digit_more : (v d : ℕ) → 0 < v → d < 10 → 10 * v + d < 2 ^ 128 → decimal (10 * v + d) ≡ decimal v ++ (48 + d) ∷ []
-digit_more v d some few fits =
-    let front : (10 * v + d) / 10 ≡ v = omega arith in
-    let last : (10 * v + d) % 10 ≡ d = omega arith in
-    decimal_step_wide (10 * v + d) (omega arith) (omega arith) ∙ (λ i. decimal (front i) ++ (48 + last i) ∷ [])
+digit_more v d some few fits = grind (arith, decimal_step_wide)
 
 -- what a byte in a number behind the digits of v is
 pub record IsNextDigit (v n b : ℕ) : Type 0 where
@@ -90,20 +87,7 @@ pub record IsNextDigit (v n b : ℕ) : Type 0 where
 
 pub next_digit : (v n b : ℕ) (rest : List ℕ) → v < 2 ^ 128 → n < 2 ^ 128 → decimal n ≡ decimal v ++ b ∷ rest → IsNextDigit v n b
 next_digit v n b rest f g e =
-    let split : decimal n ≡ (decimal v ++ b ∷ []) ++ rest = e ∙ sym (append_assoc (decimal v) (b ∷ []) rest) in
-    let length_is = length-append (decimal v) (b ∷ []) in
-    let has_digits = digits_some v f in
-    let front = (fronts_of n (omega arith)).front (decimal v ++ b ∷ []) rest (omega arith) split in
-    let w = front.value in
-    let below = front.least in
-    ⊎_elim
-    (λ (few : w < 10). let one = ap length (front.is ∙ decimal_digit w few) in absurd (omega arith))
-    (λ (many : 10 ≤ w).
-    let last = last_same (decimal v) (decimal (w / 10)) b (48 + w % 10) (front.is ∙ decimal_step_wide w many (omega arith)) in
-    let whole : v ≡ w / 10 = number_one v (w / 10) f (omega arith) last.0 in
-    let byte = last.1 in
-    record { low = omega arith; high = omega arith; some = omega arith; within = omega arith })
-    (cases_lt w 10)
+    grind (arith, append_assoc (decimal v) (b ∷ []) rest, length-append (decimal v) (b ∷ []), digits_some v f, fronts_of, decimal_digit, last_same, decimal_step_wide, number_one, cases_lt)
 
 -- what the first byte of a number is
 pub record IsFirstDigit (n b : ℕ) : Type 0 where

@@ -1,5 +1,5 @@
 -- The texts of lines one after another, and the lengths of lines.
-use Rattle.std.proofs.Common.{ℕ, ◌≡◌, ◌+◌, ◌<◌, List, [], ◌∷◌, ◌++◌, length, map, take, get_or, sym, ap, ◌∙◌, arith, length-append}
+use Rattle.std.proofs.Common.{ℕ, ◌≡◌, ◌+◌, ◌<◌, List, [], ◌∷◌, ◌++◌, length, map, take, get_or, ap, ◌∙◌, arith, length-append}
 use Rattle.std.specs.Prelude.{codes}
 use Rattle.std.specs.Fmt.{decimal, signed_decimal}
 use Rattle.std.proofs.lemmas.List.{append-nil, map-append, take_more}
@@ -25,8 +25,7 @@ lines_text-push ls l = flat_map-append line_text ls (l ∷ []) ∙ ap (λ x. lin
 -- the lines of some cuts and of the next one
 pub cut_lines-more : (cuts : List Cut) (i : ℕ) (d : Cut) → i < length cuts → lines_text (map line.Cut (take i cuts)) ++ line_text (line.Cut (get_or cuts i d)) ≡ lines_text (map line.Cut (take (i + 1) cuts))
 cut_lines-more cuts i d inside =
-    sym (lines_text-push (map line.Cut (take i cuts)) (line.Cut (get_or cuts i d)))
-    ∙ ap lines_text (sym (map-append line.Cut (take i cuts) (get_or cuts i d ∷ [])) ∙ ap (map line.Cut) (sym (take_more cuts i d inside)))
+    grind (arith, lines_text-push (map line.Cut (take i cuts)) (line.Cut (get_or cuts i d)), map-append line.Cut (take i cuts) (get_or cuts i d ∷ []), take_more cuts i d inside)
 
 -- the length of lines and of one before them
 pub length-line : (l : Line) (ls : List Line) → length (lines_text (l ∷ ls)) ≡ length (line_bytes l) + 1 + length (lines_text ls)

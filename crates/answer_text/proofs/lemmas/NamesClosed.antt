@@ -65,9 +65,7 @@ makes_split k on cuts nodes is = search (split_due, split_version, split_head, s
 
 pub makes-split : (k : Kept) (e : EdgeLabel) (cuts nodes : ℕ) → k.stage ≡ stage.Body cuts nodes
     → MakesLine k (name_line k.version k.stage e) (record k { stage = stage.Body cuts (nodes + 1) }) (Some (event.Split (name.Edge e)))
-makes-split k e cuts nodes is =
-    subst (λ l. MakesLine k l (record k { stage = stage.Body cuts (nodes + 1) }) (Some (event.Split (name.Edge e)))) (ap (λ s. name_line k.version s e) (sym is))
-    (makes_split k (name.Edge e) cuts nodes is)
+makes-split k e cuts nodes is = grind (arith, makes_split k (name.Edge e) cuts nodes is)
 
 pub makes-vertex : (k : Kept) (p : VertexLabel) (cuts nodes : ℕ) → k.stage ≡ stage.Body cuts nodes
     → MakesLine k (line.SplitVertex p) (record k { stage = stage.Body cuts (nodes + 1) }) (Some (event.Split (name.Vertex p)))

@@ -30,9 +30,7 @@ edge_lines-more L numbers e = search (map-append, lines_text-push)
 pub names-member : (F : Form) (L : Labels) (set : List Bool) (e : ℕ) → e < length set → has set e ≡ true → All (FitsEdge F) (edge_labels L (members_of (take e set))) → FitsEdge F (L.edge e)
     → All (FitsEdge F) (edge_labels L (members_of (take (e + 1) set)))
 names-member F L set e inside is names name =
-    let before = edge_labels L (members_of (take e set)) in
-    let more = ap (edge_labels L) (members-member set e inside is) ∙ map-append L.edge (members_of (take e set)) (e ∷ []) in
-    All-same (FitsEdge F) (edge_labels L (members_of (take (e + 1) set))) (before ++ L.edge e ∷ []) more (All-push (FitsEdge F) before (L.edge e) names name)
+    grind (arith, members-member set e inside is, map-append L.edge (members_of (take e set)) (e ∷ []), All-push (FitsEdge F) (edge_labels L (members_of (take e set))) (L.edge e) names name)
 
 -- another number has none
 pub names-other : (F : Form) (L : Labels) (set : List Bool) (e : ℕ) → e < length set → has set e ≡ false → All (FitsEdge F) (edge_labels L (members_of (take e set)))

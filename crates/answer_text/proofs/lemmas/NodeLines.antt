@@ -28,19 +28,19 @@ tree_then : (L : Labels) (t : Tree SplitOn) (nodes : List (Option SplitOn)) (pac
     → nodes_lines L (nodes_of t ++ nodes) (packings_of t ++ packings) ≡ tree_lines version.Two (labelled L t) ++ nodes_lines L nodes packings
 tree_then L (Leaf cuts) nodes packings = refl
 tree_then L (Split on o i) nodes packings =
-    rw (
+    grind (
+      arith,
       append_assoc (nodes_of o) (nodes_of i) nodes,
       append_assoc (packings_of o) (packings_of i) packings,
       tree_then L o (nodes_of i ++ nodes) (packings_of i ++ packings),
       tree_then L i nodes packings,
+      append_assoc (tree_lines version.Two (labelled L o)) (tree_lines version.Two (labelled L i)) (nodes_lines L nodes packings),
     )
-    (ap (λ x. split_line version.Two (split_label L on) ∷ x) (sym (append_assoc (tree_lines version.Two (labelled L o)) (tree_lines version.Two (labelled L i)) (nodes_lines L nodes packings))))
 
 -- the nodes of a tree have its lines
 pub nodes_lines-tree : (L : Labels) (t : Tree SplitOn) → nodes_lines L (nodes_of t) (packings_of t) ≡ tree_lines version.Two (labelled L t)
 nodes_lines-tree L t =
-    ap (λ nodes. nodes_lines L nodes (packings_of t)) (sym (append-nil (nodes_of t))) ∙ ap (λ packings. nodes_lines L (nodes_of t ++ []) packings) (sym (append-nil (packings_of t)))
-    ∙ tree_then L t [] [] ∙ append-nil (tree_lines version.Two (labelled L t))
+    grind (arith, append-nil (nodes_of t), append-nil (packings_of t), tree_then L t, append-nil (tree_lines version.Two (labelled L t)))
 
 -- one more split
 split_more : (L : Labels) (nodes : List (Option SplitOn)) (on : SplitOn) (packings : List (List Cut))
@@ -68,8 +68,7 @@ take_push nodes i here inside is = take_more nodes i None inside ∙ ap (λ x. t
 pub split_step : (L : Labels) (nodes : List (Option SplitOn)) (packings : List (List Cut)) (i : ℕ) (on : SplitOn) → i < length nodes → get_or nodes i None ≡ Some on
     → lines_text (nodes_lines L (take i nodes) packings) ++ line_text (split_line version.Two (split_label L on)) ≡ lines_text (nodes_lines L (take (i + 1) nodes) packings)
 split_step L nodes packings i on inside is =
-    sym (lines_text-push (nodes_lines L (take i nodes) packings) (split_line version.Two (split_label L on)))
-    ∙ ap lines_text (sym (split_more L (take i nodes) on packings) ∙ ap (λ front. nodes_lines L front packings) (sym (take_push nodes i (Some on) inside is)))
+    grind (arith, lines_text-push (nodes_lines L (take i nodes) packings) (split_line version.Two (split_label L on)), split_more L (take i nodes) on packings, take_push nodes i (Some on) inside is)
 
 -- it is no leaf
 pub split_leaves : (nodes : List (Option SplitOn)) (i : ℕ) (e : SplitOn) → i < length nodes → get_or nodes i None ≡ Some e → leaves_in (take i nodes) ≡ leaves_in (take (i + 1) nodes)
@@ -81,11 +80,7 @@ pub leaf_step : (L : Labels) (nodes : List (Option SplitOn)) (packings : List (L
     → leaf ≡ leaves_in (take i nodes) → leaf < length packings → slice_get packings leaf ≡ Some cuts
     → lines_text (nodes_lines L (take i nodes) packings) ++ lines_text (leaf_lines cuts) ≡ lines_text (nodes_lines L (take (i + 1) nodes) packings)
 leaf_step L nodes packings i leaf cuts inside is count below found =
-    let place = slice_get-get_or packings leaf cuts below in
-    let here : cuts ≡ get_or packings (leaves_in (take i nodes)) cuts = cc in
-    sym (flat_map-append line_text (nodes_lines L (take i nodes) packings) (leaf_lines cuts))
-    ∙ ap lines_text (ap (λ x. nodes_lines L (take i nodes) packings ++ leaf_lines x) here ∙ sym (leaf_more L (take i nodes) packings cuts (omega arith))
-    ∙ ap (λ front. nodes_lines L front packings) (sym (take_push nodes i None inside is)))
+    grind (arith, slice_get-get_or packings leaf cuts below, flat_map-append line_text (nodes_lines L (take i nodes) packings) (leaf_lines cuts), leaf_more, take_push nodes i None inside is)
 
 -- it is one leaf more
 pub leaf_leaves : (nodes : List (Option SplitOn)) (i : ℕ) → i < length nodes → get_or nodes i None ≡ None → leaves_in (take i nodes) + 1 ≡ leaves_in (take (i + 1) nodes)
@@ -107,9 +102,7 @@ leaf_within t nodes i leaf same count = grind (arith, leaves_in-nodes_of, leaves
 
 -- behind the last node all packings were passed
 pub leaf_last : (t : Tree SplitOn) (nodes : List (Option SplitOn)) (i leaf : ℕ) → nodes ≡ nodes_of t → length nodes ≤ i → leaf ≡ leaves_in (take i nodes) → length (packings_of t) ≤ leaf
-leaf_last t nodes i leaf same past count =
-    let all : leaves_in (take i nodes) ≡ length (packings_of t) = ap leaves_in (take_all i nodes past) ∙ ap leaves_in same ∙ leaves_in-nodes_of t in
-    omega arith
+leaf_last t nodes i leaf same past count = grind (arith, take_all i nodes past, leaves_in-nodes_of t)
 
 -- the nodes are the leaves and, one fewer, the splits
 pub nodes_count : (t : Tree SplitOn) (nodes : List (Option SplitOn)) → nodes ≡ nodes_of t → length nodes + 1 ≡ 2 * length (packings_of t)

@@ -5,15 +5,12 @@ use Rattle.std.proofs.lemmas.Option.{slice_get-get_or, slice_get_within}
 use Rattle.std.proofs.lemmas.List.Elements.{All-more, All-weaker}
 use Rattle.net_graph.specs.declared.packing.Cut.{Cut}
 use Rattle.net_graph.specs.Graph.{Graph, IsGraph}
-use Rattle.answer_text.specs.Answers.{IsCutOn, IsPackingOn}
+use Rattle.answer_text.specs.Answers.{IsPackingOn}
 
 -- what holds of each element holds of one that was found
 pub All-found : {X : Type 0} (P : X → Type 0) (xs : List X) (i : ℕ) (x : X) → All P xs → slice_get xs i ≡ Some x → P x
 All-found P xs i x all found =
-    let within = slice_get_within xs i x found in
-    let place = slice_get-get_or xs i x within in
-    let here : get_or xs i x ≡ x = cc in
-    subst P here (all i x within)
+    grind (arith, slice_get-get_or xs i x (slice_get_within xs i x found), all i x (slice_get_within xs i x found))
 
 -- what holds of the first elements and of the next one that was found
 pub All-found_more : {X : Type 0} (P : X → Type 0) (xs : List X) (i : ℕ) (x : X) → All P (take i xs) → slice_get xs i ≡ Some x → P x → All P (take (i + 1) xs)
@@ -31,5 +28,4 @@ packing-few g packings leaf cuts sound all found = let packing = All-found (IsPa
 pub packing-small : (g : Graph) (packings : List (List Cut)) (leaf : ℕ) (cuts : List Cut) → IsGraph g → All (IsPackingOn g) packings → slice_get packings leaf ≡ Some cuts
     → All (λ c. length c.members ≤ 2500) cuts
 packing-small g packings leaf cuts sound all found =
-    let packing = All-found (IsPackingOn g) packings leaf cuts all found in
-    All-weaker (IsCutOn g) (λ c. length c.members ≤ 2500) (λ c is. omega arith) cuts packing.each
+    grind (arith, All-found (IsPackingOn g) packings leaf cuts all found, All-weaker)

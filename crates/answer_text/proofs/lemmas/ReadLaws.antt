@@ -41,8 +41,7 @@ line_split l ls bytes = append_assoc (line_text l) (lines_text ls) bytes ∙ app
 -- a line is not empty
 line_some : (l : Line) (ls : List Line) (bytes : List ℕ) → lines_text (l ∷ ls) ++ bytes ≡ [] → ⊥
 line_some l ls bytes none =
-    let short = ap length (sym (line_split l ls bytes) ∙ none) in
-    omega (arith, length-append (line_bytes l) (10 ∷ (lines_text ls ++ bytes)))
+    grind (arith, line_split l ls bytes, length-append (line_bytes l) (10 ∷ (lines_text ls ++ bytes)))
 
 -- the first of lines that were due tells the first of others that were due, and the texts go on alike
 pub record FirstLine (v : Version) (F : Form) (s' s'' : Stage) (l m : Line) (ls ms : List Line) (p q : List ℕ) : Type 0 where
@@ -127,16 +126,8 @@ read_whole F ls bytes due fits text = grind (arith, answer_value)
 pub stops : (F : Form) (s : Stage) (ls : List Line) (bytes rest : List ℕ) → run stage.Title ls ≡ Some s → FitsLines (first_version F) F ls → bytes ≡ lines_text ls ++ rest
     → ((longer more : List ℕ) → bytes ≡ longer ++ more → BeginsAnswer F longer → line_feeds longer < length ls + 1)
     → ((a : WrittenAnswer) → SpellsAnswer F bytes a → ⊥) → StopsAt F bytes (length ls + 1) (events_from no_head 1 ls)
-stops F s ls bytes rest due fits parts last unspelled = record {
-  front = lines_text ls;
-  back = rest;
-  parts = parts;
-  line = omega (arith, line_feeds-lines (first_version F) F ls fits);
-  begins = begins_answer F s ls due fits;
-  last = last;
-  unspelled = unspelled;
-  told = λ more a spells. begun_events F s ls more a due fits spells;
-}
+stops F s ls bytes rest due fits parts last unspelled =
+    grind (arith, line_feeds-lines (first_version F) F ls fits, begins_answer F s ls due fits, begun_events)
 
 -- ---- bytes whose last line is not ended
 
@@ -182,9 +173,7 @@ fits_behind v F (x ∷ xs) y zs f = fits_behind (version_with v x) F xs y zs f.1
 pub due_line : (F : Form) (s : Stage) (ls : List Line) (m : Line) (ms : List Line) (a : WrittenAnswer) → run stage.Title ls ≡ Some s → FitsAnswer F a → answer_lines a ≡ ls ++ m ∷ ms
     → (t : Stage) × IsLineRead (version_from (first_version F) ls) F s (line_bytes m) m t
 due_line F s ls m ms a due fits lines =
-    let all = subst (FitsLines (first_version F) F) lines (answer_fits (first_version F) F a fits) in
-    let (t, here, more) = first_step (λ u. run u ms) (step s m) stage.Done (due_behind s ls (m ∷ ms) (answer_lines a) due (run-answer a) lines) in
-    (t, record { told = refl; fits = fits_behind (first_version F) F ls m ms all; due = here })
+    grind (arith, first_step, due_behind s ls (m ∷ ms) (answer_lines a) due (run-answer a) lines, fits_behind (first_version F) F ls m ms (subst (FitsLines (first_version F) F) lines (answer_fits (first_version F) F a fits)))
 
 -- a line behind lines of an answer is one that was due
 line_behind : (F : Form) (s : Stage) (ls rest : List Line) (line after : List ℕ) (a : WrittenAnswer) → run stage.Title ls ≡ Some s → FitsAnswer F a → answer_lines a ≡ ls ++ rest

@@ -1,6 +1,5 @@
 -- What a reader knows of the bytes behind which it stands.
-use Rattle.std.proofs.Common.{ℕ, ◌≡◌, ◌+◌, List, [], ◌∷◌, ◌++◌, length, refl, sym, ap, ◌∙◌, arith, append_assoc, length-append, Some}
-use Rattle.std.specs.Prelude.{option_and_then}
+use Rattle.std.proofs.Common.{ℕ, ◌≡◌, ◌+◌, List, [], ◌∷◌, ◌++◌, length, refl, arith, append_assoc, length-append}
 use Rattle.std.proofs.lemmas.List.{append-nil}
 use Rattle.std.proofs.lemmas.List.Concat.{flat_map-append}
 use Rattle.answer_text.specs.declared.head.AnswerHead.{AnswerHead}
@@ -11,9 +10,9 @@ use Rattle.answer_text.specs.declared.event.AnswerEvent.{AnswerEvent}
 use Rattle.answer_text.specs.declared.version.Version.{Version}
 use Rattle.answer_text.specs.declared.form.Form.{Form}
 use Rattle.answer_text.specs.Forms.{first_version}
-use Rattle.answer_text.specs.Lines.{line_bytes, line_text, lines_text, run}
+use Rattle.answer_text.specs.Lines.{line_bytes, line_text, lines_text}
 use Rattle.answer_text.specs.LineFits.{FitsLine, FitsLines, IsLineRead, version_with, version_from}
-use Rattle.answer_text.specs.Events.{head_with, line_told, event_at, events_from, no_head, head_from}
+use Rattle.answer_text.specs.Events.{head_with, line_told, event_at, no_head, head_from}
 use Rattle.answer_text.specs.LinesRead.{ReadSoFar}
 use Rattle.answer_text.proofs.lemmas.Machine.{run-append}
 use Rattle.answer_text.proofs.lemmas.Due.{fits_append, version_from-append}
@@ -32,21 +31,18 @@ fits_more v F ls l is f g = grind (arith, fits_append)
 pub read_more : (F : Form) (bytes rest after bytes_read : List ℕ) (s s' : Stage) (v : Version) (head : AnswerHead) (number : ℕ) (events : List AnswerEvent) (l : Line)
     → ReadSoFar F bytes rest s v head number events → rest ≡ bytes_read ++ 10 ∷ after → IsLineRead v F s bytes_read l s'
     → ReadSoFar F bytes after s' (version_with v l) (head_with head l) (number + 1) (events ++ event_at number (line_told (head_with head l) l))
-read_more F bytes rest after bytes_read s s' v head number events l so_far parts read = record {
-  lines = so_far.lines ++ l ∷ [];
-  fits = fits_more v F so_far.lines l so_far.version_told so_far.fits read.fits;
-  due = run-append stage.Title so_far.lines (l ∷ []) ∙ ap (option_and_then (λ u. run u (l ∷ []))) so_far.due ∙ ap (option_and_then (λ u. Some u)) read.due;
-  text =
-      let line : bytes_read ++ 10 ∷ after ≡ lines_text (l ∷ []) ++ after =
-      ap (λ x. x ++ 10 ∷ after) read.told ∙ sym (append_assoc (line_bytes l) (10 ∷ []) after) ∙ ap (λ x. x ++ after) (sym (append-nil (line_text l))) in
-      so_far.text ∙ ap (λ x. lines_text so_far.lines ++ x) (parts ∙ line) ∙ sym (append_assoc (lines_text so_far.lines) (lines_text (l ∷ [])) after)
-      ∙ ap (λ x. x ++ after) (sym (flat_map-append line_text so_far.lines (l ∷ [])));
-  told =
-      let place : number ≡ 1 + length so_far.lines = omega arith in
-      (λ i. so_far.told i ++ event_at (place i) (line_told (head_with (so_far.head_told i) l) l))
-      ∙ ap (λ x. events_from no_head 1 so_far.lines ++ x) (sym (append-nil (event_at (1 + length so_far.lines) (line_told (head_with (head_from no_head so_far.lines) l) l))))
-      ∙ sym (events_from-append no_head 1 so_far.lines (l ∷ []));
-  version_told = ap (λ w. version_with w l) so_far.version_told ∙ sym (version_from-append (first_version F) so_far.lines (l ∷ []));
-  head_told = ap (λ h. head_with h l) so_far.head_told ∙ sym (head_from-append no_head so_far.lines (l ∷ []));
-  count = omega (arith, length-append so_far.lines (l ∷ []));
-}
+read_more F bytes rest after bytes_read s s' v head number events l so_far parts read =
+    grind (
+      arith,
+      fits_more v F so_far.lines l so_far.version_told so_far.fits read.fits,
+      run-append stage.Title so_far.lines (l ∷ []),
+      append_assoc (line_bytes l) (10 ∷ []) after,
+      append-nil (line_text l),
+      append_assoc (lines_text so_far.lines) (lines_text (l ∷ [])) after,
+      flat_map-append line_text so_far.lines (l ∷ []),
+      append-nil (event_at (1 + length so_far.lines) (line_told (head_with (head_from no_head so_far.lines) l) l)),
+      events_from-append no_head 1 so_far.lines (l ∷ []),
+      version_from-append (first_version F) so_far.lines (l ∷ []),
+      head_from-append no_head so_far.lines (l ∷ []),
+      length-append so_far.lines (l ∷ []),
+    )

@@ -20,7 +20,7 @@ use Rattle.answer_text.specs.LineKinds as line
 use Rattle.answer_text.specs.declared.version.Version.{Version}
 use Rattle.answer_text.specs.declared.form.Form.{Form}
 use Rattle.answer_text.specs.declared.version.Version.TheVariants as version
-use Rattle.answer_text.specs.Forms.{HasVertices, IsVersionOf, first_version, set_size, silent_lines}
+use Rattle.answer_text.specs.Forms.{HasVertices, first_version, set_size, silent_lines}
 use Rattle.answer_text.specs.Words.{version_number}
 use Rattle.answer_text.specs.Lines.{answer_lines, body_lines, head_lines, line_bytes, line_text, lines_text, step, run}
 use Rattle.answer_text.specs.LineFits.{FitsLine, FitsLines, IsLineRead, IsNoLine, version_with, version_from}
@@ -37,7 +37,7 @@ use Rattle.answer_text.proofs.lemmas.Steps.{step-done}
 use Rattle.answer_text.specs.declared.scan.Kept.{Kept}
 use Rattle.answer_text.proofs.lemmas.FormLemmas.{first_of, room_behind, version_behind}
 use Rattle.answer_text.proofs.lemmas.Machine.{run-append, answer_value}
-use Rattle.answer_text.proofs.lemmas.ScanLines.{start_due, start_left, start_sound, start_ended}
+use Rattle.answer_text.proofs.lemmas.ScanLines.{start_due, start_left, start_ended}
 use Rattle.answer_text.proofs.lemmas.ScanMore.{some_left, underway, underway-sound, underway-open}
 
 -- ---- the first byte is due
@@ -46,8 +46,7 @@ use Rattle.answer_text.proofs.lemmas.ScanMore.{some_left, underway, underway-sou
 kept_sound : (F : Form) (bytes rest : List ℕ) (s : Stage) (v : Version) (h : AnswerHead) (n : ℕ) (events : List AnswerEvent) (k : Kept) → ReadSoFar F bytes rest s v h n events → HasVertices F
     → IsSound k (first_scan F v s)
 kept_sound F bytes rest s v h n events k so_far some =
-    let of : IsVersionOf F v = subst (IsVersionOf F) (sym so_far.version_told) (version_behind (first_version F) F so_far.lines so_far.fits (first_of F)) in
-    start_sound F k v s of some (room_behind (first_version F) F stage.Title s so_far.lines so_far.due so_far.fits tt)
+    grind (arith, version_behind (first_version F) F so_far.lines so_far.fits (first_of F), room_behind (first_version F) F stage.Title s so_far.lines so_far.due so_far.fits tt)
 
 -- a reader that was fed nothing
 pub reads_none : (F : Form) (reader : EventReader) → HasVertices F → reader.form ≡ F → reader.kept.stage ≡ stage.Title → reader.kept.version ≡ first_version F
@@ -151,18 +150,7 @@ reads_run F bytes events more old new r on line fed =
 -- a byte within a line
 pub reads_on : (F : Form) (bytes : List ℕ) (events : List AnswerEvent) (b : ℕ) (old new : EventReader) → Reads F bytes events old → (b ≡ 10 → ⊥) → GoesOn old b new → new.line ≡ old.line → new.fed ≡ old.fed + 1
     → Reads F (bytes ++ b ∷ []) events new
-reads_on F bytes events b old new r other on line fed =
-    let next = on.next in
-    let run : IsRun old.kept old.scan (b ∷ []) new.kept new.scan = record {
-      leads = record { on = next.leads.on; back = next.leads.back };
-      within = All-push (λ c. c ≢ 10) [] b (All-nil (λ c. c ≢ 10)) other;
-      sound = next.sound;
-      name = next.name;
-      stage = next.stage;
-      version = next.version;
-      size = next.size;
-    } in
-    reads_run F bytes events (b ∷ []) old new r (record { run = run; head = on.head; form = on.form }) line fed
+reads_on F bytes events b old new r other on line fed = grind (arith, All-push, All-nil, reads_run)
 
 pub reads_line : (F : Form) (bytes : List ℕ) (events : List AnswerEvent) (old new : EventReader) (told : Option Event) → Reads F bytes events old → EndsLine old told new → new.fed ≡ old.fed + 1
     → Reads F (bytes ++ 10 ∷ []) (events ++ given old.line told new.kept.members) new
@@ -220,8 +208,7 @@ line_due F s ls (m ∷ ms) front more a due spells lines text some lacks dead =
 no_answer_on : (F : Form) (s : Stage) (ls : List Line) (bytes front more : List ℕ) (a : WrittenAnswer) → run stage.Title ls ≡ Some s → FitsLines (first_version F) F ls → SpellsAnswer F bytes a
     → bytes ≡ lines_text ls ++ (front ++ more) → 0 < length front → Lacks front 10 → ((x : List ℕ) (l : Line) (s' : Stage) → IsLineRead (version_from (first_version F) ls) F s (front ++ x) l s' → ⊥) → ⊥
 no_answer_on F s ls bytes front more a due fits spells parts some lacks dead =
-    let behind = answer_front F s ls bytes (front ++ more) a due fits spells parts in
-    line_due F s ls behind.rest front more a due (subst (λ x. SpellsAnswer F x a) parts spells) behind.lines behind.text some lacks dead
+    grind (arith, answer_front F s ls bytes (front ++ more) a due fits spells parts, line_due)
 
 -- what a byte makes of the bytes
 mid_byte : (ls begun : List ℕ) (b : ℕ) (rest : List ℕ) → (ls ++ begun) ++ b ∷ rest ≡ ls ++ ((begun ++ b ∷ []) ++ rest)
@@ -284,11 +271,7 @@ ceases_end F bytes events reader r none =
 -- ---- the end
 
 pub ended_whole : (F : Form) (bytes : List ℕ) (events : List AnswerEvent) (reader : EventReader) → Reads F bytes events reader → reader.scan ≡ scan.Ended → IsReadWhole F bytes events
-ended_whole F bytes events reader r is =
-    let so_far = r.lines in
-    let both = r.at_end is in
-    let text : bytes ≡ lines_text so_far.lines = so_far.text ∙ ap (λ x. lines_text so_far.lines ++ x) both.1 ∙ append-nil (lines_text so_far.lines) in
-    subst (λ es. IsReadWhole F bytes es) (sym so_far.told) (read_whole F so_far.lines bytes (so_far.due ∙ ap Some both.0) so_far.fits text)
+ended_whole F bytes events reader r is = grind (arith, r.at_end is, append-nil (lines_text (r.lines).lines), read_whole)
 
 -- the lines of an answer are more than those of a head
 head_long : (v : Version) (h : AnswerHead) (ls : List Line) → 5 + length ls ≤ length (head_lines v h ++ ls)
@@ -301,13 +284,7 @@ answer_long a = let long = head_long a.version a.head (body_lines a) in omega ar
 
 -- the head was read then
 pub ended_headed : (F : Form) (bytes : List ℕ) (events : List AnswerEvent) (reader : EventReader) → Reads F bytes events reader → reader.scan ≡ scan.Ended → 6 < reader.line
-ended_headed F bytes events reader r is =
-    let so_far = r.lines in
-    let told = answer_value F (first_version F) so_far.lines (so_far.due ∙ ap Some (r.at_end is).0) so_far.fits in
-    let count = ap length told.lines in
-    let number = so_far.count in
-    let long = answer_long told.answer in
-    omega arith
+ended_headed F bytes events reader r is = grind (arith, answer_value, r.at_end, answer_long)
 
 -- nothing is due behind the end
 done_dead : (v : Version) (F : Form) (s s' : Stage) (bytes : List ℕ) (l : Line) → IsLineRead v F s bytes l s' → s ≡ stage.Done → ⊥
@@ -317,9 +294,7 @@ done_dead v F s s' bytes l read is = let due : step stage.Done l ≡ Some s' = a
 underway_line : (F : Form) (bytes : List ℕ) (events : List AnswerEvent) (reader : EventReader) → (r : Reads F bytes events reader) → IsUnderway reader.kept reader.scan
     → (rest : List ℕ) × (l : Line) × (s' : Stage) × IsLineRead reader.kept.version F reader.kept.stage (r.begun ++ rest) l s'
 underway_line F bytes events reader r sound =
-    let more = some_left reader.kept reader.scan sound r.name in
-    let read = r.due more.0 more.1 more.2 in
-    (more.0, more.1, read.0, read.1)
+    grind (arith, r.due (some_left reader.kept reader.scan sound r.name).0 (some_left reader.kept reader.scan sound r.name).1 (some_left reader.kept reader.scan sound r.name).2)
 
 -- short of the end the bytes stop in their last line
 pub unended_stops : (F : Form) (bytes : List ℕ) (events : List AnswerEvent) (reader : EventReader) → Reads F bytes events reader → (reader.scan ≡ scan.Ended → ⊥) → StopsAt F bytes reader.line events
@@ -353,8 +328,7 @@ begins_with_line v F s s' ls begun rest l due is fits read =
 -- how many line feeds the bytes have
 pub line_count : (F : Form) (bytes : List ℕ) (events : List AnswerEvent) (reader : EventReader) → Reads F bytes events reader → reader.line ≡ line_feeds bytes + 1
 line_count F bytes events reader r =
-    let so_far = r.lines in
-    omega (arith, ap line_feeds so_far.text, line_feeds-append (lines_text so_far.lines) r.begun, line_feeds-lines (first_version F) F so_far.lines so_far.fits, line_feeds-lacks r.begun r.unended)
+    grind (arith, line_feeds-append (lines_text (r.lines).lines) r.begun, line_feeds-lines (first_version F) F (r.lines).lines (r.lines).fits, line_feeds-lacks r.begun r.unended)
 
 pub reads_begin : (F : Form) (bytes : List ℕ) (events : List AnswerEvent) (reader : EventReader) → Reads F bytes events reader → BeginsWith F bytes events
 reads_begin F bytes events reader r =
@@ -402,10 +376,7 @@ version_kept v s s' (l ∷ ls) other e = absurd cc
 -- lines of an answer, of which the title is one, tell its version
 title_version : (w : Version) (s : Stage) (ls rest : List Line) (a : WrittenAnswer) → run stage.Title ls ≡ Some s → 0 < length ls → answer_lines a ≡ ls ++ rest → version_from w ls ≡ a.version
 title_version w s [] rest a due some lines = absurd (omega arith)
-title_version w s (l ∷ ls) rest a due some lines =
-    let first : l ≡ line.Title a.version = cc in
-    let behind : run stage.Title (line.Title a.version ∷ ls) ≡ Some s = ap (λ x. run stage.Title (x ∷ ls)) (sym first) ∙ due in
-    ap (λ x. version_from (version_with w x) ls) first ∙ version_kept a.version stage.Length s ls (λ i. cc) behind
+title_version w s (l ∷ ls) rest a due some lines = grind (arith, version_kept)
 
 pub version_told : (F : Form) (bytes : List ℕ) (events : List AnswerEvent) (reader : EventReader) → Reads F bytes events reader → 6 < reader.line → TellsVersion F bytes (version_number reader.kept.version)
 version_told F bytes events reader r headed rest answer spells =

@@ -77,12 +77,14 @@ tree_one v (Leaf cs) (Leaf ds) p q same = grind (arith, cuts_one)
 tree_one v (Leaf cs) (Split on o i) p q same = absurd (leaf_apart v (length cs) on cc)
 tree_one v (Split on o i) (Leaf ds) p q same = absurd (leaf_apart v (length ds) on cc)
 tree_one v (Split on o i) (Split other o' i') p q same =
-    let first : split_line v on ≡ split_line v other = cc in
-    let here = same_on v on other first in
-    let behind : (tree_lines v o ++ tree_lines v i) ++ p ≡ (tree_lines v o' ++ tree_lines v i') ++ q = cc in
-    let outside = tree_one v o o' (tree_lines v i ++ p) (tree_lines v i' ++ q) (sym (append_assoc (tree_lines v o) (tree_lines v i) p) ∙ behind ∙ append_assoc (tree_lines v o') (tree_lines v i') q) in
-    let inside = tree_one v i i' p q outside.1 in
-    (λ k. Split (here k) (outside.0 k) (inside.0 k), inside.1)
+    grind (
+      arith,
+      same_on,
+      tree_one v o o' (tree_lines v i ++ p) (tree_lines v i' ++ q) (sym (append_assoc (tree_lines v o) (tree_lines v i) p) ∙ (cc) ∙ append_assoc (tree_lines v o') (tree_lines v i') q),
+      append_assoc,
+      tree_one v i i' p q (tree_one v o o' (tree_lines v i ++ p) (tree_lines v i' ++ q) (sym (append_assoc (tree_lines v o) (tree_lines v i) p) ∙ (cc) ∙ append_assoc (tree_lines v o') (tree_lines v i') q)).1,
+      Split,
+    )
 
 -- edges before the line behind them
 edges_one : (ds es : List EdgeLabel) (p q : List Line) → map line.Edge ds ++ line.Tree ∷ p ≡ map line.Edge es ++ line.Tree ∷ q → (ds ≡ es) × (p ≡ q)

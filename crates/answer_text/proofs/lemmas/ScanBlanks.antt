@@ -1,9 +1,8 @@
 -- What a blank makes of a number that was read.
-use Rattle.std.proofs.Common.{ℕ, ◌≡◌, ℤ, Bool, List, ◌∷◌, length, refl, sym, ap, subst, ◌∙◌, arith, false, replicate}
+use Rattle.std.proofs.Common.{ℕ, ◌≡◌, ℤ, Bool, List, ◌∷◌, length, refl, sym, subst, arith, false, replicate}
 use Rattle.std.specs.Prelude.{FitsSigned}
 use Rattle.std.specs.Int.{w64}
 use Rattle.std.proofs.lemmas.List.{length-replicate}
-use Rattle.net_graph.specs.Flags.{has}
 use Rattle.answer_text.specs.SetLaws.{none_has}
 use Rattle.answer_text.specs.AnswerLine.{Line}
 use Rattle.answer_text.specs.declared.scan.Kept.{Kept}
@@ -13,24 +12,13 @@ use Rattle.answer_text.specs.declared.scan.Corner.{Corner}
 use Rattle.answer_text.specs.declared.scan.Corner.TheVariants as corner
 use Rattle.answer_text.specs.declared.scan.Scan.TheVariants as scan
 use Rattle.answer_text.specs.Spelling.{FitsName}
-use Rattle.answer_text.specs.Scanning.{IsInField, IsLast, signed, BehindCoordinate, IsDead, IsNext, LeadsTo}
+use Rattle.answer_text.specs.Scanning.{IsInField, IsLast, signed, BehindCoordinate, IsDead, IsNext}
 use Rattle.answer_text.proofs.lemmas.ScanNumbers.{dead-blank, leads-x1, leads-y1, leads-x2, leads-x, leads-weight}
 
 pub next-weight : (k : Kept) (f : Field) (v x : ℕ) (members : List Bool) → f ≡ field.Weight → x ≡ v → members ≡ replicate (length k.members) false → IsInField f v → FitsName k.name
     → IsNext k (scan.Number f v) 32 (record k { weight = x; members = members }) (scan.Set 0)
 next-weight k f v x members is same cleared inside name =
-    let there : IsInField field.Weight v = subst (λ g. IsInField g v) is inside in
-    let least = there.least in
-    let limit = there.limit in
-    let size : length members ≡ length k.members = ap length cleared ∙ length-replicate (length k.members) false in
-    record {
-      leads = subst (λ g. LeadsTo k (scan.Number g v) 32 (record k { weight = x; members = members }) (scan.Set 0)) (sym is) (leads-weight k (record k { weight = x; members = members }) v there same size);
-      sound = (omega arith, omega arith, omega arith, (λ u later. ap (λ m. has m u) cleared ∙ none_has (length k.members) u));
-      name = name;
-      stage = refl;
-      version = refl;
-      size = size;
-    }
+    grind (arith, length-replicate (length k.members) false, leads-weight, none_has)
 
 pub next-x1 : (k : Kept) (c : Corner) (minus : Bool) (v : ℕ) (z z' : ℤ) → c ≡ corner.X1 → z' ≡ z → z ≡ signed minus v → FitsSigned w64 z → IsInField (field.Coordinate c minus) v → FitsName k.name
     → IsNext k (scan.Number (field.Coordinate c minus) v) 32 (record k { name = record k.name { x1 = z' } }) (scan.Coordinate corner.Y1)

@@ -108,22 +108,8 @@ no_line-weight k f v is inside l s' left due =
 
 pub closes-set : (k : Kept) (h : AnswerHead) (place cuts nodes left : ℕ) → k.stage ≡ stage.Body cuts nodes → left ≡ cuts - 1 → (length k.members + 3) / 4 ≤ place → 0 < k.weight → k.weight < 2 ^ 64 → FitsName k.name
     → Closes k (scan.Set place) h (record k { stage = stage.Body left nodes }) h (Some (event.Cut k.weight))
-closes-set k h place cuts nodes left is less whole some fits name = record {
-  line = line.Cut (record { weight = k.weight; members = k.members });
-  left = set_left k place some fits whole;
-  stage = λ s' e.
-      let due = step-cut k.stage s' (record { weight = k.weight; members = k.members }) e in
-      let both : stage.Body cuts nodes ≡ stage.Body (suc due.0) due.1 = sym is ∙ due.2 in
-      let count : cuts ≡ suc due.0 = cc in
-      let same : nodes ≡ due.1 = cc in
-      let here : left ≡ due.0 = omega arith in
-      (λ i. stage.Body (here i) (same i)) ∙ due.3;
-  version = refl;
-  head = refl;
-  event = λ n. refl;
-  members = refl;
-  name = name;
-}
+closes-set k h place cuts nodes left is less whole some fits name =
+    grind (arith, set_left k place some fits whole, step-cut)
 
 pub no_line-set : (k : Kept) (place : ℕ) → place < (length k.members + 3) / 4 → IsNoLineLeft k (scan.Set place)
 no_line-set k place short l s' left due = let whole = set_whole k place l left in omega arith
@@ -132,9 +118,7 @@ no_line-set k place short l s' left due = let whole = set_whole k place l left i
 
 pub no_line-other : (k : Kept) (s : Scan) → ((f : Field) (v : ℕ) → s ≡ scan.Number f v → ⊥) → ((place : ℕ) → s ≡ scan.Set place → ⊥) → ((c : Closed) → s ≡ scan.LineEnd c → ⊥) → IsSound k s → IsNoLineLeft k s
 no_line-other k (scan.Word w place) number set closed sound l s' left due =
-    let some = ap length left.1 in
-    let within = sound.0 in
-    omega (arith, length-drop place (word_bytes w), length-append (drop place (word_bytes w)) left.0)
+    grind (arith, length-drop place (word_bytes w), length-append (drop place (word_bytes w)) left.0)
 no_line-other k scan.Version number set closed sound l s' left due = ⊎_elim (λ (one : ([] ≡ codes "1") × (l ≡ line.Title version.One)). let e = one.0 in absurd cc) (λ (two : ([] ≡ codes "2") × (l ≡ line.Title version.Two)). let e = two.0 in absurd cc) left
 no_line-other k scan.Status number set closed sound l s' left due = ⊎_elim (λ (one : WordLeft k word.Optimal 0 [] l). let e = one.1 in absurd cc) (λ (other : WordLeft k word.Stopped 0 [] l). let e = other.1 in absurd cc) left
 no_line-other k scan.Kind number set closed sound l s' left due = ⊎_elim (λ (one : WordLeft k word.Least 0 [] l). let e = one.1 in absurd cc) (λ (other : WordLeft k word.Spent 0 [] l). let e = other.1 in absurd cc) left

@@ -17,12 +17,11 @@ use Rattle.answer_text.specs.declared.scan.Scan.TheVariants as scan
 use Rattle.answer_text.specs.declared.version.Version.{Version}
 use Rattle.answer_text.specs.declared.version.Version.TheVariants as version
 use Rattle.answer_text.specs.Words.{concat_word, edge_words, vertex_words}
-use Rattle.answer_text.specs.Forms.{HasVertices, IsVersionOf, SaysKind, most_edges, set_size}
+use Rattle.answer_text.specs.Forms.{SaysKind, most_edges, set_size}
 use Rattle.answer_text.specs.Lines.{line_bytes, step}
 use Rattle.answer_text.specs.LineFits.{FitsLine, IsLineRead, version_with}
-use Rattle.answer_text.specs.Scanning.{name_line, WordLeft, ForkLeft, WordsLeft, Left, first_scan, IsSound}
+use Rattle.answer_text.specs.Scanning.{name_line, WordLeft, ForkLeft, WordsLeft, Left, first_scan}
 use Rattle.answer_text.proofs.lemmas.Steps.{step-done}
-use Rattle.answer_text.proofs.lemmas.FormLemmas.{HasRoom}
 use Rattle.answer_text.proofs.lemmas.ValuesDue.{read_as, number_text, number_due, edge_text, edge_due, vertex_text, vertex_due, count_fits, count_inside, cut_text, edge_value, edge_fork, value_edge, fork_edge}
 
 -- the line of a leaf is due where a node is
@@ -223,10 +222,6 @@ line_start F k v s s' rest l size version_is is told fits due = absurd cc
 
 pub start_left : (F : Form) (k : Kept) (v : Version) (s s' : Stage) (rest : List ℕ) (l : Line) → length k.members ≡ set_size F → k.version ≡ v → k.stage ≡ s → IsLineRead v F s rest l s' → Left k (first_scan F v s) rest l
 start_left F k v s s' rest l size version_is is read = line_start F k v s s' rest l size version_is is read.told read.fits read.due
-
--- the beginning is kept to
-pub start_sound : (F : Form) (k : Kept) (v : Version) (s : Stage) → IsVersionOf F v → HasVertices F → HasRoom F s → IsSound k (first_scan F v s)
-start_sound F k v s of some room = grind arith
 
 -- only behind the end nothing is due
 pub start_ended : (F : Form) (v : Version) (s : Stage) → first_scan F v s ≡ scan.Ended → s ≡ stage.Done

@@ -1,5 +1,5 @@
 -- What is due can always be gone on with, up to the end of its line.
-use Rattle.std.proofs.Common.{ℕ, ◌≡◌, ◌+◌, ◌/◌, ◌<◌, ◌≤◌, ◌^◌, ℤ, Bool, true, false, List, [], ◌∷◌, ◌++◌, length, drop, refl, sym, ap, subst, arith, inl, inr}
+use Rattle.std.proofs.Common.{ℕ, ◌≡◌, ◌+◌, ◌/◌, ◌<◌, ◌≤◌, ◌^◌, ℤ, Bool, true, false, List, [], ◌∷◌, ◌++◌, length, drop, refl, sym, subst, arith, inl, inr}
 use Rattle.std.specs.Prelude.{◌⊎◌, codes, FitsSigned}
 use Rattle.std.specs.Int.{w64}
 use Rattle.std.specs.Fmt.{decimal, signed_decimal}
@@ -160,10 +160,7 @@ some_left k scan.Refused sound name = absurd sound
 
 -- a set that ends a line has all its digits
 pub set_whole : (k : Kept) (place : ℕ) (l : Line) → SetLeft k place [] l → (length k.members + 3) / 4 ≤ place
-set_whole k place l h =
-    let size = h.size in
-    let none = ap length h.text in
-    omega (arith, length-drop place (set_text h.set), length-set_text h.set)
+set_whole k place l h = grind (arith, length-drop place (set_text h.set), length-set_text h.set)
 
 pub set_left : (k : Kept) (place : ℕ) → (0 < k.weight) → k.weight < 2 ^ 64 → (length k.members + 3) / 4 ≤ place → SetLeft k place [] (line.Cut (record { weight = k.weight; members = k.members }))
 set_left k place some fits whole = grind (arith, drop_all, length-set_text)

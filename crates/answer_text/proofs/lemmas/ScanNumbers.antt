@@ -1,5 +1,5 @@
 -- What is due of a number behind one more byte of it.
-use Rattle.std.proofs.Common.{ℕ, ◌≡◌, ◌+◌, ◌-◌, ◌*◌, ◌<◌, ◌≤◌, ◌^◌, ℤ, pos, negsuc, Bool, true, false, List, [], ◌∷◌, ◌++◌, length, refl, sym, ap, ◌∙◌, arith, append_assoc, inl, inr, ⊎_elim, subst, length-append}
+use Rattle.std.proofs.Common.{ℕ, ◌≡◌, ◌+◌, ◌-◌, ◌*◌, ◌<◌, ◌≤◌, ◌^◌, ℤ, pos, negsuc, Bool, true, false, List, [], ◌∷◌, ◌++◌, length, refl, sym, ap, ◌∙◌, arith, append_assoc, inr, ⊎_elim, subst, length-append}
 use Rattle.std.specs.Prelude.{FitsSigned}
 use Rattle.std.specs.Int.{w64}
 use Rattle.std.specs.Fmt.{decimal, signed_decimal}
@@ -77,19 +77,10 @@ first_of f b rest n (m ∷ more) behind parts spelled inside = grind (arith, fir
 -- some digit is due
 pub no_first : (k : Kept) (f : Field) (rest : List ℕ) (l : Line) → NumberLeft k f [] rest l → rest ≡ [] → ⊥
 no_first k f rest l h none =
-    let empty = ap length (sym h.parts ∙ none) in
-    let spelled = ap length h.spelled in
-    let some = digits_some h.number (in_field-wide f h.number h.inside) in
-    omega (arith, length-append h.more h.behind)
+    grind (arith, digits_some h.number (in_field-wide f h.number h.inside), length-append h.more h.behind)
 
 pub dead-first : (k : Kept) (f : Field) (b : ℕ) → (48 ≤ b → b < 58 → (b ≡ 48 → least_of f ≡ 1 → ⊥) → b - 48 < limit_of f → ⊥) → IsDead k (scan.Due f) b
-dead-first k f b none rest l h =
-    let first = first_of f b rest h.number h.more h.behind h.parts h.spelled h.inside in
-    let is = first.is in
-    let least = first.inside.least in
-    let limit = first.inside.limit in
-    let within = is.within in
-    none is.low is.high (λ zero_digit one. let some : 0 < first.number = omega arith in let above = is.some some in omega arith) (omega arith)
+dead-first k f b none rest l h = grind (arith, first_of f b rest h.number h.more h.behind h.parts h.spelled h.inside)
 
 -- a further digit
 pub leads-next : (k : Kept) (f : Field) (v digit b : ℕ) → IsInField f v → 0 < v → digit < 10 → b ≡ 48 + digit → 10 * v + digit < limit_of f
@@ -114,10 +105,7 @@ number_over : (k : Kept) (f : Field) (v : ℕ) (bytes : List ℕ) (l : Line) (n 
     → bytes ≡ more ++ behind → decimal n ≡ decimal v ++ more → IsInField f n → BehindNumber k f n behind l → BehindNumber k f v bytes l
 number_over k f v bytes l n [] behind here low parts spelled inside follows = grind (arith, number_one, append-nil)
 number_over k f v bytes l n (m ∷ more) behind here low parts spelled inside follows =
-    let is = next_digit v n m more (in_field-wide f v here) (in_field-wide f n inside) spelled in
-    let digit = is.low in
-    let below = low m (more ++ behind) parts in
-    absurd (omega arith)
+    grind (arith, next_digit v n m more (in_field-wide f v here) (in_field-wide f n inside) spelled, low m (more ++ behind) parts)
 
 pub over_blank : (k : Kept) (f : Field) (v : ℕ) (rest : List ℕ) (l : Line) → IsInField f v → NumberLeft k f (decimal v) (32 ∷ rest) l → BehindNumber k f v (32 ∷ rest) l
 over_blank k f v rest l here h = grind (arith, number_over)
@@ -180,10 +168,7 @@ pub plain_left : (k : Kept) (c : Corner) (b : ℕ) (rest : List ℕ) (l : Line) 
 plain_left k c b rest l other h = grind arith
 
 pub leads-plain : (k : Kept) (c : Corner) (b : ℕ) (next : Scan) → (b ≡ 45 → ⊥) → LeadsTo k (scan.Due (field.Coordinate c false)) b k next → LeadsTo k (scan.Coordinate c) b k next
-leads-plain k c b next other leads = record {
-  on = λ rest l h. leads.on rest l (plain_left k c b rest l other h);
-  back = λ rest l h. inl (leads.back rest l h);
-}
+leads-plain k c b next other leads = grind (arith, plain_left)
 
 pub dead-plain : (k : Kept) (c : Corner) (b : ℕ) → (b ≡ 45 → ⊥) → IsDead k (scan.Due (field.Coordinate c false)) b → IsDead k (scan.Coordinate c) b
 dead-plain k c b other dead rest l h = dead rest l (plain_left k c b rest l other h)
@@ -204,11 +189,7 @@ minus_spelled : (k : Kept) (c : Corner) (rest digits : List ℕ) (l : Line) (n :
 minus_spelled k c rest digits l n more behind is parts spelled inside follows = grind arith
 
 pub spelled_of : (k : Kept) (c : Corner) (rest : List ℕ) (l : Line) → ValueLeft k (scan.Coordinate c) rest l → Spelled k c rest l
-spelled_of k c rest l h = ⊎_elim
-    (λ (plain : NumberLeft k (field.Coordinate c false) [] rest l). plain_spelled k c rest l plain)
-    (λ (minus : (digits : List ℕ) × (rest ≡ 45 ∷ digits) × NumberLeft k (field.Coordinate c true) [] digits l).
-    let m = minus.2 in minus_spelled k c rest minus.0 l m.number m.more m.behind minus.1 m.parts m.spelled m.inside m.follows)
-    h
+spelled_of k c rest l h = grind (arith, plain_spelled, minus_spelled)
 
 -- a coordinate that is spelled is due
 pub coordinate_left : (k : Kept) (c : Corner) (z : ℤ) (rest behind : List ℕ) (l : Line) → rest ≡ signed_decimal z ++ behind → FitsSigned w64 z → BehindCoordinate k c z behind l

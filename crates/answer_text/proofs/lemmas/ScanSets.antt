@@ -1,5 +1,5 @@
 -- What is due of a set's digits behind one more of them.
-use Rattle.std.proofs.Common.{ℕ, suc, zero, ◌≡◌, ◌+◌, ◌-◌, ◌*◌, ◌/◌, ◌%◌, ◌<◌, ◌≤◌, Bool, true, false, List, [], ◌∷◌, length, drop, refl, sym, ap, ◌∙◌, arith, ⊎_elim}
+use Rattle.std.proofs.Common.{ℕ, suc, zero, ◌≡◌, ◌+◌, ◌-◌, ◌*◌, ◌/◌, ◌%◌, ◌<◌, ◌≤◌, Bool, true, false, List, [], ◌∷◌, length, drop, refl, sym, ◌∙◌, arith, ⊎_elim}
 use Rattle.std.specs.Prelude.{◌==◌, ◌||◌, ◌&&◌}
 use Rattle.std.specs.Fmt.{digit_glyph}
 use Rattle.std.proofs.Math.Seq.{drop-cons}
@@ -11,7 +11,7 @@ use Rattle.answer_text.specs.AnswerLine.{Line}
 use Rattle.answer_text.specs.LineKinds as line
 use Rattle.answer_text.specs.declared.scan.Kept.{Kept}
 use Rattle.answer_text.specs.declared.scan.Scan.TheVariants as scan
-use Rattle.answer_text.specs.Words.{four_value, four_digit, set_text}
+use Rattle.answer_text.specs.Words.{four_digit, set_text}
 use Rattle.answer_text.specs.SetLaws.{digit_at_place, length-set_text, get_or-set_text, hex_value, flag_at_place}
 use Rattle.answer_text.specs.Scanning.{SetLeft, LeadsTo, IsDead, IsSound}
 use Rattle.answer_text.proofs.lemmas.Digits.{four_value-below}
@@ -76,17 +76,12 @@ flag_apart k k' place value byte v takes apart = grind arith
 
 -- and these four
 flag_here : (k k' : Kept) (place value byte v r : ℕ) → TakesDigit k k' place value byte → r < 4 → v ≡ 4 * place + r → has k'.members v ≡ flag_of_four value r
-flag_here k k' place value byte v r takes below is =
-    let here : (v / 4 == place) ≡ true = (let e : v / 4 ≡ place = omega arith in grind (arith, nat_tests)) in
-    let rest : v % 4 ≡ r = omega arith in
-    let none = takes.later v (omega arith) in
-    takes.flags v ∙ (λ i. none i || (here i && flag_of_four value (rest i)))
+flag_here k k' place value byte v r takes below is = grind (arith, nat_tests, takes.flags v)
 
 -- a set whose digit is the byte has the flags that the byte tells
 flag_of_digit : (set : List Bool) (place value byte v r : ℕ) → value < 16 → byte ≡ digit_glyph false value → byte ≡ digit_at_place set place → r < 4 → v ≡ 4 * place + r → has set v ≡ flag_of_four value r
 flag_of_digit set place value byte v r few digit at below is =
-    let at_value : digit_at_place set place ≡ digit_glyph false value = sym at ∙ digit in
-    sym (flag_at_place set place r v below is) ∙ (λ i. flag_of_four (hex_value (at_value i)) r) ∙ ap (λ x. flag_of_four x r) (hex_value-glyph value few)
+    grind (arith, digit_at_place set place, flag_at_place set place r v below is, hex_value, hex_value-glyph value few)
 
 -- the digits from a place on
 digits_split : (set : List Bool) (place : ℕ) → 4 * place < length set → drop place (set_text set) ≡ digit_at_place set place ∷ drop (place + 1) (set_text set)
@@ -135,10 +130,7 @@ leads-set k k' place value byte takes = record {
 }
 
 pub set-sound : (k k' : Kept) (place value byte : ℕ) → TakesDigit k k' place value byte → IsSound k (scan.Set place) → IsSound k' (scan.Set (place + 1))
-set-sound k k' place value byte takes sound =
-    let inside = takes.inside in
-    let size = takes.size in
-    (rw takes.weight sound.0, rw takes.weight sound.1, omega arith, (λ v later. flag_apart k k' place value byte v takes (λ e. omega arith) ∙ takes.later v (omega arith)))
+set-sound k k' place value byte takes sound = grind (arith, flag_apart)
 
 -- ---- bytes that are no digit of a set
 
@@ -148,9 +140,7 @@ due_digit k place byte rest l h = grind (arith, digits_split, drop_all, length-s
 
 pub dead-glyph : (k : Kept) (place byte : ℕ) → ((value : ℕ) → value < 16 → byte ≡ digit_glyph false value → ⊥) → IsDead k (scan.Set place) byte
 dead-glyph k place byte none rest l h =
-    let due = due_digit k place byte rest l h in
-    none (four_value (has h.set (4 * place)) (has h.set (4 * place + 1)) (has h.set (4 * place + 2)) (has h.set (4 * place + 3)))
-    (four_value-below (has h.set (4 * place)) (has h.set (4 * place + 1)) (has h.set (4 * place + 2)) (has h.set (4 * place + 3))) due.1
+    grind (arith, due_digit k place byte rest l h, four_value-below (has h.set (4 * place)) (has h.set (4 * place + 1)) (has h.set (4 * place + 2)) (has h.set (4 * place + 3)))
 
 pub dead-past : (k : Kept) (place byte : ℕ) → length k.members ≤ 4 * place → IsDead k (scan.Set place) byte
 dead-past k place byte past rest l h = let due = due_digit k place byte rest l h in let inside = due.0 in omega arith

@@ -1,5 +1,5 @@
 -- What is due of a word behind one more byte of it.
-use Rattle.std.proofs.Common.{ℕ, suc, ◌≡◌, ◌+◌, ◌<◌, ◌≤◌, List, [], ◌∷◌, ◌++◌, length, drop, get_or, sym, ap, ◌∙◌, arith, subst}
+use Rattle.std.proofs.Common.{ℕ, ◌≡◌, ◌+◌, ◌<◌, ◌≤◌, List, [], ◌∷◌, ◌++◌, length, drop, get_or, sym, ap, ◌∙◌, arith, subst}
 use Rattle.std.proofs.Math.Seq.{drop-cons}
 use Rattle.std.proofs.lemmas.List.{drop_all}
 use Rattle.answer_text.specs.AnswerLine.{Line}
@@ -14,9 +14,7 @@ use Rattle.answer_text.specs.Scanning.{word_bytes, behind_word, ForkLeft, Left, 
 
 -- the byte at a place of a word and those behind it
 word_split : (w : Word) (place b : ℕ) → place < length (word_bytes w) → get_or (word_bytes w) place 0 ≡ b → drop place (word_bytes w) ≡ b ∷ drop (place + 1) (word_bytes w)
-word_split w place b inside is =
-    let next : suc place ≡ place + 1 = omega arith in
-    drop-cons (word_bytes w) place 0 inside ∙ (λ i. is i ∷ drop (next i) (word_bytes w))
+word_split w place b inside is = grind (arith, drop-cons (word_bytes w) place 0 inside)
 
 -- one byte of a word
 pub leads-word : (k : Kept) (w : Word) (place b : ℕ) → place < length (word_bytes w) → get_or (word_bytes w) place 0 ≡ b → LeadsTo k (scan.Word w place) b k (scan.Word w (place + 1))

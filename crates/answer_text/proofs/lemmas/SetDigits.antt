@@ -1,5 +1,5 @@
 -- The digits of a set, by its words.
-use Rattle.std.proofs.Common.{ℕ, ◌≡◌, ◌+◌, ◌-◌, ◌*◌, ◌/◌, ◌%◌, ◌^◌, ◌<◌, ◌≤◌, Bool, false, List, [], ◌∷◌, ◌++◌, map, length, take, get_or, bit_and, min, eqb, refl, ap, sym, ◌∙◌, ⊎_elim, arith}
+use Rattle.std.proofs.Common.{ℕ, ◌≡◌, ◌+◌, ◌-◌, ◌*◌, ◌/◌, ◌%◌, ◌^◌, ◌<◌, ◌≤◌, Bool, List, [], ◌∷◌, ◌++◌, map, length, take, get_or, bit_and, min, eqb, refl, ap, sym, ◌∙◌, arith}
 use Rattle.std.specs.Int.{bit_at}
 use Rattle.std.specs.List.{range_with_len}
 use Rattle.std.proofs.Math.Nat.{div-div-eq-div-mul}
@@ -27,14 +27,7 @@ pub flag_within : (set : List Bool) (word place r : ℕ) → 64 * place < length
     → ((r : ℕ) → r < 64 → 64 * place + r < length set → has set (64 * place + r) ≡ eqb (bit_at word r) 1)
     → has set (64 * place + r) ≡ eqb (bit_at (bit_and word (1 * 2 ^ (length set - 64 * place) % 2 ^ 64 - 1)) r) 1
 flag_within set word place r inside last told =
-    let mask : 1 * 2 ^ (length set - 64 * place) % 2 ^ 64 - 1 ≡ 2 ^ (length set - 64 * place) - 1 =
-    ap (λ m. m - 1) (one_shl (length set - 64 * place) 64 last) in
-    rw mask (⊎_elim
-    (λ (below : r < length set - 64 * place). told r (omega arith) (omega arith)
-    ∙ ap (λ b. eqb b 1) (sym (bit_in_mask word (length set - 64 * place) r below)))
-    (λ (past : length set - 64 * place ≤ r). get_or_past set (64 * place + r) false (omega arith)
-    ∙ ap (λ b. eqb b 1) (sym (bit_past_mask word (length set - 64 * place) r past)))
-    (cases_lt r (length set - 64 * place)))
+    grind (arith, one_shl (length set - 64 * place) 64 last, bit_in_mask, get_or_past, bit_past_mask, cases_lt r (length set - 64 * place))
 
 -- ---- the digits of a word
 
@@ -53,8 +46,7 @@ digit_by_table value below =
 -- a bit of the four from a place of four on
 bit_of_four : (word n i : ℕ) → i < 4 → bit_at (bit_and (word / 2 ^ (4 * n)) 15) i ≡ bit_at word (4 * n + i)
 bit_of_four word n i low =
-    bit_in_mask (word / 2 ^ (4 * n)) 4 i low
-    ∙ ap (λ m. m % 2) (div-div-eq-div-mul word (2 ^ (4 * n)) (2 ^ i) ∙ ap (λ m. word / m) (sym (pow-add 2 (4 * n) i)))
+    grind (arith, bit_in_mask (word / 2 ^ (4 * n)) 4 i low, div-div-eq-div-mul word (2 ^ (4 * n)) (2 ^ i), pow-add 2 (4 * n) i)
 
 -- the digit at a place of a word
 pub word_digit : (word n : ℕ) →

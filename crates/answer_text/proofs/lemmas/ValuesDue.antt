@@ -53,10 +53,7 @@ name_due k e rest l fits text is = grind (arith, coordinate_left, name_pieces)
 -- the words of a point are due
 point_text : (k : Kept) (rest : List ℕ) (l : Line) → ValueLeft k (scan.Coordinate corner.X) rest l → (p : Point) × FitsPoint p × (rest ≡ point_words p) × (l ≡ line.SplitVertex (vertex.At p))
 point_text k rest l h =
-    let s = spelled_of k corner.X rest l h in
-    let b = s.follows in
-    let p : Point = record { x = b.name.x1; y = b.name.y1 } in
-    (p, record { x = b.fits.x1; y = b.fits.y1 }, s.text ∙ (λ i. signed_decimal (sym b.same i) ++ b.text i) ∙ sym (point_pieces p), b.line)
+    grind (arith, point_pieces (record { x = ((spelled_of k corner.X rest l h).follows).name.x1; y = ((spelled_of k corner.X rest l h).follows).name.y1 }))
 
 point_due : (k : Kept) (p : Point) → FitsPoint p → ValueLeft k (scan.Coordinate corner.X) (point_words p) (line.SplitVertex (vertex.At p))
 point_due k p fits =
@@ -67,10 +64,7 @@ point_due k p fits =
 -- the words of an edge's label are due
 pub edge_text : (F : Form) (k : Kept) (rest : List ℕ) (l : Line) → ValueLeft k (edge_scan F) rest l → (e : EdgeLabel) × FitsEdge F e × (rest ≡ edge_words e) × (l ≡ name_line k.version k.stage e)
 edge_text (form.OnGrid V) k rest l h = let n = name_text k rest l h in (edge.Ends n.0, n.1, n.2, n.3)
-edge_text (form.OfGraph E V) k rest l h =
-    let least = h.inside.least in
-    let limit = h.inside.limit in
-    (edge.Number h.number, record { first = least; within = omega arith; width = omega arith }, number_text k (field.EdgeNumber E) rest l h h.follows.0, h.follows.1)
+edge_text (form.OfGraph E V) k rest l h = grind (arith, number_text k (field.EdgeNumber E) rest l h h.follows.0)
 
 pub edge_due : (F : Form) (k : Kept) (e : EdgeLabel) (rest : List ℕ) (l : Line) → FitsEdge F e → rest ≡ edge_words e → l ≡ name_line k.version k.stage e → ValueLeft k (edge_scan F) rest l
 edge_due (form.OnGrid V) k (edge.Ends e) rest l fits text is = name_due k e rest l fits text is
@@ -81,10 +75,7 @@ edge_due (form.OfGraph E V) k (edge.Number n) rest l fits text is = grind (arith
 -- the words of a vertex's label are due
 pub vertex_text : (F : Form) (k : Kept) (rest : List ℕ) (l : Line) → ValueLeft k (vertex_scan F) rest l → (p : VertexLabel) × FitsVertex F p × (rest ≡ vertex_words p) × (l ≡ line.SplitVertex p)
 vertex_text (form.OnGrid V) k rest l h = let n = point_text k rest l h in (vertex.At n.0, n.1, n.2, n.3)
-vertex_text (form.OfGraph E V) k rest l h =
-    let least = h.inside.least in
-    let limit = h.inside.limit in
-    (vertex.Number h.number, record { first = least; within = omega arith; width = omega arith }, number_text k (field.VertexNumber V) rest l h h.follows.0, h.follows.1)
+vertex_text (form.OfGraph E V) k rest l h = grind (arith, number_text k (field.VertexNumber V) rest l h h.follows.0)
 
 pub vertex_due : (F : Form) (k : Kept) (p : VertexLabel) → FitsVertex F p → ValueLeft k (vertex_scan F) (vertex_words p) (line.SplitVertex p)
 vertex_due (form.OnGrid V) k (vertex.At p) fits = point_due k p fits

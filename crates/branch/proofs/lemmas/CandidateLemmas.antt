@@ -1,5 +1,5 @@
 -- Gathering what a leaf may be split on.
-use Rattle.std.proofs.Common.{ℕ, ◌≡◌, ◌+◌, ◌<◌, ◌≤◌, Bool, true, false, List, [], ◌∷◌, ◌++◌, length, slice_get, Some, All, ap, sym, ◌∙◌, arith, length-append}
+use Rattle.std.proofs.Common.{ℕ, ◌≡◌, ◌+◌, ◌<◌, ◌≤◌, Bool, true, false, List, [], ◌∷◌, ◌++◌, length, slice_get, Some, All, sym, ◌∙◌, arith, length-append}
 use Rattle.std.proofs.lemmas.List.Elements.{All-push}
 use Rattle.std.proofs.lemmas.Option.{slice_get_within}
 use Rattle.net_graph.specs.Graph.{Graph}
@@ -22,10 +22,8 @@ module _ (IsCandidate : Candidate → Type 0) (IsSought : ℕ → Type 0) where
 
   pub gathered_more : (seen : ℕ) (list : List Candidate) (c : Candidate) → IsGathered IsCandidate IsSought seen list → IsCandidate c →
       IsGathered IsCandidate IsSought (seen + 1) (list ++ c ∷ [])
-  gathered_more seen list c so_far candidate = record {
-    each = All-push IsCandidate list c so_far.each candidate;
-    every = λ none. absurd (omega (arith, length-append list (c ∷ []), ap length none));
-  }
+  gathered_more seen list c so_far candidate =
+      grind (arith, All-push IsCandidate list c so_far.each candidate, length-append list (c ∷ []))
 
   pub gathered_kept : (seen : ℕ) (list : List Candidate) → IsGathered IsCandidate IsSought seen list → (IsSought seen → ⊥) →
       IsGathered IsCandidate IsSought (seen + 1) list

@@ -157,8 +157,7 @@ open_state g d v decision undecided =
 -- a decided vertex is one less to decide
 left-vertex : (g : Graph) (d : Decided) (v : ℕ) (state : VertexState) → IsDecisionFor g d → IsVertexUndecided g d v → one_open state ≡ 0 →
     all_left g (with_vertex d v state) < all_left g d
-left-vertex g d v state decision undecided decided =
-    grind (arith, left-missing, misses-set, open_count-set, open_state)
+left-vertex g d v state decision undecided decided = grind (arith, left-missing, misses-set, open_count-set, open_state)
 
 -- at each split of the tree less is left in both children
 abbrev pub Lessens : (Decided → ℕ) → Decided → Tree SplitOn → Type 0
@@ -181,18 +180,22 @@ edges_lessen g d (Split (split.Edge e) o i) valid edges = (
 -- .. and each split an undecided edge or vertex
 all_lessen : (g : Graph) (d : Decided) (t : Tree SplitOn) → IsDecisionFor g d → IsValidTree g d t → Lessens (all_left g) d t
 all_lessen g d (Leaf cuts) decision valid = tt
-all_lessen g d (Split (split.Vertex v) o i) decision valid = (
-  left-vertex g d v vertex.Missed decision valid.0 refl,
-  left-vertex g d v vertex.Met decision valid.0 refl,
-  all_lessen g (with_vertex d v vertex.Missed) o (IsDecisionFor-outside_of g d (split.Vertex v) decision valid.0) valid.1,
-  all_lessen g (with_vertex d v vertex.Met) i (IsDecisionFor-inside_of g d (split.Vertex v) decision valid.0) valid.2,
-)
-all_lessen g d (Split (split.Edge e) o i) decision valid = (
-  omega (arith, left-outside g d e valid.0),
-  omega (arith, left-inside g d e valid.0),
-  all_lessen g (with_edge d e Outside) o (IsDecisionFor-outside_of g d (split.Edge e) decision valid.0) valid.1,
-  all_lessen g (with_edge d e Inside) i (IsDecisionFor-inside_of g d (split.Edge e) decision valid.0) valid.2,
-)
+all_lessen g d (Split (split.Vertex v) o i) decision valid =
+    grind (
+      arith,
+      left-vertex g d v vertex.Missed decision valid.0 refl,
+      left-vertex g d v vertex.Met decision valid.0 refl,
+      all_lessen g (with_vertex d v vertex.Missed) o (IsDecisionFor-outside_of g d (split.Vertex v) decision valid.0) valid.1,
+      all_lessen g (with_vertex d v vertex.Met) i (IsDecisionFor-inside_of g d (split.Vertex v) decision valid.0) valid.2,
+    )
+all_lessen g d (Split (split.Edge e) o i) decision valid =
+    grind (
+      arith,
+      left-outside g d e valid.0,
+      left-inside g d e valid.0,
+      all_lessen g (with_edge d e Outside) o (IsDecisionFor-outside_of g d (split.Edge e) decision valid.0) valid.1,
+      all_lessen g (with_edge d e Inside) i (IsDecisionFor-inside_of g d (split.Edge e) decision valid.0) valid.2,
+    )
 
 -- with one more to decide there are at least twice as many ways
 doubled : (more few : ℕ) → few < more → 2 ^ few + 2 ^ few ≤ 2 ^ more
@@ -204,13 +207,7 @@ module _ (left : Decided → ℕ) where
   splits-le : (d : Decided) (t : Tree SplitOn) → Lessens left d t → 1 + split_count t ≤ 2 ^ left d
   splits-le d (Leaf cuts) lessens = omega (arith, pow_pos (left d))
   splits-le d (Split on o i) lessens =
-      omega (
-        arith,
-        doubled (left d) (left (outside_of d on)) lessens.0,
-        doubled (left d) (left (inside_of d on)) lessens.1,
-        splits-le (outside_of d on) o lessens.2,
-        splits-le (inside_of d on) i lessens.3,
-      )
+      grind (arith, doubled (left d) (left (outside_of d on)) lessens.0, doubled (left d) (left (inside_of d on)) lessens.1, splits-le (outside_of d on) o lessens.2, splits-le (inside_of d on) i lessens.3)
 
   -- .. and fewer where at a leaf something is left
   splits-lt : (d : Decided) (t : Tree SplitOn) (k : ℕ) (leaf : DecidedLeaf) → slice_get (leaves_of d t) k ≡ Some leaf →

@@ -24,8 +24,7 @@ pub leads_of_kind : (asked : SplitKind) (g : Graph) (network : List Bool) (tree 
     AreOfKind asked later_tree
 leads_of_kind asked g network tree zero later later_tree leads were = subst (AreOfKind asked) (sym leads.1) were
 leads_of_kind asked g network tree (suc n) later later_tree (before, before_tree, leads, plain) were =
-    opening_of_kind asked g before later before_tree later_tree plain
-    (leads_of_kind asked g network tree n before before_tree leads were)
+    grind (arith, opening_of_kind asked g before later before_tree later_tree plain (leads_of_kind asked g network tree n before before_tree leads were))
 
 -- one more opening, by the search's step
 pub leads_more : (asked : SplitKind) (g : Graph) (network : List Bool) (tree : Tree SplitOn) (old new : SearchState) →

@@ -16,17 +16,13 @@ use Rattle.branch.proofs.lemmas.TreeLemmas.{length-leaves_of}
 -- the leaf is one of the tree
 pub opens_within : (g : Graph) (kept : Frontier) (opening : Opening) → IsOpeningOf g kept opening → opening.leaf < length (packings_of kept.tree)
 opens_within g kept opening op =
-    let within : opening.leaf < length (leaves_of (nothing_decided g) kept.tree) =
-    slice_get_within (leaves_of (nothing_decided g) kept.tree) opening.leaf op.leaf op.at in
-    omega (arith, length-leaves_of (nothing_decided g) kept.tree)
+    grind (arith, slice_get_within (leaves_of (nothing_decided g) kept.tree) opening.leaf op.leaf op.at, length-leaves_of (nothing_decided g) kept.tree)
 
 -- .. with a note
 pub opens_within_notes : (g : Graph) (kept : Frontier) (opening : Opening) → IsSearch g kept → IsOpeningOf g kept opening →
     opening.leaf < length kept.notes.items
 opens_within_notes g kept opening search op =
-    let within : opening.leaf < length (leaves_of (nothing_decided g) kept.tree) =
-    slice_get_within (leaves_of (nothing_decided g) kept.tree) opening.leaf op.leaf op.at in
-    omega (arith, AllZip-length (IsKeptNote g kept.best.length) (leaves_of (nothing_decided g) kept.tree) kept.notes.items search.notes)
+    grind (arith, slice_get_within (leaves_of (nothing_decided g) kept.tree) opening.leaf op.leaf op.at, AllZip-length (IsKeptNote g kept.best.length) (leaves_of (nothing_decided g) kept.tree) kept.notes.items search.notes)
 
 -- a tree of few splits has few leaves
 pub opens_few : (kept : Frontier) (s : SearchState) (g : Graph) → search_state g kept ≡ s → split_count s.tree < 255 → length (packings_of kept.tree) < 2 ^ 31

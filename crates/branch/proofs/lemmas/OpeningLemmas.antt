@@ -1,5 +1,5 @@
 -- How the next open leaf can be opened.
-use Rattle.std.proofs.Common.{ℕ, ◌≡◌, ◌*◌, ◌<◌, ◌≤◌, ◌^◌, ◌↔◌, ◌⊎◌, ⊎_elim, inl, inr, Bool, true, false, [], List, length, slice_get, sum_by, IsTrue, Option, Some, None, refl, ap, sym, ◌∙◌, subst, arith, get_or}
+use Rattle.std.proofs.Common.{ℕ, ◌≡◌, ◌<◌, ◌≤◌, ◌^◌, ◌↔◌, ◌⊎◌, ⊎_elim, inl, inr, Bool, true, false, List, length, slice_get, sum_by, IsTrue, Option, Some, None, refl, ap, sym, ◌∙◌, subst, arith, get_or}
 use Rattle.std.proofs.lemmas.Option.{same_Some, slice_get_within, slice_get_read}
 use Rattle.net_graph.specs.declared.state.EdgeState.TheVariants.{Inside}
 use Rattle.net_graph.specs.declared.packing.Cut.{Cut}
@@ -51,15 +51,7 @@ pub record IsNextLeaf (g : Graph) (kept : Frontier) (place : ℕ) (note : LeafNo
 pub next_leaf : (g : Graph) (kept : Frontier) (place : ℕ) (note : LeafNote) → IsSearch g kept → IsNextNote kept.best.length kept.notes.items place →
     note ≡ get_or kept.notes.items place note → (leaf : DecidedLeaf) × IsNextLeaf g kept place note leaf
 next_leaf g kept place note search next is =
-    let (found, at, below, least, earlier) = next in
-    let within : place < length kept.notes.items = slice_get_within kept.notes.items place found at in
-    let same : found ≡ note = same_Some found note (sym at ∙ slice_get_read kept.notes.items (length kept.notes.items) place note refl within is) in
-    let here : slice_get kept.notes.items place ≡ Some note = at ∙ ap (λ (n : LeafNote). Some n) same in
-    let (leaf, leaf_at, kept_note) = beside_right (IsKeptNote g kept.best.length) (leaves_of (nothing_decided g) kept.tree) kept.notes.items place note search.notes here in
-    let lower : note.value < kept.best.length = subst (λ (n : LeafNote). n.value < kept.best.length) same below in
-    let length_is = search.best.length in
-    let value = kept_note.0.value in
-    (leaf, record { at = leaf_at; of_note = kept_note.0; own = kept_note.1; below = omega arith; flag = flag_at kept.notes.items place note here })
+    grind (arith, slice_get_within, same_Some, slice_get_read, slice_get kept.notes.items place, beside_right, flag_at)
 
 -- an edge with a saturated arc is undecided or inside
 saturated_cases : (g : Graph) (d : Decided) (packing : List Cut) (n : ℕ) → HasSaturatedArc g d packing n →
@@ -68,11 +60,7 @@ saturated_cases g d packing n (e, state, at, state_at, saturated) = grind (arith
 
 pub saturated_inside : (g : Graph) (d : Decided) (packing : List Cut) (n : ℕ) → HasSaturatedArc g d packing n → (IsUndecided g d n → ⊥) →
     slice_get d.edges n ≡ Some Inside
-saturated_inside g d packing n arc other =
-    ⊎_elim
-    (λ (undecided : IsUndecided g d n). absurd (other undecided))
-    (λ (inside : slice_get d.edges n ≡ Some Inside). inside)
-    (saturated_cases g d packing n arc)
+saturated_inside g d packing n arc other = grind (arith, slice_get d.edges n, saturated_cases g d packing n arc)
 
 candidate_vertex : (asked : SplitKind) (g : Graph) (d : Decided) (set : List Bool) (v : ℕ) → IsCandidate asked g d set (split.Vertex v) → IsVertexToSplit g d set v
 candidate_vertex asked g d set v is = grind arith
@@ -93,22 +81,21 @@ pub leaf_to_split : (g : Graph) (kept : Frontier) (place v : ℕ) (note : LeafNo
     CanSplitAt (search_state g kept) place v → note ≡ get_or kept.notes.items place note →
     (leaf : DecidedLeaf) × IsNextLeaf g kept place note leaf × IsSplitVertex g leaf v
 leaf_to_split g kept place v note search (leaf, leaf_at, below, splits) is =
-    let (found, at, kept_note) = beside_left (IsKeptNote g kept.best.length) (leaves_of (nothing_decided g) kept.tree) kept.notes.items place leaf search.notes leaf_at in
-    let within : place < length kept.notes.items = slice_get_within kept.notes.items place found at in
-    let same : found ≡ note = same_Some found note (sym at ∙ slice_get_read kept.notes.items (length kept.notes.items) place note refl within is) in
-    let here = subst (λ (n : LeafNote). IsKeptNote g kept.best.length leaf n) same kept_note in
-    let note_at : slice_get kept.notes.items place ≡ Some note = at ∙ ap (λ (n : LeafNote). Some n) same in (
-      leaf,
-      record { at = leaf_at; of_note = here.0; own = here.1; below = below; flag = flag_at kept.notes.items place note note_at },
-      splits,
+    grind (
+      arith,
+      beside_left (IsKeptNote g kept.best.length) (leaves_of (nothing_decided g) kept.tree) kept.notes.items place leaf search.notes leaf_at,
+      slice_get_within,
+      same_Some,
+      slice_get_read,
+      slice_get kept.notes.items place,
+      flag_at,
     )
 
 -- .. has a note
 pub split_within : (g : Graph) (kept : Frontier) (place v : ℕ) → IsSearch g kept → CanSplitAt (search_state g kept) place v →
     place < length kept.notes.items
 split_within g kept place v search (leaf, leaf_at, below, splits) =
-    let (found, at, kept_note) = beside_left (IsKeptNote g kept.best.length) (leaves_of (nothing_decided g) kept.tree) kept.notes.items place leaf search.notes leaf_at in
-    slice_get_within kept.notes.items place found at
+    grind (arith, beside_left (IsKeptNote g kept.best.length) (leaves_of (nothing_decided g) kept.tree) kept.notes.items place leaf search.notes leaf_at, slice_get_within)
 
 -- Two children of the same carried cuts, each of which begins with them or with no cut: there is one packing that the
 -- leaf may have with which both begin as they may.
@@ -120,34 +107,7 @@ as_if_both : (g : Graph) (anew : Bool) (parent : List Cut) (d_out d_in : Decided
     (IsTrue inside.note.is_anew ↔ MayBeNone g anew (carried g d_in parent)) →
     (as_if : List Cut) × MayBe anew parent as_if × MayBegin g as_if d_out outside × MayBegin g as_if d_in inside
 as_if_both g anew parent d_out d_in outside inside both out_begins in_begins out_flag in_flag =
-    ⊎_elim
-    (λ (yes : outside.note.is_anew ≡ true).
-    ⊎_elim
-    (λ (none : carried g d_out parent ≡ []). (
-      parent,
-      inl refl,
-      record { begins = out_begins; none = λ _. none },
-      record { begins = in_begins; none = λ _. both parent ∙ none },
-    ))
-    (λ (heavy : (anew ≡ true) × (2 * length g.edges < sum_by (λ c. c.weight) (carried g d_out parent))).
-    let none = carried-in_units g d_out parent heavy.1 in
-    let in_yes : inside.note.is_anew ≡ true =
-    in_flag.1 (subst (λ (cuts : List Cut). MayBeNone g anew cuts) (sym (both parent)) (inr heavy)) in (
-      in_units parent,
-      inr (heavy.0, refl),
-      record { begins = λ no. let never : true ≡ false = sym yes ∙ no in absurd cc; none = λ _. none },
-      record { begins = λ no. let never : true ≡ false = sym in_yes ∙ no in absurd cc; none = λ _. both (in_units parent) ∙ none },
-    ))
-    (out_flag.0 yes))
-    (λ (no : outside.note.is_anew ≡ false).
-    let never = λ (in_yes : inside.note.is_anew ≡ true).
-    out_flag.1 (subst (λ (cuts : List Cut). MayBeNone g anew cuts) (both parent) (in_flag.0 in_yes)) in (
-      parent,
-      inl refl,
-      record { begins = out_begins; none = λ yes. let wrong : true ≡ false = sym yes ∙ no in absurd cc },
-      record { begins = in_begins; none = λ yes. let wrong : true ≡ false = sym (never yes) ∙ no in absurd cc },
-    ))
-    (cases_Bool outside.note.is_anew)
+    grind (arith, both parent, sum_by, carried-in_units, both (in_units parent), cases_Bool outside.note.is_anew)
 
 module _ (g : Graph) (kept : Frontier) (place : ℕ) (note : LeafNote) (search : IsSearch g kept) (leaf : DecidedLeaf)
     (is_next : IsNextLeaf g kept place note leaf) where
@@ -185,9 +145,7 @@ module _ (g : Graph) (kept : Frontier) (place : ℕ) (note : LeafNote) (search :
 
   pub place_within : place < length (packings_of kept.tree)
   place_within =
-      let within : place < length (leaves_of (nothing_decided g) kept.tree) =
-      slice_get_within (leaves_of (nothing_decided g) kept.tree) place leaf is_next.at in
-      omega (arith, length-leaves_of (nothing_decided g) kept.tree)
+      grind (arith, slice_get_within (leaves_of (nothing_decided g) kept.tree) place leaf is_next.at, length-leaves_of (nothing_decided g) kept.tree)
 
   pub place_small : split_count kept.tree < 255 → place < 2 ^ 31
   place_small few = omega (arith, place_within, length-packings_of kept.tree)

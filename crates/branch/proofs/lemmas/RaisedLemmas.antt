@@ -1,6 +1,6 @@
 -- A search whose only leaf another one replaces.
 use Rattle.std.proofs.Common.{ℕ, ◌≡◌, ◌<◌, ◌≤◌, Bool, List, [], ◌∷◌, length, slice_get, get_or, Option, Some}
-use Rattle.std.proofs.Common.{ap, subst, refl, arith}
+use Rattle.std.proofs.Common.{arith}
 use Rattle.std.proofs.lemmas.List.Sums.{sum_by-append}
 use Rattle.std.proofs.lemmas.Option.{slice_get-get_or}
 use Rattle.net_graph.specs.declared.packing.Cut.{Cut}
@@ -71,20 +71,7 @@ pub raised : (g : Graph) (old new : Frontier) (s : SearchState) (first note : Le
     IsNoteOf g (leaf_under (nothing_decided g) packing) note → BeginsWith packing cuts → first.value ≤ note.value →
     IsRaised cuts s (search_state g new)
 raised g old new s first note packing cuts search view none is kind first_length tree notes best of_note begins more =
-    let before = only_value g old s first search view none is in
-    let after : tree_value g (nothing_decided g) new.tree ≡ tree_value g (nothing_decided g) (Leaf packing) =
-    ap (tree_value g (nothing_decided g)) tree in
-    let value = of_note.value in
-    let least = worth g (nothing_decided g) packing cuts begins in
-    subst (λ (t : SearchState). IsRaised cuts t (search_state g new)) view (record {
-      graph = refl;
-      kind = kind;
-      first_length = first_length;
-      leaf = ap split_count tree;
-      value = omega arith;
-      given = omega arith;
-      network = rw notes best;
-    })
+    grind (arith, only_value, worth g (nothing_decided g) packing cuts begins)
 
 -- A search is raised as it stands where the leaf of the cuts isn't worth more than its only one.
 pub stays_raised : (g : Graph) (kept : Frontier) (s : SearchState) (first note : LeafNote) (packing cuts : List Cut) →

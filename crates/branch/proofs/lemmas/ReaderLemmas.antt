@@ -41,8 +41,7 @@ pub next_within : (g : Graph) (kept : Frontier) (place : ℕ) → IsSearch g kep
     IsNextNote kept.best.length kept.notes.items place →
     place < length (packings_of kept.tree)
 next_within g kept place search (note, at, below, least, earlier) =
-    let within = slice_get_within kept.notes.items place note at in
-    omega (arith, notes_length g kept search)
+    grind (arith, slice_get_within kept.notes.items place note, notes_length)
 
 module _ (g : Graph) (kept : Frontier) (k : ℕ) (note : LeafNote) (search : IsSearch g kept)
     (within : k < length kept.notes.items) (is : note ≡ get_or kept.notes.items k note) where

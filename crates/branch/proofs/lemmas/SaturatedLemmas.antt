@@ -1,5 +1,5 @@
 -- Edges with saturated arcs, one after another and as a network.
-use Rattle.std.proofs.Common.{ℕ, ◌≡◌, ◌+◌, ◌-◌, ◌*◌, ◌/◌, ◌%◌, ◌<◌, ◌≤◌, ◌↔◌, ◌⊎◌, ⊎_elim, inl, inr, Bool, true, false}
+use Rattle.std.proofs.Common.{ℕ, ◌≡◌, ◌+◌, ◌*◌, ◌/◌, ◌%◌, ◌<◌, ◌≤◌, ◌↔◌, ◌⊎◌, ⊎_elim, inl, inr, Bool, true, false}
 use Rattle.std.proofs.Common.{List, [], ◌∷◌, ◌++◌, length, replicate, slice_get, slice_set, Option, Some, All, Contains}
 use Rattle.std.proofs.Common.{sym, ap, ◌∙◌, subst, arith}
 use Rattle.std.proofs.lemmas.Bool.{cases_lt}
@@ -24,10 +24,7 @@ module _ (H : ℕ → Type 0) where
   -- one more number, which was put in
   pub put_more : (old set : List Bool) (n : ℕ) → n < length set → Adds (λ k. (k < n) × H k) old set → H n →
       Adds (λ k. (k < n + 1) × H k) old (slice_set set n true)
-  put_more old set n within adds here =
-      Adds-then (λ k. (k < n) × H k) (λ k. k ≡ n) (λ k. (k < n + 1) × H k) old set (slice_set set n true) adds (Adds-one set n within)
-      (λ k (lt, has). (omega arith, has)) (λ k is. (omega arith, subst H (sym is) here))
-      (λ k (lt, has). ⊎_elim (λ before. inl (before, has)) (λ past. inr (omega arith)) (cases_lt k n))
+  put_more old set n within adds here = grind (arith, Adds-then, slice_set set n true, Adds-one set n within, cases_lt)
 
   -- .. or wasn't
   pub put_none : (old set : List Bool) (n : ℕ) → Adds (λ k. (k < n) × H k) old set → (H n → ⊥) →

@@ -1,5 +1,5 @@
 -- Going over a list for the least value.
-use Rattle.std.proofs.Common.{ℕ, ◌≡◌, ◌+◌, ◌<◌, ◌≤◌, List, length, take, get_or, slice_get, Option, Some, None, All, IfNone, IfSome, arith, refl, sym, subst}
+use Rattle.std.proofs.Common.{ℕ, ◌≡◌, ◌+◌, ◌<◌, ◌≤◌, List, length, take, get_or, slice_get, Option, Some, None, All, IfNone, IfSome, arith, refl, subst}
 use Rattle.std.proofs.lemmas.List.{take_all}
 use Rattle.std.proofs.lemmas.List.Elements.{All-more, All-weaker}
 use Rattle.std.proofs.lemmas.Option.{slice_get_read}
@@ -53,22 +53,11 @@ least_kept limit notes seen least found note so_far within is above = record {
 -- at the end: nothing is below the limit
 pub none_below : (limit : ℕ) (notes : List LeafNote) (seen least : ℕ) (found : Option ℕ) → length notes ≤ seen →
     IsLeastSoFar limit notes seen least found → IfNone found (All (λ note. limit ≤ note.value) notes)
-none_below limit notes seen least None all so_far =
-    let is : least ≡ limit = so_far.has in
-    subst (λ (n : ℕ). All (λ (note : LeafNote). n ≤ note.value) notes) is
-    (subst (λ (xs : List LeafNote). All (λ (note : LeafNote). least ≤ note.value) xs) (take_all seen notes all) so_far.each)
+none_below limit notes seen least None all so_far = grind (arith, take_all seen notes all)
 none_below limit notes seen least (Some place) all so_far = tt
 
 -- .. or what was found is, and nothing is below that
 pub some_below : (limit : ℕ) (notes : List LeafNote) (seen least : ℕ) (found : Option ℕ) → length notes ≤ seen →
     IsLeastSoFar limit notes seen least found → IfSome found (IsNextNote limit notes)
 some_below limit notes seen least None all so_far = tt
-some_below limit notes seen least (Some place) all so_far =
-    let (note, at, value, below, earlier) = so_far.has in (
-      note,
-      at,
-      omega arith,
-      subst (λ (n : ℕ). All (λ (other : LeafNote). n ≤ other.value) notes) (sym value)
-          (subst (λ (xs : List LeafNote). All (λ (other : LeafNote). least ≤ other.value) xs) (take_all seen notes all) so_far.each),
-      subst (λ (n : ℕ). All (λ (other : LeafNote). n < other.value) (take place notes)) (sym value) earlier,
-    )
+some_below limit notes seen least (Some place) all so_far = grind (arith, take_all seen notes all)

@@ -41,8 +41,7 @@ module _ (g : Graph) (kept : Frontier) (search : IsSearch g kept) where
   -- the lesser of the kept values and the length is that of the tree's value and the length
   pub bound_is : (bound : ℕ) → IsLesserOfNotes kept.best.length kept.notes.items bound →
       bound ≡ min (tree_value g (nothing_decided g) kept.tree) kept.best.length
-  bound_is bound lesser =
-      grind (arith, tree_above, min, le-min, min-le_left, min-le_right, beside_right, tree_value-le)
+  bound_is bound lesser = grind (arith, tree_above, min, le-min, min-le_left, min-le_right, beside_right, tree_value-le)
 
   pub bound_lower : (bound : ℕ) → IsLesserOfNotes kept.best.length kept.notes.items bound → TreesBoundNetworks → IsLowerBound g bound
   bound_lower bound lesser law = grind (arith, tree_above, IsDecisionFor-nothing, Agrees-nothing)
@@ -65,18 +64,8 @@ module _ (g : Graph) (kept : Frontier) (search : IsSearch g kept) where
       (IsTrue optimal ↔ (bound ≡ kept.best.length)) → TreesBoundNetworks →
       IsSolved g kept.first_length
       (record { network = kept.best.network; length = kept.best.length; bound = bound; optimal = optimal; tree = kept.tree })
-  solved_is bound optimal lesser agree law = record {
-    network_of = search.best.network_of;
-    length_is = search.best.length;
-    no_longer = search.no_longer;
-    valid = search.valid;
-    bound = bound_is bound lesser;
-    optimal = agree;
-    lower = bound_lower bound lesser law;
-    cuts = few_cuts;
-    maximal = open_maximal;
-    run = search.run kept.tree (variant_same (is_anew_at kept.notes.items) 0 kept.tree);
-  }
+  solved_is bound optimal lesser agree law =
+      grind (arith, bound_is bound lesser, bound_lower bound lesser law, few_cuts, open_maximal, search.run kept.tree (variant_same (is_anew_at kept.notes.items) 0 kept.tree))
 
   -- the search is settled exactly where no open leaf was found
   pub settled_where_none : (found : Option ℕ) (none : Bool) → is_some found ≡ not none →

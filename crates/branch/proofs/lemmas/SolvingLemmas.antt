@@ -1,5 +1,5 @@
 -- What a search found when it stops.
-use Rattle.std.proofs.Common.{ℕ, ◌≡◌, ◌<◌, true, false, subst, arith}
+use Rattle.std.proofs.Common.{ℕ, ◌≡◌, ◌<◌, false, subst, arith}
 use Rattle.net_graph.specs.Graph.{Graph}
 use Rattle.net_graph.specs.Decision.{nothing_decided}
 use Rattle.cert_tree.specs.TreeValue.{tree_value}
@@ -37,8 +37,3 @@ module _ (g : Graph) (first_length : ℕ) (solved : Solved) (holds : IsSolved g 
 pub no_split_of_kind : (asked : SplitKind) (tree : Tree SplitOn) → split_count tree ≡ 0 → AreOfKind asked tree
 no_split_of_kind asked (Leaf cuts) none = λ _. tt
 no_split_of_kind asked (Split on outside inside) none = absurd (omega (arith, none))
-
--- what a settled search found is optimal
-pub settled_optimal : (s : SearchState) (solved : Solved) → IsSettled s → solved.tree ≡ s.tree → solved.network ≡ s.network →
-    IsSolved s.graph s.first_length solved → solved.optimal ≡ true
-settled_optimal s solved settled tree network holds = grind arith

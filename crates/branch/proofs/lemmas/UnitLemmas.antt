@@ -57,7 +57,7 @@ load_of u v c = if enters c.members u v then c.weight else 0
 pub load-in_units : (cuts : List Cut) (u v : ℕ) → load (in_units cuts) u v ≡ load cuts u v
 load-in_units [] u v = refl
 load-in_units (c ∷ cuts) u v =
-    omega (
+    grind (
       arith,
       sum_by-append (load_of u v) (replicate c.weight (unit_of c)) (in_units cuts),
       sum_by-replicate (load_of u v) c.weight (unit_of c),

@@ -1,5 +1,5 @@
 -- Other packings that a leaf may have, and trees with them.
-use Rattle.std.proofs.Common.{ℕ, zero, suc, ◌≡◌, ◌+◌, ◌<◌, ⊎_elim, inl, Bool, true, List, [], ◌∷◌}
+use Rattle.std.proofs.Common.{ℕ, zero, suc, ◌≡◌, ◌+◌, ◌<◌, ⊎_elim, inl, Bool, List, [], ◌∷◌}
 use Rattle.std.proofs.Common.{◌++◌, length, slice_get, slice_set, Some, sum_by}
 use Rattle.std.proofs.Common.{refl, ap, sym, ◌∙◌, subst, arith, length-append}
 use Rattle.std.specs.List.{AllZip, insert}
@@ -59,12 +59,7 @@ IsLike-units own = record {
 }
 
 pub IsLike-may_be : (anew : Bool) (own other : List Cut) → MayBe anew own other → IsLike own other
-IsLike-may_be anew own other may_be =
-    ⊎_elim
-    (λ (same : other ≡ own). subst (λ (p : List Cut). IsLike own p) (sym same) (IsLike-same own))
-    (λ (units : (anew ≡ true) × (other ≡ in_units own)).
-    subst (λ (p : List Cut). IsLike own p) (sym units.1) (IsLike-units own))
-    may_be
+IsLike-may_be anew own other may_be = grind (arith, IsLike-same own, IsLike-units own)
 
 module _ (g : Graph) (d : Decided) (own other : List Cut) (like : IsLike own other) where
   pub like_value : packing_value g d other ≡ packing_value g d own
@@ -104,13 +99,7 @@ variant_leaves anew from (Leaf own) (Leaf other) is = refl
 variant_leaves anew from (Leaf own) (Split s o i) is = absurd is
 variant_leaves anew from (Split s o i) (Leaf other) is = absurd is
 variant_leaves anew from (Split s o i) (Split t p q) is =
-    omega (
-      arith,
-      length-append (packings_of o) (packings_of i),
-      length-append (packings_of p) (packings_of q),
-      variant_leaves anew from o p is.1,
-      variant_leaves anew (from + length (packings_of o)) i q is.2,
-    )
+    grind (arith, length-append (packings_of o) (packings_of i), length-append (packings_of p) (packings_of q), variant_leaves anew from o p is.1, variant_leaves anew (from + length (packings_of o)) i q is.2)
 
 -- .. and as many splits
 pub variant_splits : (anew : ℕ → Bool) (from : ℕ) (tree other : Tree SplitOn) → IsVariantFrom anew from tree other →
@@ -175,21 +164,12 @@ variant_valid anew from g d (Leaf own) (Leaf other) is valid =
 variant_valid anew from g d (Leaf own) (Split s o i) is valid = absurd is
 variant_valid anew from g d (Split s o i) (Leaf other) is valid = absurd is
 variant_valid anew from g d (Split s o i) (Split t p q) is valid =
-    subst (λ (u : SplitOn). IsValidTree g d (Split u p q)) (sym is.0) (
-      valid.0,
-      variant_valid anew from g (outside_of d s) o p is.1 valid.1,
-      variant_valid anew (from + length (packings_of o)) g (inside_of d s) i q is.2 valid.2,
-    )
+    grind (arith, variant_valid anew from g (outside_of d s) o p is.1 valid.1, variant_valid anew (from + length (packings_of o)) g (inside_of d s) i q is.2 valid.2)
 
 alike_ready : (g : Graph) (limit : ℕ) (own other : DecidedLeaf) → AreLike own other →
     (IsOpenLeaf g limit own → IsReadyLeaf g limit own) → IsOpenLeaf g limit other → IsReadyLeaf g limit other
 alike_ready g limit own other (same, like) ready below =
-    let value = like_value g own.decision own.packing other.packing like in
-    let other_below : packing_value g other.decision other.packing < limit = below in
-    let own_below : packing_value g own.decision other.packing < limit =
-    subst (λ (d : Decided). packing_value g d other.packing < limit) same other_below in
-    subst (λ (d : Decided). IsReadyLeaf g limit (leaf_under d other.packing)) (sym same)
-    (like_ready g own.decision own.packing other.packing like limit (ready (omega arith)))
+    grind (arith, like_value g own.decision own.packing other.packing like, like_ready)
 
 -- the leaf can be opened if it is open
 abbrev IsReadyWhereOpen : Graph → List Bool → DecidedLeaf → Type 0
@@ -418,14 +398,10 @@ module _ (notes : List LeafNote) (k : ℕ) (a b : LeafNote) (within : k < length
   flags_same_before j less = new_flags j ∙ flag_before notes k j a b less
 
   pub flags_same_behind : (j : ℕ) → k < j → is_anew_at new_notes (j + 1) ≡ is_anew_at notes j
-  flags_same_behind j more =
-      let next : j + 1 ≡ suc j = omega arith in
-      new_flags (j + 1) ∙ ap (is_anew_at (two_at notes k a b)) next ∙ flag_behind notes k j a b more
+  flags_same_behind j more = grind (arith, new_flags (j + 1), two_at notes k a b, flag_behind notes k j a b more)
 
   pub flag_of_outside : is_anew_at new_notes k ≡ a.is_anew
   flag_of_outside = new_flags k ∙ flag_outside notes k a b within
 
   pub flag_of_inside : is_anew_at new_notes (k + 1) ≡ b.is_anew
-  flag_of_inside =
-      let next : k + 1 ≡ suc k = omega arith in
-      new_flags (k + 1) ∙ ap (is_anew_at (two_at notes k a b)) next ∙ flag_inside notes k a b within
+  flag_of_inside = grind (arith, new_flags (k + 1), two_at notes k a b, flag_inside notes k a b within)

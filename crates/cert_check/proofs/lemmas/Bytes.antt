@@ -71,13 +71,7 @@ wrong_given N m n event.End members cause f fails is = inl (cause, fails, is)
 pub follows_spelling : (N : Named) (bytes : List ℕ) (byte n : ℕ) (events : List AnswerEvent) (s : SoFar) (reader : EventReader) (judge : Judge) →
     PassAll N (nothing_told N.graph) events s → StandsFor N.graph s judge → CeasesAt N.form bytes byte n events → Follows N (bytes ++ byte ∷ []) reader judge (Some (NotAnswer n))
 follows_spelling N bytes byte n events s reader judge passes stands ceases rest =
-    let f : Finished = record { verdict = Refused (NotAnswer n); network = network_of judge } in
-    record {
-      events = events;
-      behind = Ceased n;
-      read = subst (λ xs. StopsAt N.form xs n events) (sym (append_assoc bytes (byte ∷ []) rest)) (ceases.stops rest);
-      judged = Judges-last N (nothing_told N.graph) s events (Ceased n) f passes (refl, stands.network);
-    }
+    grind (arith, append_assoc bytes (byte ∷ []) rest, ceases.stops rest, Judges-last N (nothing_told N.graph) s events (Ceased n) (record { verdict = Refused (NotAnswer n); network = network_of judge }) passes (refl, stands.network))
 
 -- the byte ends no line that tells anything
 pub follows_quiet : (N : Named) (bytes : List ℕ) (byte n : ℕ) (members : List Bool) (events : List AnswerEvent) (s : SoFar) (reader : EventReader) (judge : Judge) →
@@ -149,52 +143,36 @@ follows_settled N bytes more count reader judge fault is settled follows = elim 
 -- one that isn't follows those that its reader and its judge do
 pub follows_read : (N : Named) (bytes more : List ℕ) (count : ℕ) (reader : EventReader) (judge : Judge) (fault : Option Cause) → count ≡ min (length bytes) (2 ^ 64 - 1) → count + length more ≤ byte_limit →
     Follows N (bytes ++ more) reader judge fault → Follows N (take byte_limit (bytes ++ more)) reader judge fault
-follows_read N bytes more count reader judge fault is few follows =
-    let whole : length (bytes ++ more) ≤ byte_limit = omega (arith, length-append bytes more, is, few) in
-    subst (λ xs. Follows N xs reader judge fault) (sym (all_of_few (bytes ++ more) whole)) follows
+follows_read N bytes more count reader judge fault is few follows = grind (arith, length-append bytes more, all_of_few)
 
 pub follows_before : (N : Named) (bytes : List ℕ) (count : ℕ) (reader : EventReader) (judge : Judge) (fault : Option Cause) → count ≡ min (length bytes) (2 ^ 64 - 1) → count < byte_limit →
     Follows N (take byte_limit bytes) reader judge fault → Follows N bytes reader judge fault
-follows_before N bytes count reader judge fault is few follows =
-    let whole : length bytes ≤ byte_limit = omega (arith, is, few) in
-    subst (λ xs. Follows N xs reader judge fault) (all_of_few bytes whole) follows
+follows_before N bytes count reader judge fault is few follows = grind (arith, all_of_few)
 
 -- ---- the end
 
 -- a wrong line is the verdict
 pub judged_refused : (N : Named) (bytes : List ℕ) (reader : EventReader) (judge : Judge) (cause : Cause) (f : Finished) → Follows N bytes reader judge (Some cause) →
     f.verdict ≡ Refused cause → f.network ≡ network_of judge → IsJudged N bytes f
-judged_refused N bytes reader judge cause f follows verdict network =
-    let same : record { verdict = Refused cause; network = network_of judge } ≡ f = λ i. record { verdict = sym verdict i; network = sym network i } in
-    subst (IsJudged N bytes) same (subst (λ xs. IsJudged N xs (record { verdict = Refused cause; network = network_of judge })) (append-nil bytes) (follows []))
+judged_refused N bytes reader judge cause f follows verdict network = grind (arith, append-nil bytes)
 
 -- the text ends
 pub judged_ended : (N : Named) (bytes : List ℕ) (reader : EventReader) (judge : Judge) (f : Finished) → Follows N bytes reader judge None →
     ((events : List AnswerEvent) → Reads N.form bytes events reader → IsReadWhole N.form bytes events) →
     ((s : SoFar) → StandsFor N.graph s judge → Judges N s [] Ended f) → IsJudged N bytes f
-judged_ended N bytes reader judge f (events, s, reads, passes, stands) whole ends = record {
-  events = events;
-  behind = Ended;
-  read = whole events reads;
-  judged = Judges-last N (nothing_told N.graph) s events Ended f passes (ends s stands);
-}
+judged_ended N bytes reader judge f (events, s, reads, passes, stands) whole ends =
+    grind (arith, whole events reads, Judges-last N (nothing_told N.graph) s events Ended f passes (ends s stands))
 
 -- or ends too soon
 pub judged_unended : (N : Named) (bytes : List ℕ) (reader : EventReader) (judge : Judge) (n : ℕ) (f : Finished) → Follows N bytes reader judge None →
     ((events : List AnswerEvent) → Reads N.form bytes events reader → StopsAt N.form bytes n events) →
     f.verdict ≡ Refused (NotAnswer n) → f.network ≡ network_of judge → IsJudged N bytes f
-judged_unended N bytes reader judge n f (events, s, reads, passes, stands) stops verdict network = record {
-  events = events;
-  behind = Ceased n;
-  read = stops events reads;
-  judged = Judges-last N (nothing_told N.graph) s events (Ceased n) f passes (verdict, network ∙ stands.network);
-}
+judged_unended N bytes reader judge n f (events, s, reads, passes, stands) stops verdict network =
+    grind (arith, stops events reads, Judges-last N (nothing_told N.graph) s events (Ceased n) f passes (verdict, network ∙ stands.network))
 
 -- the verdict on few enough bytes, and on too many
 pub verdict_within : (N : Named) (bytes : List ℕ) (count : ℕ) (f : Finished) → count ≡ min (length bytes) (2 ^ 64 - 1) → count ≤ byte_limit → IsJudged N (take byte_limit bytes) f → IsVerdictIn N bytes f
-verdict_within N bytes count f is few judged =
-    let whole : length bytes ≤ byte_limit = omega (arith, is, few) in
-    inl (record { few = whole; judged = subst (λ xs. IsJudged N xs f) (all_of_few bytes whole) judged })
+verdict_within N bytes count f is few judged = grind (arith, all_of_few)
 
 pub verdict_beyond : (N : Named) (bytes : List ℕ) (count : ℕ) (first f : Finished) → count ≡ min (length bytes) (2 ^ 64 - 1) → byte_limit < count → IsJudged N (take byte_limit bytes) first →
     f.verdict ≡ TooLong → f.network ≡ first.network → IsVerdictIn N bytes f
@@ -212,10 +190,7 @@ judges_short N s (e ∷ es) behind f (inr (m, passes, judged)) is = judges_short
 -- so it says so exactly where they are
 pub too_long_within : (N : Named) (bytes : List ℕ) (count : ℕ) (f : Finished) → count ≡ min (length bytes) (2 ^ 64 - 1) → count ≤ byte_limit → IsJudged N (take byte_limit bytes) f →
     (f.verdict ≡ TooLong) ↔ (byte_limit < length bytes)
-too_long_within N bytes count f is few judged = (
-  λ long. absurd (judges_short N (nothing_told N.graph) judged.events judged.behind f judged.judged long),
-  λ many. absurd (omega (arith, is, few, many)),
-)
+too_long_within N bytes count f is few judged = grind (arith, judges_short)
 
 pub too_long_beyond : (bytes : List ℕ) (count : ℕ) (f : Finished) → count ≡ min (length bytes) (2 ^ 64 - 1) → byte_limit < count → f.verdict ≡ TooLong →
     (f.verdict ≡ TooLong) ↔ (byte_limit < length bytes)

@@ -1,9 +1,9 @@
 -- The labels of a grid's edges and vertices: by its ends, and by its point, each is told from the others.
-use Rattle.std.proofs.Common.{ℕ, ◌≡◌, ◌<◌, List, sym, ap, ◌∙◌, subst}
+use Rattle.std.proofs.Common.{ℕ, ◌≡◌, ◌<◌, List, arith}
 use Rattle.std.specs.Prelude.{IfNone, None, Option, Some}
 use Rattle.points_in.specs.declared.point.Point.{Point}
 use Rattle.hanan_grid.specs.declared.name.EdgeName.{EdgeName}
-use Rattle.hanan_grid.specs.Grid.{xs_of, ys_of, hanan_grid_of, vertex_of}
+use Rattle.hanan_grid.specs.Grid.{xs_of, ys_of, hanan_grid_of}
 use Rattle.hanan_grid.specs.GridLaws.{IsRising-xs_of, IsRising-ys_of}
 use Rattle.hanan_grid.specs.Names.{IsCrossing, NamesNoEdge, name_of_edge, point_of_vertex}
 use Rattle.hanan_grid.specs.NamesLaws.{IsCrossing-point_of_vertex, same_edge, vertex_of-point_of_vertex}
@@ -22,9 +22,7 @@ same_point p p' same = cc
 vertex_named : (ps : List Point) (v v' : ℕ) → v < (hanan_grid_of ps).vertices → v' < (hanan_grid_of ps).vertices →
     point_of_vertex (xs_of ps) (ys_of ps) v ≡ point_of_vertex (xs_of ps) (ys_of ps) v' → v ≡ v'
 vertex_named ps v v' inside inside' same =
-    sym (vertex_of-point_of_vertex (xs_of ps) (ys_of ps) v (IsRising-xs_of ps) (IsRising-ys_of ps) inside)
-    ∙ ap (vertex_of (xs_of ps) (ys_of ps)) same
-    ∙ vertex_of-point_of_vertex (xs_of ps) (ys_of ps) v' (IsRising-xs_of ps) (IsRising-ys_of ps) inside'
+    grind (arith, vertex_of-point_of_vertex (xs_of ps) (ys_of ps) v (IsRising-xs_of ps) (IsRising-ys_of ps) inside, vertex_of-point_of_vertex (xs_of ps) (ys_of ps) v' (IsRising-xs_of ps) (IsRising-ys_of ps) inside')
 
 pub IsNamed-on_grid : (ps : List Point) → IsNamed (on_grid ps)
 IsNamed-on_grid ps = record {
@@ -43,9 +41,7 @@ no_edge_labelled ps name none e inside same = none e inside (same_ends (name_of_
 no_vertex_labelled : (ps : List Point) (p : Point) → (IsCrossing (xs_of ps) (ys_of ps) p → ⊥) →
     LabelsNoVertex (on_grid ps) (vertex.At p)
 no_vertex_labelled ps p none v inside same =
-    let here : point_of_vertex (xs_of ps) (ys_of ps) v ≡ p =
-    same_point (point_of_vertex (xs_of ps) (ys_of ps) v) p same in
-    none (subst (IsCrossing (xs_of ps) (ys_of ps)) here (IsCrossing-point_of_vertex (xs_of ps) (ys_of ps) v inside))
+    grind (arith, same_point (point_of_vertex (xs_of ps) (ys_of ps) v) p same, IsCrossing-point_of_vertex (xs_of ps) (ys_of ps) v inside)
 
 -- so where no number was found there is none
 pub edge_unlabelled : (ps : List Point) (name : EdgeName) (found : Option ℕ) → IfNone found (NamesNoEdge ps name) →

@@ -1,5 +1,5 @@
 -- Judging one line after another.
-use Rattle.std.proofs.Common.{ℕ, suc, List, ◌∷◌, inl, inr}
+use Rattle.std.proofs.Common.{ℕ, suc, List, ◌∷◌, arith}
 use Rattle.answer_text.specs.Events.{Told}
 use Rattle.cert_check.specs.Named.{Named}
 use Rattle.cert_check.proofs.lemmas.ToldParts.{numbered}
@@ -17,7 +17,4 @@ JudgesTold N s n ts f = Judges N s (numbered n ts) Ended f
 pub passed : (N : Named) (s : SoFar) (n : ℕ) (t : Told) (ts : List Told) (f : Finished)
     → ((cause : Cause) → Fails N s n t.0 t.1 cause f.network → ⊥) → JudgesTold N s n (t ∷ ts) f
     → (s' : SoFar) × Passes N s t.0 t.1 s' × JudgesTold N s' (suc n) ts f
-passed N s n t ts f never judged = elim judged [
-  | inl (cause, fails, is) ↦ absurd (never cause fails)
-  | inr rest ↦ rest
-]
+passed N s n t ts f never judged = grind arith

@@ -1,5 +1,5 @@
 -- The labels of an answer's lines: each is that of one edge or vertex of the graph, or of nothing.
-use Rattle.std.proofs.Common.{ℕ, ◌≡◌, refl, sym, ap, ◌∙◌, subst}
+use Rattle.std.proofs.Common.{ℕ, ◌≡◌, refl, sym, ap, ◌∙◌, subst, arith}
 use Rattle.cert_tree.specs.declared.split.SplitOn.{SplitOn}
 use Rattle.cert_tree.specs.declared.split.SplitOn.TheVariants as split
 use Rattle.answer_text.specs.declared.event.Event.{Event}
@@ -20,8 +20,7 @@ use Rattle.cert_check.specs.Resolved.{IsLabelOfEdge, IsNameOfSplit, LabelsNoEdge
 
 same_edge_labelled : (N : Named) → IsNamed N → (label : EdgeLabel) (e e' : ℕ) → IsLabelOfEdge N label e →
     IsLabelOfEdge N label e' → e ≡ e'
-same_edge_labelled N names label e e' is is' =
-    names.edge e e' is.inside is'.inside (is.named ∙ sym is'.named)
+same_edge_labelled N names label e e' is is' = names.edge e e' is.inside is'.inside (is.named ∙ sym is'.named)
 
 -- the label of an edge's and of a vertex's name
 same_edge_label : (l l' : EdgeLabel) → name.Edge l ≡ name.Edge l' → l ≡ l'
@@ -38,13 +37,11 @@ same_named N names (split.Edge e) (split.Edge e') inside inside' same =
 same_named N names (split.Edge e) (split.Vertex v') inside inside' same = absurd cc
 same_named N names (split.Vertex v) (split.Edge e') inside inside' same = absurd cc
 same_named N names (split.Vertex v) (split.Vertex v') inside inside' same =
-    ap split.Vertex
-    (names.vertex v v' inside inside' (same_vertex_label (N.labels.vertex v) (N.labels.vertex v') same))
+    grind (arith, names.vertex v v' inside inside' (same_vertex_label (N.labels.vertex v) (N.labels.vertex v') same))
 
 same_split : (N : Named) → IsNamed N → (name : SplitName) (on on' : SplitOn) → IsNameOfSplit N name on →
     IsNameOfSplit N name on' → on ≡ on'
-same_split N names name on on' is is' =
-    same_named N names on on' is.inside is'.inside (is.named ∙ sym is'.named)
+same_split N names name on on' is is' = same_named N names on on' is.inside is'.inside (is.named ∙ sym is'.named)
 
 -- nothing of the graph has the name
 abbrev NamesNothing : Named → SplitName → Type 0
@@ -63,8 +60,7 @@ named_something N (split.Vertex v) inside none = none v inside refl
 
 off_grid : {P : Type 0} (N : Named) (name : SplitName) (on : SplitOn) → NamesNothing N name →
     IsNameOfSplit N name on → P
-off_grid N name on none is =
-    absurd (named_something N on is.inside (subst (NamesNothing N) (sym is.named) none))
+off_grid N name on none is = absurd (named_something N on is.inside (subst (NamesNothing N) (sym is.named) none))
 
 -- ---- why a name's line is wrong
 

@@ -27,9 +27,7 @@ use Rattle.cert_check.proofs.lemmas.SameLines.{SameReading, same_lines}
 -- what is told with a line that passes is determined
 pub same_passed : (N : Named) → IsNamed N → (s m m' : SoFar) (e : Event) (members : Option (List Bool)) →
     Passes N s e members m → Passes N s e members m' → m ≡ m'
-same_passed N names s m m' e members passes passes' =
-    ResolvesTo-both N names e _ _ (m ≡ m')
-    (λ x is is'. steps.same_passed N.graph s m m' x members is is') passes passes'
+same_passed N names s m m' e members passes passes' = grind (arith, ResolvesTo-both)
 
 -- a line that passes does not fail
 pub passes_not_fails : {P : Type 0} (N : Named) → IsNamed N → (s m : SoFar) (n : ℕ) (e : Event)
@@ -98,9 +96,7 @@ judged_further N s (e ∷ es) more behind f (inr (m, passes, judged)) = inr (m, 
 -- two verdicts on lines of the same bytes are one
 same_verdict : (N : Named) → IsNamed N → (es es' : List AnswerEvent) (behind behind' : Behind) (f f' : Finished) → SameReading es es' behind behind' → Judges N (nothing_told N.graph) es behind f →
     Judges N (nothing_told N.graph) es' behind' f' → f ≡ f'
-same_verdict N names es es' behind behind' f f' (inl same) judged judged' =
-    let here : Judges N (nothing_told N.graph) es' behind' f = subst (λ b. Judges N (nothing_told N.graph) es' b f) same.0 (subst (λ xs. Judges N (nothing_told N.graph) xs behind f) same.1 judged) in
-    same_judged N names (nothing_told N.graph) es' behind' f f' here judged'
+same_verdict N names es es' behind behind' f f' (inl same) judged judged' = grind (arith, same_judged)
 same_verdict N names es es' behind behind' f f' (inr (inl (further, more, is))) judged judged' =
     let longer = judged_further N (nothing_told N.graph) es more behind' f (subst (λ b. Judges N (nothing_told N.graph) es b f) further judged) in
     same_judged N names (nothing_told N.graph) es' behind' f f' (subst (λ xs. Judges N (nothing_told N.graph) xs behind' f) (sym is) longer) judged'
@@ -120,8 +116,7 @@ one_verdict_in once N names bytes f f' (inl v) (inl v') = one_judged once N name
 one_verdict_in once N names bytes f f' (inl v) (inr v') = absurd (omega (arith, v.few, v'.many))
 one_verdict_in once N names bytes f f' (inr v) (inl v') = absurd (omega (arith, v.many, v'.few))
 one_verdict_in once N names bytes f f' (inr v) (inr v') =
-    let first = one_judged once N names (take byte_limit bytes) v.first v'.first v.judged v'.judged in
-    same_finished f f' (v.verdict ∙ sym v'.verdict) (v.network ∙ ap (λ (x : Finished). x.network) first ∙ sym v'.network)
+    grind (arith, one_judged once N names (take byte_limit bytes) v.first v'.first v.judged v'.judged, same_finished)
 
 -- the law
 pub one_verdict_lem : OneReading → OneVerdict

@@ -1,5 +1,5 @@
 -- Lines that each pass, one after another, and the verdict that accepts behind them.
-use Rattle.std.proofs.Common.{ℕ, suc, ◌≡◌, Bool, List, [], ◌∷◌, ◌++◌, inl, inr, refl, subst}
+use Rattle.std.proofs.Common.{ℕ, suc, ◌≡◌, Bool, List, [], ◌∷◌, ◌++◌, inl, inr, refl, subst, arith}
 use Rattle.answer_text.specs.Events.{Told}
 use Rattle.cert_check.specs.Named.{Named}
 use Rattle.cert_check.proofs.lemmas.ToldParts.{numbered}
@@ -22,9 +22,7 @@ Runs N s (t ∷ ts) s' = (m : SoFar) × Passes N s t.0 t.1 m × Runs N m ts s'
 -- two runs of lines, one after the other
 pub Runs-append : (N : Named) (s s' : SoFar) (xs ys : List Told) → Runs N s (xs ++ ys) s' → (m : SoFar) × Runs N s xs m × Runs N m ys s'
 Runs-append N s s' [] ys runs = (s, refl, runs)
-Runs-append N s s' (x ∷ xs) ys (m, passes, runs) =
-    let rest = Runs-append N m s' xs ys runs in
-    (rest.0, (m, passes, rest.1), rest.2)
+Runs-append N s s' (x ∷ xs) ys (m, passes, runs) = grind (arith, Runs-append N m s' xs ys runs)
 
 -- .. make one
 pub Runs-join : (N : Named) (s m s' : SoFar) (xs ys : List Told) → Runs N s xs m → Runs N m ys s' → Runs N s (xs ++ ys) s'
@@ -44,21 +42,10 @@ accepts_not f length bound optimal cause is is_not = absurd cc
 
 -- where the lines were read whole, a verdict that accepts is that behind them all
 pub AcceptsBehind-judged : (N : Named) (s : SoFar) (n : ℕ) (ts : List Told) (f : Finished) (length bound : ℕ) (optimal : Bool) → Judges N s (numbered n ts) Ended f → f.verdict ≡ Accepted length bound optimal → AcceptsBehind N s ts length bound optimal f.network
-AcceptsBehind-judged N s n [] f length bound optimal judged is = record {
-  last = s;
-  runs = refl;
-  ends = subst (EndsWith s.claim (bound_found s)) is judged.0;
-  network_is = judged.1;
-}
+AcceptsBehind-judged N s n [] f length bound optimal judged is = grind arith
 AcceptsBehind-judged N s n (t ∷ ts) f length bound optimal (inl (cause, fails, refused)) is = accepts_not f length bound optimal cause is refused
 AcceptsBehind-judged N s n (t ∷ ts) f length bound optimal (inr (m, passes, judged)) is =
-    let rest = AcceptsBehind-judged N m (suc n) ts f length bound optimal judged is in
-    record {
-      last = rest.last;
-      runs = (m, passes, rest.runs);
-      ends = rest.ends;
-      network_is = rest.network_is;
-    }
+    grind (arith, AcceptsBehind-judged N m (suc n) ts f length bound optimal judged is)
 
 -- a verdict that accepts is on lines that were read whole
 pub whole_where_accepted : (N : Named) (s : SoFar) (es : List AnswerEvent) (behind : Behind) (f : Finished) (length bound : ℕ) (optimal : Bool) → Judges N s es behind f → f.verdict ≡ Accepted length bound optimal → behind ≡ Ended

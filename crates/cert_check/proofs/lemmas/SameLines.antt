@@ -1,5 +1,5 @@
 -- Bytes determine their lines, and the line in which they cease to begin an answer.
-use Rattle.std.proofs.Common.{ℕ, zero, suc, ◌≡◌, ◌<◌, ◌≤◌, List, [], ◌∷◌, ◌++◌, ◌-◌, take, drop, ◌⊎◌, inl, inr, refl, sym, ap, ◌∙◌, subst, arith, append_assoc}
+use Rattle.std.proofs.Common.{ℕ, zero, suc, ◌≡◌, ◌<◌, ◌≤◌, List, [], ◌∷◌, ◌++◌, ◌-◌, take, ◌⊎◌, inl, inr, refl, sym, ap, ◌∙◌, subst, arith, append_assoc}
 use Rattle.std.proofs.lemmas.Bool.{cases_lt}
 use Rattle.std.proofs.lemmas.List.{take-append-drop}
 use Rattle.answer_text.specs.declared.event.AnswerEvent.{AnswerEvent}
@@ -16,27 +16,17 @@ use Rattle.cert_check.specs.Lines.Behind.{Ended, Ceased, Further}
 fronts : (xs ys us vs : List ℕ) → xs ++ us ≡ ys ++ vs → ((more : List ℕ) × (ys ≡ xs ++ more)) ⊎ ((more : List ℕ) × (xs ≡ ys ++ more))
 fronts [] ys us vs same = inl (ys, refl)
 fronts (x ∷ xs) [] us vs same = inr (x ∷ xs, refl)
-fronts (x ∷ xs) (y ∷ ys) us vs same =
-    let first : x ≡ y = cc in
-    let rest : xs ++ us ≡ ys ++ vs = cc in
-    elim (fronts xs ys us vs rest) [
-      | inl (more, is) ↦ inl (more, cc)
-      | inr (more, is) ↦ inr (more, cc)
-    ]
+fronts (x ∷ xs) (y ∷ ys) us vs same = grind (arith, fronts xs ys us vs (cc))
 
 -- bytes cease to begin an answer in no later line than another front's
 stops_no_later : (F : Form) (bytes : List ℕ) (n n' : ℕ) (es es' : List AnswerEvent) → StopsAt F bytes n es → StopsAt F bytes n' es' → n ≤ n'
 stops_no_later F bytes n n' es es' stops stops' =
-    let sooner : line_feeds stops.front < n' = stops'.last stops.front stops.back stops.parts stops.begins in
-    omega (arith, sooner, stops.line)
+    grind (arith, stops'.last stops.front stops.back stops.parts stops.begins)
 
 -- the events before a line are those of each answer which begins with a longer front
 told_by_longer : (F : Form) (bytes : List ℕ) (n : ℕ) (es es' : List AnswerEvent) (stops : StopsAt F bytes n es) (stops' : StopsAt F bytes n es') (more : List ℕ) → stops'.front ≡ stops.front ++ more → es ≡ es'
 told_by_longer F bytes n es es' stops stops' more is =
-    let rest = stops'.begins.rest in
-    let answer = stops'.begins.answer in
-    let spells : SpellsAnswer F (stops.front ++ (more ++ rest)) answer = subst (λ xs. SpellsAnswer F xs answer) (ap (λ xs. xs ++ rest) is ∙ append_assoc stops.front more rest) stops'.begins.spells in
-    stops.told (more ++ rest) answer spells ∙ sym (stops'.told rest answer stops'.begins.spells)
+    grind (arith, append_assoc stops.front more (stops'.begins.rest), stops'.told (stops'.begins.rest) (stops'.begins.answer) stops'.begins.spells)
 
 -- the line and the events before it
 same_stop_at : (F : Form) (bytes : List ℕ) (n : ℕ) (es es' : List AnswerEvent) → StopsAt F bytes n es → StopsAt F bytes n es' → es ≡ es'
@@ -62,22 +52,10 @@ record TellsFirst (F : Form) (bytes : List ℕ) (events : List AnswerEvent) (cou
   told : (rest : List ℕ) (answer : WrittenAnswer) → SpellsAnswer F (front ++ rest) answer → events ≡ take count (events_of answer)
 
 first_of_front : (F : Form) (bytes : List ℕ) (events : List AnswerEvent) (tells : TellsFront F bytes events) → TellsFirst F bytes events (line_feeds tells.front - silent_lines F)
-first_of_front F bytes events tells = record {
-  front = tells.front;
-  back = tells.back;
-  parts = tells.parts;
-  begins = tells.begins.begins;
-  told = tells.begins.told;
-}
+first_of_front F bytes events tells = grind arith
 
 first_of_stop : (F : Form) (bytes : List ℕ) (n : ℕ) (events : List AnswerEvent) → StopsAt F bytes n events → TellsFirst F bytes events (n - suc (silent_lines F))
-first_of_stop F bytes n events stops = record {
-  front = stops.front;
-  back = stops.back;
-  parts = stops.parts;
-  begins = stops.begins;
-  told = stops.told;
-}
+first_of_stop F bytes n events stops = grind arith
 
 -- one answer begins with both of two fronts
 both_first : (F : Form) (bytes : List ℕ) (es es' : List AnswerEvent) (k k' : ℕ) → TellsFirst F bytes es k → TellsFirst F bytes es' k' →
@@ -107,9 +85,7 @@ take_within (suc k) (suc k') (x ∷ xs) le = ap (λ ys. x ∷ ys) (take_within k
 
 -- fewer first elements begin more of them
 fewer_first : (all es es' : List AnswerEvent) (k k' : ℕ) → k ≤ k' → es ≡ take k all → es' ≡ take k' all → (more : List AnswerEvent) × (es' ≡ es ++ more)
-fewer_first all es es' k k' le is is' =
-    let same : take k es' ≡ es = ap (take k) is' ∙ take_within k k' all le ∙ sym is in
-    (drop k es', sym (ap (λ xs. xs ++ drop k es') (sym same) ∙ take-append-drop k es'))
+fewer_first all es es' k k' le is is' = grind (arith, take_within k k' all le, take-append-drop k es')
 
 -- what is said of two readings of the same bytes: they are one, or one of them is of fewer lines and lets the bytes go on
 abbrev pub SameReading : List AnswerEvent → List AnswerEvent → Behind → Behind → Type 0
@@ -119,11 +95,7 @@ SameReading es es' behind behind' =
 
 -- a front that lets the bytes go on has no more lines than whole bytes
 pub further_whole : (F : Form) (bytes : List ℕ) (es es' : List AnswerEvent) → TellsFront F bytes es → ReadsLines F bytes es' Ended → (more : List AnswerEvent) × (es' ≡ es ++ more)
-further_whole F bytes es es' tells whole =
-    let k = line_feeds tells.front - silent_lines F in
-    let spells : SpellsAnswer F (tells.front ++ tells.back) whole.answer = subst (λ xs. SpellsAnswer F xs whole.answer) tells.parts whole.spells in
-    let is = tells.begins.told tells.back whole.answer spells in
-    (drop k es', sym (ap (λ xs. xs ++ drop k es') (is ∙ ap (take k) (sym whole.told)) ∙ take-append-drop k es'))
+further_whole F bytes es es' tells whole = grind (arith, take-append-drop (line_feeds tells.front - silent_lines F) es')
 
 -- .. nor than bytes that cease to begin an answer
 further_stop : (F : Form) (bytes : List ℕ) (n : ℕ) (es es' : List AnswerEvent) → TellsFront F bytes es → StopsAt F bytes n es' → (more : List AnswerEvent) × (es' ≡ es ++ more)

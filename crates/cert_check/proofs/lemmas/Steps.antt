@@ -1,5 +1,5 @@
 -- What a judge says of the step of a line, said of the line.
-use Rattle.std.proofs.Common.{ℕ, ◌≡◌, Bool, List, Some, None, inr}
+use Rattle.std.proofs.Common.{ℕ, ◌≡◌, Bool, List, Some, None, arith}
 use Rattle.std.specs.Prelude.{Option, IfNone, IfSome}
 use Rattle.answer_text.specs.declared.event.Event.{Event}
 use Rattle.tree_judge.specs.declared.cause.Cause.{Cause}
@@ -20,9 +20,7 @@ pub line_passes : (N : Named) (e : Event) (told : Step) (set : List Bool) (old n
     × steps.Passes N.graph s told (Some set) s' × StandsFor N.graph s' new) →
     IfNone result ((s : SoFar) → StandsFor N.graph s old → (s' : SoFar)
     × Passes N s e (Some set) s' × StandsFor N.graph s' new)
-line_passes N e told set old new None is passes = λ s stands.
-    let (s', passed, behind) = passes s stands in
-    (s', ResolvesTo-step N e told (λ x. steps.Passes N.graph s x (Some set) s') is passed, behind)
+line_passes N e told set old new None is passes = grind (arith, ResolvesTo-step)
 line_passes N e told set old new (Some cause) is passes = passes
 
 -- where it fails
@@ -33,6 +31,4 @@ pub line_fails : (N : Named) (e : Event) (told : Step) (set : List Bool) (line :
     IfSome result (λ cause. (s : SoFar) → StandsFor N.graph s old →
     Fails N s line e (Some set) cause (network_of new))
 line_fails N e told set line old new None is fails = fails
-line_fails N e told set line old new (Some cause) is fails = λ s stands.
-    inr (ResolvesTo-step N e told
-    (λ x. steps.Fails N.graph s line x (Some set) cause (network_of new)) is (fails s stands))
+line_fails N e told set line old new (Some cause) is fails = grind (arith, ResolvesTo-step, Some set)

@@ -1,5 +1,5 @@
 -- The labels of a graph's edges and vertices, which are numbers, and those of any subject.
-use Rattle.std.proofs.Common.{ℕ, ◌≡◌, ◌+◌, refl, arith}
+use Rattle.std.proofs.Common.{ℕ, ◌≡◌, refl, arith}
 use Rattle.net_graph.specs.Graph.{Graph}
 use Rattle.answer_text.specs.Forms.{set_size}
 use Rattle.answer_text.specs.declared.label.EdgeLabel.TheVariants as edge
@@ -16,12 +16,7 @@ pub same_vertex_number : (n n' : ℕ) → vertex.Number n ≡ vertex.Number n' �
 same_vertex_number n n' same = cc
 
 pub IsNamed-in_graph : (g : Graph) → IsNamed (in_graph g)
-IsNamed-in_graph g = record {
-  edge = λ e e' inside inside' same.
-      let next = same_edge_number (e + 1) (e' + 1) same in omega (arith, next);
-  vertex = λ v v' inside inside' same.
-      let next = same_vertex_number (v + 1) (v' + 1) same in omega (arith, next);
-}
+IsNamed-in_graph g = grind (arith, same_edge_number, same_vertex_number)
 
 pub IsNamed-named_of : (s : Subject) → IsNamed (named_of s)
 IsNamed-named_of (subject.OnGrid grid) = IsNamed-on_grid grid.now

@@ -1,5 +1,5 @@
 -- What the lines of an answer tell, one after another.
-use Rattle.std.proofs.Common.{ℕ, suc, ◌≡◌, List, [], ◌∷◌, ◌++◌, length, map, Some, None, refl, sym, ap, ◌∙◌}
+use Rattle.std.proofs.Common.{ℕ, suc, ◌≡◌, List, [], ◌∷◌, ◌++◌, length, map, Some, None, refl, ap, arith}
 use Rattle.net_graph.specs.declared.packing.Cut.{Cut}
 use Rattle.answer_text.specs.declared.label.EdgeLabel.{EdgeLabel}
 use Rattle.cert_tree.specs.Tree.{Tree}
@@ -18,8 +18,8 @@ use Rattle.answer_text.specs.declared.event.AnswerEvent.{AnswerEvent}
 use Rattle.answer_text.specs.AnswerLine.{Line}
 use Rattle.answer_text.specs.LineKinds as line
 use Rattle.answer_text.specs.Value.{WrittenAnswer}
-use Rattle.answer_text.specs.Lines.{body_lines, head_lines, proof_lines, split_line, tree_lines}
-use Rattle.answer_text.specs.Events.{Told, cut_told, event_at, events_from, events_of, head_with, line_told, no_head}
+use Rattle.answer_text.specs.Lines.{body_lines, head_lines, proof_lines, tree_lines}
+use Rattle.answer_text.specs.Events.{Told, cut_told, events_from, events_of, head_with, line_told, no_head}
 
 -- what the lines of the edges tell
 abbrev pub edges_told : List EdgeLabel → List Told
@@ -51,8 +51,7 @@ abbrev EachTells : AnswerHead → List Line → List Told → Type 0
 EachTells h [] [] = Unit {0}
 EachTells h [] (t ∷ ts) = ⊥
 EachTells h (l ∷ ls) [] = ⊥
-EachTells h (l ∷ ls) (t ∷ ts) =
-    (line_told (head_with h l) l ≡ Some t) × (head_with h l ≡ h) × EachTells h ls ts
+EachTells h (l ∷ ls) (t ∷ ts) = (line_told (head_with h l) l ≡ Some t) × (head_with h l ≡ h) × EachTells h ls ts
 
 -- so these are their events
 events_from-each : (h : AnswerHead) (n : ℕ) (ls : List Line) (ts : List Told) → EachTells h ls ts →
@@ -60,10 +59,7 @@ events_from-each : (h : AnswerHead) (n : ℕ) (ls : List Line) (ts : List Told) 
 events_from-each h n [] [] tells = refl
 events_from-each h n [] (t ∷ ts) tells = absurd tells
 events_from-each h n (l ∷ ls) [] tells = absurd tells
-events_from-each h n (l ∷ ls) (t ∷ ts) (told, same, rest) =
-    ap (λ x. event_at n x ++ events_from (head_with h l) (suc n) ls) told
-    ∙ ap (λ k. event_at n (Some t) ++ events_from k (suc n) ls) same
-    ∙ ap (λ es. record { line = n; event = t.0; members = t.1 } ∷ es) (events_from-each h (suc n) ls ts rest)
+events_from-each h n (l ∷ ls) (t ∷ ts) (told, same, rest) = grind (arith, events_from-each h (suc n) ls ts rest)
 
 EachTells-append : (h : AnswerHead) (ls ls' : List Line) (ts ts' : List Told) → EachTells h ls ts →
     EachTells h ls' ts' → EachTells h (ls ++ ls') (ts ++ ts')
@@ -83,40 +79,21 @@ edges_tell : (h : AnswerHead) (edges : List EdgeLabel) → EachTells h (map line
 edges_tell h [] = tt
 edges_tell h (e ∷ edges) = (refl, refl, edges_tell h edges)
 
--- the line of a split tells its name in each version
-split_tells : (h : AnswerHead) (v : Version) (on : SplitName) (ls : List Line) (ts : List Told) → EachTells h ls ts →
-    EachTells h (split_line v on ∷ ls) ((event.Split on, None) ∷ ts)
-split_tells h v (name.Vertex p) ls ts rest = (refl, refl, rest)
-split_tells h version.One (name.Edge e) ls ts rest = (refl, refl, rest)
-split_tells h version.Two (name.Edge e) ls ts rest = (refl, refl, rest)
-split_tells h version.Graph (name.Edge e) ls ts rest = (refl, refl, rest)
-
 tree_tells : (h : AnswerHead) (v : Version) (t : Tree SplitName) → EachTells h (tree_lines v t) (tree_told t)
 tree_tells h v (Leaf cuts) = (refl, refl, cuts_tell h cuts)
 tree_tells h v (Split on outside inside) =
-    split_tells h v on (tree_lines v outside ++ tree_lines v inside) (tree_told outside ++ tree_told inside)
-    (EachTells-append h (tree_lines v outside) (tree_lines v inside) (tree_told outside) (tree_told inside)
-    (tree_tells h v outside) (tree_tells h v inside))
+    grind (arith, EachTells-append h (tree_lines v outside) (tree_lines v inside) (tree_told outside) (tree_told inside) (tree_tells h v outside) (tree_tells h v inside))
 
 proof_tells : (h : AnswerHead) (v : Version) (t : Tree SplitName) → EachTells h (proof_lines v t) (proof_told t)
-proof_tells h v t = (
-  refl,
-  refl,
-  EachTells-append h (tree_lines v t) (line.End ∷ []) (tree_told t) ((event.End, None) ∷ [])
-      (tree_tells h v t) (refl, refl, tt),
-)
+proof_tells h v t =
+    grind (arith, EachTells-append h (tree_lines v t) (line.End ∷ []) (tree_told t) ((event.End, None) ∷ []) (tree_tells h v t) (refl, refl, tt))
 
 -- what the lines behind the head tell
 abbrev body_told : WrittenAnswer → List Told
 body_told a = (event.EdgeCount (length a.edges), None) ∷ (edges_told a.edges ++ proof_told a.tree)
 
 body_tells : (h : AnswerHead) (a : WrittenAnswer) → EachTells h (body_lines a) (body_told a)
-body_tells h a = (
-  refl,
-  refl,
-  EachTells-append h (map line.Edge a.edges) (proof_lines a.version a.tree) (edges_told a.edges)
-      (proof_told a.tree) (edges_tell h a.edges) (proof_tells h a.version a.tree),
-)
+body_tells h a = grind (arith, EachTells-append, edges_tell, proof_tells)
 
 -- the lines of a head, before lines of which each tells something, tell the head
 head_told : (F : Form) (v : Version) (h : AnswerHead) (ls : List Line) (ts : List Told) → IsVersionOf F v →
@@ -129,10 +106,7 @@ head_told (form.OnGrid V) version.Two h ls ts of note rest =
 head_told (form.OnGrid V) version.Graph h ls ts of note rest = absurd of
 head_told (form.OfGraph E V) version.One h ls ts of note rest = absurd of
 head_told (form.OfGraph E V) version.Two h ls ts of note rest = absurd of
-head_told (form.OfGraph E V) version.Graph h ls ts of note rest =
-    ap (λ c. record { line = 5; event = event.Head (record h { concat = c }); members = None }
-    ∷ events_from (record h { concat = c }) 6 ls) (sym note)
-    ∙ ap (λ es. record { line = 5; event = event.Head h; members = None } ∷ es) (rest h 6)
+head_told (form.OfGraph E V) version.Graph h ls ts of note rest = grind (arith, rest h 6)
 
 -- the events of an answer that fits its form
 pub events_of-told : (F : Form) (a : WrittenAnswer) → FitsAnswer F a →

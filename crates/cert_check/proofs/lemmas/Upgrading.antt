@@ -1,5 +1,5 @@
 -- An answer and the same answer in version 2: few bytes become few, and have the same verdict.
-use Rattle.std.proofs.Common.{ℕ, ◌≡◌, ◌+◌, ◌*◌, ◌^◌, ◌≤◌, List, [], ◌∷◌, ◌++◌, length, length-append, refl, sym, ap, subst, inl, inr, arith}
+use Rattle.std.proofs.Common.{ℕ, ◌≡◌, ◌+◌, ◌*◌, ◌^◌, ◌≤◌, List, [], ◌∷◌, ◌++◌, length, length-append, refl, sym, ap, inl, inr, arith}
 use Rattle.std.specs.Prelude.{codes}
 use Rattle.points_in.specs.declared.point.Point.{Point}
 use Rattle.hanan_grid.specs.Grid.{hanan_grid_of}
@@ -21,9 +21,6 @@ use Rattle.answer_text.specs.Events.{events_of}
 use Rattle.answer_text.specs.Spelling.{OneReading, SpellsAnswer}
 use Rattle.cert_check.specs.Named.{Named, on_grid}
 use Rattle.cert_check.specs.declared.verdict.Finished.{Finished}
-use Rattle.cert_check.specs.Lines.Behind.{Ended}
-use Rattle.tree_judge.specs.Judged.{nothing_told}
-use Rattle.cert_check.specs.Judged.{Judges}
 use Rattle.cert_check.specs.Verdicts.{IsJudged, IsVerdict, IsVerdictIn, byte_limit}
 use Rattle.cert_check.proofs.lemmas.Complete.{judged_whole}
 
@@ -41,32 +38,21 @@ bytes_in-append : (ls ls' : List Line) → bytes_in (ls ++ ls') ≡ bytes_in ls 
 unfolding bytes_in
 bytes_in-append [] ls' = omega arith
 bytes_in-append (l ∷ ls) ls' =
-    omega (
-      arith,
-      length-append (line_text l) (lines_text (ls ++ ls')),
-      length-append (line_text l) (lines_text ls),
-      bytes_in-append ls ls',
-    )
+    grind (arith, length-append (line_text l) (lines_text (ls ++ ls')), length-append (line_text l) (lines_text ls), bytes_in-append ls ls')
 
 -- a line of a split has five bytes more at most
 split_line-2 : (v : Version) (on : SplitName) →
     length (line_text (split_line version.Two on)) ≤ 6 * length (line_text (split_line v on))
 split_line-2 v (name.Vertex p) = omega arith
 split_line-2 version.One (name.Edge e) =
-    omega (
-      arith,
-      length-append (codes "split edge " ++ edge_words e) (10 ∷ []),
-      length-append (codes "split edge ") (edge_words e),
-      length-append (codes "split " ++ edge_words e) (10 ∷ []),
-      length-append (codes "split ") (edge_words e),
-    )
+    grind (arith, length-append (codes "split edge " ++ edge_words e) (10 ∷ []), length-append (codes "split edge ") (edge_words e), length-append (codes "split " ++ edge_words e) (10 ∷ []), length-append (codes "split ") (edge_words e))
 split_line-2 version.Two (name.Edge e) = omega arith
 split_line-2 version.Graph (name.Edge e) = omega arith
 
 tree_lines-2 : (v : Version) (t : Tree SplitName) → bytes_in (tree_lines version.Two t) ≤ 6 * bytes_in (tree_lines v t)
 tree_lines-2 v (Leaf cuts) = omega arith
 tree_lines-2 v (Split on outside inside) =
-    omega (
+    grind (
       arith,
       bytes_in-cons (split_line version.Two on) (tree_lines version.Two outside ++ tree_lines version.Two inside),
       bytes_in-append (tree_lines version.Two outside) (tree_lines version.Two inside),
@@ -80,7 +66,7 @@ tree_lines-2 v (Split on outside inside) =
 proof_lines-2 : (v : Version) (t : Tree SplitName) →
     bytes_in (proof_lines version.Two t) ≤ 6 * bytes_in (proof_lines v t)
 proof_lines-2 v t =
-    omega (
+    grind (
       arith,
       bytes_in-cons line.Tree (tree_lines version.Two t ++ line.End ∷ []),
       bytes_in-append (tree_lines version.Two t) (line.End ∷ []),
@@ -100,7 +86,7 @@ head_lines-2 version.Graph a V is = absurd is
 few_bytes-2 : (a : WrittenAnswer) (V : ℕ) → IsVersionOf (form.OnGrid V) a.version →
     bytes_in (answer_lines (upgraded a)) ≤ 6 * bytes_in (answer_lines a)
 few_bytes-2 a V is =
-    omega (
+    grind (
       arith,
       bytes_in-append (head_lines version.Two a.head) (body_lines (upgraded a)),
       bytes_in-append (network_lines a.edges) (proof_lines version.Two a.tree),
@@ -128,13 +114,8 @@ pub record IsAlike : Type 0 where
 judged_as : OneReading → (N : Named) (bytes text : List ℕ) (a b : WrittenAnswer) (f : Finished) →
     SpellsAnswer N.form bytes a → SpellsAnswer N.form text b →
     events_of b ≡ events_of a → IsJudged N bytes f → IsJudged N text f
-judged_as one N bytes text a b f spells spells' same v = record {
-  events = events_of b;
-  behind = Ended;
-  read = record { answer = b; spells = spells'; told = refl };
-  judged = subst (λ es. Judges N (nothing_told N.graph) es Ended f) (sym same)
-      (judged_whole one N bytes a v.events v.behind f spells v.read v.judged);
-}
+judged_as one N bytes text a b f spells spells' same v =
+    grind (arith, judged_whole one N bytes a v.events v.behind f spells v.read v.judged)
 
 -- so few of them have one verdict
 pub verdict_as : OneReading → (N : Named) (bytes text : List ℕ) (a b : WrittenAnswer) (f : Finished) →

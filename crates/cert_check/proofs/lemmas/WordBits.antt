@@ -17,14 +17,11 @@ bit_at-mod n w i low =
 -- by k to the left: below k, and from k on
 bit_at-shl_below : (n k i : ℕ) → i < k → i < 64 → bit_at (n * 2 ^ k % 2 ^ 64) i ≡ 0
 bit_at-shl_below n k i below low =
-    let none : n * 2 ^ k ≡ n * 2 ^ k + 0 = omega arith in
-    bit_at-mod (n * 2 ^ k) 64 i low ∙ ap (λ m. bit_at m i) none ∙ bit_at_cat_low n k 0 i below ∙ bit_at-zero i
+    grind (arith, bit_at-mod (n * 2 ^ k) 64 i low, bit_at_cat_low n k 0 i below, bit_at-zero i)
 
 bit_at-shl_above : (n k i : ℕ) → k ≤ i → i < 64 → bit_at (n * 2 ^ k % 2 ^ 64) i ≡ bit_at n (i - k)
 bit_at-shl_above n k i above low =
-    let none : n * 2 ^ k ≡ n * 2 ^ k + 0 = omega arith in
-    let some : 0 < 2 ^ k = pow_pos k in
-    bit_at-mod (n * 2 ^ k) 64 i low ∙ ap (λ m. bit_at m i) none ∙ bit_at_cat_high n k 0 i some above
+    grind (arith, bit_at-mod (n * 2 ^ k) 64 i low, bit_at_cat_high n k 0 i (pow_pos k) above)
 
 -- ---- where two words differ
 
@@ -33,12 +30,7 @@ pub same_bit : (a b count i : ℕ) → i < count → count < 64 →
     bit_at (bit_and (bit_xor a b) (1 * 2 ^ count % 2 ^ 64 - 1)) i ≡ 0 →
     bit_at a i ≡ bit_at b i
 same_bit a b count i below few none =
-    let mask : 1 * 2 ^ count % 2 ^ 64 - 1 ≡ 2 ^ count - 1 = ap (λ m. m - 1) (one_shl count 64 few) in
-    let kept : bit_at (bit_and (bit_xor a b) (2 ^ count - 1)) i ≡ bit_at (bit_xor a b) i =
-    ap (λ m. bit_at m i) (and_mask (bit_xor a b) count) ∙ bit_at-mod (bit_xor a b) count i below in
-    let even : (bit_at a i + bit_at b i) % 2 ≡ 0 =
-    sym (bit_at_xor a b i) ∙ sym kept ∙ ap (λ m. bit_at (bit_and (bit_xor a b) m) i) (sym mask) ∙ none in
-    omega (arith, bit_at-lt a i, bit_at-lt b i)
+    grind (arith, one_shl count 64 few, bit_and (bit_xor a b) (2 ^ count - 1), and_mask (bit_xor a b) count, bit_at-mod (bit_xor a b) count i below, bit_at_xor a b i, bit_and, bit_at-lt a i, bit_at-lt b i)
 
 -- ---- words of flags
 
@@ -51,11 +43,7 @@ HasFlags flags place word =
 pub flag_in_first : (flags : List Bool) (n i word : ℕ) → HasFlags flags (n / 64) word → n + i < length flags →
     n % 64 + i < 64 →
     has flags (n + i) ≡ eqb (bit_at (word / 2 ^ (n % 64)) i) 1
-flag_in_first flags n i word keeps within low =
-    let at : 64 * (n / 64) + (n % 64 + i) ≡ n + i = omega arith in
-    let here : has flags (n + i) ≡ eqb (bit_at word (n % 64 + i)) 1 =
-    subst (λ k. has flags k ≡ eqb (bit_at word (n % 64 + i)) 1) at (keeps (n % 64 + i) low (omega arith)) in
-    here ∙ ap (λ b. eqb b 1) (sym (bit_at-shr word (n % 64) i))
+flag_in_first flags n i word keeps within low = grind (arith, bit_at-shr word (n % 64) i)
 
 -- those that stand in two words
 pub flag_in_two : (flags : List Bool) (n i low high : ℕ) → HasFlags flags (n / 64) low →

@@ -1,5 +1,5 @@
 -- A tree bounds networks: each network agrees with the decision of one of a split's children.
-use Rattle.std.proofs.Common.{ℕ, ◌≡◌, ◌<◌, ◌⊎◌, inl, inr, ⊎_elim, Bool, true, false, List, length, slice_get, Option, Some, None, subst, refl, ap, sym, ◌∙◌, arith}
+use Rattle.std.proofs.Common.{ℕ, ◌≡◌, ◌<◌, ◌⊎◌, inl, inr, ⊎_elim, Bool, true, false, List, length, slice_get, Option, Some, None, refl, arith}
 use Rattle.std.specs.Prelude.{slice_set}
 use Rattle.std.proofs.lemmas.Bool.{cases_eq}
 use Rattle.std.proofs.lemmas.Option.{same_Some}
@@ -30,88 +30,34 @@ flag-decided (Some false) = inr (λ is. absurd cc)
 InRootPart-decided : (g : Graph) (set : List Bool) (n : ℕ) (e : Edge) → slice_get g.edges n ≡ Some e →
     InRootPart g set n ⊎ (InRootPart g set n → ⊥)
 InRootPart-decided g set n e at =
-    ⊎_elim
-    (λ (in_set : slice_get set n ≡ Some true). ⊎_elim
-    (λ (a : Reaches g set e.a). inl (e, in_set, at, inl a))
-    (λ (no_a : Reaches g set e.a → ⊥). ⊎_elim
-    (λ (b : Reaches g set e.b). inl (e, in_set, at, inr b))
-    (λ (no_b : Reaches g set e.b → ⊥). inr (λ part.
-    let same : part.0 ≡ e = same_Some _ _ (sym part.2 ∙ at) in
-    ⊎_elim
-    (λ (a : Reaches g set part.0.a). no_a (subst (λ x. Reaches g set x.a) same a))
-    (λ (b : Reaches g set part.0.b). no_b (subst (λ x. Reaches g set x.b) same b))
-    part.3))
-    (Reaches-decided g set e.b))
-    (Reaches-decided g set e.a))
-    (λ (out : slice_get set n ≡ Some true → ⊥). inr (λ part. out part.1))
-    (flag-decided (slice_get set n))
+    grind (arith, same_Some, Reaches-decided g set e.b, Reaches-decided g set e.a, flag-decided (slice_get set n))
 
 -- a state in a list in which one was written is that one, or it was there before
 state_written : {A : Type 0} (xs : List A) (n k : ℕ) (x y : A) → n < length xs →
     slice_get (slice_set xs n x) k ≡ Some y →
     ((k ≡ n) × (x ≡ y)) ⊎ (slice_get xs k ≡ Some y)
-state_written xs n k x y within found = elim (cases_eq k n) [
-  | inl here ↦ inl (
-    here,
-    same_Some _ _ (sym (slice_get-set_same xs n x within)
-        ∙ ap (slice_get (slice_set xs n x)) (sym here) ∙ found),
-  )
-  | inr apart ↦ inr (sym (slice_get-set_other xs n k x apart) ∙ found)
-]
+state_written xs n k x y within found =
+    grind (arith, cases_eq k n, same_Some, slice_get-set_same xs n x within, slice_get (slice_set xs n x), slice_get-set_other)
 
 -- a set that agrees and has the edge in its root part agrees where the edge is inside
 Agrees-with_inside : (g : Graph) (d : Decided) (set : List Bool) (n : ℕ) → n < length d.edges → Agrees g d set →
     InRootPart g set n → Agrees g (with_edge d n Inside) set
-Agrees-with_inside g d set n within agrees part = record {
-  inside = λ k found. ⊎_elim (λ (here : (k ≡ n) × (Inside ≡ Inside)). subst (InRootPart g set) (sym here.0) part)
-      (agrees.inside k)
-      (state_written d.edges n k Inside Inside within found);
-  outside = λ k found. ⊎_elim (λ (here : (k ≡ n) × (Inside ≡ Outside)). let different = here.1 in absurd cc)
-      (agrees.outside k)
-      (state_written d.edges n k Inside Outside within found);
-  met = agrees.met;
-  missed = agrees.missed;
-}
+Agrees-with_inside g d set n within agrees part = grind (arith, state_written)
 
 -- .. and one that hasn't agrees where it is outside
 Agrees-with_outside : (g : Graph) (d : Decided) (set : List Bool) (n : ℕ) → n < length d.edges → Agrees g d set →
     (InRootPart g set n → ⊥) → Agrees g (with_edge d n Outside) set
-Agrees-with_outside g d set n within agrees apart = record {
-  inside = λ k found. ⊎_elim (λ (here : (k ≡ n) × (Outside ≡ Inside)). let different = here.1 in absurd cc)
-      (agrees.inside k)
-      (state_written d.edges n k Outside Inside within found);
-  outside = λ k found. ⊎_elim (λ (here : (k ≡ n) × (Outside ≡ Outside)). λ part. apart
-      (subst (InRootPart g set) here.0 part)) (agrees.outside k)
-      (state_written d.edges n k Outside Outside within found);
-  met = agrees.met;
-  missed = agrees.missed;
-}
+Agrees-with_outside g d set n within agrees apart = grind (arith, state_written)
 
 -- a set that agrees and reaches the vertex agrees where it is met
 Agrees-with_met : (g : Graph) (d : Decided) (set : List Bool) (v : ℕ) → v < length d.vertices → Agrees g d set →
     Reaches g set v → Agrees g (with_vertex d v Met) set
-Agrees-with_met g d set v within agrees reached = record {
-  inside = agrees.inside;
-  outside = agrees.outside;
-  met = λ k found. ⊎_elim (λ (here : (k ≡ v) × (Met ≡ Met)). subst (Reaches g set) (sym here.0) reached) (agrees.met k)
-      (state_written d.vertices v k Met Met within found);
-  missed = λ k found. ⊎_elim (λ (here : (k ≡ v) × (Met ≡ Missed)). let different = here.1 in absurd cc)
-      (agrees.missed k)
-      (state_written d.vertices v k Met Missed within found);
-}
+Agrees-with_met g d set v within agrees reached = grind (arith, state_written)
 
 -- .. and one that doesn't agrees where it is missed
 Agrees-with_missed : (g : Graph) (d : Decided) (set : List Bool) (v : ℕ) → v < length d.vertices → Agrees g d set →
     (Reaches g set v → ⊥) → Agrees g (with_vertex d v Missed) set
-Agrees-with_missed g d set v within agrees apart = record {
-  inside = agrees.inside;
-  outside = agrees.outside;
-  met = λ k found. ⊎_elim (λ (here : (k ≡ v) × (Missed ≡ Met)). let different = here.1 in absurd cc) (agrees.met k)
-      (state_written d.vertices v k Missed Met within found);
-  missed = λ k found. ⊎_elim (λ (here : (k ≡ v) × (Missed ≡ Missed)). λ reached. apart
-      (subst (Reaches g set) here.0 reached)) (agrees.missed k)
-      (state_written d.vertices v k Missed Missed within found);
-}
+Agrees-with_missed g d set v within agrees apart = grind (arith, state_written)
 
 -- a set that agrees with a decision agrees with that of one of a split's children
 Agrees-child : (g : Graph) (d : Decided) (set : List Bool) (on : SplitOn) → IsDecisionFor g d →

@@ -1,5 +1,5 @@
 -- Places in lists of nodes.
-use Rattle.std.proofs.Common.{ℕ, suc, ◌≡◌, ◌+◌, ◌<◌, ◌≤◌, true, false, List, [], ◌∷◌, ◌++◌, length, take, drop, set, get_or, append_assoc, Option, Some, None, refl, ap, sym, ◌∙◌, arith, add-one, drop-cons}
+use Rattle.std.proofs.Common.{ℕ, ◌≡◌, ◌+◌, ◌<◌, ◌≤◌, true, false, List, [], ◌∷◌, ◌++◌, length, take, drop, set, get_or, append_assoc, Option, Some, None, refl, ap, sym, ◌∙◌, arith, add-one, drop-cons}
 use Rattle.std.specs.Prelude.{slice_get, is_some}
 use Rattle.std.specs.List.{insert}
 use Rattle.std.proofs.lemmas.List.{take_more, take_all, take-append-drop, length-take-le, set_at}
@@ -15,26 +15,19 @@ use Rattle.cert_tree.specs.ReplacedLaws.{nodes_of-replaced, packings_of-replaced
 pub around : {X : Type 0} (xs : List X) (place : ℕ) (x : X) → slice_get xs place ≡ Some x →
     xs ≡ take place xs ++ x ∷ drop (place + 1) xs
 around xs place x is =
-    let within : place < length xs = slice_get_within xs place x is in
-    let here : get_or xs place x ≡ x = same_Some _ _ (sym (slice_get-get_or xs place x within) ∙ is) in
-    sym (take-append-drop place xs) ∙ ap (λ rest. take place xs ++ rest)
-    (drop-cons xs place x within ∙ ap (λ y. y ∷ drop (suc place) xs) here ∙ rw (add-one place))
+    grind (arith, same_Some, slice_get-get_or xs place x (slice_get_within xs place x is), take-append-drop place xs, drop-cons xs place x (slice_get_within xs place x is), add-one place)
 
 -- what is put in behind a place
 insert_behind : {X : Type 0} (xs : List X) (place : ℕ) (x y : X) → place < length xs → slice_get xs place ≡ Some x →
     insert xs (place + 1) y ≡ take place xs ++ x ∷ y ∷ drop (place + 1) xs
 insert_behind xs place x y within is =
-    let here : get_or xs place x ≡ x = same_Some _ _ (sym (slice_get-get_or xs place x within) ∙ is) in
-    ap (λ front. front ++ y ∷ drop (place + 1) xs)
-    (take_more xs place x within ∙ ap (λ z. take place xs ++ z ∷ []) here)
-    ∙ append_assoc (take place xs) (x ∷ []) (y ∷ drop (place + 1) xs)
+    grind (arith, same_Some, slice_get-get_or xs place x within, take_more xs place x within, append_assoc (take place xs) (x ∷ []) (y ∷ drop (place + 1) xs))
 
 -- one node more is one leaf more where it is a leaf
 leaves_in-more : {S : Type 0} (nodes : List (Option S)) (place : ℕ) → place < length nodes →
     leaves_in (take (place + 1) nodes) ≡ leaves_in (take place nodes) + leaves_in (get_or nodes place None ∷ [])
 leaves_in-more nodes place within =
-    ap leaves_in (take_more nodes place None within)
-    ∙ leaves_in-append (take place nodes) (get_or nodes place None ∷ [])
+    grind (arith, take_more nodes place None within, leaves_in-append (take place nodes) (get_or nodes place None ∷ []))
 
 leaves_in-one : {S : Type 0} (node : Option S) → is_some node ≡ false → leaves_in (node ∷ []) ≡ 1
 leaves_in-one None is = refl
@@ -48,8 +41,7 @@ pub leaf_passed : {S : Type 0} (nodes : List (Option S)) (place : ℕ) → place
     is_some (get_or nodes place None) ≡ false →
     leaves_in (take (place + 1) nodes) ≡ leaves_in (take place nodes) + 1
 leaf_passed nodes place within is =
-    leaves_in-more nodes place within ∙ ap (λ n. leaves_in (take place nodes) + n)
-    (leaves_in-one (get_or nodes place None) is)
+    grind (arith, leaves_in-more nodes place within, leaves_in-one (get_or nodes place None) is)
 
 pub split_passed : {S : Type 0} (nodes : List (Option S)) (place : ℕ) → place < length nodes →
     is_some (get_or nodes place None) ≡ true →
@@ -70,11 +62,12 @@ pub nodes_with_split_at : {S : Type 0} (t : Tree S) (on : S) (nodes items : List
     items ≡ take place nodes ++ (Some on ∷ None ∷ None ∷ []) ++ drop (place + 1) nodes →
     (outside inside : List Cut) → items ≡ nodes_of (replaced leaf (split_with on outside inside) t)
 nodes_with_split_at t on nodes items place leaf same at count parts outside inside =
-    let new = split_with on outside inside in
-    let whole = nodes_of-replaced new t leaf (take place (nodes_of t)) (drop (place + 1) (nodes_of t))
-    (around (nodes_of t) place None at) count in
-    parts ∙ append_assoc (take place nodes) (Some on ∷ None ∷ None ∷ []) (drop (place + 1) nodes)
-    ∙ ap (λ all. take place all ++ (Some on ∷ None ∷ None ∷ drop (place + 1) all)) same ∙ sym whole
+    grind (
+      arith,
+      nodes_of-replaced (split_with on outside inside) t leaf (take place (nodes_of t)) (drop (place + 1) (nodes_of t)) (around (nodes_of t) place None at) count,
+      around (nodes_of t) place None,
+      append_assoc (take place nodes) (Some on ∷ None ∷ None ∷ []) (drop (place + 1) nodes),
+    )
 
 -- the packings with another one in place of a leaf's and one behind it
 pub packings_with_split_at : {S : Type 0} (t : Tree S) (on : S) (packings : List (List Cut)) (leaf : ℕ)

@@ -1,5 +1,5 @@
 -- Whether an edge set reaches a vertex is decidable: a test over the edges, one after another, tells it.
-use Rattle.std.proofs.Common.{ℕ, zero, suc, ◌≡◌, ◌⊎◌, inl, inr, ⊎_elim, Bool, true, false, ◌&&◌, ◌||◌, eqb, eq-eqb, eqb-true, List, [], ◌∷◌, slice_get, Some, refl, ap, sym, ◌∙◌, subst}
+use Rattle.std.proofs.Common.{ℕ, zero, suc, ◌≡◌, ◌⊎◌, inl, inr, ⊎_elim, Bool, true, false, ◌&&◌, ◌||◌, eqb, eq-eqb, eqb-true, List, [], ◌∷◌, slice_get, Some, refl, ap, subst, arith}
 use Rattle.std.proofs.lemmas.Bool.{or_cases, or_left, or_right, and_parts, and_from, cases_Bool, both_ways}
 use Rattle.std.proofs.lemmas.Option.{same_Some}
 use Rattle.net_graph.specs.declared.edge.Edge.{Edge}
@@ -39,11 +39,7 @@ over_back test e v w first second = or_right _ _ (and_from _ _ first second)
 
 over_parts : (test : ℕ → ℕ → Bool) (e : Edge) (v w : ℕ) → joins_over test e v w ≡ true →
     ((test v e.a ≡ true) × (test e.b w ≡ true)) ⊎ ((test v e.b ≡ true) × (test e.a w ≡ true))
-over_parts test e v w holds =
-    ⊎_elim
-    (λ (first : (test v e.a && test e.b w) ≡ true). inl (and_parts _ _ first))
-    (λ (second : (test v e.b && test e.a w) ≡ true). inr (and_parts _ _ second))
-    (or_cases _ _ holds)
+over_parts test e v w holds = grind (arith, test v e.a && test e.b w, and_parts, test v e.b && test e.a w, or_cases)
 
 -- the first edge of a set that has it joins what its ends are joined to
 joins-here : (e : Edge) (es : List Edge) (set : List Bool) (v w : ℕ) → joins_over (joins es set) e v w ≡ true →
@@ -57,33 +53,7 @@ joins-step [] set v u w joined (n, d, in_set, at, ends) = absurd cc
 joins-step (e ∷ es) [] v u w joined (n, d, in_set, at, ends) = absurd cc
 joins-step (e ∷ es) (false ∷ set) v u w joined (zero, d, in_set, at, ends) = absurd cc
 joins-step (e ∷ es) (true ∷ set) v u w joined (zero, d, in_set, at, ends) =
-    ⊎_elim
-    (λ (less : joins es set v u ≡ true). ⊎_elim
-    (λ (along : (e.a ≡ u) × (e.b ≡ w)). onward along.1 (ap (joins es set v) along.0 ∙ less))
-    (λ (against : (e.a ≡ w) × (e.b ≡ u)). back against.0 (ap (joins es set v) against.1 ∙ less))
-    here)
-    (λ (over : joins_over (joins es set) e v u ≡ true). ⊎_elim
-    (λ (first : (joins es set v e.a ≡ true) × (joins es set e.b u ≡ true)). ⊎_elim
-    (λ (along : (e.a ≡ u) × (e.b ≡ w)). onward along.1 first.0)
-    (λ (against : (e.a ≡ w) × (e.b ≡ u)). or_left _ _ (ap (joins es set v) (sym against.0) ∙ first.0))
-    here)
-    (λ (second : (joins es set v e.b ≡ true) × (joins es set e.a u ≡ true)). ⊎_elim
-    (λ (along : (e.a ≡ u) × (e.b ≡ w)). or_left _ _ (ap (joins es set v) (sym along.1) ∙ second.0))
-    (λ (against : (e.a ≡ w) × (e.b ≡ u)). back against.0 second.0)
-    here)
-    (over_parts (joins es set) e v u over))
-    (or_cases _ _ joined)
-  where
-    here : HasEnds e u w
-    here = subst (λ x. HasEnds x u w) (sym (same_Some e d at)) ends
-
-    onward : e.b ≡ w → joins es set v e.a ≡ true → joins (e ∷ es) (true ∷ set) v w ≡ true
-    onward b first = joins-here e es set v w (over_forward (joins es set) e v w first
-        (ap (joins es set e.b) (sym b) ∙ joins-self es set e.b))
-
-    back : e.a ≡ w → joins es set v e.b ≡ true → joins (e ∷ es) (true ∷ set) v w ≡ true
-    back a second = joins-here e es set v w (over_back (joins es set) e v w second
-        (ap (joins es set e.a) (sym a) ∙ joins-self es set e.a))
+    grind (arith, or_left, over_parts, or_cases, same_Some e d, joins-here, over_forward, joins-self es set e.b, over_back, joins-self es set e.a)
 joins-step (e ∷ es) (flag ∷ set) v u w joined (suc n, d, in_set, at, ends) =
     let link : EdgeLinks es set u w = (n, d, in_set, at, ends) in
     ⊎_elim

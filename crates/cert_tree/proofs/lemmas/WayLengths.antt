@@ -1,5 +1,5 @@
 -- What the turns of a way decide to be inside.
-use Rattle.std.proofs.Common.{ℕ, zero, suc, ◌≡◌, ◌+◌, ◌-◌, ◌<◌, ◌≤◌, ⊎_elim, List, [], ◌∷◌, ◌++◌, length, reverse, slice_get, Some, refl, ap, sym, ◌∙◌, subst, arith}
+use Rattle.std.proofs.Common.{ℕ, zero, suc, ◌≡◌, ◌+◌, ◌-◌, List, [], ◌∷◌, ◌++◌, length, reverse, slice_get, Some, refl, ap, arith}
 use Rattle.std.specs.Prelude.{slice_set, All}
 use Rattle.std.specs.List.{AllByRecursion}
 use Rattle.std.proofs.lemmas.Bool.{cases_lt}
@@ -52,16 +52,14 @@ inside_length-set_inside (e ∷ es) (Outside ∷ states) (suc n) is = inside_len
 inside_length-outside_of : (g : Graph) (d : Decided) (on : SplitOn) → IsDecisionFor g d → IsUndecidedSplit g d on →
     inside_length g.edges (outside_of d on).edges ≡ inside_length g.edges d.edges
 inside_length-outside_of g d (split.Edge n) decision undecided =
-    let (within, bare, not_free) = IsUndecided-parts g d n decision undecided in
-    inside_length-set_outside g.edges d.edges n bare
+    grind (arith, IsUndecided-parts g d n decision undecided, inside_length-set_outside)
 inside_length-outside_of g d (split.Vertex v) decision undecided = refl
 
 -- .. and the inside child has one more where the split is on an edge
 inside_length-inside_of : (g : Graph) (d : Decided) (on : SplitOn) → IsDecisionFor g d → IsUndecidedSplit g d on →
     inside_length g.edges (inside_of d on).edges ≡ inside_length g.edges d.edges + length_on g.edges on
 inside_length-inside_of g d (split.Edge n) decision undecided =
-    let (within, bare, not_free) = IsUndecided-parts g d n decision undecided in
-    inside_length-set_inside g.edges d.edges n bare
+    grind (arith, IsUndecided-parts g d n decision undecided, inside_length-set_inside)
 inside_length-inside_of g d (split.Vertex v) decision undecided = omega arith
 
 -- the edges that are inside at the end of a way are those at its start and those of its turns
@@ -71,24 +69,16 @@ pub inside_length-way : (g : Graph) (d : Decided) (t : Tree SplitOn) (leaf : ℕ
     ≡ inside_length g.edges d.edges + inside_parts g.edges (way_to t leaf)
 inside_length-way g d (Leaf cuts) leaf decision splits = omega arith
 inside_length-way g d (Split on o i) leaf decision (undecided, first, second) =
-    ⊎_elim
-    (λ (below : leaf < length (packings_of o)).
-    rw (way_to-outside on o i leaf below)
-    (omega (
+    grind (
       arith,
+      way_to-outside,
       inside_length-way g (outside_of d on) o leaf (IsDecisionFor-outside_of g d on decision undecided) first,
       inside_length-outside_of g d on decision undecided,
-    )))
-    (λ (past : length (packings_of o) ≤ leaf).
-    let more = leaf - length (packings_of o) in
-    let sum : leaf ≡ length (packings_of o) + more = omega arith in
-    rw (way_to-inside on o i leaf more sum)
-    (omega (
-      arith,
-      inside_length-way g (inside_of d on) i more (IsDecisionFor-inside_of g d on decision undecided) second,
+      way_to-inside,
+      inside_length-way g (inside_of d on) i (leaf - length (packings_of o)) (IsDecisionFor-inside_of g d on decision undecided) second,
       inside_length-inside_of g d on decision undecided,
-    )))
-    (cases_lt leaf (length (packings_of o)))
+      cases_lt leaf (length (packings_of o)),
+    )
 
 -- an undecided split is on one of the edges, or on a vertex
 IsSplitIn-undecided : (g : Graph) (d : Decided) (on : SplitOn) → IsDecisionFor g d → IsUndecidedSplit g d on →
@@ -101,17 +91,15 @@ turns_in-way : (g : Graph) (d : Decided) (t : Tree SplitOn) (leaf : ℕ) → IsD
     AllByRecursion (IsTurnIn g.edges) (way_to t leaf)
 turns_in-way g d (Leaf cuts) leaf decision splits = tt
 turns_in-way g d (Split on o i) leaf decision (undecided, first, second) =
-    let here = IsSplitIn-undecided g d on decision undecided in
-    ⊎_elim
-    (λ (below : leaf < length (packings_of o)).
-    subst (AllByRecursion (IsTurnIn g.edges)) (sym (way_to-outside on o i leaf below))
-    (here, turns_in-way g (outside_of d on) o leaf (IsDecisionFor-outside_of g d on decision undecided) first))
-    (λ (past : length (packings_of o) ≤ leaf).
-    let more = leaf - length (packings_of o) in
-    let sum : leaf ≡ length (packings_of o) + more = omega arith in
-    subst (AllByRecursion (IsTurnIn g.edges)) (sym (way_to-inside on o i leaf more sum))
-    (here, turns_in-way g (inside_of d on) i more (IsDecisionFor-inside_of g d on decision undecided) second))
-    (cases_lt leaf (length (packings_of o)))
+    grind (
+      arith,
+      IsSplitIn-undecided g d on decision undecided,
+      way_to-outside,
+      turns_in-way g (outside_of d on) o leaf (IsDecisionFor-outside_of g d on decision undecided) first,
+      way_to-inside,
+      turns_in-way g (inside_of d on) i (leaf - length (packings_of o)) (IsDecisionFor-inside_of g d on decision undecided) second,
+      cases_lt leaf (length (packings_of o)),
+    )
 
 pub All-turns_in : (g : Graph) (d : Decided) (t : Tree SplitOn) (leaf : ℕ) → IsDecisionFor g d →
     HasUndecidedSplits g d t →
@@ -130,12 +118,10 @@ pub inside_parts-reverse : (edges : List Edge) (turns : List Turn) →
     inside_parts edges (reverse turns) ≡ inside_parts edges turns
 inside_parts-reverse edges [] = refl
 inside_parts-reverse edges (turn ∷ turns) =
-    ap (inside_parts edges) (reverse-append (turn ∷ []) turns)
-    ∙ omega (arith, inside_parts-append edges (reverse turns) (turn ∷ []), inside_parts-reverse edges turns)
+    grind (arith, reverse-append (turn ∷ []) turns, inside_parts-append edges (reverse turns) (turn ∷ []), inside_parts-reverse edges turns)
 
 -- what holds of each of some turns holds of each of them from the last to the first
 pub All-reverse : (P : Turn → Type 0) (turns : List Turn) → All P turns → All P (reverse turns)
 All-reverse P [] all = all
 All-reverse P (turn ∷ turns) all =
-    subst (All P) (sym (reverse-append (turn ∷ []) turns))
-    (All-push P (reverse turns) turn (All-reverse P turns (All-tail P turn turns all)) (All-head P turn turns all))
+    grind (arith, reverse-append (turn ∷ []) turns, All-push P (reverse turns) turn (All-reverse P turns (All-tail P turn turns all)) (All-head P turn turns all))

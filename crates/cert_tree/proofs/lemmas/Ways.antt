@@ -1,5 +1,5 @@
 -- Ways from the top of a tree to its leaves, and the walk up that finds them.
-use Rattle.std.proofs.Common.{subst, ℕ, suc, ◌≡◌, ◌+◌, ◌-◌, ◌<◌, ◌≤◌, ⊎_elim, true, false, ltb, List, [], ◌∷◌, ◌++◌, length, take, drop, get_or, reverse, slice_get, Option, Some, None, refl, ap, sym, ◌∙◌, arith, append_assoc, append-nil}
+use Rattle.std.proofs.Common.{ℕ, suc, ◌≡◌, ◌+◌, ◌-◌, ◌<◌, ◌≤◌, ⊎_elim, true, false, ltb, List, [], ◌∷◌, ◌++◌, length, take, drop, get_or, reverse, slice_get, Option, Some, None, refl, ap, sym, ◌∙◌, arith, append_assoc, append-nil}
 use Rattle.std.proofs.lemmas.Bool.{cases_lt}
 use Rattle.std.proofs.lemmas.List.{reverse-append, take_more}
 use Rattle.net_graph.specs.declared.packing.Cut.{Cut}
@@ -24,10 +24,7 @@ way_to-outside on o i leaf below = let test : ltb leaf (length (packings_of o)) 
 
 pub way_to-inside : (on : SplitOn) (o i : Tree SplitOn) (leaf more : ℕ) → leaf ≡ length (packings_of o) + more →
     way_to (Split on o i) leaf ≡ turn_of on true ∷ way_to i more
-way_to-inside on o i leaf more past =
-    let test : ltb leaf (length (packings_of o)) ≡ false = grind arith in
-    let rest : leaf - length (packings_of o) ≡ more = omega arith in
-    rw (test, rest)
+way_to-inside on o i leaf more past = grind arith
 
 -- a leaf's decision is the one to which its way leads
 pub decision-way : (d : Decided) (t : Tree SplitOn) (leaf : ℕ) (dl : Decided) (cuts : List Cut) →
@@ -51,16 +48,16 @@ turns_up-tree : (t : Tree SplitOn) (before : List (Option SplitOn)) (passed : �
     turns_up (reverse (nodes_of t) ++ before) passed ≡ turns_up before (suc passed)
 turns_up-tree (Leaf cuts) before passed = refl
 turns_up-tree (Split on o i) before passed =
-    let parts : reverse (nodes_of (Split on o i)) ++ before
-    ≡ reverse (nodes_of i) ++ (reverse (nodes_of o) ++ (Some on ∷ before)) =
-    ap (λ all. all ++ before) (reverse-append (Some on ∷ nodes_of o) (nodes_of i))
-    ∙ append_assoc (reverse (nodes_of i)) (reverse (Some on ∷ nodes_of o)) before
-    ∙ ap (λ all. reverse (nodes_of i) ++ all)
-    (ap (λ all. all ++ before) (reverse-append (Some on ∷ []) (nodes_of o))
-    ∙ append_assoc (reverse (nodes_of o)) (Some on ∷ []) before) in
-    ap (λ all. turns_up all passed) parts
-    ∙ turns_up-tree i (reverse (nodes_of o) ++ (Some on ∷ before)) passed
-    ∙ turns_up-tree o (Some on ∷ before) (suc passed)
+    grind (
+      arith,
+      Split on o i,
+      reverse-append (Some on ∷ nodes_of o) (nodes_of i),
+      append_assoc (reverse (nodes_of i)) (reverse (Some on ∷ nodes_of o)) before,
+      reverse-append (Some on ∷ []) (nodes_of o),
+      append_assoc (reverse (nodes_of o)) (Some on ∷ []) before,
+      turns_up-tree i (reverse (nodes_of o) ++ (Some on ∷ before)) passed,
+      turns_up-tree o (Some on ∷ before) (suc passed),
+    )
 
 -- the turns up from a leaf are those of its way, the last of them first
 turns_up-way : (t : Tree SplitOn) (leaf : ℕ) (front back before : List (Option SplitOn)) →
@@ -114,9 +111,7 @@ turns_up-leaf t leaf front back same count =
 pub reverse-take_more : {X : Type 0} (xs : List X) (place : ℕ) (d : X) → 0 < place → place ≤ length xs →
     reverse (take place xs) ≡ get_or xs (place - 1) d ∷ reverse (take (place - 1) xs)
 reverse-take_more xs place d some within =
-    let next : place - 1 + 1 ≡ place = omega arith in
-    ap (λ n. reverse (take n xs)) (sym next) ∙ ap reverse (take_more xs (place - 1) d (omega arith))
-    ∙ reverse-append (take (place - 1) xs) (get_or xs (place - 1) d ∷ [])
+    grind (arith, take_more, reverse-append (take (place - 1) xs) (get_or xs (place - 1) d ∷ []))
 
 -- the turns up from a place, by what the node before it gives
 pub turns_up-step : (nodes all : List (Option SplitOn)) (place passed later : ℕ) (turns : List Turn) → nodes ≡ all →
@@ -125,16 +120,14 @@ pub turns_up-step : (nodes all : List (Option SplitOn)) (place passed later : �
     ≡ turns ++ turns_up (reverse (take (place - 1) all)) later →
     turns_up (reverse (take place all)) passed ≡ turns ++ turns_up (reverse (take (place - 1) all)) later
 turns_up-step nodes all place passed later turns same some within step =
-    ap (λ nodes. turns_up nodes passed) (reverse-take_more all place None some within
-    ∙ ap (λ xs. get_or xs (place - 1) None ∷ reverse (take (place - 1) all)) (sym same)) ∙ step
+    grind (arith, reverse-take_more all place None some within)
 
 -- a leaf's place is one of the places of the nodes, and the turns up from it are those of its way
 pub turns_up-place : (t : Tree SplitOn) (leaf place : ℕ) → slice_get (nodes_of t) place ≡ Some None →
     leaves_in (take place (nodes_of t)) ≡ leaf →
     turns_up (reverse (take place (nodes_of t))) 0 ≡ reverse (way_to t leaf)
 turns_up-place t leaf place at count =
-    turns_up-leaf t leaf (take place (nodes_of t)) (drop (place + 1) (nodes_of t))
-    (around (nodes_of t) place None at) count
+    grind (arith, turns_up-leaf t leaf (take place (nodes_of t)) (drop (place + 1) (nodes_of t)) (around (nodes_of t) place None at) count, around (nodes_of t) place None)
 
 -- what each turn is on is undecided where it is taken
 abbrev pub AreUndecidedTurns : Graph → Decided → List Turn → Type 0
@@ -146,16 +139,7 @@ pub AreUndecidedTurns-way : (g : Graph) (d : Decided) (t : Tree SplitOn) (leaf :
     AreUndecidedTurns g d (way_to t leaf)
 AreUndecidedTurns-way g d (Leaf cuts) leaf splits = tt
 AreUndecidedTurns-way g d (Split on o i) leaf (undecided, first, second) =
-    ⊎_elim
-    (λ (below : leaf < length (packings_of o)).
-    subst (AreUndecidedTurns g d) (sym (way_to-outside on o i leaf below))
-    (undecided, AreUndecidedTurns-way g (outside_of d on) o leaf first))
-    (λ (past : length (packings_of o) ≤ leaf).
-    let more = leaf - length (packings_of o) in
-    let sum : leaf ≡ length (packings_of o) + more = omega arith in
-    subst (AreUndecidedTurns g d) (sym (way_to-inside on o i leaf more sum))
-    (undecided, AreUndecidedTurns-way g (inside_of d on) i more second))
-    (cases_lt leaf (length (packings_of o)))
+    grind (arith, way_to-outside, AreUndecidedTurns-way g (outside_of d on) o leaf first, way_to-inside, AreUndecidedTurns-way g (inside_of d on) i (leaf - length (packings_of o)) second, cases_lt leaf (length (packings_of o)))
 
 -- the turns that are left when the last of some, told from the last to the first, is taken
 pub reverse-last : (turns rest : List Turn) (turn : Turn) → turns ≡ rest ++ turn ∷ [] →

@@ -21,11 +21,7 @@ slice_get-set_cases [] i k y z at = inr at
 slice_get-set_cases (x ∷ xs) zero zero y z at = inl (refl, cc)
 slice_get-set_cases (x ∷ xs) zero (suc k) y z at = inr at
 slice_get-set_cases (x ∷ xs) (suc i) zero y z at = inr at
-slice_get-set_cases (x ∷ xs) (suc i) (suc k) y z at =
-    elim (slice_get-set_cases xs i k y z at) [
-      | inl parts ↦ inl (omega (arith, parts.0), parts.1)
-      | inr old ↦ inr old
-    ]
+slice_get-set_cases (x ∷ xs) (suc i) (suc k) y z at = grind (arith, slice_get-set_cases xs i k y z)
 
 -- what stands in a replicated list is its element
 slice_get-replicate_same : {X : Type 0} (n k : ℕ) (y z : X) → slice_get (replicate n y) k ≡ Some z → y ≡ z
@@ -42,37 +38,16 @@ slice_get_some (x ∷ xs) (suc k) below = slice_get_some xs k (omega arith)
 -- a set with the tree respects the choices that take it too
 Respects-taken : (choices : List Choice) (flags : List Bool) (place : ℕ) → slice_get flags place ≡ Some true →
     Respects choices flags → Respects (set choices place Taken) flags
-Respects-taken choices flags place in_set respects = record {
-  takes = λ k at. elim (slice_get-set_cases choices place k Taken Taken at) [
-    | inl parts ↦ ap (slice_get flags) parts.0 ∙ in_set
-    | inr old ↦ respects.takes k old
-  ];
-  leaves = λ k at. elim (slice_get-set_cases choices place k Taken LeftOut at) [
-    | inl parts ↦ let apart = parts.1 in cc
-    | inr old ↦ respects.leaves k old
-  ];
-}
+Respects-taken choices flags place in_set respects = grind (arith, slice_get-set_cases, slice_get flags)
 
 -- a set without the tree respects the choices that leave it out too
 Respects-left_out : (choices : List Choice) (flags : List Bool) (place : ℕ) → slice_get flags place ≡ Some false →
     Respects choices flags → Respects (set choices place LeftOut) flags
-Respects-left_out choices flags place not_in_set respects = record {
-  takes = λ k at. elim (slice_get-set_cases choices place k LeftOut Taken at) [
-    | inl parts ↦ let apart = parts.1 in cc
-    | inr old ↦ respects.takes k old
-  ];
-  leaves = λ k at. elim (slice_get-set_cases choices place k LeftOut LeftOut at) [
-    | inl parts ↦ ap (slice_get flags) parts.0 ∙ not_in_set
-    | inr old ↦ respects.leaves k old
-  ];
-}
+Respects-left_out choices flags place not_in_set respects = grind (arith, slice_get-set_cases, slice_get flags)
 
 -- every set respects that nothing is decided
 Respects-no_choices : (trees : List Tree) (flags : List Bool) → Respects (no_choices trees) flags
-Respects-no_choices trees flags = record {
-  takes = λ k at. let apart = slice_get-replicate_same (length trees) k Open Taken at in cc;
-  leaves = λ k at. let apart = slice_get-replicate_same (length trees) k Open LeftOut at in cc;
-}
+Respects-no_choices trees flags = grind (arith, slice_get-replicate_same)
 
 -- ---- a bound at each end is one above them
 
@@ -103,14 +78,7 @@ bounded_trail_lem n trees total trail bounded flags joined =
 -- the trees that are taken are in each set that respects the choices
 taken_of-within : (choices : List Choice) (flags : List Bool) → Respects choices flags → IsWithin (taken_of choices) flags
 taken_of-within choices flags respects k at =
-    let inside = slice_get_within (taken_of choices) k true at in
-    let same = slice_get-map is_taken choices k in
-    let (choice, is) = slice_get_some choices k (omega (arith, inside, length-map choices is_taken)) in
-    elim choice as (λ c. slice_get choices k ≡ Some c → slice_get flags k ≡ Some true) [
-      | Open ↦ λ at_k. let apart = ap (option_map is_taken) at_k in cc
-      | Taken ↦ λ at_k. respects.takes k at_k
-      | LeftOut ↦ λ at_k. let apart = ap (option_map is_taken) at_k in cc
-    ] is
+    grind (arith, slice_get_within (taken_of choices) k true, slice_get-map is_taken choices k, slice_get_some, length-map choices is_taken, slice_get choices k, slice_get flags k)
 
 -- each set that respects the choices is within the trees that are not left out
 remaining_of-holds : (choices : List Choice) (flags : List Bool) → length flags ≡ length choices → Respects choices flags →

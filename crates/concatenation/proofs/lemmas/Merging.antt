@@ -28,10 +28,7 @@ renamed-other : (a b x : ℕ) → (x ≡ a → ⊥) → renamed a b x ≡ x
 renamed-other a b x other = rw (ne_eqb x a other) refl
 
 renamed-target : (a b : ℕ) → renamed a b b ≡ b
-renamed-target a b = elim (cases_eq b a) [
-  | inl same ↦ ap (renamed a b) same ∙ renamed-same a b
-  | inr other ↦ renamed-other a b b other
-]
+renamed-target a b = grind (arith, cases_eq b a, renamed-same a b, renamed-other)
 
 -- so at most one part is lost
 renamed-loses : (a b : ℕ) (xs : List ℕ) → distinct_count xs ≤ distinct_count (map (renamed a b) xs) + 1
@@ -177,8 +174,7 @@ record Joining (f : ℕ → ℕ) (labels : List ℕ) (trees : List Tree) (set : 
 SharesTree-cases : (tree : Tree) (trees : List Tree) (flag : Bool) (set : List Bool) (i j : ℕ) →
     SharesTree (tree ∷ trees) (flag ∷ set) i j → ((flag ≡ true) × IsMember tree i × IsMember tree j) ⊎ SharesTree trees set i j
 SharesTree-cases tree trees flag set i j (zero, other, in_set, in_list, first, second) =
-    let same = same_Some tree other in_list in
-    inl (same_Some flag true in_set, subst (λ t. IsMember t i) (sym same) first, subst (λ t. IsMember t j) (sym same) second)
+    grind (arith, same_Some tree other in_list, same_Some flag true in_set)
 SharesTree-cases tree trees flag set i j (suc k, other, in_set, in_list, first, second) =
     inr (k, other, in_set, in_list, first, second)
 
@@ -194,14 +190,7 @@ join_none f labels trees set none = record {
 -- a tree that isn't in the set
 join_without : (f : ℕ → ℕ) (labels : List ℕ) (tree : Tree) (trees : List Tree) (set : List Bool) → Joining f labels trees set →
     Joining f labels (tree ∷ trees) (false ∷ set)
-join_without f labels tree trees set rest = record {
-  new = rest.new;
-  each = λ i j shared. elim (SharesTree-cases tree trees false set i j shared) [
-    | inl here ↦ let never = here.0 in cc
-    | inr later ↦ rest.each i j later
-  ];
-  loses = omega (arith, rest.loses);
-}
+join_without f labels tree trees set rest = grind (arith, SharesTree-cases)
 
 -- a tree of the set, whose members came to one part before
 join_with : (f : ℕ → ℕ) (labels : List ℕ) (tree : Tree) (trees : List Tree) (set : List Bool) →
@@ -249,5 +238,4 @@ one_part n trees set labels size joined joining =
 pub part_count-le_touches : (n : ℕ) (trees : List Tree) (set : List Bool) (labels : List ℕ) → length labels ≡ n →
     IsConcatenation n trees set → part_count labels - 1 ≤ touches_of (slice_index labels) trees set
 part_count-le_touches n trees set labels size joined =
-    let joining = join_trees (slice_index labels) labels trees set in
-    omega (arith, joining.loses, one_part n trees set labels size joined joining)
+    grind (arith, join_trees (slice_index labels) labels trees set, one_part n trees set labels size joined (join_trees (slice_index labels) labels trees set))

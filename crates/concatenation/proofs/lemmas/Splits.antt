@@ -62,10 +62,11 @@ splits_of-le : (choices : List Choice) (trail : Trail) → AllSplits IsOpenPlace
     1 + splits_of trail ≤ 2 ^ open_count choices
 splits_of-le choices End places = omega (arith, pow_pos (open_count choices))
 splits_of-le choices (Split place without with_it) places =
-    omega (
+    grind (
       arith,
-      doubled _ _ (open_count-set choices place LeftOut places.0 refl),
-      doubled _ _ (open_count-set choices place Taken places.0 refl),
+      doubled,
+      open_count-set choices place LeftOut places.0 refl,
+      open_count-set choices place Taken places.0 refl,
       splits_of-le (set choices place LeftOut) without places.1,
       splits_of-le (set choices place Taken) with_it places.2,
     )
@@ -98,5 +99,4 @@ splits_of-lt n trees total choices (Split place without with_it) places open_end
 
 pub spent_trail_lem : SpentTrailsAreShort
 spent_trail_lem n trees total trail spent =
-    subst (λ m. 1 + splits_of trail < 2 ^ m) (open_count-no_choices (length trees))
-    (splits_of-lt n trees total (no_choices trees) trail spent.places spent.open_end)
+    grind (arith, open_count-no_choices (length trees), splits_of-lt n trees total (no_choices trees) trail spent.places spent.open_end)

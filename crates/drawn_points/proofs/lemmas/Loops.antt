@@ -1,5 +1,5 @@
 -- What one turn of each loop keeps.
-use Rattle.std.proofs.Common.{ℕ, ◌≡◌, ◌+◌, ◌-◌, ◌<◌, ◌≤◌, suc, List, [], ◌∷◌, ◌++◌, length, Result, Ok, take, drop, get_or, append_assoc, add_comm, length-drop, arith, ap, sym, subst, ◌∙◌}
+use Rattle.std.proofs.Common.{ℕ, ◌≡◌, ◌+◌, ◌-◌, ◌<◌, ◌≤◌, List, [], ◌∷◌, ◌++◌, length, Result, Ok, take, drop, get_or, append_assoc, add_comm, length-drop, arith, ap, sym, ◌∙◌}
 use Rattle.std.specs.Prelude.{Contains}
 use Rattle.std.proofs.lemmas.List.{append-nil, take_more, take_rest, length-take}
 use Rattle.std.proofs.lemmas.Grind.{get_or_after_one}
@@ -22,19 +22,12 @@ pub drawn_one : (n i : ℕ) (items items' all : List Point) (generator generator
     items' ≡ items ++ p ∷ [] →
     items' ++ next_points (n - (i + 1)) generator' ≡ all
 drawn_one n i items items' all generator generator' p left so_far point next more =
-    let one : n - i ≡ suc (n - (i + 1)) = omega arith in
-    let first = next_points-suc (n - (i + 1)) generator in
-    let parts : next_points (n - i) generator ≡ p ∷ next_points (n - (i + 1)) generator' = ap (λ k. next_points k generator) one ∙ cc in
-    let grouped = append_assoc items (p ∷ []) (next_points (n - (i + 1)) generator') in
-    ap (λ list. list ++ next_points (n - (i + 1)) generator') more ∙ grouped ∙ ap (λ rest. items ++ rest) (sym parts) ∙ so_far
+    grind (arith, next_points-suc (n - (i + 1)) generator, append_assoc items (p ∷ []) (next_points (n - (i + 1)) generator'))
 
 -- all are drawn
 pub drawn_all : (n i : ℕ) (items all : List Point) (generator : Lcg) → n ≤ i →
     items ++ next_points (n - i) generator ≡ all → items ≡ all
-drawn_all n i items all generator done so_far =
-    let none : n - i ≡ 0 = omega arith in
-    let nothing : next_points (n - i) generator ≡ [] = ap (λ k. next_points k generator) none ∙ next_points-zero generator in
-    sym (append-nil items) ∙ ap (λ rest. items ++ rest) (sym nothing) ∙ so_far
+drawn_all n i items all generator done so_far = grind (arith, next_points-zero generator, append-nil items)
 
 -- what a point's adding tells
 pub record Adds (points points' : List Point) (p : Point) (result : Result Added AddFault) : Type 0 where
@@ -47,11 +40,9 @@ pub record Adds (points points' : List Point) (p : Point) (result : Result Added
 added_one : (before points points' : List Point) (p : Point) (added : Added) (result : Result Added AddFault) →
     points ≡ terminals_of before → result ≡ Ok added → Adds points points' p result → points' ≡ terminals_of (before ++ p ∷ [])
 added_one before points points' p New result so_far is adds =
-    let apart : ¬ Contains (terminals_of before) p = subst (λ list. ¬ Contains list p) so_far (adds.new_point is) in
-    adds.new is ∙ ap (λ list. list ++ p ∷ []) so_far ∙ sym (terminals_of_new before p apart)
+    grind (arith, adds.new_point is, adds.new is, terminals_of_new)
 added_one before points points' p Repeat result so_far is adds =
-    let held : Contains (terminals_of before) p = subst (λ list. Contains list p) so_far (adds.repeat is) in
-    adds.repeat_kept is ∙ so_far ∙ sym (terminals_of_repeat before p held)
+    grind (arith, adds.repeat is, adds.repeat_kept is, terminals_of_repeat)
 
 -- where a point stands behind the first one
 behind_first : (ps : List Point) (i : ℕ) (d : Point) → get_or (take (length ps - 1) (drop 1 ps)) i d ≡ get_or ps (i + 1) d
@@ -59,8 +50,7 @@ behind_first ps i d =
     ap (λ rest. get_or rest i d) (take_rest ps 1) ∙ get_or_after_one ps i d ∙ ap (λ k. get_or ps k d) (add_comm 1 i)
 
 within_behind : (ps : List Point) (i : ℕ) → i < length (take (length ps - 1) (drop 1 ps)) → i + 1 < length ps
-within_behind ps i within =
-    let shorter = ap length (take_rest ps 1) in omega (arith, shorter, within, length-drop 1 ps)
+within_behind ps i within = let shorter = ap length (take_rest ps 1) in omega (arith, shorter, within, length-drop 1 ps)
 
 -- one point more behind the first one
 pub added_next : (ps drawn points points' : List Point) (i : ℕ) (d : Point) (added : Added) (result : Result Added AddFault) →

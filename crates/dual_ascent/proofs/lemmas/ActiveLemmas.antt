@@ -223,12 +223,7 @@ AreActive-push g vertices costs list a active kept apart above =
 -- the first ones of a rising list are below the next
 pub below_next : (vertices : List ℕ) (i : ℕ) → i < length vertices → IsStrictlyIncreasing vertices → All (λ w. w < get_or vertices i 0) (take i vertices)
 below_next vertices i within rises k d lt =
-    let size = length-take i vertices in
-    let low : k < i = omega arith in
-    let first : get_or (take i vertices) k d ≡ get_or vertices k d = get_or-take i vertices k d low in
-    let next : get_or vertices i d ≡ get_or vertices i 0 = get_or_default vertices i d 0 within in
-    let less : get_or vertices k d < get_or vertices i d = AllPairs-from_increasing vertices rises k i d low within in
-    omega arith
+    grind (arith, length-take i vertices, get_or-take, get_or_default vertices i d 0 within, AllPairs-from_increasing)
 
 -- nothing left out
 pub LeavesOut-none : (P : ActiveVertex → Type 0) (list : List ActiveVertex) → LeavesOut P list list

@@ -1,5 +1,5 @@
 -- The arcs of edges, and what is left of them.
-use Rattle.std.proofs.Common.{ℕ, ◌≡◌, ◌≢◌, ◌+◌, ◌*◌, ◌/◌, ◌%◌, ◌<◌, ◌≤◌, eqb, true, false, List, length, get_or, set, slice_get, Option, Some, None, ⊎_elim, refl, sym, ap, subst, ◌∙◌, arith}
+use Rattle.std.proofs.Common.{ℕ, ◌≡◌, ◌≢◌, ◌+◌, ◌*◌, ◌/◌, ◌%◌, ◌<◌, eqb, List, length, get_or, set, slice_get, Option, Some, None, sym, ap, ◌∙◌, arith}
 use Rattle.std.specs.Option.{option_map}
 use Rattle.std.proofs.Math.Seq.{map-set_same}
 use Rattle.std.proofs.lemmas.Bool.{cases_Bool, cases_eq, cases_lt}
@@ -7,28 +7,19 @@ use Rattle.std.proofs.lemmas.List.{length-set, length-map, get_or-set_same, get_
 use Rattle.std.proofs.lemmas.Option.{same_Some, slice_get_within, slice_get_past, slice_get-get_or, get_or_from_slice_get, slice_get-map}
 use Rattle.net_graph.specs.declared.arcs.Arc.{Arc}
 use Rattle.net_graph.specs.declared.edge.Edge.{Edge}
-use Rattle.net_graph.specs.Arcs.{forward_arc, backward_arc, IsArcOf}
-use Rattle.net_graph.specs.Graph.{Graph, IsGraph, HasEndsBelow}
+use Rattle.net_graph.specs.Arcs.{IsArcOf}
+use Rattle.net_graph.specs.Graph.{Graph, IsGraph}
 use Rattle.dual_ascent.specs.declared.costs.EdgeCosts.{EdgeCosts}
 use Rattle.dual_ascent.specs.Costs.{cost_in, cost_of, with_cost, edges_of}
 
 -- an arc's number is below twice the number of edges
 pub IsArcOf-number : (edges : List Edge) (x : Arc) → IsArcOf edges x → x.number < 2 * length edges
-IsArcOf-number edges x (n, e, at, way) =
-    let within : n < length edges = slice_get_within edges n e at in
-    ⊎_elim
-    (λ (is : x ≡ forward_arc n e). let number : x.number ≡ 2 * n = ap (λ (y : Arc). y.number) is in omega arith)
-    (λ (is : x ≡ backward_arc n e). let number : x.number ≡ 2 * n + 1 = ap (λ (y : Arc). y.number) is in omega arith)
-    way
+IsArcOf-number edges x (n, e, at, way) = grind (arith, slice_get_within edges n e)
 
 -- an arc leads from a vertex to a vertex
 pub IsArcOf-below : (g : Graph) (x : Arc) → IsGraph g → IsArcOf g.edges x → (x.from < g.vertices) × (x.to < g.vertices)
 IsArcOf-below g x graph (n, e, at, way) =
-    let ends : HasEndsBelow g.vertices e = subst (HasEndsBelow g.vertices) (get_or_from_slice_get g.edges n e e at) (graph.ends n e (slice_get_within g.edges n e at)) in
-    ⊎_elim
-    (λ (is : x ≡ forward_arc n e). (subst (λ v. v < g.vertices) (ap (λ (y : Arc). y.from) (sym is)) ends.a, subst (λ v. v < g.vertices) (ap (λ (y : Arc). y.to) (sym is)) ends.b))
-    (λ (is : x ≡ backward_arc n e). (subst (λ v. v < g.vertices) (ap (λ (y : Arc). y.from) (sym is)) ends.b, subst (λ v. v < g.vertices) (ap (λ (y : Arc). y.to) (sym is)) ends.a))
-    way
+    grind (arith, get_or_from_slice_get g.edges n e e, graph.ends n e (slice_get_within g.edges n e at), slice_get_within g.edges n e)
 
 -- what is left of an edge's first arc
 pub cost_of-even : (costs : List EdgeCosts) (n : ℕ) (c : EdgeCosts) → slice_get costs n ≡ Some c → cost_of costs (2 * n) ≡ c.there
@@ -61,43 +52,41 @@ cost_in-with_other c arc other cost edge apart = grind arith
 
 -- the edges stay
 pub edges_of-set : (costs : List EdgeCosts) (place arc : ℕ) (cost : Option ℕ) (d : EdgeCosts) → edges_of (set costs place (with_cost (get_or costs place d) arc cost)) ≡ edges_of costs
-edges_of-set costs place arc cost d =
-    let c : EdgeCosts = get_or costs place d in
-    let kept : (with_cost c arc cost).edge ≡ c.edge = ⊎_elim
-    (λ (even : eqb (arc % 2) 0 ≡ true). rw even refl)
-    (λ (odd : eqb (arc % 2) 0 ≡ false). rw odd refl)
-    (cases_Bool (eqb (arc % 2) 0)) in
-    map-set_same (λ (x : EdgeCosts). x.edge) costs place (with_cost c arc cost) d kept
+edges_of-set costs place arc cost d = grind (arith, cases_Bool (eqb (arc % 2) 0), map-set_same)
 
 -- a place that was not written
 slice_get-set_apart : (costs : List EdgeCosts) (n k : ℕ) (c d : EdgeCosts) → k ≢ n → slice_get (set costs n c) k ≡ slice_get costs k
 slice_get-set_apart costs n k c d apart =
-    ⊎_elim
-    (λ (within : k < length costs). slice_get-get_or (set costs n c) k d (omega (arith, length-set costs n c)) ∙ ap Some (get_or-set_other costs n k c d apart) ∙ sym (slice_get-get_or costs k d within))
-    (λ (past : length costs ≤ k). slice_get_past (set costs n c) k (omega (arith, length-set costs n c)) ∙ sym (slice_get_past costs k past))
-    (cases_lt k (length costs))
+    grind (arith, slice_get-get_or, length-set costs n c, get_or-set_other costs n k c d apart, slice_get_past, cases_lt k (length costs))
 
 -- what is left of the arc that was changed
 pub cost_of-set_same : (costs : List EdgeCosts) (arc : ℕ) (cost : Option ℕ) (d : EdgeCosts) → arc / 2 < length costs →
     cost_of (set costs (arc / 2) (with_cost (get_or costs (arc / 2) d) arc cost)) arc ≡ cost
 cost_of-set_same costs arc cost d within =
-    let c : EdgeCosts = get_or costs (arc / 2) d in
-    let new : List EdgeCosts = set costs (arc / 2) (with_cost c arc cost) in
-    let at : slice_get new (arc / 2) ≡ Some (with_cost c arc cost) =
-    slice_get-get_or new (arc / 2) d (omega (arith, length-set costs (arc / 2) (with_cost c arc cost))) ∙ ap Some (get_or-set_same costs (arc / 2) (with_cost c arc cost) d within) in
-    ap (λ o. cost_in o arc) at ∙ cost_in-with_same c arc cost
+    grind (
+      arith,
+      slice_get (set costs (arc / 2) (with_cost (get_or costs (arc / 2) d) arc cost)) (arc / 2),
+      slice_get-get_or,
+      length-set costs (arc / 2) (with_cost (get_or costs (arc / 2) d) arc cost),
+      get_or-set_same costs (arc / 2) (with_cost (get_or costs (arc / 2) d) arc cost) d within,
+      cost_in-with_same (get_or costs (arc / 2) d) arc cost,
+    )
 
 -- .. and of another one
 pub cost_of-set_other : (costs : List EdgeCosts) (arc other : ℕ) (cost : Option ℕ) (d : EdgeCosts) → arc / 2 < length costs → other ≢ arc →
     cost_of (set costs (arc / 2) (with_cost (get_or costs (arc / 2) d) arc cost)) other ≡ cost_of costs other
 cost_of-set_other costs arc other cost d within apart =
-    let c : EdgeCosts = get_or costs (arc / 2) d in
-    let new : List EdgeCosts = set costs (arc / 2) (with_cost c arc cost) in
-    ⊎_elim
-    (λ (edge : other / 2 ≡ arc / 2).
-    let at : slice_get new (other / 2) ≡ Some (with_cost c arc cost) =
-    ap (slice_get new) edge ∙ slice_get-get_or new (arc / 2) d (omega (arith, length-set costs (arc / 2) (with_cost c arc cost))) ∙ ap Some (get_or-set_same costs (arc / 2) (with_cost c arc cost) d within) in
-    let before : slice_get costs (other / 2) ≡ Some c = ap (slice_get costs) edge ∙ slice_get-get_or costs (arc / 2) d within in
-    ap (λ o. cost_in o other) at ∙ cost_in-with_other c arc other cost edge apart ∙ ap (λ o. cost_in o other) (sym before))
-    (λ (edge : other / 2 ≢ arc / 2). ap (λ o. cost_in o other) (slice_get-set_apart costs (arc / 2) (other / 2) (with_cost c arc cost) d edge))
-    (cases_eq (other / 2) (arc / 2))
+    grind (
+      arith,
+      slice_get (set costs (arc / 2) (with_cost (get_or costs (arc / 2) d) arc cost)) (other / 2),
+      slice_get (set costs (arc / 2) (with_cost (get_or costs (arc / 2) d) arc cost)),
+      slice_get-get_or,
+      length-set costs (arc / 2) (with_cost (get_or costs (arc / 2) d) arc cost),
+      get_or-set_same costs (arc / 2) (with_cost (get_or costs (arc / 2) d) arc cost) d within,
+      slice_get costs (other / 2),
+      slice_get costs,
+      slice_get-get_or costs (arc / 2) d within,
+      cost_in-with_other,
+      slice_get-set_apart,
+      cases_eq (other / 2) (arc / 2),
+    )

@@ -10,7 +10,7 @@ use Rattle.net_graph.specs.declared.state.EdgeState.{EdgeState}
 use Rattle.net_graph.specs.declared.state.EdgeState.TheVariants.{Undecided, Inside, Outside}
 use Rattle.net_graph.specs.Flags.{has}
 use Rattle.net_graph.specs.Graph.{Graph, root_of, total_of}
-use Rattle.net_graph.specs.Decision.{Decided, IsDecisionFor, IsFree, IsRequired, states_of}
+use Rattle.net_graph.specs.Decision.{Decided, IsDecisionFor, IsFree, states_of}
 use Rattle.net_graph.specs.DecisionLaws.{length-states_of, states_of-free}
 use Rattle.net_graph.specs.Search.{OpenStep, Leads}
 use Rattle.net_graph.specs.SearchLaws.{Leads-weaker}
@@ -44,13 +44,7 @@ BeginsWith-push start packing cut (rest, is) = (rest ++ cut ∷ [], ap (λ cuts.
 
 -- a set that parts a required vertex from the root is a cut
 IsCut-from_parts : (g : Graph) (decision : Decided) (vertices : List ℕ) (members : List Bool) → AreRequired g decision vertices → Parts g vertices members → IsCut g decision members
-IsCut-from_parts g decision vertices members are parts =
-    let (v, listed, inside) = parts.some in
-    record {
-      size = parts.size;
-      rootless = parts.rootless;
-      required = (v, All-contains (IsRequired g decision) vertices v are.each listed, inside);
-    }
+IsCut-from_parts g decision vertices members are parts = grind (arith, All-contains)
 
 -- one more cut
 pub IsUnderWay-pack : (g : Graph) (decision : Decided) (start packing : List Cut) (costs : List EdgeCosts) (vertices : List ℕ) (cut : Cut) → AreRequired g decision vertices →

@@ -1,5 +1,5 @@
 -- What a packing leaves of the rooms once cuts were taken back, and once more is decided.
-use Rattle.std.proofs.Common.{ℕ, suc, ◌≡◌, ◌+◌, ◌-◌, ◌^◌, ◌≤◌, ◌<◌, Bool, true, false, cond, List, [], ◌∷◌, ◌++◌, filter, map, length, sum_by, take, drop, get_or, slice_get, Option, Some, ⊎_elim, refl, sym, ap, subst, ◌∙◌, arith, append_assoc, append-nil}
+use Rattle.std.proofs.Common.{ℕ, suc, ◌≡◌, ◌+◌, ◌^◌, ◌≤◌, ◌<◌, Bool, true, false, List, [], ◌∷◌, ◌++◌, filter, map, length, sum_by, take, drop, get_or, slice_get, Option, Some, ⊎_elim, refl, sym, ap, subst, ◌∙◌, arith, append_assoc, append-nil}
 use Rattle.std.specs.Prelude.{IfSome}
 use Rattle.std.specs.List.{zip}
 use Rattle.std.proofs.Math.Seq.{drop-cons}
@@ -104,45 +104,29 @@ load-those_left test packing i u v = grind (arith, sum_by-append, load-fewer, su
 pub those_left_within : (edges : List Edge) (states : List EdgeState) (test : Cut → Bool) (packing : List Cut) (i : ℕ) →
     AreWithinRooms edges states packing → AreWithinRooms edges states (those_left test packing i)
 those_left_within edges states test packing i within n e state at is =
-    let own = within n e state at is in (
-      within-less (room_of state e) _ _ (load-those_left test packing i e.a e.b) own.0,
-      within-less (room_of state e) _ _ (load-those_left test packing i e.b e.a) own.1,
-    )
+    grind (arith, within n e state, within-less, load-those_left test packing i e.a e.b, load-those_left test packing i e.b e.a)
 
 -- the cut that is looked at is the first of the rest
 pub those_left-at : (test : Cut → Bool) (packing : List Cut) (i : ℕ) (c : Cut) → i < length packing → get_or packing i c ≡ c →
     those_left test packing i ≡ filter test (take i packing) ++ c ∷ drop (i + 1) packing
-those_left-at test packing i c within is =
-    let next : suc i ≡ i + 1 = omega arith in
-    ap (λ xs. filter test (take i packing) ++ xs)
-    (drop-cons packing i c within ∙ (λ k. is k ∷ drop (next k) packing))
+those_left-at test packing i c within is = grind (arith, drop-cons packing i c within)
 
 -- behind one that passes they are as before
 pub those_left-kept : (test : Cut → Bool) (packing : List Cut) (i : ℕ) (c : Cut) → i < length packing → get_or packing i c ≡ c →
     test c ≡ true → those_left test packing (i + 1) ≡ those_left test packing i
 those_left-kept test packing i c within is passes =
-    let tail : Cut → List Cut = λ x. cond (test x) (x ∷ []) [] in
-    let last : tail c ≡ c ∷ [] = rw passes refl in
-    ap (λ xs. xs ++ drop (i + 1) packing)
-    (filter_more test packing i c within ∙ ap (λ x. filter test (take i packing) ++ tail x) is ∙ ap (λ xs. filter test (take i packing) ++ xs) last)
-    ∙ append_assoc (filter test (take i packing)) (c ∷ []) (drop (i + 1) packing)
-    ∙ sym (those_left-at test packing i c within is)
+    grind (arith, filter_more test packing i c within, append_assoc (filter test (take i packing)) (c ∷ []) (drop (i + 1) packing), those_left-at test packing i c within is)
 
 -- behind one that doesn't, it is missing
 pub those_left-taken : (test : Cut → Bool) (packing : List Cut) (i : ℕ) (c : Cut) → i < length packing → get_or packing i c ≡ c →
     test c ≡ false → those_left test packing (i + 1) ≡ filter test (take i packing) ++ drop (i + 1) packing
 those_left-taken test packing i c within is fails =
-    let tail : Cut → List Cut = λ x. cond (test x) (x ∷ []) [] in
-    let last : tail c ≡ [] = rw fails refl in
-    ap (λ xs. xs ++ drop (i + 1) packing)
-    (filter_more test packing i c within ∙ ap (λ x. filter test (take i packing) ++ tail x) is ∙ ap (λ xs. filter test (take i packing) ++ xs) last
-    ∙ append-nil (filter test (take i packing)))
+    grind (arith, filter_more test packing i c within, append-nil (filter test (take i packing)))
 
 -- behind the last one they are those that pass
 pub those_left-all : (test : Cut → Bool) (packing : List Cut) (i : ℕ) → length packing ≤ i → those_left test packing i ≡ filter test packing
 those_left-all test packing i past =
-    ap (λ xs. filter test xs ++ drop i packing) (take_all i packing past) ∙ ap (λ xs. filter test packing ++ xs) (drop_all i packing past)
-    ∙ append-nil (filter test packing)
+    grind (arith, take_all i packing past, drop_all i packing past, append-nil (filter test packing))
 
 -- ---- more that is decided
 

@@ -1,6 +1,6 @@
 -- The arcs that enter a set, gathered one after another, and what a cut leaves of them.
-use Rattle.std.proofs.Common.{ℕ, ◌≡◌, ◌≢◌, ◌+◌, ◌-◌, ◌*◌, ◌<◌, ◌≤◌, min, Bool, true, false, not, ◌&&◌, List, [], ◌∷◌, ◌++◌, map, length, get_or, slice_get, Option, Some, None, All, Contains, ◌⊎◌, inl, inr, ⊎_elim, refl, sym, ap, subst, ◌∙◌, arith}
-use Rattle.std.specs.Option.{SomeIff, option_map}
+use Rattle.std.proofs.Common.{ℕ, ◌≡◌, ◌≢◌, ◌+◌, ◌-◌, ◌<◌, ◌≤◌, min, Bool, true, false, not, ◌&&◌, List, [], ◌∷◌, ◌++◌, map, length, get_or, slice_get, Option, Some, None, All, Contains, ◌⊎◌, inl, inr, ⊎_elim, refl, sym, ap, subst, ◌∙◌, arith}
+use Rattle.std.specs.Option.{SomeIff}
 use Rattle.std.proofs.lemmas.Bool.{cases_eq, cases_lt}
 use Rattle.std.proofs.lemmas.List.{length-map, same_lists, get_or-map}
 use Rattle.std.proofs.lemmas.List.Elements.{All-push, Contains-append_left, Contains-push, Contains-push_cases}
@@ -91,10 +91,7 @@ found_here : (costs : List EdgeCosts) (members : List Bool) (along arc : Arc) (l
     HasOnly costs members along found → along ≡ turned arc → IsArcOf (edges_of costs) arc → enters members arc.from arc.to ≡ true →
     cost_of costs arc.number ≡ Some left → found ≡ Some (record { arc = arc; left = left })
 found_here costs members along arc left found only same is_arc entered is =
-    let back : turned along ≡ arc = ap turned same ∙ turned-turned (edges_of costs) arc is_arc in
-    let outside : has members along.to ≡ false = ap (λ (x : Arc). has members x.to) same ∙ (enters-ends members arc.from arc.to entered).0 in
-    let cost : cost_of costs (partner_of along.number) ≡ Some left = ap (λ (x : Arc). cost_of costs x.number) back ∙ is in
-    only left outside cost ∙ ap (λ x. Some (record { arc = x; left = left })) back
+    grind (arith, turned-turned (edges_of costs) arc is_arc, enters-ends members arc.from arc.to entered)
 
 -- one more arc, whose other one doesn't enter or can't be saturated
 pub EnteringSoFar-skip : (costs : List EdgeCosts) (members : List Bool) (v : ℕ) (gone : List Arc) (along : Arc) (list : List EnteringArc) →
@@ -239,24 +236,7 @@ raised_is = changed_is raised_after (λ weight. refl) raised_after-zero
 pub cost_of-lowered : (costs : List EdgeCosts) (cut : Cut) (arc : Arc) → IsArcOf (edges_of costs) arc →
     cost_of (map (lowered_by cut) costs) arc.number ≡ left_after (cost_of costs arc.number) (weight_on cut arc.from arc.to)
 cost_of-lowered costs cut arc (n, e, at, way) =
-    let (c, here, edge) = costs_at costs n e at in
-    let after : slice_get (map (lowered_by cut) costs) n ≡ Some (lowered_by cut c) = slice_get-map (lowered_by cut) costs n ∙ ap (option_map (lowered_by cut)) here in
-    ⊎_elim
-    (λ (is : arc ≡ forward_arc n e).
-    let number : arc.number ≡ 2 * n = ap (λ (x : Arc). x.number) is in
-    let from : c.edge.a ≡ arc.from = ap (λ (x : Edge). x.a) edge ∙ sym (ap (λ (x : Arc). x.from) is) in
-    let to : c.edge.b ≡ arc.to = ap (λ (x : Edge). x.b) edge ∙ sym (ap (λ (x : Arc). x.to) is) in
-    ap (cost_of (map (lowered_by cut) costs)) number ∙ cost_of-even (map (lowered_by cut) costs) n (lowered_by cut c) after
-    ∙ ap (λ x. left_after x (weight_on cut c.edge.a c.edge.b)) (sym (cost_of-even costs n c here) ∙ ap (cost_of costs) (sym number))
-    ∙ ap (λ u. left_after (cost_of costs arc.number) (weight_on cut u c.edge.b)) from ∙ ap (λ v. left_after (cost_of costs arc.number) (weight_on cut arc.from v)) to)
-    (λ (is : arc ≡ backward_arc n e).
-    let number : arc.number ≡ 2 * n + 1 = ap (λ (x : Arc). x.number) is in
-    let from : c.edge.b ≡ arc.from = ap (λ (x : Edge). x.b) edge ∙ sym (ap (λ (x : Arc). x.from) is) in
-    let to : c.edge.a ≡ arc.to = ap (λ (x : Edge). x.a) edge ∙ sym (ap (λ (x : Arc). x.to) is) in
-    ap (cost_of (map (lowered_by cut) costs)) number ∙ cost_of-odd (map (lowered_by cut) costs) n (lowered_by cut c) after
-    ∙ ap (λ x. left_after x (weight_on cut c.edge.b c.edge.a)) (sym (cost_of-odd costs n c here) ∙ ap (cost_of costs) (sym number))
-    ∙ ap (λ u. left_after (cost_of costs arc.number) (weight_on cut u c.edge.a)) from ∙ ap (λ v. left_after (cost_of costs arc.number) (weight_on cut arc.from v)) to)
-    way
+    grind (arith, costs_at costs n e, slice_get (map (lowered_by cut) costs) n, slice_get-map (lowered_by cut) costs n, cost_of-even, cost_of-odd)
 
 -- an arc that enters is one of those of an edge
 pub Entering-from_arc : (costs : List EdgeCosts) (members : List Bool) (arc : Arc) (left : ℕ) → IsArcOf (edges_of costs) arc → enters members arc.from arc.to ≡ true → cost_of costs arc.number ≡ Some left → Entering costs members left

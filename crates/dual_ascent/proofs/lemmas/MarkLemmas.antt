@@ -28,8 +28,7 @@ mark_within members marks v end is some fits = next_mark-below marks v end is.wi
 pub mark_is_member : (members : List Bool) (marks v end : ℕ) → MarksMembers members marks v end → 0 < marks → marks < 2 ^ 64 →
     v + trailing_zeros w64 marks < length members → has members (v + trailing_zeros w64 marks) ≡ true
 mark_is_member members marks v end is some fits below =
-    let lowest = bit_at-trailing_zeros w64 marks some fits in
-    is.flags (trailing_zeros w64 marks) (mark_within members marks v end is some fits) below ∙ ap (λ b. eqb b 1) lowest.1
+    grind (arith, bit_at-trailing_zeros w64 marks some fits, is.flags (trailing_zeros w64 marks) (mark_within members marks v end is some fits) below)
 
 -- the vertices before it are no members
 pub none_before : (members : List Bool) (marks v end : ℕ) → MarksMembers members marks v end → 0 < marks → marks < 2 ^ 64 →

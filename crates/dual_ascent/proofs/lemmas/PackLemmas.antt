@@ -1,5 +1,5 @@
 -- A packing stays feasible with one more cut that fits, and fewer arcs have room left.
-use Rattle.std.proofs.Common.{ℕ, zero, suc, ◌≡◌, ◌+◌, ◌-◌, ◌*◌, ◌≤◌, ◌<◌, true, List, [], ◌∷◌, ◌++◌, map, length, slice_get, Contains, Option, Some, inl, inr, sym, ap, subst, ◌∙◌, arith}
+use Rattle.std.proofs.Common.{ℕ, zero, suc, ◌≡◌, ◌*◌, ◌≤◌, ◌<◌, true, List, [], ◌∷◌, ◌++◌, map, length, slice_get, Contains, Option, Some, inl, inr, ap, ◌∙◌, arith}
 use Rattle.std.proofs.lemmas.List.Elements.{All-push}
 use Rattle.std.proofs.lemmas.List.Sums.{sum_by-cons}
 use Rattle.std.proofs.lemmas.Option.{same_Some, slice_get_within, slice_get-get_or, get_or_from_slice_get}
@@ -72,14 +72,7 @@ unsaturated-map-lt : (cut : Cut) (costs : List EdgeCosts) (n : ℕ) (room : Edge
     unsaturated_of (lowered_by cut room) < unsaturated_of room → unsaturated (map (lowered_by cut) costs) < unsaturated costs
 unsaturated-map-lt cut [] n room at less = absurd cc
 unsaturated-map-lt cut (first ∷ costs) zero room at less =
-    let same : room ≡ first = sym (same_Some first room at) in
-    omega (
-      arith,
-      subst (λ r. unsaturated_of (lowered_by cut r) < unsaturated_of r) same less,
-      unsaturated-map-le cut costs,
-      sum_by-cons unsaturated_of first costs,
-      sum_by-cons unsaturated_of (lowered_by cut first) (map (lowered_by cut) costs),
-    )
+    grind (arith, same_Some first room, unsaturated-map-le cut costs, sum_by-cons unsaturated_of first costs, sum_by-cons unsaturated_of (lowered_by cut first) (map (lowered_by cut) costs))
 unsaturated-map-lt cut (first ∷ costs) (suc n) room at less =
     omega (arith, unsaturated_of-lowered_by, sum_by-cons, unsaturated-map-lt cut costs n room at less)
 

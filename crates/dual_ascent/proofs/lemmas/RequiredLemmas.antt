@@ -1,12 +1,11 @@
 -- The list of the required vertices, one vertex after another.
-use Rattle.std.proofs.Common.{ℕ, ◌≡◌, ◌+◌, ◌<◌, ◌≤◌, List, [], ◌∷◌, ◌++◌, length, get_or, All, Contains, ⊎_elim, subst, arith, length-append}
+use Rattle.std.proofs.Common.{ℕ, ◌≡◌, ◌+◌, ◌<◌, ◌≤◌, List, [], ◌∷◌, ◌++◌, length, All, Contains, ⊎_elim, subst, arith, length-append}
 use Rattle.std.specs.List.Sorted.{IsStrictlyIncreasing}
 use Rattle.std.proofs.lemmas.Bool.{cases_lt}
 use Rattle.std.proofs.lemmas.List.{get_or_append_left, get_or_push}
 use Rattle.std.proofs.lemmas.List.Elements.{All-push, All-weaker, All-contains, Contains-append_left, Contains-push}
 use Rattle.std.proofs.lemmas.Option.{slice_get_within, get_or_from_slice_get}
-use Rattle.net_graph.specs.declared.state.VertexState.TheVariants.{Met}
-use Rattle.net_graph.specs.Graph.{Graph, IsGraph, HasEndsBelow}
+use Rattle.net_graph.specs.Graph.{Graph, IsGraph}
 use Rattle.net_graph.specs.Decision.{Decided, IsDecisionFor, IsRequired, EndsInside}
 use Rattle.dual_ascent.specs.Steps.{AreRequired}
 
@@ -20,14 +19,7 @@ pub record RequiredBelow (g : Graph) (decision : Decided) (bound : ℕ) (list : 
 -- a number above all numbers of a rising list
 IsStrictlyIncreasing-push : (list : List ℕ) (v : ℕ) → IsStrictlyIncreasing list → All (λ w. w < v) list → IsStrictlyIncreasing (list ++ v ∷ [])
 IsStrictlyIncreasing-push list v rises below k within =
-    let size : length (list ++ v ∷ []) ≡ length list + 1 = length-append list (v ∷ []) in
-    let first : get_or (list ++ v ∷ []) k 0 ≡ get_or list k 0 = get_or_append_left list (v ∷ []) 0 k (omega arith) in
-    ⊎_elim
-    (λ earlier. let next : get_or (list ++ v ∷ []) (k + 1) 0 ≡ get_or list (k + 1) 0 = get_or_append_left list (v ∷ []) 0 (k + 1) earlier in
-    let low : get_or list k 0 < get_or list (k + 1) 0 = rises k earlier in omega arith)
-    (λ last. let next : get_or (list ++ v ∷ []) (k + 1) 0 ≡ v = get_or_push list v 0 (k + 1) (omega arith) in
-    let low : get_or list k 0 < v = below k 0 (omega arith) in omega arith)
-    (cases_lt (k + 1) (length list))
+    grind (arith, length-append list (v ∷ []), get_or_append_left, get_or_push, cases_lt (k + 1) (length list))
 
 -- one more vertex, which isn't required
 pub RequiredBelow-skip : (g : Graph) (decision : Decided) (v : ℕ) (list : List ℕ) → RequiredBelow g decision v list → (IsRequired g decision v → ⊥) → RequiredBelow g decision (v + 1) list
@@ -46,18 +38,12 @@ RequiredBelow-take g decision v list so_far here = record {
 -- an end of an inside edge is a vertex
 EndsInside-below : (g : Graph) (decision : Decided) (v : ℕ) → IsGraph g → EndsInside g decision v → v < g.vertices
 EndsInside-below g decision v graph (n, e, inside, at, ends) =
-    let here : get_or g.edges n e ≡ e = get_or_from_slice_get g.edges n e e at in
-    let low : HasEndsBelow g.vertices e = subst (HasEndsBelow g.vertices) here (graph.ends n e (slice_get_within g.edges n e at)) in
-    ⊎_elim (λ a. subst (λ w. w < g.vertices) a low.a) (λ b. subst (λ w. w < g.vertices) b low.b) ends
+    grind (arith, get_or_from_slice_get g.edges n e e, graph.ends n e (slice_get_within g.edges n e at), slice_get_within g.edges n e)
 
 -- a required vertex is a vertex
 pub IsRequired-below : (g : Graph) (decision : Decided) (v : ℕ) → IsGraph g → IsDecisionFor g decision → IsRequired g decision v → v < g.vertices
 IsRequired-below g decision v graph decided required =
-    ⊎_elim
-    (λ terminal. All-contains (λ w. w < g.vertices) g.terminals v graph.terminals terminal)
-    (λ other. ⊎_elim (EndsInside-below g decision v graph)
-    (λ met. omega (arith, slice_get_within decision.vertices v Met met, decided.vertices)) other)
-    required
+    grind (arith, All-contains, EndsInside-below g decision v graph, slice_get_within)
 
 -- when all vertices were gone over
 pub AreRequired-all : (g : Graph) (decision : Decided) (bound : ℕ) (list : List ℕ) → IsGraph g → IsDecisionFor g decision → g.vertices ≤ bound → RequiredBelow g decision bound list → AreRequired g decision list

@@ -1,9 +1,8 @@
 -- Arcs of which nothing is left are the saturated arcs.
-use Rattle.std.proofs.Common.{ℕ, ◌≡◌, ◌+◌, ◌*◌, ◌<◌, Bool, true, List, map, length, get_or, slice_get, Some, ◌↔◌, inl, inr, ⊎_elim, refl, sym, ap, ◌∙◌, arith}
+use Rattle.std.proofs.Common.{ℕ, ◌≡◌, ◌+◌, ◌*◌, Bool, true, List, map, get_or, slice_get, Some, ◌↔◌, inl, inr, ⊎_elim, refl, sym, ap, ◌∙◌, arith}
 use Rattle.std.specs.Option.{option_map}
 use Rattle.std.proofs.lemmas.Option.{slice_get_within, slice_get-get_or, slice_get-map}
 use Rattle.net_graph.specs.declared.edge.Edge.{Edge}
-use Rattle.net_graph.specs.declared.state.EdgeState.{EdgeState}
 use Rattle.net_graph.specs.declared.state.EdgeState.TheVariants.{Undecided}
 use Rattle.net_graph.specs.declared.packing.Cut.{Cut}
 use Rattle.net_graph.specs.Arcs.{forward_arc, backward_arc}
@@ -12,7 +11,6 @@ use Rattle.net_graph.specs.Decision.{Decided, IsDecisionFor, states_of}
 use Rattle.net_graph.specs.DecisionLaws.{length-states_of}
 use Rattle.net_graph.specs.Search.{OpenStep}
 use Rattle.net_graph.specs.Packing.{enters, load}
-use Rattle.net_graph.specs.Packing.{room_of}
 use Rattle.net_graph.specs.Saturation.{SaturatedStep}
 use Rattle.dual_ascent.specs.declared.costs.EdgeCosts.{EdgeCosts}
 use Rattle.dual_ascent.specs.Costs.{left_of, costs_of, is_used_up, is_saturated, Entering}
@@ -51,44 +49,33 @@ OpenStep-ends edges opens a b u v from to (arc, is, is_open, leaves, comes) = (a
 OpenStep-from_saturated : (g : Graph) (decision : Decided) (packing : List Cut) (u v : ℕ) → SaturatedStep g decision packing u v →
     OpenStep g.edges (is_saturated (costs_of g.edges (states_of g decision) packing)) u v
 OpenStep-from_saturated g decision packing u v (n, e, state, at, decided, ends, fills) =
-    let costs : List EdgeCosts = costs_of g.edges (states_of g decision) packing in
-    let room : EdgeCosts = left_of e state packing in
-    let at_room = slice_get-costs_of g.edges (states_of g decision) packing n e state at decided in
-    ⊎_elim
-    (λ (along : (e.a ≡ u) × (e.b ≡ v)).
-    let here : room_of state e ≡ Some (load packing e.a e.b) = fills ∙ sym (load-ends packing e.a e.b u v along.0 along.1) in
-    OpenStep-ends g.edges (is_saturated costs) e.a e.b u v along.0 along.1
-    (there_open g.edges costs n e room at at_room (left_after-same (room_of state e) (load packing e.a e.b) here)))
-    (λ (against : (e.a ≡ v) × (e.b ≡ u)).
-    let here : room_of state e ≡ Some (load packing e.b e.a) = fills ∙ sym (load-ends packing e.b e.a u v against.1 against.0) in
-    OpenStep-ends g.edges (is_saturated costs) e.b e.a u v against.1 against.0
-    (back_open g.edges costs n e room at at_room (left_after-same (room_of state e) (load packing e.b e.a) here)))
-    ends
+    grind (
+      arith,
+      slice_get-costs_of g.edges (states_of g decision) packing n e state,
+      load-ends,
+      OpenStep-ends,
+      there_open g.edges (costs_of g.edges (states_of g decision) packing) n e (left_of e state packing),
+      left_after-same,
+      back_open g.edges (costs_of g.edges (states_of g decision) packing) n e (left_of e state packing),
+    )
 
 -- an arc that may be walked is saturated
 Saturated-from_open : (g : Graph) (decision : Decided) (packing : List Cut) → IsDecisionFor g decision → (u v : ℕ) →
     OpenStep g.edges (is_saturated (costs_of g.edges (states_of g decision) packing)) u v → SaturatedStep g decision packing u v
 Saturated-from_open g decision packing size u v (arc, (n, e, at, way), full, leaves, comes) =
-    let costs : List EdgeCosts = costs_of g.edges (states_of g decision) packing in
-    let states : List EdgeState = states_of g decision in
-    let state : EdgeState = get_or states n Undecided in
-    let within : n < length states = omega (arith, slice_get_within g.edges n e at, length-states_of g decision size.edges) in
-    let decided : slice_get states n ≡ Some state = slice_get-get_or states n Undecided within in
-    let at_room = slice_get-costs_of g.edges (states_of g decision) packing n e state at decided in
-    ⊎_elim
-    (λ (is : arc ≡ forward_arc n e).
-    let used : is_used_up (left_of e state packing).there ≡ true = sym (is_saturated-even costs n (left_of e state packing) at_room) ∙ ap (λ x. is_saturated costs x.number) (sym is) ∙ full in
-    let fills : room_of state e ≡ Some (load packing e.a e.b) = left_after-none (room_of state e) (load packing e.a e.b) (is_used_up-some (left_of e state packing).there used) in
-    let from : e.a ≡ u = ap (λ x. x.from) (sym is) ∙ leaves in
-    let to : e.b ≡ v = ap (λ x. x.to) (sym is) ∙ comes in
-    (n, e, state, at, decided, inl (from, to), fills ∙ load-ends packing e.a e.b u v from to))
-    (λ (is : arc ≡ backward_arc n e).
-    let used : is_used_up (left_of e state packing).back ≡ true = sym (is_saturated-odd costs n (left_of e state packing) at_room) ∙ ap (λ x. is_saturated costs x.number) (sym is) ∙ full in
-    let fills : room_of state e ≡ Some (load packing e.b e.a) = left_after-none (room_of state e) (load packing e.b e.a) (is_used_up-some (left_of e state packing).back used) in
-    let from : e.b ≡ u = ap (λ x. x.from) (sym is) ∙ leaves in
-    let to : e.a ≡ v = ap (λ x. x.to) (sym is) ∙ comes in
-    (n, e, state, at, decided, inr (to, from), fills ∙ load-ends packing e.b e.a u v from to))
-    way
+    grind (
+      arith,
+      slice_get_within g.edges n e,
+      length-states_of g decision size.edges,
+      slice_get (states_of g decision) n,
+      slice_get-get_or,
+      slice_get-costs_of g.edges (states_of g decision) packing n e (get_or (states_of g decision) n Undecided),
+      is_saturated-even,
+      left_after-none,
+      is_used_up-some,
+      load-ends,
+      is_saturated-odd,
+    )
 
 -- arcs may be walked where the costs show nothing left exactly where they are saturated
 pub SaturatedStep-iff_open : (g : Graph) (decision : Decided) (packing : List Cut) → IsDecisionFor g decision → (u v : ℕ) →

@@ -1,5 +1,5 @@
 -- The cut of an active vertex.
-use Rattle.std.proofs.Common.{ℕ, zero, suc, ◌≡◌, ◌<◌, Bool, not, List, map, length, get_or, All, Contains, Some, None, ⊎_elim, sym, subst, ◌∙◌, arith}
+use Rattle.std.proofs.Common.{ℕ, zero, suc, ◌≡◌, ◌<◌, Bool, not, List, map, length, get_or, All, Contains, Some, None, sym, subst, ◌∙◌, arith}
 use Rattle.std.proofs.lemmas.Bool.{both_ways, and_parts, not-true}
 use Rattle.std.proofs.lemmas.List.{length-map}
 use Rattle.net_graph.specs.Flags.{has}
@@ -11,7 +11,7 @@ use Rattle.dual_ascent.specs.declared.costs.EdgeCosts.{EdgeCosts}
 use Rattle.dual_ascent.specs.declared.step.Step.{Step}
 use Rattle.dual_ascent.specs.declared.step.Step.TheVariants.{Done, Pack, Close}
 use Rattle.dual_ascent.specs.declared.active.ActiveVertex.{ActiveVertex}
-use Rattle.dual_ascent.specs.Active.{IsKept, vertices_of, AreActive}
+use Rattle.dual_ascent.specs.Active.{IsKept, AreActive}
 use Rattle.dual_ascent.specs.Costs.{edges_of, is_saturated, Entering, IsLeastOf}
 use Rattle.dual_ascent.specs.Steps.{SaturatedLeads, LeadTo, Parts, IsStepAt, IsNextStep}
 use Rattle.dual_ascent.proofs.lemmas.SaturatedLemmas.{OpenStep-from_entering}
@@ -72,7 +72,4 @@ IsNextStep-active g costs vertices list place a members step of active within is
 
 -- without an active vertex the root leads to all
 pub all_reached : (g : Graph) (costs : List EdgeCosts) (vertices : List ℕ) (list : List ActiveVertex) → AreActive g vertices costs list → length list ≡ 0 → All (SaturatedLeads g costs (root_of g)) vertices
-all_reached g costs vertices list active none k d lt = ⊎_elim
-    (λ (listed : Contains (vertices_of list) (get_or vertices k d)). absurd (let low = listed.1 in omega (arith, length-map list (λ (a : ActiveVertex). a.vertex))))
-    (λ led. led)
-    (active.every k d lt)
+all_reached g costs vertices list active none k d lt = grind (arith, length-map, active.every k d lt)

@@ -34,9 +34,7 @@ flags_differ same = (cc)
 
 -- a set that respects choices holds the taken trees
 pub taken_within : (choices : List Choice) (set : List Bool) → Respects choices set → IsWithin (taken_of choices) set
-taken_within choices set respects = λ k inside.
-    let (choice, at, is) = choice_of is_taken (slice_get choices k) true (sym (slice_get-map is_taken choices k) ∙ inside) in
-    respects.takes k (at ∙ ap Some (taken_only choice is))
+taken_within choices set respects = grind (arith, choice_of, slice_get-map, taken_only)
 
 -- .. and is within the remaining ones
 left_cases : (choice : Choice) → (choice ≡ LeftOut) ⊎ (is_left choice ≡ true)
@@ -55,10 +53,7 @@ within_remaining choices set size respects = λ k inside.
 
 -- the taken trees are among the remaining ones
 pub taken_remain : (choices : List Choice) → IsWithin (taken_of choices) (remaining_of choices)
-taken_remain choices = λ k inside.
-    let (choice, at, is) = choice_of is_taken (slice_get choices k) true (sym (slice_get-map is_taken choices k) ∙ inside) in
-    let taken : slice_get choices k ≡ Some Taken = at ∙ ap Some (taken_only choice is) in
-    slice_get-map is_left choices k ∙ ap (option_map is_left) taken
+taken_remain choices = grind (arith, choice_of, slice_get-map, taken_only)
 
 -- no set respects choices whose remaining trees don't join
 pub none_respects : (n : ℕ) (trees : List Tree) (choices : List Choice) (total : ℕ) → MoreTreesJoin → length choices ≡ length trees
@@ -73,10 +68,7 @@ none_respects n trees choices total more size apart =
 -- a set that respects choices has at least the taken total
 pub taken_least : (n : ℕ) (trees : List Tree) (choices : List Choice) (total : ℕ) → TotalsRise
     → total ≤ total_of trees (taken_of choices) → IsNoBetter n trees total choices × IsLeastUnder n trees choices total
-taken_least n trees choices total rise below = (
-  λ joins. below,
-  λ set joins respects. omega (arith, rise trees (taken_of choices) set (taken_within choices set respects)),
-)
+taken_least n trees choices total rise below = grind (arith, taken_within)
 
 -- where a search can go on, some place is open
 none_open : (choices : List Choice) → ((k : ℕ) → ¬ IsOpenPlace choices k) → remaining_of choices ≡ taken_of choices

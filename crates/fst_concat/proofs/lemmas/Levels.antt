@@ -1,6 +1,6 @@
 -- Counts of labels, and sums over levels.
 use Rattle.std.specs.Prelude.{slice_index_or, Contains, nat_lt, ◌==◌, ◌||◌}
-use Rattle.std.proofs.Common.{ℕ, zero, suc, ◌≡◌, ◌+◌, ◌-◌, ◌<◌, ◌≤◌, ◌⊎◌, Bool, true, false, List, [], ◌∷◌, All, length, map, drop, take, get_or, drop-cons, length-drop, take_all, refl, ap, sym, subst, ◌∙◌, inl, inr, ⊎_elim, arith}
+use Rattle.std.proofs.Common.{ℕ, zero, suc, ◌≡◌, ◌+◌, ◌-◌, ◌<◌, ◌≤◌, ◌⊎◌, Bool, true, false, List, [], ◌∷◌, All, length, map, drop, take, get_or, drop-cons, length-drop, take_all, refl, ap, sym, ◌∙◌, inl, inr, ⊎_elim, arith}
 use Rattle.std.specs.List.{AllByRecursion}
 use Rattle.std.proofs.lemmas.Bool.{eqb-true, eq-eqb, cases_order}
 use Rattle.std.proofs.lemmas.Bool.Decides.{nat_tests}
@@ -21,16 +21,10 @@ with_place-below : (p q : ℕ) (qs : List ℕ) → p < q → with_place p (q ∷
 with_place-below p q qs below = let test : nat_lt p q ≡ true = grind (arith, nat_tests) in rw test refl
 
 with_place-same : (p q : ℕ) (qs : List ℕ) → p ≡ q → with_place p (q ∷ qs) ≡ q ∷ qs
-with_place-same p q qs same =
-    let lower : nat_lt p q ≡ false = grind (arith, nat_tests) in
-    let equal : (p == q) ≡ true = grind (arith, nat_tests) in
-    rw (lower, equal) refl
+with_place-same p q qs same = grind (arith, nat_tests, p == q)
 
 with_place-above : (p q : ℕ) (qs : List ℕ) → q < p → with_place p (q ∷ qs) ≡ q ∷ with_place p qs
-with_place-above p q qs above =
-    let lower : nat_lt p q ≡ false = grind (arith, nat_tests) in
-    let equal : (p == q) ≡ false = grind (arith, nat_tests) in
-    rw (lower, equal) refl
+with_place-above p q qs above = grind (arith, nat_tests, p == q)
 
 -- a place that is below the first of a climbing list isn't in it
 not_below : (p q : ℕ) (qs : List ℕ) → Climbs (q ∷ qs) → p < q → Contains (q ∷ qs) p → ⊥
@@ -83,8 +77,7 @@ any_label-there label (other ∷ others) test = ⊎_elim
 any_label-new : (label : ℕ) (labels : List ℕ) → any_label label labels ≡ false → Contains labels label → ⊥
 any_label-new label [] test (k, inside, is) = absurd (omega arith)
 any_label-new label (other ∷ others) test (zero, inside, is) =
-    let here : (other == label) ≡ true = eq-eqb other label is in
-    let none : (other == label) ≡ false = (or_none (other == label) (any_label label others) test).0 in (cc)
+    grind (arith, eq-eqb other label is, or_none (other == label) (any_label label others) test)
 any_label-new label (other ∷ others) test (suc k, inside, is) =
     any_label-new label others (or_none (other == label) (any_label label others) test).1 (k, omega arith, is)
 
@@ -101,50 +94,37 @@ ascending_new label labels test = length-with_place_new label (ascending_places 
 
 -- a list from the place before one on
 drop_before : (xs : List ℕ) (i : ℕ) → 0 < i → i ≤ length xs → drop (i - 1) xs ≡ get_or xs (i - 1) 0 ∷ drop i xs
-drop_before xs i some within =
-    let next : suc (i - 1) ≡ i = omega arith in
-    drop-cons xs (i - 1) 0 (omega arith) ∙ ap (λ n. get_or xs (i - 1) 0 ∷ drop n xs) next
+drop_before xs i some within = grind (arith, drop-cons)
 
 -- the rest behind that place
 rest_is : (xs : List ℕ) (i : ℕ) → 0 < i → i ≤ length xs → take (length xs - (i - 1 + 1)) (drop (i - 1 + 1) xs) ≡ drop i xs
-rest_is xs i some within =
-    let next : i - 1 + 1 ≡ i = omega arith in
-    let size : length (drop i xs) ≡ length xs - i = length-drop i xs in
-    rw next (take_all (length xs - i) (drop i xs) (omega arith))
+rest_is xs i some within = grind (arith, length-drop i xs, take_all)
 
 -- one label more, from the back
 pub counts_new : (xs : List ℕ) (i count : ℕ) (f : ℕ → ℕ) → 0 < i → i ≤ length xs
     → any_label (f (get_or xs (i - 1) 0)) (map f (take (length xs - (i - 1 + 1)) (drop (i - 1 + 1) xs))) ≡ false
     → count ≡ length (ascending_places (map f (drop i xs))) → count + 1 ≡ length (ascending_places (map f (drop (i - 1) xs)))
 counts_new xs i count f some within test counted =
-    let there : any_label (f (get_or xs (i - 1) 0)) (map f (drop i xs)) ≡ false =
-    subst (λ rest. any_label (f (get_or xs (i - 1) 0)) (map f rest) ≡ false) (rest_is xs i some within) test in
-    rw (drop_before xs i some within) (omega (arith, counted, ascending_new (f (get_or xs (i - 1) 0)) (map f (drop i xs)) there))
+    grind (arith, f (get_or xs (i - 1) 0), rest_is xs i some within, drop_before xs i some within, ascending_new)
 
 pub counts_there : (xs : List ℕ) (i count : ℕ) (f : ℕ → ℕ) → 0 < i → i ≤ length xs
     → any_label (f (get_or xs (i - 1) 0)) (map f (take (length xs - (i - 1 + 1)) (drop (i - 1 + 1) xs))) ≡ true
     → count ≡ length (ascending_places (map f (drop i xs))) → count ≡ length (ascending_places (map f (drop (i - 1) xs)))
 counts_there xs i count f some within test counted =
-    let there : any_label (f (get_or xs (i - 1) 0)) (map f (drop i xs)) ≡ true =
-    subst (λ rest. any_label (f (get_or xs (i - 1) 0)) (map f rest) ≡ true) (rest_is xs i some within) test in
-    rw (drop_before xs i some within) (omega (arith, counted, ascending_there (f (get_or xs (i - 1) 0)) (map f (drop i xs)) there))
+    grind (arith, f (get_or xs (i - 1) 0), rest_is xs i some within, drop_before xs i some within, ascending_there)
 
 -- .. of labels themselves
 pub labels_new : (xs : List ℕ) (i count : ℕ) → 0 < i → i ≤ length xs
     → any_label (get_or xs (i - 1) 0) (take (length xs - (i - 1 + 1)) (drop (i - 1 + 1) xs)) ≡ false
     → count ≡ length (ascending_places (drop i xs)) → count + 1 ≡ length (ascending_places (drop (i - 1) xs))
 labels_new xs i count some within test counted =
-    let there : any_label (get_or xs (i - 1) 0) (drop i xs) ≡ false =
-    subst (λ rest. any_label (get_or xs (i - 1) 0) rest ≡ false) (rest_is xs i some within) test in
-    rw (drop_before xs i some within) (omega (arith, counted, ascending_new (get_or xs (i - 1) 0) (drop i xs) there))
+    grind (arith, rest_is xs i some within, drop_before xs i some within, ascending_new)
 
 pub labels_there : (xs : List ℕ) (i count : ℕ) → 0 < i → i ≤ length xs
     → any_label (get_or xs (i - 1) 0) (take (length xs - (i - 1 + 1)) (drop (i - 1 + 1) xs)) ≡ true
     → count ≡ length (ascending_places (drop i xs)) → count ≡ length (ascending_places (drop (i - 1) xs))
 labels_there xs i count some within test counted =
-    let there : any_label (get_or xs (i - 1) 0) (drop i xs) ≡ true =
-    subst (λ rest. any_label (get_or xs (i - 1) 0) rest ≡ true) (rest_is xs i some within) test in
-    rw (drop_before xs i some within) (omega (arith, counted, ascending_there (get_or xs (i - 1) 0) (drop i xs) there))
+    grind (arith, rest_is xs i some within, drop_before xs i some within, ascending_there)
 
 -- ---- sums over levels
 

@@ -145,19 +145,13 @@ total-of_pairs (tree ∷ trees) (false ∷ set) = ap (λ rest. 0 + rest) (total-
 -- the joining behind an answer
 pub joined_of : (n : ℕ) (pairs same : List Pair) (answer : Option Joined) (joined : Joined)
     → IfSome answer (IsLeastJoining n pairs) → answer ≡ Some joined → pairs ≡ same → IsLeastJoining n same joined
-joined_of n pairs same answer joined least is equal =
-    let here : IsLeastJoining n pairs joined = subst (λ a. IfSome a (IsLeastJoining n pairs)) is least in
-    subst (λ ps. IsLeastJoining n ps joined) equal here
+joined_of n pairs same answer joined least is equal = grind arith
 
 -- it is a concatenation
 pub chosen_of_joined : (n : ℕ) (trees : List Tree) (joined : Joined) → All (HasMembersBelow n) trees
     → IsLeastJoining n (map pair_of trees) joined → IsChosen n trees joined.places joined.total
-chosen_of_joined n trees joined usable least = record {
-  set = least.set;
-  is = least.places;
-  joins = concatenation_of_pairs n trees least.set usable least.joins;
-  sum = least.total ∙ total-of_pairs trees least.set;
-}
+chosen_of_joined n trees joined usable least =
+    grind (arith, concatenation_of_pairs n trees least.set usable least.joins, total-of_pairs trees least.set)
 
 -- .. and no joining by trees of two members is shorter
 pub up_to_joined : (n : ℕ) (trees : List Tree) (joined : Joined) → IsLeastJoining n (map pair_of trees) joined

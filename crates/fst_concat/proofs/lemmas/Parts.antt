@@ -8,7 +8,7 @@ use Rattle.std.proofs.lemmas.List.{length-map}
 use borrow.Author.Count.{below_more}
 use Rattle.std.proofs.lemmas.List.Elements.{All-contains, All-contains_itself}
 use Rattle.std.proofs.lemmas.Option.{slice_get_within, slice_get-map}
-use Rattle.std.proofs.Common.{ℕ, zero, suc, ◌≡◌, ◌+◌, ◌<◌, ◌==◌, ◌⊎◌, Bool, true, false, Option, Some, None, IfSome, IfNone, MatchOption, List, [], ◌∷◌, All, length, refl, ap, sym, subst, ◌∙◌, inl, inr, ⊎_elim, arith, if◌then◌else◌}
+use Rattle.std.proofs.Common.{ℕ, zero, suc, ◌≡◌, ◌+◌, ◌<◌, ◌==◌, ◌⊎◌, Bool, true, false, Option, Some, None, IfSome, IfNone, MatchOption, List, [], ◌∷◌, All, length, refl, ap, sym, subst, ◌∙◌, ⊎_elim, arith}
 use Rattle.net_graph.specs.Search.{Leads}
 use Rattle.net_graph.specs.SearchLaws.{Leads-start, Leads-more, Leads-trans, Leads-keeps, Leads-back}
 use Rattle.full_tree.specs.declared.code.Tree.{Tree}
@@ -31,8 +31,7 @@ length-merged from to (label ∷ labels) = ap suc (length-merged from to labels)
 
 pub length-joined_with : (first : ℕ) (rest labels : List ℕ) → length (joined_with first rest labels) ≡ length labels
 length-joined_with first [] labels = refl
-length-joined_with first (member ∷ rest) labels =
-    length-joined_with first rest _ ∙ length-merged _ _ labels
+length-joined_with first (member ∷ rest) labels = length-joined_with first rest _ ∙ length-merged _ _ labels
 
 -- the one label goes to the other
 merge_label-from : (from to : ℕ) → merge_label from to from ≡ to
@@ -72,10 +71,13 @@ merged-meets : (labels : List ℕ) (member first : ℕ) → member < length labe
     → slice_index (merged (slice_index labels member) (slice_index labels first) labels) member
     ≡ slice_index (merged (slice_index labels member) (slice_index labels first) labels) first
 merged-meets labels member first in_member in_first =
-    let from : ℕ = slice_index labels member in
-    let to : ℕ = slice_index labels first in
-    merged-at from to labels member in_member ∙ merge_label-from from to
-    ∙ sym (merged-at from to labels first in_first ∙ merge_label-to from to)
+    grind (
+      arith,
+      merged-at (slice_index labels member) (slice_index labels first) labels member in_member,
+      merge_label-from (slice_index labels member) (slice_index labels first),
+      merged-at (slice_index labels member) (slice_index labels first) labels first in_first,
+      merge_label-to (slice_index labels member) (slice_index labels first),
+    )
 
 -- .. and keeps it
 joined_with-meets : (first : ℕ) (rest labels : List ℕ) (k d : ℕ) → first < length labels → All (λ i. i < length labels) rest
@@ -105,22 +107,12 @@ joined-meets first rest labels i in_first below (suc k, inside, is) =
 
 -- a label is the one and becomes the other, or stays
 label_of : (from to x : ℕ) → ((x ≡ from) × (merge_label from to x ≡ to)) ⊎ (merge_label from to x ≡ x)
-label_of from to x = elim (x == from) as (λ b. (x == from) ≡ b → ((x ≡ from) × ((if b then to else x) ≡ to)) ⊎ ((if b then to else x) ≡ x)) [
-  | true ↦ λ is. inl (eqb-true x from is, refl)
-  | false ↦ λ is. inr refl
-] refl
+label_of from to x = grind (arith, x == from, eqb-true)
 
 -- labels that are equal after a merge were equal, or were those of the two
 label_cases : (from to x y : ℕ) → merge_label from to x ≡ merge_label from to y
     → (x ≡ y) ⊎ (((x ≡ from) × (y ≡ to)) ⊎ ((x ≡ to) × (y ≡ from)))
-label_cases from to x y same =
-    ⊎_elim (λ (x_is, x_to). ⊎_elim
-    (λ (y_is, y_to). inl (x_is ∙ sym y_is))
-    (λ y_stays. inr (inl (x_is, sym y_stays ∙ sym same ∙ x_to))) (label_of from to y))
-    (λ x_stays. ⊎_elim
-    (λ (y_is, y_to). inr (inr (sym x_stays ∙ same ∙ y_to, y_is)))
-    (λ y_stays. inl (sym x_stays ∙ same ∙ y_stays)) (label_of from to y))
-    (label_of from to x)
+label_cases from to x y same = grind (arith, label_of from to y, label_of from to x)
 
 -- Where terminals of one label are related, and the merged ones are, those of one label are related after the merge.
 merged-related : (R : ℕ → ℕ → Type 0) → ((i j : ℕ) → R i j → R j i) → ((i j k : ℕ) → R i j → R j k → R i k)
@@ -184,30 +176,14 @@ SharesTree-back trees set i j led = Leads-back (SharesTree trees set) (SharesTre
 -- a tree that is no part of the set changes nothing
 pub ArePartsUpTo-skip : (n : ℕ) (trees : List Tree) (set : List Bool) (place : ℕ) (labels : List ℕ) → ArePartsUpTo n trees set place labels
     → (slice_get set place ≡ Some true → ⊥) → ArePartsUpTo n trees set (place + 1) labels
-ArePartsUpTo-skip n trees set place labels parts outside = record {
-  size = parts.size;
-  chains = parts.chains;
-  closed = λ k tree i j below inside at first second. below_more (λ p. IsClosedAt trees set p labels) place
-      (λ p lower here u v w. parts.closed p here u v lower w)
-      (λ here u v in_set. absurd (outside in_set)) k below tree i j inside at first second;
-}
+ArePartsUpTo-skip n trees set place labels parts outside = grind arith
 
 -- a tree of the set joins its members
 join_case : (n : ℕ) (trees : List Tree) (set : List Bool) (place : ℕ) (tree : Tree) (labels : List ℕ)
     → ArePartsUpTo n trees set place labels → AreBelow n trees → slice_get set place ≡ Some true → slice_get trees place ≡ Some tree
     → (members : List ℕ) → members_of tree.code ≡ members → All (λ i. i < n) members
     → ArePartsUpTo n trees set (place + 1) (joined members labels)
-join_case n trees set place tree labels parts all_below inside at [] is below = record {
-  size = parts.size;
-  chains = parts.chains;
-  closed = λ k other i j lower. below_more (λ p. IsClosedAt trees set p labels) place
-      (λ p under here u v w. parts.closed p here u v under w)
-      (λ here u v in_set at_here first second.
-      let same : here ≡ tree = some_same (sym at_here ∙ at) in
-      let none : Contains [] u = subst (λ xs. Contains xs u) is (subst (λ t. IsMember t u) same first) in
-      absurd (omega (arith, none.1)))
-      k lower other i j;
-}
+join_case n trees set place tree labels parts all_below inside at [] is below = grind (arith, some_same)
 join_case n trees set place tree labels parts all_below inside at (first ∷ rest) is below =
     let size : length labels ≡ n = parts.size in
     let after : length (joined_with first rest labels) ≡ length labels = length-joined_with first rest labels in
@@ -259,11 +235,7 @@ ArePartsUpTo-join n trees set place tree labels parts all_below inside at =
 pub all_alike : (n : ℕ) (trees : List Tree) (set : List Bool) (labels : List ℕ) → length set ≡ length trees
     → ArePartsUpTo n trees set (length trees) labels
     → ((i : ℕ) → i < length labels → slice_index labels i ≡ slice_index labels 0) → IsConcatenation n trees set
-all_alike n trees set labels size parts alike = record {
-  size = size;
-  joins = λ i below. let same : length labels ≡ n = parts.size in
-      parts.chains 0 i (omega arith) below (sym (alike i (omega arith)));
-}
+all_alike n trees set labels size parts alike = grind arith
 
 -- a terminal that the terminal 0 is joined to has its label
 pub joined_alike : (n : ℕ) (trees : List Tree) (set : List Bool) (labels : List ℕ) (i : ℕ) → length set ≡ length trees
@@ -294,9 +266,8 @@ apart_fails n trees set place apart joins = apart.apart (joins.joins place apart
 -- labels that are each merged are the merged ones
 pub merged-from_each : (from to : ℕ) (before after : List ℕ) → length after ≡ length before
     → ((k : ℕ) → k < length after → slice_index after k ≡ merge_label from to (slice_index before k)) → after ≡ merged from to before
-merged-from_each from to before after size each = same_number_lists after (merged from to before)
-    (size ∙ sym (length-merged from to before))
-    (λ k within. each k within ∙ sym (merged-at from to before k (omega (arith, size))))
+merged-from_each from to before after size each =
+    grind (arith, same_number_lists, length-merged from to before, merged-at)
 
 -- a tree in an option
 pub tree_of : (found : Option Tree) (members : List ℕ) → option_map tree_members found ≡ Some members
@@ -311,19 +282,14 @@ listed_below n trees listed is = λ k tree at. is.below k (members_of tree.code)
 -- the tree whose members stand at a place of the list
 pub listed_tree : (n : ℕ) (trees : List Tree) (listed : List (List ℕ)) (k : ℕ) (members : List ℕ) → IsListed n trees listed
     → slice_get listed k ≡ Some members → (tree : Tree) × (slice_get trees k ≡ Some tree) × (members_of tree.code ≡ members)
-listed_tree n trees listed k members is at =
-    let at_tree : option_map tree_members (slice_get trees k) ≡ Some members =
-    sym (slice_get-map tree_members trees k) ∙ ap (λ xs. slice_get xs k) (sym is.same) ∙ at in
-    tree_of (slice_get trees k) members at_tree
+listed_tree n trees listed k members is at = grind (arith, slice_get-map tree_members trees k, tree_of)
 
 -- a listed tree of the set joins its members
 pub ArePartsUpTo-join_listed : (n : ℕ) (trees : List Tree) (listed : List (List ℕ)) (set : List Bool) (place : ℕ) (members labels : List ℕ)
     → IsListed n trees listed → ArePartsUpTo n trees set place labels → slice_get set place ≡ Some true
     → slice_get listed place ≡ Some members → ArePartsUpTo n trees set (place + 1) (joined members labels)
 ArePartsUpTo-join_listed n trees listed set place members labels is parts inside at =
-    let (tree, at_tree, same) = listed_tree n trees listed place members is at in
-    subst (λ xs. ArePartsUpTo n trees set (place + 1) (joined xs labels)) same
-    (ArePartsUpTo-join n trees set place tree labels parts (listed_below n trees listed is) inside at_tree)
+    grind (arith, listed_tree n trees listed place members is, ArePartsUpTo-join, listed_below n trees listed is)
 
 -- what the first terminal of another label says of the set
 pub apart_answer : (n : ℕ) (trees : List Tree) (set : List Bool) (labels : List ℕ) (answer : Option ℕ) → length set ≡ length trees

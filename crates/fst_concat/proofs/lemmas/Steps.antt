@@ -5,7 +5,7 @@ use Rattle.full_tree.specs.declared.code.Tree.{Tree}
 use Rattle.concatenation.specs.declared.choice.Choice.{Choice}
 use Rattle.concatenation.specs.declared.choice.Choice.TheVariants.{Taken, LeftOut}
 use Rattle.concatenation.specs.Choices.{IsLeastUnder}
-use Rattle.concatenation.specs.Trails.{Trail, End, Split, splits_of, no_choices, AllEnds, SomeEnd, IsOpenPlace, CanGoOn, IsNoBetter, IsOpenEnd, IsBoundedTrail, IsSpentTrail}
+use Rattle.concatenation.specs.Trails.{Trail, End, Split, splits_of, no_choices, AllEnds, SomeEnd, IsOpenPlace, CanGoOn, IsBoundedTrail, IsSpentTrail}
 use Rattle.fst_concat.specs.declared.trail.Step.{Step}
 use Rattle.fst_concat.specs.declared.trail.Step.TheVariants.{Close, Fork}
 use Rattle.fst_concat.specs.TrailCode.{split_over, first_of_trails}
@@ -35,10 +35,7 @@ SomeEnd-weaker P Q weaker choices (Split place without with_it) holds =
 -- an end may be left for a smaller best total and a smaller open one
 pub EndsWell-later : (n : ℕ) (trees : List Tree) (total low later_total later_low : ℕ) (choices : List Choice)
     → later_total ≤ total → later_low ≤ low → EndsWell n trees total low choices → EndsWell n trees later_total later_low choices
-EndsWell-later n trees total low later_total later_low choices lower_total lower_low well = record {
-  no_better = λ joins. omega (arith, well.no_better joins);
-  least = λ set joins respects. omega (arith, well.least set joins respects);
-}
+EndsWell-later n trees total low later_total later_low choices lower_total lower_low well = grind arith
 
 -- an end is left
 pub CompletesAll-close : (n : ℕ) (trees : List Tree) (total later_total low later_low used : ℕ) (steps : List Step)
@@ -100,14 +97,7 @@ CompletesAll-fork n trees total later_total low used steps choices pending place
 pub CompletesAll-start : (n : ℕ) (trees : List Tree) (total low : ℕ) → 2 ^ 128 - 1 ≤ low
     → CompletesAll n trees total low 0 [] (no_choices trees ∷ [])
 CompletesAll-start n trees total low none [] same = absurd (omega (arith, same))
-CompletesAll-start n trees total low none (trail ∷ []) same = record {
-  trail = trail;
-  one = refl;
-  count = omega arith;
-  good = λ last_total last_low below_total below_low good. good.0;
-  opens = λ open_total one. ⊎_elim (λ here. here) (λ none. absurd none) one;
-  found = λ below. absurd (omega arith);
-}
+CompletesAll-start n trees total low none (trail ∷ []) same = grind arith
 CompletesAll-start n trees total low none (trail ∷ other ∷ trails) same = absurd (omega (arith, same))
 
 -- the trail of a search that is over
@@ -141,13 +131,4 @@ over-bounded n trees total low used steps over high =
 pub over-spent : (n : ℕ) (trees : List Tree) (total low used : ℕ) (steps : List Step)
     → Completes n trees total low used steps [] [] → low < total → total < 2 ^ 128 → IsSpentTrail n trees total (trail_of steps)
 over-spent n trees total low used steps over below small =
-    let good : IsGood n trees total low (no_choices trees) over.trail = over.good total low (omega arith) (omega arith) tt in
-    subst (IsSpentTrail n trees total) (sym (over-is n trees total low used steps over)) (record {
-      places = good.places;
-      splits = good.splits;
-      ends = AllEnds-weaker (EndsWell n trees total low) (IsNoBetter n trees total)
-          (λ choices well. well.no_better) (no_choices trees) over.trail good.ends;
-      open_end = SomeEnd-weaker (IsOpenUpTo n trees low) (IsOpenEnd n trees total)
-          (λ choices ends. record { can_go_on = ends.can_go_on; below = omega (arith, ends.taken) })
-          (no_choices trees) over.trail (over.found (omega arith));
-    })
+    grind (arith, over-is n trees total low used steps over, AllEnds-weaker, SomeEnd-weaker)

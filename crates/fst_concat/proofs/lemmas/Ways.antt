@@ -31,13 +31,7 @@ pub IsUnderWay-start : (n : ℕ) (trees : List Tree) (allowed total : ℕ) (way 
     → way.pending.items ≡ no_choices trees ∷ [] → way.used ≡ 0 → way.low ≡ 340282366920938463463374607431768211455
     → IsUnderWay n trees allowed total way (reverse way.pending.items)
 IsUnderWay-start n trees allowed total way steps pending used low =
-    subst (IsUnderWay n trees allowed total way) (sym (ap reverse pending)) (record {
-      completes = rw (steps, used) (CompletesAll-start n trees total way.low (omega (arith, low)));
-      sizes = all_cons (λ c. length c ≡ length trees) (no_choices trees) [] (length-replicate (length trees) Open)
-          (λ k d within. absurd (omega arith));
-      within = omega (arith, used);
-      spent = λ below. absurd (omega (arith, low));
-    })
+    grind (arith, CompletesAll-start, all_cons, length-replicate (length trees) Open)
 
 -- the choices to be judged next are taken from the list
 pub IsUnderWay-pop : (n : ℕ) (trees : List Tree) (allowed total : ℕ) (way after : Way) (choices : List Choice)

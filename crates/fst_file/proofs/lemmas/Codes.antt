@@ -52,31 +52,20 @@ HasNoPlace words = (k : ℕ) (rest : List (List ℕ)) → k < 2 ^ 32 → words �
 
 pub no_tip : (words w1 w2 : List (List ℕ)) (root : List ℕ) (toward : List ℕ) → words ≡ root ∷ w1 → w1 ≡ toward ∷ w2 → HasNoPlace w2
     → (code : TreeCode) → FitsCode code → codes "long" ∷ words ≡ code_words code → ⊥
-no_tip words w1 w2 root toward e1 e2 none code fits is =
-    let told = long_words code words fits is in
-    let here : w2 ≡ decimal told.tip ∷ side_word told.side ∷ map decimal told.drops = cc (told.words_are) in
-    none told.tip (side_word told.side ∷ map decimal told.drops) told.fits.1 here
+no_tip words w1 w2 root toward e1 e2 none code fits is = grind (arith, long_words code words fits is)
 
 pub no_south : (words w1 : List (List ℕ)) (a : List ℕ) → words ≡ a ∷ w1 → HasNoPlace w1
     → (code : TreeCode) → FitsCode code → codes "cross" ∷ words ≡ code_words code → ⊥
-no_south words w1 a e1 none code fits is =
-    let told = cross_words code words fits is in
-    let here : w1 ≡ decimal told.south ∷ decimal told.east ∷ decimal told.north ∷ [] = cc (told.words_are) in
-    none told.south (decimal told.east ∷ decimal told.north ∷ []) told.fits.1 here
+no_south words w1 a e1 none code fits is = grind (arith, cross_words code words fits is)
 
 pub no_east : (words w1 w2 : List (List ℕ)) (a b : List ℕ) → words ≡ a ∷ w1 → w1 ≡ b ∷ w2 → HasNoPlace w2
     → (code : TreeCode) → FitsCode code → codes "cross" ∷ words ≡ code_words code → ⊥
-no_east words w1 w2 a b e1 e2 none code fits is =
-    let told = cross_words code words fits is in
-    let here : w2 ≡ decimal told.east ∷ decimal told.north ∷ [] = cc (told.words_are) in
-    none told.east (decimal told.north ∷ []) told.fits.2 here
+no_east words w1 w2 a b e1 e2 none code fits is = grind (arith, cross_words code words fits is)
 
 pub no_north : (words w1 w2 w3 : List (List ℕ)) (a b d : List ℕ) → words ≡ a ∷ w1 → w1 ≡ b ∷ w2 → w2 ≡ d ∷ w3 → HasNoPlace w3
     → (code : TreeCode) → FitsCode code → codes "cross" ∷ words ≡ code_words code → ⊥
 no_north words w1 w2 w3 a b d e1 e2 e3 none code fits is =
-    let told = cross_words code words fits is in
-    let here : w3 ≡ decimal told.north ∷ [] = cc (told.words_are) in
-    none told.north [] told.fits.3 here
+    grind (arith, cross_words code words fits is, none (cross_words code words fits is).north)
 
 -- places of at most 50 points are below 50
 below : (n : ℕ) (xs : List ℕ) → n ≤ 50 → All (λ k. k < n) xs → AllByRecursion (λ k. k < 50) xs
@@ -159,10 +148,6 @@ side_fits (Some q) all = let here = all.0 in omega arith
 -- the places of a code in form have 32 bits
 pub fits_form : (ps : List Point) (code : TreeCode) → length ps ≤ 50 → IsInForm ps code → FitsCode code
 fits_form ps (Long root toward drops side tip) fifty form =
-    let told = long_places ps root toward drops side tip fifty form in
-    let low = told.root_below in
-    let end = told.tip_below in
-    (omega arith, omega arith, side_fits side told.side_below, weaker drops told.drops_below)
+    grind (arith, long_places ps root toward drops side tip fifty form, side_fits side (long_places ps root toward drops side tip fifty form).side_below, weaker drops (long_places ps root toward drops side tip fifty form).drops_below)
 fits_form ps (Cross w s e n) fifty form =
-    let all = weaker (w ∷ s ∷ e ∷ n ∷ []) (below (length ps) (w ∷ s ∷ e ∷ n ∷ []) fifty form.terminals) in
-    (all.0, all.1.0, all.1.1.0, all.1.1.1.0)
+    grind (arith, weaker (w ∷ s ∷ e ∷ n ∷ []) (below (length ps) (w ∷ s ∷ e ∷ n ∷ []) fifty form.terminals), below (length ps) (w ∷ s ∷ e ∷ n ∷ []) fifty form.terminals)

@@ -1,8 +1,8 @@
 -- Drops as they are kept, one more at a time.
-use Rattle.std.specs.Prelude.{ℕ, ◌≡◌, ◌+◌, ◌<◌, ◌≤◌, ◌^◌, List, [], ◌∷◌, ◌++◌, length, map}
+use Rattle.std.specs.Prelude.{ℕ, ◌≡◌, ◌<◌, ◌≤◌, ◌^◌, List, [], ◌∷◌, ◌++◌, length, map}
 use Rattle.std.specs.Fmt.{decimal}
 use Rattle.std.specs.List.{AllByRecursion}
-use Rattle.std.proofs.Common.{arith, sym, ap, ◌∙◌, inl, inr}
+use Rattle.std.proofs.Common.{arith, sym, ◌∙◌}
 use Rattle.std.proofs.lemmas.List.{length_push, append_assoc, map-append}
 use Rattle.fst_file.specs.Kept.{StandsFor, StandForDrops}
 
@@ -19,28 +19,12 @@ all_parts P (y ∷ xs) x all = let parts = all_parts P xs x all.1 in ((all.0, pa
 -- one more drop that is kept
 pub kept_drop : (kept ds : List ℕ) (k' k : ℕ) → StandForDrops kept ds → StandsFor k' k → length kept < 8
     → StandForDrops (kept ++ k' ∷ []) (ds ++ k ∷ [])
-kept_drop kept ds k' k stand same room = record {
-  few = omega (arith, length_push kept k');
-  full = λ h. length_push kept k' ∙ ap (λ n. n + 1) (stand.full room) ∙ sym (length_push ds k);
-  many = λ h. omega (arith, length_push kept k', length_push ds k, stand.full room);
-  spelled = λ h all.
-      let parts = all_parts (λ d. d < 50) ds k all in
-      let few : length ds < 8 = omega (arith, length_push ds k) in
-      cc (stand.spelled few parts.0, same (inl parts.1));
-  held = λ h all.
-      let parts = all_parts (λ d. d < 50) kept k' all in
-      cc (stand.held room parts.0, same (inr parts.1));
-}
+kept_drop kept ds k' k stand same room =
+    grind (arith, length_push kept k', stand.full room, length_push ds k, all_parts)
 
 -- one more drop that is left out
 pub more_drops : (kept ds : List ℕ) (k : ℕ) → StandForDrops kept ds → 8 ≤ length kept → StandForDrops kept (ds ++ k ∷ [])
-more_drops kept ds k stand full = record {
-  few = stand.few;
-  full = λ h. absurd (omega arith);
-  many = λ h. omega (arith, length_push ds k, stand.many full);
-  spelled = λ h all. absurd (omega (arith, length_push ds k, stand.many full));
-  held = λ h all. absurd (omega arith);
-}
+more_drops kept ds k stand full = grind (arith, length_push ds k, stand.many full)
 
 -- These words are left of the line, and these drops are kept of those that were read.
 pub record DropsSoFar (all left : List (List ℕ)) (kept : List ℕ) : Type 0 where
@@ -53,28 +37,19 @@ pub record DropsSoFar (all left : List (List ℕ)) (kept : List ℕ) : Type 0 wh
 words_push : (all left later : List (List ℕ)) (read : List ℕ) (k : ℕ) → all ≡ map decimal read ++ left → left ≡ decimal k ∷ later
     → all ≡ map decimal (read ++ k ∷ []) ++ later
 words_push all left later read k words is =
-    words ∙ ap (λ ws. map decimal read ++ ws) is
-    ∙ sym (append_assoc (map decimal read) (decimal k ∷ []) later) ∙ ap (λ ws. ws ++ later) (sym (map-append decimal read (k ∷ [])))
+    grind (arith, append_assoc (map decimal read) (decimal k ∷ []) later, map-append decimal read (k ∷ []))
 
 -- after one more place that is kept
 pub drop_read : (all left later : List (List ℕ)) (kept : List ℕ) (k' k : ℕ) → DropsSoFar all left kept → k < 2 ^ 32 → left ≡ decimal k ∷ later
     → StandsFor k' k → length kept < 8 → DropsSoFar all later (kept ++ k' ∷ [])
-drop_read all left later kept k' k so_far fits is same room = record {
-  read = so_far.read ++ k ∷ [];
-  fits = all_push (λ d. d < 2 ^ 32) so_far.read k so_far.fits fits;
-  words = words_push all left later so_far.read k so_far.words is;
-  stand = kept_drop kept so_far.read k' k so_far.stand same room;
-}
+drop_read all left later kept k' k so_far fits is same room =
+    grind (arith, all_push, words_push all left later so_far.read k so_far.words is, kept_drop kept so_far.read k' k so_far.stand same room)
 
 -- after one that is left out
 pub drop_passed : (all left later : List (List ℕ)) (kept : List ℕ) (k : ℕ) → DropsSoFar all left kept → k < 2 ^ 32 → left ≡ decimal k ∷ later
     → 8 ≤ length kept → DropsSoFar all later kept
-drop_passed all left later kept k so_far fits is full = record {
-  read = so_far.read ++ k ∷ [];
-  fits = all_push (λ d. d < 2 ^ 32) so_far.read k so_far.fits fits;
-  words = words_push all left later so_far.read k so_far.words is;
-  stand = more_drops kept so_far.read k so_far.stand full;
-}
+drop_passed all left later kept k so_far fits is full =
+    grind (arith, all_push, words_push all left later so_far.read k so_far.words is, more_drops kept so_far.read k so_far.stand full)
 
 -- the front of some drops
 front_of : (read ds : List ℕ) (left : List (List ℕ)) → AllByRecursion (λ d. d < 2 ^ 32) read → AllByRecursion (λ d. d < 2 ^ 32) ds

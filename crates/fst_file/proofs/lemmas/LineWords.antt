@@ -49,10 +49,4 @@ pub trees_word : IsWord (codes "trees")
 trees_word = plain (codes "trees") (omega arith) (omega arith, (omega arith, (omega arith, (omega arith, (omega arith, tt)))))
 
 pub title : IsLineOfWords title_words
-title = (
-  omega arith,
-  (
-    plain (codes "rst") (omega arith) (omega arith, (omega arith, (omega arith, tt))),
-    (plain (codes "fst") (omega arith) (omega arith, (omega arith, (omega arith, tt))), (plain (codes "1") (omega arith) (omega arith, tt), tt)),
-  ),
-)
+title = grind (arith, plain)

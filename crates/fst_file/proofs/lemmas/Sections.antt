@@ -1,35 +1,20 @@
 -- A file as a text of sections.
 use Rattle.std.specs.Prelude.{ℕ, List, Result, Ok, Err, IfOk, IfErr}
-use Rattle.std.proofs.Common.{refl, sym, ap, ◌∙◌, subst}
+use Rattle.std.proofs.Common.{arith}
 use Rattle.section_text.specs.Text.{Spells}
 use Rattle.section_text.specs.Judged as sections
 use Rattle.fst_file.specs.declared.fault.FstFault.{FstFault}
 use Rattle.fst_file.specs.declared.fault.FstFault.TheVariants.{Memory}
-use Rattle.fst_file.specs.Value.{FstValue, IsFstValue}
+use Rattle.fst_file.specs.Value.{FstValue}
 use Rattle.fst_file.specs.Format.{fst_format}
-use Rattle.fst_file.specs.Text.{fst_text, SpellsFstFile}
+use Rattle.fst_file.specs.Text.{SpellsFstFile}
 use Rattle.fst_file.specs.Judged.{IsFirstFault, Answers}
 
 pub spelled_file : (bytes : List ℕ) (v : FstValue) → Spells fst_format bytes v → SpellsFstFile bytes v
-spelled_file bytes v is = record {
-  value = subst IsFstValue (sym is.value) (record {
-    points = is.are.points;
-    fits = is.are.fit;
-    trees = record { few = is.are.few; trees = is.are.items.0; ordered = is.are.items.1 };
-  });
-  text = is.text ∙ ap fst_text (sym is.value);
-}
+spelled_file bytes v is = grind arith
 
 pub file_spelled : (bytes : List ℕ) (v : FstValue) → SpellsFstFile bytes v → Spells fst_format bytes v
-file_spelled bytes v is =
-    let value = is.value in
-    record {
-      ps = v.points;
-      xs = v.trees;
-      are = record { points = value.points; fit = value.fits; few = value.trees.few; items = (value.trees.trees, value.trees.ordered); whole = tt };
-      value = refl;
-      text = is.text;
-    }
+file_spelled bytes v is = grind arith
 
 -- what was read, the first fault, and what was answered
 pub read_spelled : (bytes : List ℕ) (r : Result FstValue FstFault) → IfOk r (Spells fst_format bytes) → IfOk r (SpellsFstFile bytes)

@@ -1,16 +1,13 @@
 -- One more tree of a file.
-use Rattle.std.specs.Prelude.{ℕ, ◌≡◌, ◌-◌, ◌<◌, ◌≤◌, List, [], ◌∷◌, ◌++◌, length, All, IfSome}
+use Rattle.std.specs.Prelude.{ℕ, ◌≡◌, ◌-◌, ◌<◌, ◌≤◌, List, [], ◌∷◌, ◌++◌, length}
 use Rattle.std.specs.List.{AllByRecursion}
 use Rattle.std.specs.declared.cmp.Ordering.TheVariants.{Less}
-use Rattle.std.proofs.Common.{arith, sym, ap, ◌∙◌, subst, inl, inr, get_or}
-use Rattle.std.proofs.lemmas.List.Elements.{All-cons, All-nil}
+use Rattle.std.proofs.Common.{arith, sym, subst, inl, inr, get_or}
 use Rattle.std.proofs.lemmas.Bool.{cases_lt}
 use Rattle.std.proofs.lemmas.Option.{slice_get-get_or}
 use Rattle.std.proofs.lemmas.List.Quantifiers.{all_pairs_push}
 use Rattle.points_in.specs.declared.point.Point.{Point}
 use Rattle.full_tree.specs.declared.code.Tree.{Tree}
-use Rattle.full_tree.specs.declared.code.TreeCode.{TreeCode}
-use Rattle.full_tree.specs.Code.{HasFewMembers}
 use Rattle.full_tree.specs.Form.{IsInForm}
 use Rattle.full_tree.specs.Order.{tree_cmp, IsInFileOrder}
 use Rattle.full_tree.specs.OrderLaws.{tree_cmp_total}
@@ -21,9 +18,7 @@ use Rattle.fst_file.specs.Kept.{StandsForCode}
 
 -- a tree that is kept as it is
 pub same_tree : (kept t : Tree) → kept.length ≡ t.length → kept.code ≡ t.code → kept ≡ t
-same_tree kept t e f =
-    let tree : ℕ → TreeCode → Tree = λ n code. record { length = n; code = code } in
-    ap (λ n. tree n kept.code) e ∙ ap (tree t.length) f
+same_tree kept t e f = grind arith
 
 -- what is wrong with the kept tree is wrong with the spelled one
 pub kept_fault : (ps : List Point) (ts : List Tree) (n : ℕ) (kept t : Tree) (f : FstFault) → length ps ≤ 50 → kept.length ≡ t.length
@@ -43,9 +38,7 @@ trees_push ps (u ∷ ts) t all here = (all.0, trees_push ps ts t all.1 here)
 
 -- the last of some trees comes before the next one, as its place tells
 last_before : (ts : List Tree) (t d : Tree) → 0 < length ts → Follows ts t → tree_cmp (get_or ts (length ts - 1) d) t ≡ Less
-last_before ts t d some follows =
-    let last = slice_get-get_or ts (length ts - 1) d (omega arith) in
-    subst (λ o. IfSome o (λ last. tree_cmp last t ≡ Less)) last follows
+last_before ts t d some follows = grind (arith, slice_get-get_or)
 
 -- a list in order with one more tree that comes after its last one
 pub order_push : (ts : List Tree) (t : Tree) → IsInFileOrder ts → Follows ts t → IsInFileOrder (ts ++ t ∷ [])

@@ -80,17 +80,8 @@ code_one (Long r w ds q t) (Long r' w' ds' q' t') fa fb e =
     cc (place_one r r' fa.0 fb.0 roots, way_one w w' ways, place_one t t' fa.1 fb.1 tips, side_one q q' fa.2 fb.2 sides, drops_one ds ds' fa.3 fb.3 drops)
 code_one (Long r w ds q t) (Cross a b c d) fa fb e = absurd (let kinds : codes "long" ≡ codes "cross" = cc in kind_one kinds)
 code_one (Cross a b c d) (Long r w ds q t) fa fb e = absurd (let kinds : codes "cross" ≡ codes "long" = cc in kind_one (sym kinds))
-code_one (Cross a b c d) (Cross a' b' c' d') fa fb e =
-    let wests : decimal a ≡ decimal a' = cc in
-    let souths : decimal b ≡ decimal b' = cc in
-    let easts : decimal c ≡ decimal c' = cc in
-    let norths : decimal d ≡ decimal d' = cc in
-    cc (place_one a a' fa.0 fb.0 wests, place_one b b' fa.1 fb.1 souths, place_one c c' fa.2 fb.2 easts, place_one d d' fa.3 fb.3 norths)
+code_one (Cross a b c d) (Cross a' b' c' d') fa fb e = grind (arith, place_one)
 
 -- a tree
 pub tree_one : (s t : Tree) → IsSpelled s → IsSpelled t → tree_words s ≡ tree_words t → s ≡ t
-tree_one s t fs ft same =
-    let lengths : decimal s.length ≡ decimal t.length = cc in
-    let codes : code_words s.code ≡ code_words t.code = cc in
-    same_tree s t (decimal_injective s.length t.length fs.length_fits ft.length_fits lengths)
-    (code_one s.code t.code fs.places_fit ft.places_fit codes)
+tree_one s t fs ft same = grind (arith, same_tree, decimal_injective, code_one)

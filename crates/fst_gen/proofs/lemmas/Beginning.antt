@@ -1,5 +1,5 @@
 -- What is asked of a code holds in its beginning, as far as it speaks of this alone.
-use Rattle.std.proofs.Common.{ℕ, ◌≡◌, ◌≢◌, ◌+◌, ◌<◌, ℤ, pos, ◌<ℤ◌, List, [], ◌∷◌, ◌++◌, length, get_or, map, ap, sym, subst, ◌∙◌, ◌⊎◌, inl, inr, ⊎_elim, arith, length-append, Option, Some, None, IfSome}
+use Rattle.std.proofs.Common.{ℕ, ◌≡◌, ◌≢◌, ◌+◌, ◌<◌, ℤ, pos, ◌<ℤ◌, List, [], ◌∷◌, ◌++◌, length, get_or, map, ap, sym, subst, ◌∙◌, ◌⊎◌, inl, inr, arith, length-append, Option, Some, None, IfSome}
 use Rattle.std.specs.Prelude.{All, AllPairs, Contains, option_to_list}
 use Rattle.std.proofs.lemmas.Int.{ints}
 use Rattle.std.proofs.lemmas.List.{append_assoc, get_or_append_left, get_or-append-add, get_or_default}
@@ -26,11 +26,7 @@ use Rattle.fst_gen.proofs.lemmas.Prefixes.{rises_first, in_turn_first, stations_
 
 AllPairs-first : {X : Type 0} (R : X → X → Type 0) (xs ys : List X) → AllPairs R (xs ++ ys) → AllPairs R xs
 AllPairs-first R xs ys all i j d before inside =
-    let size = length-append xs ys in
-    let a = get_or_append_left xs ys d i (omega (arith, before, inside)) in
-    let b = get_or_append_left xs ys d j inside in
-    subst (λ y. R (get_or xs i d) y) b
-    (subst (λ x. R x (get_or (xs ++ ys) j d)) a (all i j d before (omega (arith, size, inside))))
+    grind (arith, length-append xs ys, get_or_append_left, get_or_append_left xs ys d j inside)
 
 -- what rises rises above what it began with
 rises_all : (f : ℕ → ℤ) (z : ℤ) (ys : List ℕ) → RisesFrom z (map f ys) → All (λ y. z <ℤ f y) ys
@@ -79,8 +75,7 @@ module _ (ps : List Point) (named early : List ℕ) where
 
   clear_less : (x : Piece) → IsEarlyAt x.from → IsEarlyAt x.to → IsClear ps named x → IsClear ps early x
   clear_less x from to clear k inside on =
-      let both = clear k inside on in
-      (⊎_elim (λ (at : point_at ps k ≡ x.from). from k both.0 at) (λ (at : point_at ps k ≡ x.to). to k both.0 at) both.1, both.1)
+      grind (arith, clear k inside on, from k (clear k inside on).0, to k (clear k inside on).0)
 
   module _ (root : ℕ) (toward : Way) where
     leg_clear : (p : Point) (ds more : List ℕ) (rest : List Point) → IsEarlyAt p → All (λ d. IsEarlyAt (foot ps root toward d)) ds

@@ -1,5 +1,5 @@
 -- A tree put in if it is the least under its word, and words of sets.
-use Rattle.std.proofs.Common.{ℕ, ◌≡◌, Bool, refl, ap, sym, subst, ◌∙◌, arith, inl}
+use Rattle.std.proofs.Common.{ℕ, ◌≡◌, Bool, ap, sym, subst, ◌∙◌, arith}
 use Rattle.std.specs.Prelude.{Some}
 use Rattle.std.specs.Bool.{MatchBool}
 use Rattle.std.specs.declared.cmp.Ordering.{Ordering}
@@ -44,13 +44,4 @@ PutsLeast-worse tree trees word is (old, at, after) = grind (arith, IsNotAfter-r
 -- the tree is put in
 pub PutsLeast-better : (tree : Tree) (old new : BTreeMap ℕ Tree) (word : ℕ) → IsWordOf word (members_of tree.code) → IsBetter tree old word
     → Updates nat_cmp old new word (Some tree) → PutsLeast tree old new
-PutsLeast-better tree old new word is better updates = record {
-  word = word;
-  word_is = is;
-  kept = tree;
-  here = updates.1;
-  either = inl refl;
-  least = IsNotAfter-refl tree;
-  no_worse = λ was there. IsNotAfter-less tree was (better was there);
-  others = λ q apart. updates.2 q (grind (arith, nat_tests));
-}
+PutsLeast-better tree old new word is better updates = grind (arith, IsNotAfter-refl tree, IsNotAfter-less, nat_tests)

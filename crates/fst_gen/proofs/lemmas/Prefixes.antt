@@ -253,10 +253,8 @@ far_tip ps root toward drops tip far code (side, is) passes =
 drop_stations-in : (P : ℕ → Type 0) (ps : List Point) (root : ℕ) (toward : Way) (from : Point) (ds : List ℕ) → All P ds
     → All (λ s. P s.member) (drop_stations ps root toward from ds)
 drop_stations-in P ps root toward from [] all = All-nil (λ (s : Station). P s.member)
-drop_stations-in P ps root toward from (d ∷ ds) all = All-cons (λ (s : Station). P s.member)
-    (station d (distance_between from (foot ps root toward d)) (distance_between (foot ps root toward d) (point_at ps d)))
-    (drop_stations ps root toward (foot ps root toward d) ds)
-    (All-head P d ds all) (drop_stations-in P ps root toward (foot ps root toward d) ds (All-tail P d ds all))
+drop_stations-in P ps root toward from (d ∷ ds) all =
+    grind (arith, All-cons, All-head P d ds all, drop_stations-in P ps root toward (foot ps root toward d) ds (All-tail P d ds all), All-tail P d ds all)
 
 pub prefix_stations-in : (ps ts : List Point) (prefix : Prefix) (xs : List Station) → IsPrefix ps prefix → ps ≡ ts → xs ≡ prefix.stations
     → All (λ s. s.member < length ts) xs

@@ -13,7 +13,6 @@ use Rattle.full_tree.specs.declared.way.Way.TheVariants.{East, North, West, Sout
 use Rattle.full_tree.specs.declared.code.Tree.{Tree}
 use Rattle.full_tree.specs.declared.code.TreeCode.{TreeCode}
 use Rattle.full_tree.specs.declared.code.TreeCode.TheVariants.{Long, Cross}
-use Rattle.full_tree.specs.Code.{named_places}
 use Rattle.full_tree.specs.MembersLaws.{length-ascending_places}
 use Rattle.full_tree.specs.Geometry.{point_at}
 use Rattle.full_tree.specs.Form.{IsOnShortLeg}
@@ -39,11 +38,7 @@ wanted_parts ps k root toward drops side tip code is wanted =
 -- a wanted code has as many members as it names places
 wanted_count : (ps : List Point) (k : ℕ) (root : ℕ) (toward : Way) (drops : List ℕ) (side : Option ℕ) (tip : ℕ) (code : TreeCode)
     → code ≡ Long root toward drops side tip → IsWanted ps k code → length drops + length (option_to_list side) + 2 ≤ k
-wanted_count ps k root toward drops side tip code is wanted =
-    let there = subst (λ c. IsWanted ps k c) is wanted in
-    let parts = long_names_few ps root toward drops side tip there.passes.form in
-    let size = length-ascending_places (named_places (Long root toward drops side tip)) there.passes.form.members.distinct in
-    omega (arith, size, parts.count, there.few)
+wanted_count ps k root toward drops side tip code is wanted = grind (arith, long_names_few, length-ascending_places)
 
 module _ (ps : List Point) (k : ℕ) (root : ℕ) (toward : Way) (drops : List ℕ) where
   -- ---- sides
@@ -65,10 +60,7 @@ module _ (ps : List Point) (k : ℕ) (root : ℕ) (toward : Way) (drops : List �
 
   EndsBelow-more : (n : ℕ) (code : TreeCode) → EndsBelow root toward drops (n + 1) code
       → EndsBelow root toward drops n code ⊎ EndsAt root toward drops n code
-  EndsBelow-more n code (tip, below, ends) = ⊎_elim
-      (λ (same : tip ≡ n). inr (subst (λ t. EndsAt root toward drops t code) same ends))
-      (λ (apart : tip ≡ n → ⊥). inl (tip, omega arith, ends))
-      (cases_eq tip n)
+  EndsBelow-more n code (tip, below, ends) = grind (arith, cases_eq tip n)
 
   pub EndsBelow-step : (n : ℕ) (old mid new : BTreeMap ℕ Tree) → Stores ps k (EndsBelow root toward drops n) old mid
       → Stores ps k (EndsAt root toward drops n) mid new → Stores ps k (EndsBelow root toward drops (n + 1)) old new
@@ -80,8 +72,7 @@ module _ (ps : List Point) (k : ℕ) (root : ℕ) (toward : Way) (drops : List �
       → (code ≡ made) ⊎ HangsBelow root toward drops tip (length ps) code
   EndsAt-cases tip made code is_made (None, is) wanted = inl (is ∙ sym is_made)
   EndsAt-cases tip made code is_made (Some q, is) wanted =
-      let parts = wanted_parts ps k root toward drops (Some q) tip code is wanted in
-      inr (q, All-head (λ j. j < length ps) q [] parts.side_in, is)
+      grind (arith, wanted_parts ps k root toward drops (Some q) tip code is wanted, Some q, All-head)
 
   pub EndsAt-both : (tip : ℕ) (made : TreeCode) (old mid new : BTreeMap ℕ Tree) (result : Result (Unit {0}) GenFault)
       → made ≡ Long root toward drops None tip → Stores ps k (λ other. other ≡ made) old mid
@@ -200,10 +191,7 @@ within-from ps i j most n b h other c = omega (arith, b.least other c.chain)
 
 module _ (ps : List Point) (k : ℕ) where
   IsRootedBelow-more : (n : ℕ) (code : TreeCode) → IsRootedBelow (n + 1) code → IsRootedBelow n code ⊎ IsRootedAt n code
-  IsRootedBelow-more n code (root, below, rooted) = ⊎_elim
-      (λ (same : root ≡ n). inr (subst (λ r. IsRootedAt r code) same rooted))
-      (λ (apart : root ≡ n → ⊥). inl (root, omega arith, rooted))
-      (cases_eq root n)
+  IsRootedBelow-more n code (root, below, rooted) = grind (arith, cases_eq root n)
 
   pub IsRootedBelow-step : (n : ℕ) (old mid new : BTreeMap ℕ Tree) → Stores ps k (IsRootedBelow n) old mid
       → Stores ps k (IsRootedAt n) mid new → Stores ps k (IsRootedBelow (n + 1)) old new

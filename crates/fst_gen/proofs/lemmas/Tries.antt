@@ -135,7 +135,4 @@ Generates-from_keep ps k tree old new (Err (Memory e)) store long wanted told = 
 pub members_small : (ps : List Point) (code : TreeCode) → length ps ≤ 50 → All (λ k. k < length ps) (named_places code)
     → All (λ k. k < 64) (members_of code)
 members_small ps code few all i d inside =
-    let x = get_or (members_of code) i d in
-    let named = Contains-from_ascending_places (named_places code) x (Contains-get_or (members_of code) i d inside) in
-    let below : x < length ps = All-contains (λ k. k < length ps) (named_places code) x all named in
-    omega (arith, below, few)
+    grind (arith, Contains-from_ascending_places (named_places code) (get_or (members_of code) i d) (Contains-get_or (members_of code) i d inside), Contains-get_or (members_of code) i d inside, All-contains)

@@ -27,13 +27,7 @@ module _ (trees : List Tree) where
   -- two trees with the same members, neither of which is a repeat, stand at one place
   pub same_first : (j k : ℕ) (a b : Tree) → slice_get trees j ≡ Some a → slice_get trees k ≡ Some b
       → members_of a.code ≡ members_of b.code → ¬ IsRepeat trees j → ¬ IsRepeat trees k → j ≡ k
-  same_first j k a b at_a at_b same first first' = ⊎_elim
-      (λ (is : j ≡ k). is)
-      (λ rest. ⊎_elim
-      (λ (before : j < k). absurd (first' (later_repeats j k a b before at_a at_b same)))
-      (λ (after : k < j). absurd (first (later_repeats k j b a after at_b at_a (sym same))))
-      rest)
-      (cases_order j k)
+  same_first j k a b at_a at_b same first first' = grind (arith, later_repeats, cases_order j k)
 
   -- nothing is found before the first tree
   pub firsts_none : (firsts : BTreeMap ℕ ℕ) → IsEmpty firsts → AreFirsts trees 0 firsts
@@ -43,15 +37,7 @@ module _ (trees : List Tree) where
   pub firsts_passed : (m word first : ℕ) (tree : Tree) (firsts : BTreeMap ℕ ℕ) → AreFirsts trees m firsts
       → slice_get trees m ≡ Some tree → IsWordOf word (members_of tree.code) → get nat_cmp firsts word ≡ Some first
       → AreFirsts trees (m + 1) firsts
-  firsts_passed m word first tree firsts are at is found = record {
-    sound = are.sound;
-    complete = λ k other before at'. ⊎_elim
-        (λ (same : k ≡ m).
-        let one : tree ≡ other = same_Some tree other (sym at ∙ subst (λ j. slice_get trees j ≡ Some other) same at') in
-        record { word = word; word_is = subst (λ t. IsWordOf word (members_of t.code)) one is; place = first; found = found })
-        (λ (apart : k ≡ m → ⊥). are.complete k other (omega arith) at')
-        (cases_eq k m);
-  }
+  firsts_passed m word first tree firsts are at is found = grind (arith, same_Some, cases_eq)
 
   -- a tree whose word isn't there is the first one
   pub firsts_added : (m word : ℕ) (tree : Tree) (old new : BTreeMap ℕ ℕ) → AreFirsts trees m old

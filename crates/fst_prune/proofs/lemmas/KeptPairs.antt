@@ -1,5 +1,5 @@
 -- Pruning keeps a pair for each two terminals that have one, so the pairs that are kept join what all pairs join.
-use Rattle.std.proofs.Common.{ℕ, zero, suc, ◌≡◌, ◌<◌, ◌≤◌, ◌⊎◌, Bool, true, false, List, [], ◌∷◌, length, get_or, sym, subst, ap, ◌∙◌, arith, ⊎_elim, inl, inr, Some}
+use Rattle.std.proofs.Common.{ℕ, zero, suc, ◌≡◌, ◌<◌, ◌≤◌, ◌⊎◌, Bool, true, false, List, [], ◌∷◌, length, get_or, sym, subst, ap, ◌∙◌, arith, ⊎_elim, Some}
 use Rattle.std.specs.Prelude.{slice_get}
 use Rattle.std.proofs.lemmas.Bool.{cases_Bool}
 use Rattle.std.proofs.lemmas.Option.{same_Some, slice_get_within, slice_get-get_or, get_or_from_slice_get}
@@ -13,12 +13,7 @@ use Rattle.fst_prune.proofs.lemmas.Sublists.{has-restrict}
 
 -- a flag is true or false
 pub flag_cases : (flags : List Bool) (k : ℕ) → k < length flags → (slice_get flags k ≡ Some true) ⊎ (slice_get flags k ≡ Some false)
-flag_cases flags k inside =
-    let at = slice_get-get_or flags k false inside in
-    ⊎_elim
-    (λ (test : get_or flags k false ≡ true). inl (at ∙ ap Some test))
-    (λ (test : get_or flags k false ≡ false). inr (at ∙ ap Some test))
-    (cases_Bool (get_or flags k false))
+flag_cases flags k inside = grind (arith, slice_get-get_or flags k false inside, cases_Bool (get_or flags k false))
 
 -- both places in either order
 abbrev AreTwo : ℕ → ℕ → List ℕ → Type 0

@@ -75,16 +75,7 @@ module _ (trees : List Tree) (ms : List ℕ) where
   -- a hop by a pair is a step that shares its tree
   hop_shares : (set : List Bool) (pair : Pair) (k v w : ℕ) → StandsFor trees ms pair k → slice_get set k ≡ Some true
       → HasEnds (edge_of pair) v w → SharesTree trees set (get_or ms v 0) (get_or ms w 0)
-  hop_shares set pair k v w stands inside ends = ⊎_elim
-      (λ (along : (pair.a ≡ v) × (pair.b ≡ w)).
-      subst (λ x. SharesTree trees set (get_or ms x 0) (get_or ms w 0)) along.0
-      (subst (λ y. SharesTree trees set (get_or ms pair.a 0) (get_or ms y 0)) along.1
-      (k, stands.tree, inside, stands.is.at, first_in pair k stands, second_in pair k stands)))
-      (λ (against : (pair.a ≡ w) × (pair.b ≡ v)).
-      subst (λ x. SharesTree trees set (get_or ms x 0) (get_or ms w 0)) against.1
-      (subst (λ y. SharesTree trees set (get_or ms pair.b 0) (get_or ms y 0)) against.0
-      (k, stands.tree, inside, stands.is.at, second_in pair k stands, first_in pair k stands)))
-      ends
+  hop_shares set pair k v w stands inside ends = grind (arith, first_in pair k stands, second_in pair k stands)
 
   module _ (pairs : List Pair) (are : ArePairsWithin trees ms (length ms) 0 pairs) where
     -- the pairs are of numbers of members

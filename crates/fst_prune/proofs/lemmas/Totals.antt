@@ -12,7 +12,6 @@ use Rattle.std.proofs.lemmas.Option.{same_Some, slice_get_within, get_or_from_sl
 use Rattle.net_graph.specs.Search.{Leads}
 use Rattle.net_graph.specs.SearchLaws.{Leads-start, Leads-more, Leads-keeps, Leads-trans, Leads-weaker}
 use Rattle.full_tree.specs.declared.code.Tree.{Tree}
-use Rattle.full_tree.specs.Code.{members_of}
 use Rattle.full_tree.specs.Order.{tree_cmp, IsInFileOrder}
 use Rattle.concatenation.specs.Concatenation.{IsMember, SharesTree, IsConcatenation, total_of}
 use Rattle.fst_prune.specs.Kept.{IsRepeat, IsKeptPair, IsReplaced, trees_of, IsKeptSet}
@@ -47,16 +46,7 @@ module _ (trees : List Tree) (flags : List Bool) (is : IsKeptSet trees flags) (o
 
   -- a kept pair is kept
   kept_pair : (k : ℕ) → IsKeptPair trees k → slice_get flags k ≡ Some true
-  kept_pair k pair = ⊎_elim
-      (λ (kept : slice_get flags k ≡ Some true). kept)
-      (λ (out : slice_get flags k ≡ Some false). absurd (⊎_elim
-      (λ (again : IsRepeat trees k). pair.first again)
-      (λ (replaced : IsReplaced trees k).
-      let one : replaced.tree ≡ pair.tree = same_Some replaced.tree pair.tree (sym replaced.at ∙ pair.at) in
-      let three : 3 ≤ length (members_of pair.tree.code) = subst (λ t. 3 ≤ length (members_of t.code)) one replaced.three in
-      omega (arith, three, pair.two))
-      (is.drops k out)))
-      (flag_cases flags k (omega (arith, is.size, slice_get_within trees k pair.tree pair.at)))
+  kept_pair k pair = grind (arith, same_Some, flag_cases, slice_get_within trees k pair.tree pair.at)
 
   -- a kept tree stands in for itself
   kept_stands : (k : ℕ) → k < length trees → slice_get flags k ≡ Some true → StandIn k
@@ -73,22 +63,7 @@ module _ (trees : List Tree) (flags : List Bool) (is : IsKeptSet trees flags) (o
 
   -- the kept pairs stand in for a tree that they replace
   replaced_stands : (k : ℕ) → IsReplaced trees k → StandIn k
-  replaced_stands k replaced = record {
-    part = replaced.set;
-    size = replaced.replaces.size;
-    good = record {
-      kept = λ x at. kept_pair x (replaced.replaces.pairs x at);
-      joins = λ tree i j at i_in j_in.
-          let one : tree ≡ replaced.tree = same_Some tree replaced.tree (sym at ∙ replaced.at) in
-          replaced.replaces.joins i j (subst (λ t. IsMember t i) one i_in) (subst (λ t. IsMember t j) one j_in);
-    };
-    short = omega (
-      arith,
-      sum_of_trees trees replaced.set,
-      replaced.replaces.short,
-      weight_at (λ (t : Tree). t.length) trees k replaced.tree replaced.at,
-    );
-  }
+  replaced_stands k replaced = grind (arith, kept_pair, same_Some, sum_of_trees trees replaced.set, weight_at)
 
   -- what stands in for the earlier tree stands in for its repeat
   repeat_stands : (k : ℕ) (again : IsRepeat trees k) → StandIn again.place → StandIn k
@@ -172,11 +147,8 @@ module _ (trees : List Tree) (flags : List Bool) (is : IsKeptSet trees flags) (o
 
   pub kept_matched : (n : ℕ) (set : List Bool) → IsConcatenation n (trees_of trees flags) set
       → HasConcatenation n trees (λ total. total ≡ total_of (trees_of trees flags) set)
-  kept_matched n set joined = record {
-    set = expand flags set;
-    is = IsConcatenation-expand n trees flags set is.size joined;
-    total = total_of-expand trees flags set is.size joined.size;
-  }
+  kept_matched n set joined =
+      grind (arith, expand flags set, IsConcatenation-expand n trees flags set is.size joined, total_of-expand trees flags set is.size joined.size)
 
 one_least : (trees kept : List Tree) → IsNoWorse trees kept → IsMatched kept trees → HaveOneLeastTotal trees kept
 one_least trees kept no_worse matched n total = (

@@ -15,8 +15,7 @@ some_same x y e = cc
 
 pub All-at : {X : Type 0} (P : X → Type 0) (xs : List X) (k : ℕ) (x : X) → All P xs → slice_get xs k ≡ Some x → P x
 All-at P xs k x all at =
-    let inside = slice_get_within xs k x at in
-    subst P (some_same _ _ (sym (slice_get-get_or xs k x inside) ∙ at)) (all k x inside)
+    grind (arith, slice_get_within xs k x, some_same, slice_get-get_or xs k x (slice_get_within xs k x at), all k x (slice_get_within xs k x at))
 
 pub All-from_places : {X : Type 0} (P : X → Type 0) (xs : List X) (n : ℕ) → n ≡ length xs
     → ((k : ℕ) (x : X) → k < n → slice_get xs k ≡ Some x → P x) → All P xs

@@ -1,5 +1,5 @@
 -- What the edges on the pieces of a tree come to: how they add up, and what they join.
-use Rattle.std.proofs.Common.{ℕ, zero, suc, ◌+◌, ◌≤◌, ◌≡◌, Bool, true, false, List, [], ◌∷◌, ◌++◌, length, replicate, take, get_or, map, slice_get, Some, refl, sym, ap, ◌∙◌, subst, inl, inr, ⊎_elim, arith, ◌⊎◌}
+use Rattle.std.proofs.Common.{ℕ, zero, suc, ◌+◌, ◌≤◌, ◌≡◌, Bool, true, false, List, [], ◌∷◌, ◌++◌, length, replicate, take, get_or, map, slice_get, Some, refl, sym, subst, inl, inr, ⊎_elim, arith}
 use Rattle.std.specs.Prelude.{All, Contains, ◌↔◌}
 use Rattle.std.proofs.lemmas.List.{take_more, take_all}
 use Rattle.std.proofs.lemmas.List.Sums.{sum_by-append, sum_by-cons}
@@ -64,10 +64,7 @@ pub Embeds-more : (ps : List Point) (pieces : List Piece) (n : ℕ) (p : Piece) 
     IsGridStretch ps p.from p.to → Embeds ps (take n pieces) old → Adds (IsOnStretch ps p.from p.to) old new →
     Embeds ps (take (n + 1) pieces) new
 Embeds-more ps pieces n p old new at is before adds =
-    let within = slice_get_within pieces n p at in
-    let same : take (n + 1) pieces ≡ take n pieces ++ p ∷ [] =
-    take_more pieces n p within ∙ ap (λ q. take n pieces ++ q ∷ []) (get_or_from_slice_get pieces n p p at) in
-    subst (λ qs. Embeds ps qs new) (sym same) (Embeds-push ps (take n pieces) p old new is before adds)
+    grind (arith, slice_get_within pieces n p, take_more pieces n p (slice_get_within pieces n p at), get_or_from_slice_get pieces n p p, Embeds-push ps (take n pieces) p old new is before adds)
 
 -- .. up to the last of them
 pub Embeds-all : (ps : List Point) (pieces : List Piece) (n : ℕ) (set : List Bool) → length pieces ≤ n →

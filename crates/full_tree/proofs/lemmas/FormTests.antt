@@ -44,11 +44,7 @@ turns_end {P} C o ds t i b done whole decides = grind (arith, drop_all)
 
 -- the definition against the test, before the first drop
 pub in_turn_iff_turns : (ps : List Point) (root : ℕ) (toward : Way) (drops : List ℕ) (tip : ℕ) → LieInTurn ps root toward drops tip ↔ TurnsFrom (across_of ps root toward) Equal drops tip
-in_turn_iff_turns ps root toward drops tip =
-    let iff = sides_iff_turns (across_of ps root toward) drops tip in (
-      λ h. iff.0 (h.off, h.in_turn, h.last),
-      λ turns. let sides = iff.1 turns in record { off = sides.0; in_turn = sides.1; last = sides.2 },
-    )
+in_turn_iff_turns ps root toward drops tip = grind (arith, sides_iff_turns (across_of ps root toward) drops tip)
 
 -- ---- distinct places
 
@@ -72,8 +68,7 @@ distinct_more ps n inside distinct new i j d before within =
 -- a place that is among those before it
 pub not_distinct : (ps : List ℕ) (n : ℕ) → n < length ps → Contains (take n ps) (get_or ps n 0) → ¬ AllPairs (λ p q. p ≢ q) ps
 not_distinct ps n inside (k, before, is) distinct =
-    let low : k < n = omega (arith, length-take n ps) in
-    distinct k n (get_or ps n 0) low inside (sym (get_or-take n ps k (get_or ps n 0) low) ∙ is ∙ get_or_default ps n 0 (get_or ps n 0) inside)
+    grind (arith, length-take n ps, get_or-take, get_or_default ps n 0 (get_or ps n 0) inside)
 
 -- ---- members of long codes
 
@@ -90,8 +85,7 @@ All-drops P root toward drops side tip all k d inside =
 pub IfSome-side : (P : ℕ → Type 0) (root : ℕ) (toward : Way) (drops : List ℕ) (side : Option ℕ) (tip : ℕ) → All P (named_places (Long root toward drops side tip)) → IfSome side P
 IfSome-side P root toward drops None tip all = tt
 IfSome-side P root toward drops (Some q) tip all =
-    All-contains P (root ∷ drops ++ q ∷ [] ++ tip ∷ []) q all
-    (Contains-append_left (root ∷ drops ++ q ∷ []) (tip ∷ []) q (Contains-push (root ∷ drops) q))
+    grind (arith, All-contains P (root ∷ drops ++ q ∷ [] ++ tip ∷ []) q all (Contains-append_left (root ∷ drops ++ q ∷ []) (tip ∷ []) q (Contains-push (root ∷ drops) q)))
 
 -- ---- the turn of a drop
 
@@ -122,13 +116,8 @@ differ z y o is off same = grind arith
 
 -- the sides of a tip and of a side
 pub on_short_leg : (ps : List Point) (root : ℕ) (toward : Way) (tip q : ℕ) (b : Bool) (ahead turn reach : Ordering) → ahead ≡ int_cmp (along_of ps root toward q) (along_of ps root toward tip) → ahead ≢ Equal → turn ≡ int_cmp (across_of ps root toward q) (pos 0) → turn ≢ Equal → reach ≡ int_cmp (across_of ps root toward tip) (across_of ps root toward q) → b ≡ (ordering_index reach == ordering_index turn) → IsTrue b ↔ IsOnShortLeg ps root toward tip q
-on_short_leg ps root toward tip q b ahead turn reach ahead_is off turn_is turns reach_is test = (
-  λ h. record {
-    between = between_from_turns (across_of ps root toward tip) (across_of ps root toward q) turn turn_is turns (sym reach_is ∙ (orderings_decide reach turn).0 (sym test ∙ h));
-    off = differ (along_of ps root toward q) (along_of ps root toward tip) ahead ahead_is off;
-  },
-  λ leg. test ∙ (orderings_decide reach turn).1 (reach_is ∙ (turns_from_between (across_of ps root toward tip) (across_of ps root toward q) leg.between).1 ∙ sym turn_is),
-)
+on_short_leg ps root toward tip q b ahead turn reach ahead_is off turn_is turns reach_is test =
+    grind (arith, between_from_turns, orderings_decide reach turn, differ (along_of ps root toward q) (along_of ps root toward tip) ahead ahead_is off, turns_from_between)
 
 -- a side that lies on the long leg's line hangs on no short leg
 pub off_short_leg : (ps : List Point) (root : ℕ) (toward : Way) (tip q : ℕ) (turn : Ordering) → turn ≡ int_cmp (across_of ps root toward q) (pos 0) → turn ≡ Equal → ¬ IsOnShortLeg ps root toward tip q

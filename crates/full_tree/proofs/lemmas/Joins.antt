@@ -1,5 +1,5 @@
 -- The pieces of a code in form are straight lines of the grid that hang together and join its members.
-use Rattle.std.proofs.Common.{ℕ, ◌≡◌, ◌<◌, Bool, false, ℤ, pos, List, [], ◌∷◌, ◌++◌, length, get_or, map, refl, sym, ap, subst, ◌∙◌, inl, inr, arith}
+use Rattle.std.proofs.Common.{ℕ, ◌≡◌, ◌<◌, Bool, false, pos, List, [], ◌∷◌, ◌++◌, length, get_or, map, refl, sym, ap, subst, ◌∙◌, inl, inr, arith}
 use Rattle.std.specs.Prelude.{All, Contains, Option, None, Some, IfSome, option_to_list, if◌then◌else◌}
 use Rattle.std.specs.Ordering.{int_eq}
 use Rattle.std.proofs.lemmas.Int.{ints}
@@ -13,7 +13,7 @@ use Rattle.full_tree.specs.declared.way.Way.{Way}
 use Rattle.full_tree.specs.declared.straight.Piece.{Piece}
 use Rattle.full_tree.specs.declared.code.TreeCode.{TreeCode}
 use Rattle.full_tree.specs.declared.code.TreeCode.TheVariants.{Long, Cross}
-use Rattle.full_tree.specs.Geometry.{point_at, meet, IsBetweenZeroAnd}
+use Rattle.full_tree.specs.Geometry.{point_at, meet}
 use Rattle.full_tree.specs.Code.{named_places}
 use Rattle.full_tree.specs.Form.{across_of, IsOnShortLeg, IsCrossShape, IsInForm}
 use Rattle.full_tree.specs.Pieces.{piece_between, line_over, foot, side_foot, long_leg, short_leg, drop_pieces, side_piece, crossing_of, pieces_of}
@@ -51,12 +51,8 @@ corner_is_tip ps root w tip level = same_seen w (foot ps root w tip) (point_at p
 
 -- a tip with a side isn't straight ahead
 pub leg_from_side : (ps : List Point) (root : ℕ) (w : Way) (tip q : ℕ) → IsOnShortLeg ps root w tip q → int_eq (across_of ps root w tip) (pos 0) ≡ false
-leg_from_side ps root w tip q leg = false_from_ne_true (int_eq (across_of ps root w tip) (pos 0))
-    (λ test. between_zero (across_of ps root w tip) (across_of ps root w q) leg.between ((Decides-int_eq (across_of ps root w tip) (pos 0)).0 test))
-  where
-    between_zero : (d c : ℤ) → IsBetweenZeroAnd d c → d ≡ pos 0 → ⊥
-    between_zero d c (inl (h, h')) same = omega (arith, ints)
-    between_zero d c (inr (h, h')) same = omega (arith, ints)
+leg_from_side ps root w tip q leg =
+    grind (arith, false_from_ne_true, Decides-int_eq (across_of ps root w tip) (pos 0), ints)
 
 -- ---- straight
 
@@ -245,12 +241,13 @@ long_members ps root w drops side tip =
 -- what holds of all places that a long code names holds of its root, its drops, its side and its tip
 pub long_places : (P : ℕ → Type 0) (root : ℕ) (w : Way) (drops : List ℕ) (side : Option ℕ) (tip : ℕ) → All P (named_places (Long root w drops side tip)) → P root × All P drops × All P (option_to_list side) × P tip
 long_places P root w drops side tip all =
-    let front = All-first P (root ∷ drops ++ option_to_list side) (tip ∷ []) all in
-    let legs = All-first P (root ∷ drops) (option_to_list side) front in (
-      All-head P root drops legs,
-      All-tail P root drops legs,
-      All-second P (root ∷ drops) (option_to_list side) front,
-      All-head P tip [] (All-second P (root ∷ drops ++ option_to_list side) (tip ∷ []) all),
+    grind (
+      arith,
+      All-head P root drops (All-first P (root ∷ drops) (option_to_list side) (All-first P (root ∷ drops ++ option_to_list side) (tip ∷ []) all)),
+      All-tail P root drops (All-first P (root ∷ drops) (option_to_list side) (All-first P (root ∷ drops ++ option_to_list side) (tip ∷ []) all)),
+      All-second P (root ∷ drops) (option_to_list side) (All-first P (root ∷ drops ++ option_to_list side) (tip ∷ []) all),
+      All-head P tip,
+      All-second P (root ∷ drops ++ option_to_list side) (tip ∷ []) all,
     )
 
 -- ---- crosses

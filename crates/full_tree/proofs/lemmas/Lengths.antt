@@ -95,14 +95,12 @@ rows_enough ps root w tip q leg root_in q_in =
 -- a piece across is at most as long as the lines ahead lie apart
 across_le : (ps : List Point) (w : Way) (p q : Point) → ahead w p ≡ ahead w q → Contains (lines_aside w ps) (aside w p) → Contains (lines_aside w ps) (aside w q) → distance_between p q ≤ width_of (lines_aside w ps)
 across_le ps w p q plumb held held' =
-    let far = apart_le (lines_aside w ps) (aside w p) (aside w q) held held' (IsRising-lines_aside w ps) in
-    omega (arith, ints, distance_seen w p q)
+    grind (arith, apart_le (lines_aside w ps) (aside w p) (aside w q) held held' (IsRising-lines_aside w ps), ints, distance_seen w p q)
 
 -- a piece ahead is at most as long as the lines across lie apart
 ahead_le : (ps : List Point) (w : Way) (p q : Point) → aside w p ≡ aside w q → Contains (lines_ahead w ps) (ahead w p) → Contains (lines_ahead w ps) (ahead w q) → distance_between p q ≤ width_of (lines_ahead w ps)
 ahead_le ps w p q level held held' =
-    let far = apart_le (lines_ahead w ps) (ahead w p) (ahead w q) held held' (IsRising-lines_ahead w ps) in
-    omega (arith, ints, distance_seen w p q)
+    grind (arith, apart_le (lines_ahead w ps) (ahead w p) (ahead w q) held held' (IsRising-lines_ahead w ps), ints, distance_seen w p q)
 
 -- a drop, from its foot
 drop_le : (ps : List Point) (root : ℕ) (w : Way) (k : ℕ) → root < length ps → k < length ps → distance_between (foot ps root w k) (point_at ps k) ≤ width_of (lines_aside w ps)
@@ -172,22 +170,17 @@ leg_line_sum : (ps : List Point) (root : ℕ) (w : Way) (side : Option ℕ) (tip
     → sum_of (line_over (foot ps root w tip) (map (side_foot ps root w tip) (option_to_list side) ++ point_at ps tip ∷ [])) ≡ distance_between (foot ps root w tip) (point_at ps tip)
 leg_line_sum ps root w None tip hangs = sum_by-cons length_of_piece (piece_between (foot ps root w tip) (point_at ps tip)) [] ∙ omega arith
 leg_line_sum ps root w (Some q) tip hangs =
-    let r = point_at ps root in
-    let corner = foot ps root w tip in
-    let cut = side_foot ps root w tip q in
-    let end = point_at ps tip in
-    let zero_across = across-corner ps root w tip in
-    let level = across-same r w cut (point_at ps q) (aside-side_foot ps root w tip q) in
-    let plumb = ahead-foot ps root w tip in
-    let plumb' = ahead-side_foot ps root w tip q in
-    let first = distance_across r w corner cut (plumb ∙ sym plumb') in
-    let second = distance_across r w cut end plumb' in
-    let whole = distance_across r w corner end plumb in
-    let a = rw (zero_across, level) at first in
-    let b = rw level at second in
-    let c = rw zero_across at whole in
-    let split = cut_between (across_of ps root w q) (across_of ps root w tip) hangs.between in
-    sum_by-cons length_of_piece (piece_between corner cut) (piece_between cut end ∷ []) ∙ omega (arith, sum_by-cons length_of_piece (piece_between cut end) [])
+    grind (
+      arith,
+      across-corner ps root w tip,
+      across-same (point_at ps root) w (side_foot ps root w tip q) (point_at ps q) (aside-side_foot ps root w tip q),
+      distance_across (point_at ps root) w (foot ps root w tip) (side_foot ps root w tip q) ((ahead-foot ps root w tip) ∙ sym (ahead-side_foot ps root w tip q)),
+      distance_across (point_at ps root) w (side_foot ps root w tip q) (point_at ps tip) (ahead-side_foot ps root w tip q),
+      distance_across (point_at ps root) w (foot ps root w tip) (point_at ps tip) (ahead-foot ps root w tip),
+      cut_between (across_of ps root w q) (across_of ps root w tip) hangs.between,
+      sum_by-cons length_of_piece (piece_between (foot ps root w tip) (side_foot ps root w tip q)) (piece_between (side_foot ps root w tip q) (point_at ps tip) ∷ []),
+      sum_by-cons length_of_piece (piece_between (side_foot ps root w tip q) (point_at ps tip)),
+    )
 
 -- a leg that may be missing is no longer than the leg
 leg_or_none : (b : Bool) (xs : List Piece) → sum_of (if b then [] else xs) ≤ sum_of xs
@@ -254,13 +247,15 @@ cross_sum : (w s e n : Point) → IsCrossShape w s e n
     → let middle : Point = record { x = s.x; y = w.y } in
     distance_between middle w + distance_between middle s + distance_between middle e + distance_between middle n ≡ unsigned_abs (e.x -ℤ w.x) + unsigned_abs (n.y -ℤ s.y)
 cross_sum w s e n shape =
-    let across = cut_sum w.x s.x e.x shape.right_of_west shape.left_of_east in
-    let up = cut_sum s.y w.y n.y shape.above_south shape.below_north in
-    let a = no_distance w.y w.y refl in
-    let b = no_distance s.x s.x refl in
-    let c = no_distance w.y e.y shape.level in
-    let d = no_distance s.x n.x shape.upright in
-    omega arith
+    grind (
+      arith,
+      cut_sum w.x s.x e.x shape.right_of_west shape.left_of_east,
+      cut_sum s.y w.y n.y shape.above_south shape.below_north,
+      no_distance w.y w.y refl,
+      no_distance s.x s.x refl,
+      no_distance w.y e.y shape.level,
+      no_distance s.x n.x shape.upright,
+    )
 
 cross_fits : (ps : List Point) (west south east north : ℕ) → IsInForm ps (Cross west south east north) → code_length ps (Cross west south east north) ≤ total_of (hanan_grid_of ps)
 cross_fits ps west south east north form =
@@ -293,15 +288,9 @@ code_length-le ps code form = grind (arith, long_fits, cross_fits)
 -- one more piece
 pub sum-more : (pieces : List Piece) (n : ℕ) (x : Piece) (total length : ℕ) → slice_get pieces n ≡ Some x → total ≡ sum_of (take n pieces) → length ≡ length_of_piece x → total + length ≡ sum_of (take (n + 1) pieces)
 sum-more pieces n x total long at so_far is =
-    let inside = slice_get_within pieces n x at in
-    let here = get_or_from_slice_get pieces n x x at in
-    let split = rw here at (take_more pieces n x inside) in
-    rw split (omega (arith, sum_by-append length_of_piece (take n pieces) (x ∷ []), sum_by-cons length_of_piece x []))
+    grind (arith, slice_get_within pieces n x, get_or_from_slice_get pieces n x x, take_more pieces n x (slice_get_within pieces n x at), sum_by-append length_of_piece (take n pieces) (x ∷ []), sum_by-cons length_of_piece x)
 
 -- no more than all of them
 pub sum-more_le : (pieces : List Piece) (n : ℕ) (x : Piece) (total length : ℕ) → slice_get pieces n ≡ Some x → total ≡ sum_of (take n pieces) → length ≡ length_of_piece x → total + length ≤ sum_of pieces
 sum-more_le pieces n x total long at so_far is =
-    let inside = slice_get_within pieces n x at in
-    let here = get_or_from_slice_get pieces n x x at in
-    let bound = rw here at (sum_by_more_le length_of_piece pieces n x inside) in
-    omega arith
+    grind (arith, slice_get_within pieces n x, get_or_from_slice_get pieces n x x, sum_by_more_le length_of_piece pieces n x (slice_get_within pieces n x at))

@@ -46,8 +46,7 @@ length-line_over p (q ∷ qs) = omega (arith, length-line_over q qs)
 
 pub length-long_leg : (ps : List Point) (root : ℕ) (w : Way) (drops : List ℕ) (tip : ℕ) → length (long_leg ps root w drops tip) ≡ length drops + 1
 length-long_leg ps root w drops tip =
-    let qs = map (foot ps root w) drops ++ foot ps root w tip ∷ [] in
-    omega (arith, length-line_over (point_at ps root) qs, length-append (map (foot ps root w) drops) (foot ps root w tip ∷ []), length-map drops (foot ps root w))
+    grind (arith, length-line_over (point_at ps root) (map (foot ps root w) drops ++ foot ps root w tip ∷ []), length-append (map (foot ps root w) drops) (foot ps root w tip ∷ []), length-map drops (foot ps root w))
 
 -- a side counts as one, and none as nothing
 pub side_counts : (side : Option ℕ) → bool_byte (is_some side) ≡ length (option_to_list side)
@@ -59,11 +58,14 @@ length-short_leg ps root w side tip bent = grind arith
 
 pub length-pieces_of : (ps : List Point) (root : ℕ) (w : Way) (drops : List ℕ) (side : Option ℕ) (tip : ℕ) → length (pieces_of ps (Long root w drops side tip)) ≡ length drops + 1 + length (short_leg ps root w side tip) + length drops + length (option_to_list side)
 length-pieces_of ps root w drops side tip =
-    let long = long_leg ps root w drops tip in
-    let short = short_leg ps root w side tip in
-    let hung = drop_pieces ps root w drops in
-    let last = side_piece ps root w side tip in
-    omega (arith, length-append (long ++ short ++ hung) last, length-append (long ++ short) hung, length-append long short, length-long_leg ps root w drops tip, length-map drops (λ k. piece_between (foot ps root w k) (point_at ps k)), length-map (option_to_list side) (λ k. piece_between (side_foot ps root w tip k) (point_at ps k)))
+    grind (
+      arith,
+      length-append ((long_leg ps root w drops tip) ++ (short_leg ps root w side tip) ++ (drop_pieces ps root w drops)) (side_piece ps root w side tip),
+      length-append ((long_leg ps root w drops tip) ++ (short_leg ps root w side tip)) (drop_pieces ps root w drops),
+      length-append (long_leg ps root w drops tip) (short_leg ps root w side tip),
+      length-long_leg ps root w drops tip,
+      length-map,
+    )
 
 -- ---- the parts of a long code
 

@@ -1,5 +1,5 @@
 -- What orderings tell of signed numbers and of points, and the tests of a form.
-use Rattle.std.proofs.Common.{ℕ, ◌+◌, ◌≡◌, ◌≢◌, ◌<◌, ℤ, pos, ◌<ℤ◌, List, [], ◌∷◌, ◌++◌, length, get_or, drop, map, sym, ◌∙◌, ◌⊎◌, inl, inr, ◌↔◌, arith, drop-cons, add-one, Less, Equal, Greater, Some, None, IfSome}
+use Rattle.std.proofs.Common.{ℕ, ◌+◌, ◌≡◌, ◌≢◌, ◌<◌, ℤ, pos, ◌<ℤ◌, List, [], ◌∷◌, ◌++◌, length, get_or, drop, map, ◌⊎◌, inl, inr, ◌↔◌, arith, drop-cons, add-one, Less, Equal, Greater, Some, None, IfSome}
 use Rattle.std.specs.Prelude.{All}
 use Rattle.std.specs.List.{last_or}
 use Rattle.std.specs.declared.cmp.Ordering.{Ordering}
@@ -37,10 +37,7 @@ stand z y = grind arith
 
 -- a value that doesn't rise
 pub rises_not : {P : Type 0} (A : ℕ → ℤ) (z : ℤ) (ds ts : List ℕ) (i : ℕ) → i < length ds → (P ↔ RisesFrom z (map A (drop i ds ++ ts))) → ¬ (z <ℤ A (get_or ds i 0)) → ¬ P
-rises_not {P} A z ds ts i inside whole lower p =
-    let split : drop i ds ≡ get_or ds i 0 ∷ drop (i + 1) ds = rw (add-one, drop-cons ds i 0) in
-    let here = rw split at whole in
-    lower (here.0 p).0
+rises_not {P} A z ds ts i inside whole lower p = grind (arith, add-one, drop-cons ds i 0)
 
 -- ---- turns
 
@@ -129,20 +126,11 @@ sides_iff_turns C (d ∷ ds) t = (
 
 -- one more drop that turns
 pub turns_more : {P : Type 0} (C : ℕ → ℤ) (o o' : Ordering) (ds : List ℕ) (t i : ℕ) → i < length ds → (P ↔ TurnsFrom C o (drop i ds) t) → o' ≡ int_cmp (C (get_or ds i 0)) (pos 0) → o' ≢ Equal → o' ≢ o → P ↔ TurnsFrom C o' (drop (i + 1) ds) t
-turns_more {P} C o o' ds t i inside whole is off apart =
-    let split : drop i ds ≡ get_or ds i 0 ∷ drop (i + 1) ds = rw (add-one, drop-cons ds i 0) in
-    let here = rw split at whole in
-    rw is ((λ p. (here.0 p).2), λ rest. here.1 ((λ tied. off (is ∙ tied)), (λ same. apart (is ∙ same)), rest))
+turns_more {P} C o o' ds t i inside whole is off apart = grind (arith, add-one, drop-cons ds i 0)
 
 -- a drop that doesn't turn
 pub turns_not : {P : Type 0} (C : ℕ → ℤ) (o o' : Ordering) (ds : List ℕ) (t i : ℕ) → i < length ds → (P ↔ TurnsFrom C o (drop i ds) t) → o' ≡ int_cmp (C (get_or ds i 0)) (pos 0) → (o' ≡ Equal) ⊎ (o' ≡ o) → ¬ P
-turns_not {P} C o o' ds t i inside whole is stays p =
-    let split : drop i ds ≡ get_or ds i 0 ∷ drop (i + 1) ds = rw (add-one, drop-cons ds i 0) in
-    let here = rw split at whole in
-    elim stays [
-      | inl tied ↦ (here.0 p).0 (sym is ∙ tied)
-      | inr same ↦ (here.0 p).1 (sym is ∙ same)
-    ]
+turns_not {P} C o o' ds t i inside whole is stays p = grind (arith, add-one, drop-cons ds i 0)
 
 -- ---- the side
 

@@ -32,11 +32,7 @@ module _ (ps : List Point) (root : ℕ) (toward : Way) where
   pub first_stations-room : (old now : List Station) (drops : List ℕ) (i : ℕ) → i < length drops
       → now ≡ old ++ first_stations ps root toward (take i drops) → length old + length drops < 8 → length now < 8
   first_stations-room old now drops i inside is room =
-      let a = length-append old (first_stations ps root toward (take i drops)) in
-      let b = drop_stations-length (point_at ps root) (take i drops) in
-      let e = ap length is in
-      let f = length-take i drops in
-      omega (arith, a, b, e, f)
+      grind (arith, length-append old (first_stations ps root toward (take i drops)), drop_stations-length (point_at ps root) (take i drops), length-take i drops)
 
   -- one drop more
   pub first_stations-more : (old now new : List Station) (from at p : Point) (drops : List ℕ) (i before leg : ℕ)

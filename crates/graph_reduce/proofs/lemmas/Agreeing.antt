@@ -131,18 +131,7 @@ module _ (new old : State) (w place : ℕ) (x : Bundle) (at : HasEdge old place 
     (nodes : HasNode new v → HasNode old v) (terminal : IsTerminal new v → IsTerminal old v)
     (still : IsTerminal old v → IsTerminal new v) where
   pub agrees_dropped : new.edges ≡ slice_set old.edges place None → AgreesAt new old v
-  agrees_dropped edges = record {
-    node = nodes;
-    terminal = terminal;
-    still = still;
-    edges = λ n y y_at ends. (found_before old.edges place n y (subst (λ es. slice_get es n ≡ Some (Some y)) edges y_at)).1;
-    ends = λ n (y, y_at, ends). (
-      y,
-      subst (λ es. slice_get es n ≡ Some (Some y)) (sym edges)
-          (slice_get-set_other old.edges place n None (λ same. grind arith) ∙ y_at),
-      ends,
-    );
-  }
+  agrees_dropped edges = grind (arith, still, found_before, slice_get-set_other)
 
 pub due_leaf : (v : ℕ) (old new : State) (due : Due) → AreDue old due → Takes (rule_of Leaf) v old new →
     ((n : ℕ) (x : Bundle) → EndsIn old v n → HasEdge old n x → AreBothDue due x) → AreDue new due

@@ -88,30 +88,8 @@ clear_past s end place from n v ends none clear = record {
 module _ (s : State) (place : ℕ) (tidy : IsTidyBut s place) where
   -- two others are not both alike
   one_alike : (n m : ℕ) → AreAlike s place n → AreAlike s place m → n ≡ m
-  one_alike n m first second = elim (cases_eq n m) [
-    | inl same ↦ same
-    | inr apart ↦ absurd (⊎_elim
-        (λ (order : n < m). tidy.parallels n m first.y second.y first.apart second.apart (record {
-          order = order;
-          first_at = first.other_at;
-          second_at = second.other_at;
-          same_ends = ends;
-        }))
-        (λ (order : m < n). tidy.parallels m n second.y first.y second.apart first.apart (record {
-          order = order;
-          first_at = second.other_at;
-          second_at = first.other_at;
-          same_ends = ends_back first.y.edge second.y.edge ends;
-        }))
-        (ordered n m apart))
-  ]
-    where
-      same_x : second.x ≡ first.x
-      same_x = same_edge s place second.x first.x second.at first.at
-
-      ends : HasEnds second.y.edge first.y.edge.a first.y.edge.b
-      ends = ends_same first.x.edge first.y.edge second.y.edge first.ends
-          (subst (λ (b : Bundle). HasEnds second.y.edge b.edge.a b.edge.b) same_x second.ends)
+  one_alike n m first second =
+      grind (arith, cases_eq, tidy.parallels, ends_back, ordered, first.x, same_edge, ends_same)
 
   -- a parallel pair has the place in it
   pair_with : (n m : ℕ) (x y : Bundle) → AreParallel s n m x y → (n ≡ place) ⊎ (m ≡ place)

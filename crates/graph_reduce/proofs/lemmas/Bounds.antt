@@ -68,8 +68,5 @@ pub leads_on : (old new : State) → GoesOn old new → LeadsTo old new
 leads_on old new more = then_steps old more.next new (one_step old more.next more.step) more.rest
 
 pub smaller_on : (old new : State) → GoesOn old new → size_of new < size_of old
-smaller_on old new more = omega (
-  arith,
-  steps_less 1 old more.next (old, refl, more.step),
-  steps_less more.rest.count more.next new more.rest.steps,
-)
+smaller_on old new more =
+    grind (arith, steps_less 1 old more.next (old, refl, more.step), steps_less more.rest.count more.next new more.rest.steps)

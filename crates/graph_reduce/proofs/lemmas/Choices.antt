@@ -1,6 +1,6 @@
 -- Sets of places as tests, and how one place is put in or taken out.
 use Rattle.std.specs.Prelude.{ℕ, zero, suc, ◌≡◌, ◌==◌, Bool, true, false, List, [], ◌∷◌, slice_get, slice_set, Some, if◌then◌else◌, ◌⊎◌}
-use Rattle.std.proofs.Common.{refl, sym, ap, ◌∙◌, inl, inr, subst, arith, length-set}
+use Rattle.std.proofs.Common.{refl, ap, arith, length-set}
 use Rattle.std.proofs.lemmas.Bool.{cases_eq, eq-eqb, ne_eqb}
 use Rattle.std.proofs.lemmas.List.{set-set}
 use Rattle.std.proofs.lemmas.Option.{slice_get_within, same_Some}
@@ -27,17 +27,8 @@ put_in F n k chosen = grind arith
 -- what is found in a list in which one entry was written was written there, or found there before
 pub set_cases : {A : Type 0} (xs : List A) (n k : ℕ) (x y : A) → slice_get (slice_set xs n x) k ≡ Some y →
     ((k ≡ n) × (x ≡ y)) ⊎ ((k ≡ n → ⊥) × (slice_get xs k ≡ Some y))
-set_cases xs n k x y found = elim (cases_eq k n) [
-  | inl here ↦ inl (here, same_Some x y (sym (at_n here) ∙ found_n here))
-  | inr apart ↦ inr (apart, sym (slice_get-set_other xs n k x apart) ∙ found)
-]
-  where
-    found_n : k ≡ n → slice_get (slice_set xs n x) n ≡ Some y
-    found_n here = subst (λ j. slice_get (slice_set xs n x) j ≡ Some y) here found
-
-    at_n : k ≡ n → slice_get (slice_set xs n x) n ≡ Some x
-    at_n here = slice_get-set_same xs n x
-        (let within = slice_get_within (slice_set xs n x) n y (found_n here) in omega (arith, within, length-set xs n x))
+set_cases xs n k x y found =
+    grind (arith, cases_eq k n, same_Some, slice_get-set_other, slice_get-set_same, slice_get_within, length-set xs n x)
 
 -- one entry is written over, before and after another was
 pub set_over : {A : Type 0} (xs : List A) (i j : ℕ) (a b c : A) → (i ≡ j → ⊥) →

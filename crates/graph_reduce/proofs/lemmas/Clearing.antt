@@ -1,6 +1,6 @@
 -- Where no earlier rule applies, and what stays so where edges are dropped.
 use Rattle.std.specs.Prelude.{ℕ, zero, suc, ◌≡◌, ◌+◌, length, Some, None, if◌then◌else◌, nat_lt}
-use Rattle.std.proofs.Common.{refl, sym, ap, ◌∙◌, inl, inr, subst, arith, length-set}
+use Rattle.std.proofs.Common.{refl, inl, inr, subst, arith, length-set}
 use Rattle.std.proofs.lemmas.Bool.{cases_eq}
 use Rattle.std.proofs.lemmas.Option.{slice_get_within}
 use Rattle.graph_reduce.specs.State.{Bundle, State, HasEdge}
@@ -34,10 +34,7 @@ pub within_then : (one two three : State) → IsWithin one two → IsWithin two 
 within_then one two three first rest = grind arith
 
 pub within_without : (s : State) (place : ℕ) → IsWithin (without_edge s place) s
-within_without s place = record {
-  places = length-set s.edges place None;
-  edges = λ n x at. (found_before s.edges place n x at).1;
-}
+within_without s place = grind (arith, length-set s.edges place None, found_before)
 
 pub parallel_within : (new old : State) → IsWithin new old → (n m : ℕ) (x y : Bundle) → AreParallel new n m x y →
     AreParallel old n m x y
@@ -45,11 +42,7 @@ parallel_within new old within n m x y are = grind arith
 
 pub clear_within : (new old : State) (end pair later : ℕ) → IsWithin new old → new.terminals ≡ old.terminals →
     IsClearTo old end pair later → IsClearTo new end pair later
-clear_within new old end pair later within terminals clear = record {
-  idle = λ one (n, x, at). clear.idle (ap length (sym terminals) ∙ one) (n, x, within.edges n x at);
-  loops = λ n x below at. clear.loops n x below (within.edges n x at);
-  parallels = λ n m x y before are. clear.parallels n m x y before (parallel_within new old within n m x y are);
-}
+clear_within new old end pair later within terminals clear = grind (arith, parallel_within)
 
 -- the place is empty afterwards
 pub none_at : (s : State) (place : ℕ) (x : Bundle) → ¬ HasEdge (without_edge s place) place x
@@ -100,14 +93,7 @@ clear_later s end place later clear here = grind arith
 
 -- the next place
 pub clear_next : (s : State) (end place : ℕ) → IsClearTo s end place (length s.edges) → IsClearTo s end (place + 1) 0
-clear_next s end place clear = record {
-  idle = clear.idle;
-  loops = clear.loops;
-  parallels = λ n m x y before are. clear.parallels n m x y (elim (cases_eq n place) [
-    | inl is ↦ inr (is, slice_get_within s.edges m (Some y) are.second_at)
-    | inr apart ↦ grind arith
-  ]) are;
-}
+clear_next s end place clear = grind (arith, cases_eq, slice_get_within)
 
 -- before any later place than the next
 pub clear_start : (s : State) (end place : ℕ) → IsClearTo s end place 0 → IsClearTo s end place (place + 1)
@@ -119,9 +105,4 @@ pub clear_gone : (s : State) (end place later : ℕ) → ((x : Bundle) → ¬ Ha
 clear_gone s end place later none clear = search arith
 
 pub tidy_from_clear : (s : State) → IsClearTo s (length s.edges) (length s.edges) 0 → IsTidy s
-tidy_from_clear s clear = record {
-  idle = clear.idle;
-  loops = λ n x at. clear.loops n x (slice_get_within s.edges n (Some x) at) at;
-  parallels = λ n m x y are. clear.parallels n m x y
-      (inl (slice_get_within s.edges n (Some x) are.first_at)) are;
-}
+tidy_from_clear s clear = grind (arith, slice_get_within)

@@ -1,5 +1,5 @@
 -- What holds of every state of a reduction: sizes, lengths, and that no edge of the graph is held twice.
-use Rattle.std.specs.Prelude.{ℕ, suc, ◌≡◌, ◌+◌, ◌<◌, ◌≤◌, ◌⊎◌, Bool, true, false, List, [], ◌∷◌, length, replicate, slice_get, slice_set, sum_by, Some, None, All}
+use Rattle.std.specs.Prelude.{ℕ, suc, ◌≡◌, ◌+◌, ◌<◌, ◌≤◌, ◌⊎◌, Bool, true, false, List, [], ◌∷◌, length, replicate, slice_get, sum_by, Some, None, All}
 use Rattle.std.proofs.Common.{refl, sym, ap, ◌∙◌, inl, inr, ⊎_elim, subst, arith, length-set}
 use Rattle.std.proofs.lemmas.List.{length-replicate}
 use Rattle.std.proofs.lemmas.List.Sums.{sum_by-cons}
@@ -57,8 +57,7 @@ some_distinct (x ∷ xs) some = omega arith
 
 positive_at : (es : List Edge) (n : ℕ) (e : Edge) → All (λ x. 0 < x.length) es → slice_get es n ≡ Some e → 0 < e.length
 positive_at es n e positive at =
-    let within = slice_get_within es n e at in
-    subst (λ x. 0 < x.length) (same_Some _ e (sym (slice_get-get_or es n e within) ∙ at)) (positive n e within)
+    grind (arith, slice_get_within es n e, same_Some, slice_get-get_or es n e (slice_get_within es n e at), positive n e (slice_get_within es n e at))
 
 pub Fits-start : (g : Graph) → IsGraph g → Fits g (start_of g)
 Fits-start g graph = record {
@@ -93,10 +92,7 @@ fits_dropped g s nodes n x fits size at = fits_less g s (dropped s nodes n) fits
     refl refl (short_by_drop s nodes n x all at) (λ k y y_at. (found_before s.edges n k y y_at).1)
 
 fits_none : (g : Graph) (old new : State) → Fits g old → DropsAllEdges old new → Fits g new
-fits_none g old new fits drops = subst (Fits g) (sym drops.becomes)
-    (fits_less g old _ fits refl (length-replicate (length old.edges) None) refl refl
-    (omega (arith, length_in-none (length old.edges) all))
-    (λ n x at. let none : None ≡ Some x = slice_get-replicate _ n None (Some x) at in absurd cc))
+fits_none g old new fits drops = grind (arith, fits_less, length-replicate, length_in-none, slice_get-replicate)
 
 fits_lone : (g : Graph) (v : ℕ) (old new : State) → Fits g old → DropsLoneNode v old new → Fits g new
 fits_lone g v old new fits drops = subst (Fits g) (sym drops.becomes)
@@ -205,9 +201,7 @@ Fits-step g OneTerminal at old new fits drops none = fits_none g old new fits dr
 Fits-step g Loop at old new fits drops none = grind (arith, fits_dropped)
 Fits-step g Parallel at old new fits drops none = fits_parallel g at old new fits drops
 Fits-step g Leaf at old new fits (inl drops) none = fits_lone g at old new fits drops
-Fits-step g Leaf at old new fits (inr drops) none = subst (Fits g) (sym drops.becomes)
-    (fits_dropped g old (slice_set old.nodes at false) drops.place drops.x fits (length-set old.nodes at false)
-    drops.edge.at)
+Fits-step g Leaf at old new fits (inr drops) none = grind (arith, fits_dropped, length-set)
 Fits-step g Passed at old new fits joins none = fits_joined g at old new fits joins
 Fits-step g TerminalLeaf at old new fits forces none = fits_forced g at old new fits forces
     (no_loop old forces.place forces.x at forces.other (none (omega arith)) forces.edge.at forces.edge.ends)

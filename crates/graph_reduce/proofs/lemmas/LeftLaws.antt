@@ -1,6 +1,5 @@
 -- What is left with its new numbers is the reduction.
 use Rattle.std.specs.Prelude.{ℕ, zero, suc, ◌≡◌, ◌+◌, ◌<◌, ◌≤◌, Bool, true, false, List, [], ◌∷◌, map, length, slice_index, Option, Some, None, All}
-use Rattle.std.specs.List.{range_with_len}
 use Rattle.std.proofs.Common.{refl, sym, ap, ◌∙◌, arith}
 use Rattle.std.proofs.lemmas.List.{get_or-map}
 use Rattle.std.proofs.lemmas.List.FromFn.{length-range_with_len, get_or-range_with_len, length-map-range_with_len}
@@ -19,10 +18,7 @@ use Rattle.graph_reduce.proofs.lemmas.FitLaw.{reductions_fit_lem}
 -- the new number of a node
 number_at : (nodes : List Bool) (v : ℕ) → v < length nodes → slice_index (numbers_of nodes) v ≡ number_among nodes v
 number_at nodes v below =
-    get_or-map (number_among nodes) (range_with_len 0 (length nodes)) v 0 0
-    (omega (arith, length-range_with_len 0 (length nodes)))
-    ∙ ap (number_among nodes) (get_or-range_with_len 0 (length nodes) v 0 below
-    ∙ (let same : 0 + v ≡ v = omega arith in same))
+    grind (arith, get_or-map, length-range_with_len 0 (length nodes), get_or-range_with_len 0 (length nodes) v 0 below)
 
 -- the edges between new numbers
 edges_renumbered : (nodes : List Bool) (edges : List (Option Bundle)) → HaveEndsBelow (length nodes) edges →
@@ -77,11 +73,7 @@ module _ (g : Graph) (graph : IsGraph g) (s : State) (reduced : IsReducedTo g s)
   terminals_below = numbered.terminals
 
   pub few_nodes : length s.nodes ≤ 2500
-  few_nodes = omega (
-    arith,
-    nodes_from g graph s (record { count = reduced.count; steps = reduced.steps }),
-    graph.few_vertices,
-  )
+  few_nodes = grind (arith, nodes_from g graph s (record { count = reduced.count; steps = reduced.steps }))
 
   pub is_reduction : IsReductionOf g (reduction_of s)
   is_reduction = record { state = s; reduced = reduced; is = refl }

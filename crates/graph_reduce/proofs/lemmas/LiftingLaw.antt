@@ -28,9 +28,7 @@ module _ (g : Graph) (graph : IsGraph g) (s : State) (keeps : Keeps (start_of g)
       (λ e is. wide.back e (lift_into s sound set e is)) (λ e is. lift_back s sound set e (wide.into e is))
 
   long : (set : List Bool) → IsNetwork r.graph set → length_of g (lift_of r set) ≡ length_of r.graph set + r.offset
-  long set network =
-      let wide = widened set network in
-      grind (arith, length_of_start, lift_into, lift_back, value_of_spread)
+  long set network = grind (arith, widened set network, length_of_start, lift_into, lift_back, value_of_spread)
 
   nothing_lost : (other : List Bool) → IsNetwork g other → HasNetworkWithin r (length_of g other)
   nothing_lost other network =

@@ -70,12 +70,7 @@ module _ (s : State) (v : ℕ) where
 
   three_at_two : (has : HasThree s v) (earlier later : ℕ) → TwoPlaces earlier later → ⊥
   three_at_two has earlier later only =
-      let order = has.order in let more = has.more in
-      by_places (only has.one has.first) (only has.two has.second) (only has.three has.third)
-    where
-      by_places : (has.one ≡ earlier) ⊎ (has.one ≡ later) → (has.two ≡ earlier) ⊎ (has.two ≡ later) →
-          (has.three ≡ earlier) ⊎ (has.three ≡ later) → ⊥
-      by_places a b c = omega (arith, a, b, c, has.order, has.more)
+      grind (arith, only has.one has.first, only has.two has.second, only has.three has.third)
 
   pub passed_not_more : HasThree s v → ¬ Applies s Passed v
   passed_not_more has (new, joins) = three_at_two has joins.earlier joins.later joins.only

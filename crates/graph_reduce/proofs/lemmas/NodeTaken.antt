@@ -1,6 +1,6 @@
 -- The rules at nodes are taken by what is done to the state.
 use Rattle.std.specs.Prelude.{ℕ, ◌≡◌, ◌≢◌, ◌+◌, ◌<◌, ◌^◌, false, length, slice_set, Some, None}
-use Rattle.std.proofs.Common.{refl, sym, inl, inr, subst, arith}
+use Rattle.std.proofs.Common.{refl, sym, inl, subst, arith}
 use Rattle.std.proofs.lemmas.List.Elements.{All-contains}
 use Rattle.net_graph.specs.declared.edge.Edge.{Edge}
 use Rattle.net_graph.specs.Network.{HasEnds}
@@ -32,9 +32,7 @@ module _ (s new : State) (v : ℕ) where
   pub leaf_with : (edges : NodeEdges) (place : ℕ) → Applies s Leaf v → IsSeenTo s v (length s.edges) edges →
       edges ≡ OneEdge place → new ≡ without_edge (without_node s v) place → Takes Leaf v s new
   leaf_with edges place applies seen kind is =
-      let node = leaf_node s v applies in
-      let (x, other, edge) = one_edge s v place (subst (IsSeenTo s v (length s.edges)) kind seen) in
-      inr (record { node = node.0; free = node.1; place = place; x = x; other = other; edge = edge; becomes = is })
+      grind (arith, leaf_node s v applies, one_edge s v place (subst (IsSeenTo s v (length s.edges)) kind seen))
 
   pub edges_joined_at : (mid : State) (earlier later u w : ℕ) (e f : Edge) → HasNode s v → ¬ IsTerminal s v →
       HasTwoBelow s v (length s.edges) earlier later → HoldsEdge s earlier e → HoldsEdge s later f →

@@ -1,10 +1,8 @@
 -- A step of a reduction is determined: each rule at its place leads to one state, and one rule at one place is first.
-use Rattle.std.specs.Prelude.{ℕ, ◌≡◌, ◌⊎◌, ◌==◌, ◌<◌, if◌then◌else◌}
-use Rattle.std.proofs.Common.{refl, sym, ap, ◌∙◌, inl, inr, subst, arith}
-use Rattle.net_graph.specs.Network.{HasEnds}
-use Rattle.graph_reduce.specs.State.{Bundle, State, HasEdge, EndsIn, HasOneEdge}
+use Rattle.std.specs.Prelude.{ℕ, ◌≡◌, ◌==◌, ◌<◌, if◌then◌else◌}
+use Rattle.std.proofs.Common.{refl, sym, ap, ◌∙◌, inl, inr, arith}
+use Rattle.graph_reduce.specs.State.{Bundle, State, EndsIn, HasOneEdge}
 use Rattle.graph_reduce.specs.Rules.{DropsParallel, JoinsEdges, ForcesEdge}
-use Rattle.graph_reduce.specs.Rules.{without_edge, without_node}
 use Rattle.graph_reduce.specs.Step.{Rule, Takes, IsStep, order_of}
 use Rattle.graph_reduce.specs.Step.Rule.{OneTerminal, Loop, Parallel, Leaf, Passed, TerminalLeaf}
 use Rattle.graph_reduce.proofs.lemmas.Ends.{first_end, other_is, same_edge}
@@ -37,35 +35,23 @@ one_leaf v old new new' (inl d) (inl d') = d.becomes ∙ sym d'.becomes
 one_leaf v old new new' (inl d) (inr d') = absurd (d.none d'.place (ends_there old v d'.place d'.x d'.other d'.edge))
 one_leaf v old new new' (inr d) (inl d') = absurd (d'.none d.place (ends_there old v d.place d.x d.other d.edge))
 one_leaf v old new new' (inr d) (inr d') =
-    let place = one_place old v d.place d'.place d.x d'.x d.other d'.other d.edge d'.edge in
-    d.becomes ∙ ap (without_edge (without_node old v)) place ∙ sym d'.becomes
-
--- two numbers among two others, both pairs in order
-both_are : (a b c d : ℕ) → a < b → c < d → (a ≡ c) ⊎ (a ≡ d) → (b ≡ c) ⊎ (b ≡ d) → (a ≡ c) × (b ≡ d)
-both_are a b c d one two (inl p) (inl q) = absurd (omega (arith, one, p, q))
-both_are a b c d one two (inl p) (inr q) = (p, q)
-both_are a b c d one two (inr p) (inl q) = absurd (omega (arith, one, two, p, q))
-both_are a b c d one two (inr p) (inr q) = absurd (omega (arith, one, p, q))
+    grind (arith, one_place old v d.place d'.place d.x d'.x d.other d'.other d.edge d'.edge)
 
 one_joined : (v : ℕ) (old new new' : State) → JoinsEdges v old new → JoinsEdges v old new' → new ≡ new'
 one_joined v old new new' j k =
-    let places = both_are j.earlier j.later k.earlier k.later j.order k.order
-    (k.only j.earlier (j.x, j.earlier_at, first_end j.x v j.u j.earlier_ends))
-    (k.only j.later (j.y, j.later_at, first_end j.y v j.w j.later_ends)) in
-    let x = same_edge old k.earlier j.x k.x (subst (λ n. HasEdge old n j.x) places.0 j.earlier_at) k.earlier_at in
-    let y = same_edge old k.later j.y k.y (subst (λ n. HasEdge old n j.y) places.1 j.later_at) k.later_at in
-    let u = other_is k.x.edge v j.u k.u (subst (λ (b : Bundle). HasEnds b.edge v j.u) x j.earlier_ends)
-    k.earlier_ends in
-    let w = other_is k.y.edge v j.w k.w (subst (λ (b : Bundle). HasEnds b.edge v j.w) y j.later_ends) k.later_ends in
-    search
+    grind (
+      arith,
+      k.only j.earlier (j.x, j.earlier_at, first_end j.x v j.u j.earlier_ends),
+      first_end j.x v j.u j.earlier_ends,
+      k.only j.later (j.y, j.later_at, first_end j.y v j.w j.later_ends),
+      first_end j.y v j.w j.later_ends,
+      same_edge,
+      other_is,
+    )
 
 one_forced : (v : ℕ) (old new new' : State) → ForcesEdge v old new → ForcesEdge v old new' → new ≡ new'
 one_forced v old new new' f g =
-    let place = one_place old v f.place g.place f.x g.x f.other g.other f.edge g.edge in
-    let x = same_edge old g.place f.x g.x (subst (λ n. HasEdge old n f.x) place f.edge.at) g.edge.at in
-    let other = other_is g.x.edge v f.other g.other
-    (subst (λ (b : Bundle). HasEnds b.edge v f.other) x f.edge.ends) g.edge.ends in
-    search
+    grind (arith, one_place old v f.place g.place f.x g.x f.other g.other f.edge g.edge, same_edge, other_is)
 
 one_taken : (rule : Rule) (at : ℕ) (old new new' : State) → Takes rule at old new → Takes rule at old new' →
     new ≡ new'

@@ -1,6 +1,6 @@
 -- Sets of edges in lists: one edge, two lists one behind the other, and one edge after another.
 use Rattle.std.specs.Prelude.{ℕ, ◌≡◌, ◌<◌, ◌==◌, ◌||◌, ◌++◌, ◌∷◌, [], Bool, true, false, List, length, replicate, slice_index_or, slice_set, take, ◌+◌, All}
-use Rattle.std.proofs.Common.{refl, sym, ap, ◌∙◌, inl, inr, arith, length-set}
+use Rattle.std.proofs.Common.{refl, sym, ap, ◌∙◌, arith, length-set}
 use Rattle.std.proofs.lemmas.Bool.{cases_eq, eq-eqb, ne_eqb}
 use Rattle.std.proofs.lemmas.List.{ext_get_or, length-replicate, get_or-replicate, get_or-set_same, get_or-set_other}
 use Rattle.std.proofs.lemmas.List.Folds.{list_any-append, list_any_more}
@@ -19,16 +19,8 @@ has-flags size ns e below = get_or-map-range_with_len (λ e. holds e ns) 0 size 
 
 -- one number more
 pub has-set : (set : List Bool) (n e : ℕ) → n < length set → has (slice_set set n true) e ≡ (has set e || (n == e))
-has-set set n e below = elim (cases_eq e n) [
-  | inl is ↦ ap (has (slice_set set n true)) is ∙ get_or-set_same set n true false below
-      ∙ sym (ap (λ b. has set e || b) (eq-eqb n e (sym is)) ∙ or_true (has set e))
-  | inr apart ↦ get_or-set_other set n e true false apart
-      ∙ sym (ap (λ b. has set e || b) (ne_eqb n e (λ same. apart (sym same))) ∙ or-false (has set e))
-]
-  where
-    or_true : (b : Bool) → (b || true) ≡ true
-    or_true true = refl
-    or_true false = refl
+has-set set n e below =
+    grind (arith, cases_eq e n, get_or-set_same set n true false below, eq-eqb, get_or-set_other, ne_eqb, or-false (has set e))
 
 -- sets of one size
 pub same_size : (one two : ℕ) (ms ns : List ℕ) (xs ys : List Bool) → flags_of one ms ≡ xs → flags_of two ns ≡ ys →

@@ -125,20 +125,7 @@ module _ (s : State) (marks : List Bool) (are : AreMarked s marks) (from to : �
   to_within = omega (arith, to_below, are.size, length-set marks from false)
 
   mark_cases : (v : ℕ) → has moved_marks v ≡ true → (v ≡ to) ⊎ ((v ≢ from) × (has marks v ≡ true))
-  mark_cases v is = elim (cases_eq v to) [
-    | inl here ↦ inl here
-    | inr other ↦ inr (elim (cases_eq v from) [
-      | inl there ↦ absurd (let none : has without_from v ≡ false = ap (has without_from) there
-          ∙ get_or-set_same marks from false false (omega (arith, from_below, are.size)) in
-          let same = get_or-set_other without_from to v true false other in
-          let bad : true ≡ false = sym is ∙ same ∙ none in cc)
-      | inr not_there ↦ (
-        not_there,
-        sym (get_or-set_other without_from to v true false other
-            ∙ get_or-set_other marks from v false false not_there) ∙ is,
-      )
-    ])
-  ]
+  mark_cases v is = grind (arith, cases_eq, without_from, get_or-set_same, get_or-set_other)
 
   pub marked_moved : (new : State) → length new.nodes ≡ length s.nodes → new.terminals ≡ moved s.terminals from to →
       AreMarked new moved_marks
@@ -165,10 +152,7 @@ module _ (s : State) (marks : List Bool) (are : AreMarked s marks) (from to : �
 -- a node is dropped with its edge, where it has one
 within_leaf : (v : ℕ) (old new : State) → Takes (rule_of Leaf) v old new → IsWithin new old
 within_leaf v old new (inl drops) = grind arith
-within_leaf v old new (inr drops) = subst (λ s. IsWithin s old) (sym drops.becomes) (record {
-  places = length-set old.edges drops.place None;
-  edges = λ n x at. (found_before old.edges drops.place n x at).1;
-})
+within_leaf v old new (inr drops) = grind (arith, length-set old.edges drops.place None, found_before)
 
 nodes_leaf : (v : ℕ) (old new : State) → Takes (rule_of Leaf) v old new → length new.nodes ≡ length old.nodes
 nodes_leaf v old new (inl drops) = ap (λ s. length s.nodes) drops.becomes ∙ length-set old.nodes v false
@@ -189,14 +173,8 @@ pub renewed_joined : (v : ℕ) (old new : State) (joins : JoinsEdges v old new) 
     IsSurvey old survey.places.items survey.terminals → AreDue old due →
     IsListed survey.places.items joins.w joins.earlier →
     ((n : ℕ) (x : Bundle) → EndsIn old v n → HasEdge old n x → AreBothDue due x) → IsUpToDate new survey due
-renewed_joined v old new joins survey due is are more told = record {
-  seen = record {
-    places = listed_joined v old new joins survey.places.items is.places more;
-    terminals = marked_same old new survey.terminals is.terminals
-        (ap (λ s. length s.nodes) joins.becomes ∙ length-set old.nodes v false) (ap (λ s. s.terminals) joins.becomes);
-  };
-  all = due_joined v old new due are joins told;
-}
+renewed_joined v old new joins survey due is are more told =
+    grind (arith, listed_joined v old new joins survey.places.items is.places more, marked_same, length-set old.nodes v false, due_joined v old new due are joins told)
 
 -- an edge is forced
 pub renewed_forced : (v : ℕ) (old new : State) (forces : ForcesEdge v old new) (listed : List (BTreeSet ℕ))
@@ -247,11 +225,8 @@ pub renewed_dropped : (old new : State) (place other : ℕ) (alike : AreAlike ol
     AreEndsDue old (OneEdge place) due → IsWithin new old →
     ((n : ℕ) (z : Bundle) → n ≢ place → n ≢ other → HasEdge old n z → HasEdge new n z) →
     new.nodes ≡ old.nodes → new.terminals ≡ old.terminals → IsUpToDate new survey due
-renewed_dropped old new place other alike survey due is are told within others nodes terminals = record {
-  seen = survey_within old new survey.places.items survey.terminals is within nodes terminals;
-  all = due_alike old new place other alike within others nodes terminals due are
-      (told place alike.x refl alike.at);
-}
+renewed_dropped old new place other alike survey due is are told within others nodes terminals =
+    grind (arith, survey_within old new survey.places.items survey.terminals is within nodes terminals, due_alike old new place other alike within others nodes terminals due are (told place alike.x refl alike.at))
 
 -- more places are listed
 pub survey_more : (s : State) (before after : Survey) →
@@ -265,11 +240,6 @@ survey_more s before later size kept terminals is = grind arith
 pub joined_other : (v : ℕ) (old new : State) (joins : JoinsEdges v old new) (later : ℕ) (e : Edge) (o : ℕ) →
     joins.later ≡ later → HoldsEdge old later e → HasEnds e v o → joins.w ≡ o
 joined_other v old new joins later e o here (x, at, is) ends = grind arith
-
--- fewer edges have numbers of nodes
-pub numbered_within : (old new : State) → IsNumbered old → IsWithin new old → new.nodes ≡ old.nodes →
-    new.terminals ≡ old.terminals → IsNumbered new
-numbered_within old new numbered within nodes terminals = grind arith
 
 -- an end of an edge is the number of a node
 pub end_below : (s : State) (place : ℕ) (e : Edge) (v : ℕ) → IsNumbered s → HoldsEdge s place e →

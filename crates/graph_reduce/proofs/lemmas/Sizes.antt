@@ -103,9 +103,5 @@ all_edges size n [] = refl
 all_edges size n (e ∷ es) = ap suc (all_edges size (n + 1) es)
 
 pub reductions_end_lem : ReductionsEnd
-reductions_end_lem g n s steps = omega (
-  arith,
-  steps_less n (start_of g) s steps,
-  all_nodes g.vertices,
-  all_edges (length g.edges) 0 g.edges,
-)
+reductions_end_lem g n s steps =
+    grind (arith, steps_less n (start_of g) s steps, all_nodes g.vertices, all_edges (length g.edges) 0 g.edges)

@@ -33,8 +33,7 @@ bundle_at size n (e ∷ es) (suc k) x at = grind (arith, bundle_at size (n + 1) 
 ends_below : (es : List Edge) (vertices k : ℕ) (e : Edge) → All (HasEndsBelow vertices) es → slice_get es k ≡ Some e →
     HasEndsBelow vertices e
 ends_below es vertices k e all at =
-    let within = slice_get_within es k e at in
-    subst (HasEndsBelow vertices) (same_Some _ e (sym (slice_get-get_or es k e within) ∙ at)) (all k e within)
+    grind (arith, slice_get_within es k e, same_Some, slice_get-get_or es k e (slice_get_within es k e at), all k e (slice_get_within es k e at))
 
 all_left : (size v : ℕ) → v < size → slice_get (replicate size true) v ≡ Some true
 all_left size v below = slice_get-get_or (replicate size true) v true (omega (arith, length-replicate size true))
@@ -109,9 +108,7 @@ IsSound-leaf v old new sound drops = subst IsSound (sym drops.becomes) (record {
 
 -- the other end of an edge is left
 other_left : (s : State) (n : ℕ) (x : Bundle) (v u : ℕ) → IsSound s → HasEdge s n x → HasEnds x.edge v u → HasNode s u
-other_left s n x v u sound at ends =
-    let both = sound.ends n x at in
-    grind arith
+other_left s n x v u sound at ends = grind (arith, sound.ends n x)
 
 pub IsSound-joined : (v : ℕ) (old new : State) → IsSound old → (joins : JoinsEdges v old new) → (joins.u ≡ v → ⊥) →
     (joins.w ≡ v → ⊥) → IsSound new

@@ -76,11 +76,7 @@ module _ (s : State) (tidy : IsTidy s) where
 -- fewer edges
 pub tidy_within : (old new : State) → IsTidy old → IsWithin new old →
     (length new.terminals ≡ 1 → ¬ HasSomeEdge new) → IsTidy new
-tidy_within old new tidy within idle = record {
-  idle = idle;
-  loops = λ n x at. tidy.loops n x (within.edges n x at);
-  parallels = λ n m x y are. tidy.parallels n m x y (parallel_within new old within n m x y are);
-}
+tidy_within old new tidy within idle = grind (arith, parallel_within)
 
 -- .. with the same terminals
 pub tidy_fewer : (old new : State) → IsTidy old → IsWithin new old → new.terminals ≡ old.terminals → IsTidy new
@@ -96,10 +92,7 @@ tidy_leaf v old new tidy (inr drops) = subst IsTidy (sym drops.becomes)
     }) refl)
 
 pub within_forced : (v : ℕ) (old new : State) → ForcesEdge v old new → IsWithin new old
-within_forced v old new forces = subst (λ s. IsWithin s old) (sym forces.becomes) (record {
-  places = length-set old.edges forces.place None;
-  edges = λ n x at. (found_before old.edges forces.place n x at).1;
-})
+within_forced v old new forces = grind (arith, length-set old.edges forces.place None, found_before)
 
 module _ (v : ℕ) (old new : State) (tidy : IsTidy old) (joins : JoinsEdges v old new) where
   -- the other ends are two nodes
@@ -111,10 +104,7 @@ module _ (v : ℕ) (old new : State) (tidy : IsTidy old) (joins : JoinsEdges v o
 
   -- an edge at another place was there before
   old_at : (n : ℕ) (x : Bundle) → n ≢ joins.earlier → HasEdge then n x → HasEdge old n x
-  old_at n x apart at = ⊎_elim
-      (λ (p : (n ≡ joins.earlier) × (one v old new joins ≡ x)). absurd (apart p.0))
-      (λ (p : (n ≢ joins.earlier) × (n ≢ joins.later) × HasEdge old n x). p.2)
-      (found v old new joins n x at)
+  old_at n x apart at = grind (arith, one v old new joins, found v old new joins n x)
 
   tidy_then : IsTidyBut then joins.earlier
   tidy_then = record {

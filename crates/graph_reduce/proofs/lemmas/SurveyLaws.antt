@@ -1,12 +1,11 @@
 -- The places that are listed for each node.
-use Rattle.std.specs.Prelude.{ℕ, ◌≡◌, ◌+◌, ◌<◌, List, length, slice_set, slice_index_or, Some}
+use Rattle.std.specs.Prelude.{ℕ, ◌≡◌, ◌+◌, ◌<◌, List, length, slice_set, slice_index_or}
 use Rattle.std.specs.BTreeSet.{BTreeSet}
-use Rattle.std.proofs.Common.{sym, ap, ◌∙◌, inl, inr, subst, arith, length-set}
+use Rattle.std.proofs.Common.{◌∙◌, inl, inr, subst, arith, length-set}
 use Rattle.std.proofs.lemmas.Bool.{cases_eq}
 use Rattle.std.proofs.lemmas.Option.{slice_get-get_or, same_Some}
 use Rattle.net_graph.specs.EntryLaws.{slice_get-set_same, slice_get-set_other}
 use Rattle.net_graph.specs.declared.edge.Edge.{Edge}
-use Rattle.graph_reduce.specs.NumberSets.{IsIn}
 use Rattle.graph_reduce.specs.State.{State, EndsIn}
 use Rattle.graph_reduce.specs.Survey.{IsListed, HasPlacesOf, AreListedTo}
 use Rattle.graph_reduce.proofs.lemmas.Longer.{HoldsEdge}
@@ -17,9 +16,7 @@ pub set_has : (s : State) (listed : List (BTreeSet ℕ)) (v : ℕ) (set : BTreeS
     AreListedTo s (length s.edges) listed → v < length s.nodes → set ≡ slice_index_or listed v set →
     HasPlacesOf s v set
 set_has s listed v set are below is n ends =
-    let (other, at, member) = are.listed v n (below_end s v n ends) ends in
-    let here = slice_get-get_or listed v set (omega (arith, are.size)) ∙ ap Some (sym is) in
-    subst (λ t. IsIn t n) (same_Some other set (sym at ∙ here)) member
+    grind (arith, are.listed v n (below_end s v n ends) ends, slice_get-get_or, same_Some)
 
 -- .. and so has the one that is written
 pub set_written : (s : State) (end : ℕ) (listed : List (BTreeSet ℕ)) (v : ℕ) (set : BTreeSet ℕ) →

@@ -19,8 +19,7 @@ In-from_Contains (x ∷ xs) v (suc k, below, is) = inr (In-from_Contains xs v (k
 pub Contains-from_In : (xs : List ℕ) (v : ℕ) → In xs v → Contains xs v
 Contains-from_In [] v h = absurd h
 Contains-from_In (x ∷ xs) v (inl is) = (zero, omega arith, is)
-Contains-from_In (x ∷ xs) v (inr later) =
-    let (k, below, is) = Contains-from_In xs v later in (suc k, omega arith, is)
+Contains-from_In (x ∷ xs) v (inr later) = let (k, below, is) = Contains-from_In xs v later in (suc k, omega arith, is)
 
 -- no number stands twice
 abbrev pub AreDistinct : List ℕ → Type 0
@@ -30,13 +29,7 @@ AreDistinct (x ∷ xs) = (In xs x → ⊥) × AreDistinct xs
 -- what is in the list without a number is in it, and isn't that number
 pub In-without : (t : ℕ) (xs : List ℕ) (v : ℕ) → In (without t xs) v → In xs v × (v ≡ t → ⊥)
 In-without t [] v h = absurd h
-In-without t (x ∷ xs) v h = by_test (x == t) refl (In-without t xs v) h
-  where
-    by_test : (b : Bool) → (x == t) ≡ b → (In (without t xs) v → In xs v × (v ≡ t → ⊥)) →
-        In (if not b then x ∷ without t xs else without t xs) v → In (x ∷ xs) v × (v ≡ t → ⊥)
-    by_test true is rest h = let found = rest h in (inr found.0, found.1)
-    by_test false is rest (inl here) = (inl here, λ e. eqb-false x t is (here ∙ e))
-    by_test false is rest (inr later) = let found = rest later in (inr found.0, found.1)
+In-without t (x ∷ xs) v h = grind (arith, x == t, In-without t xs v, eqb-false)
 
 -- .. and back
 pub In-without_from : (t : ℕ) (xs : List ℕ) (v : ℕ) → In xs v → (v ≡ t → ⊥) → In (without t xs) v
@@ -78,21 +71,7 @@ with_other from to xs = map (λ t. if t == from then to else t) xs
 pub In-with_other : (from to : ℕ) (xs : List ℕ) (v : ℕ) → In (with_other from to xs) v →
     ((v ≡ to) × In xs from) ⊎ (In xs v × (v ≡ from → ⊥))
 In-with_other from to [] v h = absurd h
-In-with_other from to (x ∷ xs) v h = by_test (x == from) refl (In-with_other from to xs v) h
-  where
-    more : ((v ≡ to) × In xs from) ⊎ (In xs v × (v ≡ from → ⊥)) →
-        ((v ≡ to) × In (x ∷ xs) from) ⊎ (In (x ∷ xs) v × (v ≡ from → ⊥))
-    more (inl found) = inl (found.0, inr found.1)
-    more (inr found) = inr (inr found.0, found.1)
-
-    by_test : (b : Bool) → (x == from) ≡ b →
-        (In (with_other from to xs) v → ((v ≡ to) × In xs from) ⊎ (In xs v × (v ≡ from → ⊥))) →
-        ((if b then to else x) ≡ v) ⊎ In (with_other from to xs) v →
-        ((v ≡ to) × In (x ∷ xs) from) ⊎ (In (x ∷ xs) v × (v ≡ from → ⊥))
-    by_test true is rest (inl here) = inl (sym here, inl (eqb-true x from is))
-    by_test false is rest (inl here) = inr (inl here, λ e. eqb-false x from is (here ∙ e))
-    by_test true is rest (inr later) = more (rest later)
-    by_test false is rest (inr later) = more (rest later)
+In-with_other from to (x ∷ xs) v h = grind (arith, x, In-with_other from to xs v, eqb-true, eqb-false)
 
 -- .. what was there, and isn't the number whose place was taken, still is
 pub In-with_other_from : (from to : ℕ) (xs : List ℕ) (v : ℕ) → In xs v → (v ≡ from → ⊥) → In (with_other from to xs) v

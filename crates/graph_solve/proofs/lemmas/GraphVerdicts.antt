@@ -1,5 +1,5 @@
 -- The only verdict on an answer in a graph.
-use Rattle.std.proofs.Common.{ℕ, ◌≡◌, List, sym, ap, ◌∙◌}
+use Rattle.std.proofs.Common.{ℕ, ◌≡◌, List, sym, ap, ◌∙◌, arith}
 use Rattle.net_graph.specs.Graph.{Graph}
 use Rattle.cert_check.specs.declared.verdict.Finished.{Finished}
 use Rattle.cert_check.specs.declared.verdict.Ruling.{Ruling}
@@ -12,18 +12,10 @@ use Rattle.graph_solve.specs.Accepted.{IsOnlyVerdictOn}
 
 -- two of which a checker's are one are one
 same_ruling : (v v' : Ruling) → verdict_of v ≡ verdict_of v' → v ≡ v'
-same_ruling (Accepted length bound optimal) (Accepted length' bound' optimal') same =
-    let both : verdict.Accepted length bound optimal ≡ verdict.Accepted length' bound' optimal' = same in
-    cc
-same_ruling (Accepted length bound optimal) (Refused cause) same =
-    let both : verdict.Accepted length bound optimal ≡ verdict.Refused cause = same in
-    absurd cc
-same_ruling (Refused cause) (Accepted length bound optimal) same =
-    let both : verdict.Refused cause ≡ verdict.Accepted length bound optimal = same in
-    absurd cc
-same_ruling (Refused cause) (Refused cause') same =
-    let both : verdict.Refused cause ≡ verdict.Refused cause' = same in
-    cc
+same_ruling (Accepted length bound optimal) (Accepted length' bound' optimal') same = grind arith
+same_ruling (Accepted length bound optimal) (Refused cause) same = grind arith
+same_ruling (Refused cause) (Accepted length bound optimal) same = grind arith
+same_ruling (Refused cause) (Refused cause') same = grind arith
 
 -- so what is a checker's only verdict is the only one
 pub only_told : (g : Graph) (bytes : List ℕ) (f : Finished) (v : Ruling) → verdict_of v ≡ f.verdict →

@@ -1,5 +1,5 @@
 -- A file has one first fault at most, and none where it is a Steiner problem of the suite.
-use Rattle.std.specs.Prelude.{ℕ, ◌≡◌, ◌⊎◌, ◌+◌, ◌<◌, ◌≤◌, ◌^◌, [], length, slice_get, Some, All, Result, Ok, Err}
+use Rattle.std.specs.Prelude.{ℕ, ◌≡◌, ◌⊎◌, ◌+◌, ◌<◌, ◌≤◌, ◌^◌, [], length, All, Result, Ok, Err}
 use Rattle.std.specs.Prelude.{IfErr, IfOk, OnOk}
 use Rattle.std.proofs.Common.{refl, sym, ap, ◌∙◌, inl, inr, subst, arith}
 use Rattle.std.proofs.lemmas.Option.{same_Some, slice_get_within, get_or_from_slice_get}
@@ -22,10 +22,7 @@ one_without_length file n m (place, is, first) (place', is', first') =
 
 one_node : (g : Graph) (n m : ℕ) → IsFirstApartNode g n → IsFirstApartNode g m → n ≡ m
 one_node g n m first other =
-    let place = one_apart g (all_edges g) first.place other.place first.first other.first in
-    let at = subst (λ k. slice_get g.terminals k ≡ Some first.first.terminal) place first.first.at in
-    let same = same_Some first.first.terminal other.first.terminal (sym at ∙ other.first.at) in
-    first.named ∙ ap (λ v. v + 1) same ∙ sym other.named
+    grind (arith, one_apart g (all_edges g) first.place other.place first.first other.first, same_Some)
 
 -- ---- the faults, one condition after another
 
@@ -83,39 +80,9 @@ module _ (file : StpValue) where
   staged TooManyEdges (nodes, many) = inr (nodes, inl (many, refl))
   staged TooManyTerminals (nodes, edges, many) = inr (nodes, inr (edges, inl (many, refl)))
   staged NoTerminals (small, none) = inr (small.nodes, inr (small.edges, inr (small.terminals, inl (none, refl))))
-  staged (ZeroLength n) (some, first) =
-      let small = some.small in
-      inr (small.nodes, inr (small.edges, inr (small.terminals, inr (some.terminal, inl (n, first, refl)))))
-  staged (TooLong total) (lengths, is, long) =
-      let some = lengths.terminal in
-      inr (
-        some.small.nodes,
-        inr (
-          some.small.edges,
-          inr (
-            some.small.terminals,
-            inr (
-              some.terminal,
-              inr (lengths.lengths, inl (subst (λ t. 2 ^ 63 ≤ t) is long, ap TooLong is)),
-            ),
-          ),
-        ),
-      )
-  staged (Apart node) (lengths, short, first) =
-      let some = lengths.terminal in
-      inr (
-        some.small.nodes,
-        inr (
-          some.small.edges,
-          inr (
-            some.small.terminals,
-            inr (
-              some.terminal,
-              inr (lengths.lengths, inr (short, (node, first, refl))),
-            ),
-          ),
-        ),
-      )
+  staged (ZeroLength n) (some, first) = grind arith
+  staged (TooLong total) (lengths, is, long) = grind arith
+  staged (Apart node) (lengths, short, first) = grind arith
   staged (Memory error) has = absurd has
 
   -- each stage has one fault
@@ -131,19 +98,13 @@ module _ (file : StpValue) where
 
   not_all : (f : TaskFault) → WithoutLength f → All (λ e. 0 < e.length) file.edges → ⊥
   not_all f (n, (place, named, first), is) all =
-      let e = first.here.0 in
-      let here = get_or_from_slice_get file.edges place e e first.here.1 in
-      let some = subst (λ x. 0 < x.length) here (all place e (slice_get_within file.edges place e first.here.1)) in
-      let none = first.here.2 in
-      omega (arith, some, none)
+      grind (arith, get_or_from_slice_get file.edges place (first.here.0) (first.here.0) first.here.1, all place (first.here.0) (slice_get_within file.edges place (first.here.0) first.here.1))
 
   one_at_length : One length_stage
   one_at_length = one_stage _ _ _ one_zero not_all one_at_total
 
   one_at_terminal : One terminal_stage
-  one_at_terminal =
-      one_stage _ _ _ (one_where _ _)
-      (λ f here past. (let none = ap length here.0 in omega (arith, none, past))) one_at_length
+  one_at_terminal = grind (arith, one_stage, one_where, one_at_length)
 
   one_at_terminals : One terminals_stage
   one_at_terminals = one_stage _ _ _ (one_where _ _) (λ f here past. (let many = here.0 in omega arith)) one_at_terminal

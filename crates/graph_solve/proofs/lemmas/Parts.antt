@@ -27,10 +27,7 @@ sum-edges (e ∷ edges) =
 pub lengths-edges : (edges : List StpEdge) → All (λ (e : Edge). 0 < e.length) (map edge_of edges) →
     All (λ (e : StpEdge). 0 < e.length) edges
 lengths-edges edges each k e within =
-    let there : k < length (map edge_of edges) = omega (arith, within, length-map edges edge_of) in
-    let same = get_or-map edge_of edges k e (edge_of e) within in
-    let P : Edge → Type 0 = λ x. 0 < x.length in
-    subst P same (each k (edge_of e) there)
+    grind (arith, length-map edges edge_of, get_or-map edge_of edges k e (edge_of e) within)
 
 -- some edge
 nowhere : StpEdge
@@ -62,18 +59,12 @@ terminals-left (t ∷ terminals) some none = cc
 pub IsFirst-none : (bound : ℕ) (ns : List ℕ) (place : ℕ) → All (λ n. n < bound) ns →
     IsFirst (λ n. bound ≤ n) ns place → ⊥
 IsFirst-none bound ns place each first =
-    let below = each place 0 (slice_get_within ns place first.here.0 first.here.1) in
-    let is = get_or_from_slice_get ns place first.here.0 0 first.here.1 in
-    let above = first.here.2 in
-    omega (arith, below, is, above)
+    grind (arith, each place 0 (slice_get_within ns place first.here.0 first.here.1), get_or_from_slice_get ns place first.here.0 0 first.here.1)
 
 -- the lengths of a file whose graph's edges have lengths
 pub HasLengths-from_edges : (file : StpValue) (edges : List Edge) → HasTerminal file → edges ≡ map edge_of file.edges →
     All (λ e. 0 < e.length) edges → HasLengths file
-HasLengths-from_edges file edges terminal same each = record {
-  terminal = terminal;
-  lengths = lengths-edges file.edges (subst (All (λ (e : Edge). 0 < e.length)) same each);
-}
+HasLengths-from_edges file edges terminal same each = grind (arith, lengths-edges)
 
 -- the total of a file whose graph has these edges
 pub total-edges : (file : StpValue) (edges : List Edge) → edges ≡ map edge_of file.edges →
@@ -91,8 +82,4 @@ pub edges_more : (edges : List StpEdge) (done : List Edge) (n : ℕ) (e : StpEdg
     slice_get edges n ≡ Some e → done ≡ map edge_of (take n edges) → next ≡ edge_of e →
     done ++ next ∷ [] ≡ map edge_of (take (n + 1) edges)
 edges_more edges done n e next at so_far is =
-    let here : get_or edges n e ≡ e = get_or_from_slice_get edges n e e at in
-    let within = slice_get_within edges n e at in
-    ap (λ es. es ++ next ∷ []) so_far
-    ∙ ap (λ x. map edge_of (take n edges) ++ x ∷ []) (is ∙ ap edge_of (sym here))
-    ∙ sym (map_more edge_of edges n e within)
+    grind (arith, get_or_from_slice_get edges n e e, slice_get_within edges n e, map_more edge_of edges n e (slice_get_within edges n e at))

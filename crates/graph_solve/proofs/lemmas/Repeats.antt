@@ -1,7 +1,7 @@
 -- One more number at the end of a list whose repeats are left out, and marks of the numbers that were listed.
 use Rattle.std.specs.Prelude.{ℕ, ◌≡◌, ◌<◌, ◌+◌, Bool, true, false, cond, IsTrue, Some, slice_get, map, ◌==◌, ◌||◌, not, List, [], ◌∷◌, ◌++◌, length, filter, slice_set}
 use Rattle.std.specs.List.{list_any}
-use Rattle.std.proofs.Common.{get_or, take, arith, refl, ap, sym, ◌∙◌, subst, inl, inr, ⊎_elim}
+use Rattle.std.proofs.Common.{take, arith, refl}
 use Rattle.std.proofs.lemmas.Bool.{cases_Bool, cases_eq, eqb-true, eq-eqb, ne_eqb}
 use Rattle.std.proofs.lemmas.List.{append-nil, get_or-set_same, get_or-set_other, map_more}
 use Rattle.std.proofs.lemmas.List.Elements.{filter-append}
@@ -19,33 +19,14 @@ holds n ns = list_any (λ m. m == n) ns
 -- leaving one number out doesn't change whether another is held
 holds-filter : (a n : ℕ) → (a == n) ≡ false → (ns : List ℕ) → holds n (filter (λ m. not (a == m)) ns) ≡ holds n ns
 holds-filter a n apart [] = refl
-holds-filter a n apart (m ∷ ns) = elim (cases_Bool (a == m)) [
-  | inl same ↦
-      let gone : (m == n) ≡ false = subst (λ k. (k == n) ≡ false) (eqb-true a m same) apart in
-      rw (same, gone) (holds-filter a n apart ns)
-  | inr other ↦ rw other (ap (λ b. (m == n) || b) (holds-filter a n apart ns))
-]
+holds-filter a n apart (m ∷ ns) = grind (arith, cases_Bool (a == m), m == n, eqb-true, holds-filter a n apart ns)
 
 -- one more number is appended where it is new
 pub without_repeats-push : (ns : List ℕ) (n : ℕ) → without_repeats (ns ++ n ∷ []) ≡
     cond (holds n (without_repeats ns)) (without_repeats ns) (without_repeats ns ++ n ∷ [])
 without_repeats-push [] n = refl
-without_repeats-push (a ∷ ns) n = rw (without_repeats-push ns n) (elim (cases_Bool (a == n)) [
-  | inl same ↦ elim (cases_Bool (holds n (without_repeats ns))) [
-    | inl held ↦ rw (same, held)
-    | inr new ↦ rw (
-      same,
-      new,
-      filter-append (λ m. not (a == m)) (without_repeats ns) (n ∷ []),
-      same,
-      append-nil (filter (λ m. not (a == m)) (without_repeats ns)),
-    )
-  ]
-  | inr apart ↦ rw (apart, holds-filter a n apart (without_repeats ns)) (elim (cases_Bool (holds n (without_repeats ns))) [
-    | inl held ↦ rw held
-    | inr new ↦ rw (new, filter-append (λ m. not (a == m)) (without_repeats ns) (n ∷ []), apart)
-  ])
-])
+without_repeats-push (a ∷ ns) n =
+    grind (arith, without_repeats-push ns n, cases_Bool (a == n), cases_Bool (holds n (without_repeats ns)), filter-append, append-nil, holds-filter)
 
 -- the numbers so far, each once, and the marks of those that are listed
 pub record AreListed (numbers : List ℕ) (marks : List Bool) (list : List ℕ) : Type 0 where
@@ -55,13 +36,7 @@ pub record AreListed (numbers : List ℕ) (marks : List Bool) (list : List ℕ) 
 -- a number that is marked stands in the list
 pub AreListed-repeat : (numbers : List ℕ) (marks : List Bool) (list : List ℕ) (v : ℕ) → AreListed numbers marks list →
     has marks v ≡ true → AreListed (numbers ++ v ∷ []) marks list
-AreListed-repeat numbers marks list v are marked =
-    let held : holds v (without_repeats numbers) ≡ true = ap (holds v) (sym are.once) ∙ sym (are.marked v) ∙ marked in
-    record {
-      once = are.once ∙ sym (without_repeats-push numbers v ∙ ap (λ b.
-          cond b (without_repeats numbers) (without_repeats numbers ++ v ∷ [])) held);
-      marked = are.marked;
-    }
+AreListed-repeat numbers marks list v are marked = grind (arith, are.marked v, without_repeats-push numbers v)
 
 -- a disjunction with a single test
 or_held : (b : Bool) → true ≡ (b || (true || false))
@@ -75,30 +50,19 @@ or_missing false = refl
 -- one more number and its mark
 holds-push : (marks : List Bool) (list : List ℕ) (v w : ℕ) → v < length marks → has marks w ≡ holds w list →
     has (slice_set marks v true) w ≡ holds w (list ++ v ∷ [])
-holds-push marks list v w within before = rw (list_any-append (λ m. m == w) list (v ∷ [])) (⊎_elim
-    (λ (same : w ≡ v). rw (same, get_or-set_same marks v true false within, eq-eqb v v refl) (or_held (holds v list)))
-    (λ (other : w ≡ v → ⊥). rw (get_or-set_other marks v w true false other, ne_eqb v w (λ e. other (sym e)))
-    (before ∙ or_missing (holds w list)))
-    (cases_eq w v))
+holds-push marks list v w within before =
+    grind (arith, list_any-append, get_or-set_same marks v true false within, eq-eqb v v refl, or_held (holds v list), get_or-set_other, ne_eqb, or_missing (holds w list), cases_eq w v)
 
 pub AreListed-new : (numbers : List ℕ) (marks : List Bool) (list : List ℕ) (v : ℕ) → AreListed numbers marks list →
     has marks v ≡ false → v < length marks → AreListed (numbers ++ v ∷ []) (slice_set marks v true) (list ++ v ∷ [])
 AreListed-new numbers marks list v are unmarked within =
-    let new : holds v (without_repeats numbers) ≡ false = ap (holds v) (sym are.once) ∙ sym (are.marked v) ∙ unmarked in
-    record {
-      once = ap (λ ns. ns ++ v ∷ []) are.once ∙ sym (without_repeats-push numbers v ∙ ap (λ b.
-          cond b (without_repeats numbers) (without_repeats numbers ++ v ∷ [])) new);
-      marked = λ w. holds-push marks list v w within (are.marked w);
-    }
+    grind (arith, are.marked v, without_repeats-push numbers v, holds-push)
 
 -- the vertices of the terminals up to one more
 vertices_more : (terminals : List ℕ) (n node : ℕ) → slice_get terminals n ≡ Some node →
     map vertex_of (take (n + 1) terminals) ≡ map vertex_of (take n terminals) ++ vertex_of node ∷ []
 vertices_more terminals n node at =
-    let here : get_or terminals n node ≡ node = get_or_from_slice_get terminals n node node at in
-    let within = slice_get_within terminals n node at in
-    map_more vertex_of terminals n node within
-    ∙ ap (λ t. map vertex_of (take n terminals) ++ vertex_of t ∷ []) here
+    grind (arith, get_or_from_slice_get terminals n node node, slice_get_within terminals n node, map_more vertex_of terminals n node (slice_get_within terminals n node at))
 
 -- one more terminal, which is new
 pub listed_new : (terminals : List ℕ) (n node : ℕ) (marks : List Bool) (list : List ℕ) →
@@ -106,17 +70,14 @@ pub listed_new : (terminals : List ℕ) (n node : ℕ) (marks : List Bool) (list
     has marks (vertex_of node) ≡ false → vertex_of node < length marks →
     AreListed (map vertex_of (take (n + 1) terminals)) (slice_set marks (vertex_of node) true) (list ++ vertex_of node ∷ [])
 listed_new terminals n node marks list at are unmarked within =
-    subst (λ vs. AreListed vs (slice_set marks (vertex_of node) true) (list ++ vertex_of node ∷ []))
-    (sym (vertices_more terminals n node at))
-    (AreListed-new (map vertex_of (take n terminals)) marks list (vertex_of node) are unmarked within)
+    grind (arith, vertices_more terminals n node, AreListed-new (map vertex_of (take n terminals)) marks list (vertex_of node) are unmarked within)
 
 -- .. or a repeat
 pub listed_repeat : (terminals : List ℕ) (n node : ℕ) (marks : List Bool) (list : List ℕ) →
     slice_get terminals n ≡ Some node → AreListed (map vertex_of (take n terminals)) marks list →
     has marks (vertex_of node) ≡ true → AreListed (map vertex_of (take (n + 1) terminals)) marks list
 listed_repeat terminals n node marks list at are marked =
-    subst (λ vs. AreListed vs marks list) (sym (vertices_more terminals n node at))
-    (AreListed-repeat (map vertex_of (take n terminals)) marks list (vertex_of node) are marked)
+    grind (arith, vertices_more terminals n node, AreListed-repeat (map vertex_of (take n terminals)) marks list (vertex_of node) are marked)
 
 -- the vertex of a node
 pub vertex_of-below : (nodes node : ℕ) → IsTrue (is_node nodes node) → vertex_of node < nodes

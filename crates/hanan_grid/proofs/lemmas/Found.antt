@@ -63,21 +63,11 @@ pub record AreInside (ps : List Point) (p q : Place) : Type 0 where
 
 -- the crossings of a horizontal edge stand side by side
 right_by_edge : (ps : List Point) (e j i : ℕ) (p q : Place) → AreInside ps p q → IsHorizontal (xs_of ps) (ys_of ps) e j i → name_between (crossing (xs_of ps) (ys_of ps) i j) (crossing (xs_of ps) (ys_of ps) (i + 1) j) ≡ name_of_crossings ps p q → IsRightOf q p
-right_by_edge ps e j i p q inside is same =
-    let column = same_place (xs_of ps) i p.column (omega (arith, is.column)) inside.from_column (IsRising-xs_of ps) (ap (λ n. n.x1) same) in
-    let next = same_place (xs_of ps) (i + 1) q.column is.column inside.to_column (IsRising-xs_of ps) (ap (λ n. n.x2) same) in
-    let row = same_place (ys_of ps) j p.row is.row inside.from_row (IsRising-ys_of ps) (ap (λ n. n.y1) same) in
-    let row' = same_place (ys_of ps) j q.row is.row inside.to_row (IsRising-ys_of ps) (ap (λ n. n.y2) same) in
-    record { column = omega arith; row = omega arith }
+right_by_edge ps e j i p q inside is same = grind (arith, same_place, IsRising-xs_of ps, IsRising-ys_of ps)
 
 -- the crossings of a vertical edge stand on each other
 above_by_edge : (ps : List Point) (e j i : ℕ) (p q : Place) → AreInside ps p q → IsVertical (xs_of ps) (ys_of ps) e j i → name_between (crossing (xs_of ps) (ys_of ps) i j) (crossing (xs_of ps) (ys_of ps) i (j + 1)) ≡ name_of_crossings ps p q → IsAbove q p
-above_by_edge ps e j i p q inside is same =
-    let column = same_place (xs_of ps) i p.column is.column inside.from_column (IsRising-xs_of ps) (ap (λ n. n.x1) same) in
-    let column' = same_place (xs_of ps) i q.column is.column inside.to_column (IsRising-xs_of ps) (ap (λ n. n.x2) same) in
-    let row = same_place (ys_of ps) j p.row (omega (arith, is.row)) inside.from_row (IsRising-ys_of ps) (ap (λ n. n.y1) same) in
-    let next = same_place (ys_of ps) (j + 1) q.row is.row inside.to_row (IsRising-ys_of ps) (ap (λ n. n.y2) same) in
-    record { column = omega arith; row = omega arith }
+above_by_edge ps e j i p q inside is same = grind (arith, same_place, IsRising-xs_of ps, IsRising-ys_of ps)
 
 -- two crossings that an edge joins stand beside each other
 pub beside_by_edge : (ps : List Point) (e : ℕ) (p q : Place) → AreInside ps p q → e < length (hanan_grid_of ps).edges → name_of_edge ps e ≡ name_of_crossings ps p q → IsRightOf q p ⊎ IsAbove q p
@@ -88,10 +78,8 @@ beside_by_edge ps e p q inside below same = elim (edge_cases (xs_of ps) (ys_of p
 
 -- an edge between two crossings is no other's where neither stands beside the other
 pub no_edge_between : (ps : List Point) (p q : Place) → AreInside ps p q → (IsRightOf q p → ⊥) → (IsAbove q p → ⊥) → (e : ℕ) → e < length (hanan_grid_of ps).edges → name_of_edge ps e ≡ name_of_crossings ps p q → ⊥
-no_edge_between ps p q inside not_right not_above e below same = elim (beside_by_edge ps e p q inside below same) [
-  | inl right ↦ not_right right
-  | inr above ↦ not_above above
-]
+no_edge_between ps p q inside not_right not_above e below same =
+    grind (arith, beside_by_edge ps e p q inside below same)
 
 -- the points of an edge's name are crossings
 pub crossings_of_name : (ps : List Point) (e : ℕ) (p q : Point) → e < length (hanan_grid_of ps).edges → name_of_edge ps e ≡ name_between p q → IsCrossing (xs_of ps) (ys_of ps) p × IsCrossing (xs_of ps) (ys_of ps) q

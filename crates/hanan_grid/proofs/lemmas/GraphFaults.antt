@@ -15,21 +15,13 @@ use Rattle.hanan_grid.specs.GridLaws.{edges_of_lines, ends_below, lengths_positi
 
 -- but for the total, the grid of a point is a graph
 HasSoundParts-hanan_grid_of : (ps : List Point) → 0 < length ps → HasSoundParts (hanan_grid_of ps)
-HasSoundParts-hanan_grid_of ps some = record {
-  edges = record {
-    ends = ends_below (xs_of ps) (ys_of ps);
-    lengths = lengths_positive (xs_of ps) (ys_of ps) (IsRising-xs_of ps) (IsRising-ys_of ps);
-  };
-  terminal = omega (arith, length-map ps (vertex_of (xs_of ps) (ys_of ps)));
-  terminals = terminals_below ps;
-}
+HasSoundParts-hanan_grid_of ps some =
+    grind (arith, ends_below (xs_of ps) (ys_of ps), lengths_positive (xs_of ps) (ys_of ps) (IsRising-xs_of ps) (IsRising-ys_of ps), length-map ps (vertex_of (xs_of ps) (ys_of ps)), terminals_below ps)
 
 -- what all items are none fails to be
 none_first : {X : Type 0} {R : Type 0} (P Q : X → Type 0) (xs : List X) (n : ℕ) → All P xs → ((x : X) → P x → Q x → ⊥) → IsFirst Q xs n → R
 none_first P Q xs n all apart first =
-    let x = first.here.0 in
-    let at = get_or_from_slice_get xs n x x first.here.1 in
-    absurd (apart x (subst P at (all n x (slice_get_within xs n x first.here.1))) first.here.2)
+    grind (arith, get_or_from_slice_get xs n (first.here.0) (first.here.0) first.here.1, all n (first.here.0) (slice_get_within xs n (first.here.0) first.here.1))
 
 -- a graph whose parts are sound has no fault but its total and want of memory
 known_fault : (g : Graph) (fault : GraphFault) → HasSoundParts g → IsFirstFault g fault → IsTotalOrMemory fault

@@ -1,5 +1,5 @@
 -- Steps of the loops that write edges.
-use Rattle.std.proofs.Common.{ℕ, zero, suc, ◌+◌, ◌≡◌, List, [], ◌∷◌, ◌++◌, map, ap, ◌∙◌, sym, arith}
+use Rattle.std.proofs.Common.{ℕ, zero, suc, ◌+◌, ◌≡◌, List, [], ◌∷◌, ◌++◌, map, arith}
 use Rattle.std.specs.List.{range_with_len}
 use Rattle.std.proofs.lemmas.List.{append_assoc, append-nil}
 use Rattle.std.proofs.lemmas.List.FromFn.{map-range_with_len_more}
@@ -8,25 +8,15 @@ use Rattle.hanan_grid.specs.Tables.{table_from}
 -- one more value of a row
 pub row_more : {X : Type 0} (f : ℕ → X) (before now after : List X) (n : ℕ) (x : X) → now ≡ before ++ map f (range_with_len 0 n) → x ≡ f n → after ≡ now ++ x ∷ [] → after ≡ before ++ map f (range_with_len 0 (n + 1))
 row_more f before now after n x so_far is pushed =
-    let more = map-range_with_len_more f 0 n n (omega arith) in
-    let joined = append_assoc before (map f (range_with_len 0 n)) (f n ∷ []) in
-    cc
+    grind (arith, map-range_with_len_more, append_assoc before (map f (range_with_len 0 n)) (f n ∷ []), f n)
 
 -- one more row of a table
 table_from-more : {X : Type 0} (f : ℕ → ℕ → X) (a n w : ℕ) → table_from f a (n + 1) w ≡ table_from f a n w ++ map (f (a + n)) (range_with_len 0 w)
-table_from-more f a zero w =
-    let here : a + 0 ≡ a = omega arith in
-    rw here (append-nil (map (f a) (range_with_len 0 w)))
+table_from-more f a zero w = grind (arith, append-nil (map (f a) (range_with_len 0 w)))
 table_from-more f a (suc n) w =
-    let there : a + 1 + n ≡ a + suc n = omega arith in
-    let count : suc n + 1 ≡ suc (n + 1) = omega arith in
-    let joined = append_assoc (map (f a) (range_with_len 0 w)) (table_from f (a + 1) n w) (map (f (a + suc n)) (range_with_len 0 w)) in
-    rw count (ap (λ rest. map (f a) (range_with_len 0 w) ++ rest) (rw there at (table_from-more f (a + 1) n w)) ∙ sym joined)
+    grind (arith, suc n, suc (n + 1), append_assoc (map (f a) (range_with_len 0 w)) (table_from f (a + 1) n w) (map (f (a + suc n)) (range_with_len 0 w)), table_from-more f (a + 1) n w)
 
 -- one more row of a table, behind what was there
 pub table_more : {X : Type 0} (f : ℕ → ℕ → X) (before now after : List X) (n w : ℕ) → now ≡ before ++ table_from f 0 n w → after ≡ now ++ map (f n) (range_with_len 0 w) → after ≡ before ++ table_from f 0 (n + 1) w
 table_more f before now after n w so_far pushed =
-    let here : 0 + n ≡ n = omega arith in
-    let more = rw here at (table_from-more f 0 n w) in
-    let joined = append_assoc before (table_from f 0 n w) (map (f n) (range_with_len 0 w)) in
-    cc
+    grind (arith, table_from-more f 0 n w, append_assoc before (table_from f 0 n w) (map (f n) (range_with_len 0 w)))

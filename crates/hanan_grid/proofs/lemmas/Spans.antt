@@ -1,5 +1,5 @@
 -- How far apart crossings of a grid are, against the sum of its edges.
-use Rattle.std.proofs.Common.{ℕ, ◌*◌, ◌<◌, ◌≤◌, List, length, arith}
+use Rattle.std.proofs.Common.{ℕ, ◌*◌, ◌<◌, ◌≤◌, List, arith}
 use Rattle.points_in.specs.declared.point.Point.{Point}
 use Rattle.net_graph.specs.Graph.{total_of}
 use Rattle.hanan_grid.specs.Grid.{xs_of, ys_of, hanan_grid_of}
@@ -16,12 +16,14 @@ once_le n w some = grind arith
 -- two crossings are at most the sum of all edges apart
 pub distance_between-le : (ps : List Point) (p q : Point) → IsCrossing (xs_of ps) (ys_of ps) p → IsCrossing (xs_of ps) (ys_of ps) q → distance_between p q ≤ total_of (hanan_grid_of ps)
 distance_between-le ps p q at at' =
-    let xs = xs_of ps in
-    let ys = ys_of ps in
-    let across = apart_le xs p.x q.x at.x at'.x (IsRising-xs_of ps) in
-    let up = apart_le ys p.y q.y at.y at'.y (IsRising-ys_of ps) in
-    let column = place_of-below p.x xs at.x (IsRising-xs_of ps) in
-    let row = place_of-below p.y ys at.y (IsRising-ys_of ps) in
-    let rows = once_le (length ys) (width_of xs) (omega arith) in
-    let columns = once_le (length xs) (width_of ys) (omega arith) in
-    omega (arith, total_of-hanan_grid_of ps)
+    grind (
+      arith,
+      apart_le (xs_of ps) p.x q.x at.x at'.x (IsRising-xs_of ps),
+      apart_le (ys_of ps) p.y q.y at.y at'.y (IsRising-ys_of ps),
+      place_of-below p.x (xs_of ps) at.x (IsRising-xs_of ps),
+      place_of-below p.y (ys_of ps) at.y (IsRising-ys_of ps),
+      once_le,
+      width_of (xs_of ps),
+      width_of (ys_of ps),
+      total_of-hanan_grid_of ps,
+    )

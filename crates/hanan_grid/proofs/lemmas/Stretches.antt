@@ -1,5 +1,5 @@
 -- What the places of a stretch's ends say of it, and what a set of its edges says of its vertices.
-use Rattle.std.proofs.Common.{ℕ, ◌≡◌, Bool, true, false, List, [], ◌∷◌, replicate, slice_get, Some, subst, inl, inr}
+use Rattle.std.proofs.Common.{ℕ, ◌≡◌, Bool, true, false, List, [], ◌∷◌, replicate, slice_get, Some, subst, inl, inr, arith}
 use Rattle.std.specs.Prelude.{All, IsTrue, ◌↔◌}
 use Rattle.std.proofs.lemmas.List.Elements.{All-nil, All-cons}
 use Rattle.points_in.specs.declared.point.Point.{Point}
@@ -32,8 +32,7 @@ column_found ps p q column a b is other at from to =
 ends_on_stretch : (ps : List Point) (p q : Point) → IsGridStretch ps p q →
     All (IsVertexOnStretch ps p q) (vertex_of (xs_of ps) (ys_of ps) p ∷ vertex_of (xs_of ps) (ys_of ps) q ∷ [])
 ends_on_stretch ps p q is =
-    All-cons (IsVertexOnStretch ps p q) (vertex_of (xs_of ps) (ys_of ps) p) (vertex_of (xs_of ps) (ys_of ps) q ∷ []) (IsVertexOnStretch-from ps p q is)
-    (All-cons (IsVertexOnStretch ps p q) (vertex_of (xs_of ps) (ys_of ps) q) [] (IsVertexOnStretch-to ps p q is) (All-nil (IsVertexOnStretch ps p q)))
+    grind (arith, IsVertexOnStretch-from ps p q is, All-cons (IsVertexOnStretch ps p q) (vertex_of (xs_of ps) (ys_of ps) q), IsVertexOnStretch-to ps p q is, All-nil (IsVertexOnStretch ps p q))
 
 -- .. so a set with the stretch's edges joins them
 pub joins_ends : (ps : List Point) (p q : Point) (set : List Bool) → IsGridStretch ps p q →
@@ -50,5 +49,4 @@ not_level p q level tests fails same = let yes : level ≡ true = tests.1 same i
 pub edges_put : (P : ℕ → Type 0) (size : ℕ) (empty set : List Bool) → empty ≡ replicate size false →
     Adds P empty set →
     (e : ℕ) → (slice_get set e ≡ Some true) ↔ P e
-edges_put P size empty set is adds e =
-    (Adds-holds P size set (subst (λ old. Adds P old set) is adds) e, adds.put e)
+edges_put P size empty set is adds e = (Adds-holds P size set (subst (λ old. Adds P old set) is adds) e, adds.put e)

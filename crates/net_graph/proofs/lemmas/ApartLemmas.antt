@@ -1,5 +1,5 @@
 -- Terminals one after another, and marks of what is reached.
-use Rattle.std.proofs.Common.{ℕ, ◌≡◌, ◌+◌, ◌<◌, ◌≤◌, Bool, true, false, List, length, get_or, sym, ap, ◌∙◌, ⊎_elim, arith, Some}
+use Rattle.std.proofs.Common.{ℕ, ◌≡◌, ◌+◌, ◌<◌, ◌≤◌, Bool, true, false, List, length, get_or, arith, Some}
 use Rattle.std.specs.Prelude.{slice_get, ◌↔◌}
 use Rattle.std.proofs.lemmas.Bool.{cases_lt}
 use Rattle.std.proofs.lemmas.Option.{slice_get-get_or, get_or_from_slice_get}
@@ -18,23 +18,14 @@ ReachedBefore g set place = (p v : ℕ) → p < place → slice_get g.terminals 
 -- the first terminal without a mark
 pub first_unmarked : (g : Graph) (set marks : List Bool) (terminals : List ℕ) (place : ℕ) → terminals ≡ g.terminals → MarksReached g set marks
     → place < length terminals → has marks (get_or terminals place 0) ≡ false → ReachedBefore g set place → IsFirstApart g set place
-first_unmarked g set marks terminals place same reached inside unmarked before = record {
-  terminal = get_or terminals place 0;
-  at = ap (λ ts. slice_get ts place) (sym same) ∙ slice_get-get_or terminals place 0 inside;
-  apart = λ reach. let marked : has marks (get_or terminals place 0) ≡ true = (reached (get_or terminals place 0)).1 reach in absurd cc;
-  before = before;
-}
+first_unmarked g set marks terminals place same reached inside unmarked before =
+    grind (arith, slice_get-get_or terminals place 0 inside, reached (get_or terminals place 0))
 
 -- one more terminal with a mark
 pub reached_more : (g : Graph) (set marks : List Bool) (terminals : List ℕ) (place : ℕ) → terminals ≡ g.terminals → MarksReached g set marks
     → has marks (get_or terminals place 0) ≡ true → ReachedBefore g set place → ReachedBefore g set (place + 1)
-reached_more g set marks terminals place same reached marked before p v below at = ⊎_elim
-    (λ (sooner : p < place). before p v sooner at)
-    (λ (later : place ≤ p).
-    let here : place ≡ p = omega arith in
-    let is : get_or terminals place 0 ≡ v = get_or_from_slice_get terminals place v 0 (ap (λ ts. slice_get ts place) same ∙ ap (slice_get g.terminals) here ∙ at) in
-    (reached v).0 (ap (has marks) (sym is) ∙ marked))
-    (cases_lt p place)
+reached_more g set marks terminals place same reached marked before p v below at =
+    grind (arith, get_or_from_slice_get, reached v, cases_lt p place)
 
 -- all of them
 pub reached_all : (g : Graph) (set : List Bool) (place : ℕ) → length g.terminals ≤ place → ReachedBefore g set place → IsNetwork g set

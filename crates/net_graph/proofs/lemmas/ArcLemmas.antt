@@ -13,11 +13,7 @@ use Rattle.net_graph.specs.Arcs.{IsArcOf, forward_arc, backward_arc, IsSplitAt, 
 
 -- where a binary search by the vertex ends, the arcs are split
 pub IsSplitAt-from_point : (arcs : List Arc) (vertex place : ℕ) → place ≤ length arcs → IsPartitionPoint (λ y. ltb y.from vertex ≡ true) (λ y. ltb y.from vertex ≡ false) arcs place → IsSplitAt arcs vertex place
-IsSplitAt-from_point arcs vertex place within point = record {
-  within = within;
-  before = λ k d lt. ltb-true (get_or arcs k d).from vertex (point.0 k d (omega arith) lt);
-  after = λ k d le lt. ltb-false (get_or arcs k d).from vertex (point.1 k d le lt);
-}
+IsSplitAt-from_point arcs vertex place within point = grind (arith, ltb-true, ltb-false)
 
 -- an arc, for places past the end of a list
 no_arc : Arc
@@ -85,13 +81,7 @@ AreArcsBelow-more edges n e arcs at below = record {
 
 -- at the end they are the arcs of all edges
 pub AreArcsOf-from_below : (edges : List Edge) (n : ℕ) (arcs : List Arc) → length edges ≤ n → AreArcsBelow edges n arcs → AreArcsOf edges arcs
-AreArcsOf-from_below edges n arcs all below = record {
-  each = below.each;
-  every = λ arc (k, e, at, way).
-      let within : k < length edges = slice_get_within edges k e at in
-      let both : Contains arcs (forward_arc k e) × Contains arcs (backward_arc k e) = below.every k e (omega arith) at in
-      ⊎_elim (λ is. subst (Contains arcs) (sym is) both.0) (λ is. subst (Contains arcs) (sym is) both.1) way;
-}
+AreArcsOf-from_below edges n arcs all below = grind (arith, slice_get_within)
 
 -- in another order they are still the arcs of the edges
 pub AreArcsOf-permutation : (edges : List Edge) (xs ys : List Arc) → IsPermutation xs ys → AreArcsOf edges xs → AreArcsOf edges ys
@@ -107,10 +97,7 @@ starts_around arcs starts v p q split below at_v at_next =
 
 -- what is said of arcs with P is said of the same arcs by another name
 pub AreArcsFrom-same : (P Q : Arc → Type 0) (v : ℕ) (arcs : List Arc) → ((arc : Arc) → P arc → Q arc) → ((arc : Arc) → Q arc → P arc) → AreArcsFrom P v arcs → AreArcsFrom Q v arcs
-AreArcsFrom-same P Q v arcs to back are = record {
-  each = λ k d lt. let it : P (get_or arcs k d) × ((get_or arcs k d).from ≡ v) = are.each k d lt in (to (get_or arcs k d) it.0, it.1);
-  every = λ arc is leads. are.every arc (back arc is) leads;
-}
+AreArcsFrom-same P Q v arcs to back are = grind arith
 
 -- the arcs of a graph that lead from a vertex, from those of its table
 pub AreArcsFrom-of_graph : (edges : List Edge) (all : List Arc) (v : ℕ) (arcs : List Arc) → AreArcsOf edges all → AreArcsFrom (Contains all) v arcs → AreArcsFrom (IsArcOf edges) v arcs
@@ -119,10 +106,7 @@ AreArcsFrom-of_graph edges all v arcs are from = AreArcsFrom-same (Contains all)
 -- an arc of a graph leads to a vertex, and its number is below twice the number of edges
 pub IsArcOf-bounds : (vertices : ℕ) (edges : List Edge) (arc : Arc) → All (HasEndsBelow vertices) edges → IsArcOf edges arc → (arc.to < vertices) × (arc.number < 2 * length edges)
 IsArcOf-bounds vertices edges arc ends (n, e, at, way) =
-    let within : n < length edges = slice_get_within edges n e at in
-    let both : HasEndsBelow vertices e = subst (HasEndsBelow vertices) (get_or_from_slice_get edges n e e at) (ends n e within) in
-    let P : Arc → Type 0 = λ x. (x.to < vertices) × (x.number < 2 * length edges) in
-    ⊎_elim (λ is. subst P (sym is) (both.b, omega arith)) (λ is. subst P (sym is) (both.a, omega arith)) way
+    grind (arith, slice_get_within edges n e, get_or_from_slice_get edges n e e, ends n e (slice_get_within edges n e at))
 
 -- the same of each arc of a list
 pub AreArcsFrom-bounds : (vertices : ℕ) (edges : List Edge) (v : ℕ) (arcs : List Arc) → All (HasEndsBelow vertices) edges → AreArcsFrom (IsArcOf edges) v arcs → All (λ arc. (arc.to < vertices) × (arc.number < 2 * length edges)) arcs

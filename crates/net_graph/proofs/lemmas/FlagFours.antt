@@ -32,13 +32,7 @@ or_none false y none = none
 
 -- four bits that are moved up within a word stay as they are
 moved : (nibble up : ℕ) → nibble < 16 → up ≤ 60 → nibble * 2 ^ up % 2 ^ 64 ≡ nibble * 2 ^ up + 0
-moved nibble up small within =
-    let most : nibble * 2 ^ up ≤ 15 * 2 ^ up = mul-le nibble (2 ^ up) 15 (2 ^ up) (omega arith) (omega arith) in
-    let room : 2 ^ (4 + up) ≤ 2 ^ 64 = pow_mono {i = 4 + up} {j = 64} (omega arith) in
-    let next : 2 ^ (4 + up) ≡ 16 * 2 ^ up = pow-add 2 4 up in
-    let some : 0 < 2 ^ up = pow_pos up in
-    let fits : nibble * 2 ^ up < 2 ^ 64 = omega arith in
-    mod-eq_of_lt fits ∙ omega arith
+moved nibble up small within = grind (arith, mul-le, pow_mono, pow-add 2 4 up, pow_pos up, mod-eq_of_lt)
 
 -- a bit of four that were moved up to a place of four
 moved_bit : (nibble value place n : ℕ) → nibble < 16 → ((r : ℕ) → r < 4 → eqb (bit_at nibble r) 1 ≡ flag_of_four value r) → n / 64 ≡ place / 16 →
@@ -114,10 +108,4 @@ pub flag_of_word : (words : List ℕ) (flags : List Bool) (size place r word : �
     length words ≡ (size + 63) / 64 → r < 64 → 64 * place + r < length flags → word ≡ get_or words place word →
     has flags (64 * place + r) ≡ eqb (bit_at word r) 1
 flag_of_word words flags size place r word view enough low below read =
-    let long : length flags ≡ size = long_view words flags size view in
-    let there : place < length words = omega arith in
-    let is : word ≡ get_or words place 0 = get_or_read words place word there read 0 in
-    let held : has flags (64 * place + r) ≡ bit_in_words words (64 * place + r) = rw (← view) (flag_at words size (64 * place + r) false (omega arith)) in
-    let at : (64 * place + r) / 64 ≡ place = omega arith in
-    let bit : (64 * place + r) % 64 ≡ r = omega arith in
-    rw (held, at, bit, is) refl
+    grind (arith, long_view words flags size view, get_or_read, flag_at)

@@ -28,10 +28,8 @@ bit_changed words n word flag within is = rw (get_or-set_same words (n / 64) wor
 bit_kept : (words : List ℕ) (n word k : ℕ) → n / 64 < length words → k ≢ n →
     ((i : ℕ) → i < 64 → i ≢ n % 64 → bit_at word i ≡ bit_at (get_or words (n / 64) 0) i) →
     bit_in_words (set words (n / 64) word) k ≡ bit_in_words words k
-bit_kept words n word k within apart kept = elim (cases_eq (k / 64) (n / 64)) [
-  | inl same ↦ rw (same, get_or-set_same words (n / 64) word 0, kept (k % 64) (omega arith) (omega arith)) refl
-  | inr other ↦ rw (get_or-set_other words (n / 64) (k / 64) word 0 other) refl
-]
+bit_kept words n word k within apart kept =
+    grind (arith, cases_eq (k / 64) (n / 64), get_or-set_same words (n / 64) word 0, get_or-set_other)
 
 -- a word with one bit changed changes that flag and no other
 pub flags-set : (words : List ℕ) (size n word : ℕ) (flag : Bool) → length words ≡ (size + 63) / 64 → n < size →
@@ -53,10 +51,7 @@ zero_has_no_bit k = rw (bit_at-zero k) refl
 
 -- a word that is 0 or past the end is 0
 get_or_zeros : (count i : ℕ) → get_or {A = ℕ} (replicate count 0) i 0 ≡ 0
-get_or_zeros count i = elim (cases_lt i count) [
-  | inl below ↦ get_or-replicate count i 0 0 below
-  | inr past ↦ get_or_past (replicate count 0) i 0 (rw (length-replicate {A = ℕ} count 0) past)
-]
+get_or_zeros count i = grind (arith, cases_lt i count, get_or-replicate, get_or_past, length-replicate)
 
 -- words that are 0 keep no flag
 pub flags-none : (words : List ℕ) (count size : ℕ) → words ≡ replicate count 0 → flags_in_words words size ≡ replicate size false
@@ -67,9 +62,7 @@ flags-none words count size zeros =
 -- a member's word is one of the words
 pub word_within : (words : List ℕ) (flags : List Bool) (size n : ℕ) → flags_in_words words size ≡ flags →
     length words ≡ (size + 63) / 64 → n < length flags → n / 64 < length words
-word_within words flags size n view enough below =
-    let long : length flags ≡ size = sym (ap length view) ∙ length-flags_in_words words size in
-    rw enough (word_below size n (rw (← long) below))
+word_within words flags size n view enough below = grind (arith, length-flags_in_words words size, word_below)
 
 -- the number of flags is the size
 pub long_view : (words : List ℕ) (flags : List Bool) (size : ℕ) → flags_in_words words size ≡ flags → length flags ≡ size
@@ -106,8 +99,4 @@ pub flag_read : (words : List ℕ) (flags : List Bool) (size n word : ℕ) (othe
     length words ≡ (size + 63) / 64 → n < length flags → word ≡ get_or words (n / 64) word →
     eqb (bit_and (word / 2 ^ (n % 64)) 1) 1 ≡ get_or flags n other
 flag_read words flags size n word other view enough below read =
-    let within : n / 64 < length words = word_within words flags size n view enough below in
-    let is : word ≡ get_or words (n / 64) 0 = get_or_read words (n / 64) word within read 0 in
-    let held : get_or flags n other ≡ bit_in_words words n =
-    rw (← view) (flag_at words size n other (rw (← long_view words flags size view) below)) in
-    rw (held, shr_and_one word (n % 64), is) refl
+    grind (arith, get_or_read words (n / 64) word (word_within words flags size n view enough below) read 0, flag_at, long_view words flags size view, shr_and_one word (n % 64))

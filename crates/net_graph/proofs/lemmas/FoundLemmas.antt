@@ -1,5 +1,5 @@
 -- Found numbers: one more number and its mark.
-use Rattle.std.proofs.Common.{◌≡◌, ℕ, ◌+◌, ◌<◌, ◌≤◌, Bool, true, false, cond, List, [], ◌∷◌, ◌++◌, length, get_or, set, count_by, ⊎_elim, sym, ap, ◌∙◌, arith, length-append}
+use Rattle.std.proofs.Common.{◌≡◌, ℕ, ◌+◌, ◌<◌, Bool, true, false, List, [], ◌∷◌, ◌++◌, length, set, count_by, ⊎_elim, sym, ◌∙◌, arith, length-append}
 use Rattle.std.proofs.lemmas.Bool.{cases_eq}
 use Rattle.std.proofs.lemmas.List.{length-set, get_or-set_same, get_or-set_other}
 use Rattle.std.proofs.lemmas.List.Elements.{Contains-append_left, Contains-push, Contains-push_cases, All-push}
@@ -9,19 +9,12 @@ use Rattle.net_graph.specs.Found.{AreMarksOf}
 
 -- one more mark is one more that is counted
 count-set : (marks : List Bool) (v : ℕ) → v < length marks → has marks v ≡ false → count_by (λ flag. flag) (set marks v true) ≡ count_by (λ flag. flag) marks + 1
-count-set marks v within unmarked =
-    let one : Bool → ℕ = λ flag. cond flag 1 0 in
-    let total : count_by (λ flag. flag) (set marks v true) + one (get_or marks v false) ≡ count_by (λ flag. flag) marks + 1 = sum_by-set one marks v true false within in
-    let old : one (get_or marks v false) ≡ 0 = ap one unmarked in
-    omega arith
+count-set marks v within unmarked = grind (arith, count_by, sum_by-set)
 
 -- while some number has no mark there are fewer in the list than numbers
 pub room_left : (order : List ℕ) (marks : List Bool) (v : ℕ) → AreMarksOf order marks → v < length marks → has marks v ≡ false → length order < length marks
 room_left order marks v are within unmarked =
-    let more : count_by (λ flag. flag) (set marks v true) ≡ count_by (λ flag. flag) marks + 1 = count-set marks v within unmarked in
-    let most : count_by (λ flag. flag) (set marks v true) ≤ length (set marks v true) = count_by-le-length (λ flag. flag) (set marks v true) in
-    let count : length order ≡ count_by (λ flag. flag) marks = are.count in
-    omega (arith, length-set marks v true)
+    grind (arith, count_by, count-set marks v within unmarked, count_by-le-length, length-set marks v true)
 
 -- one more number and its mark
 pub AreMarksOf-more : (order : List ℕ) (marks : List Bool) (v : ℕ) → AreMarksOf order marks → v < length marks → has marks v ≡ false → AreMarksOf (order ++ v ∷ []) (set marks v true)

@@ -1,5 +1,5 @@
 -- The invariants of a search that goes on from found vertices.
-use Rattle.std.proofs.Common.{◌≡◌, ℕ, ◌+◌, ◌<◌, ◌≤◌, Bool, true, false, List, [], ◌∷◌, ◌++◌, length, get_or, slice_get, Some, Contains, ◌⊎◌, ◌↔◌, ⊎_elim, sym, refl, ap, ◌∙◌, subst, arith, length-append}
+use Rattle.std.proofs.Common.{◌≡◌, ℕ, ◌+◌, ◌<◌, ◌≤◌, Bool, List, [], ◌∷◌, ◌++◌, length, get_or, slice_get, Some, Contains, ◌⊎◌, ◌↔◌, ⊎_elim, sym, refl, ap, ◌∙◌, subst, arith, length-append}
 use Rattle.std.proofs.lemmas.Bool.{cases_lt, both_ways}
 use Rattle.std.proofs.lemmas.List.{get_or_append_left, get_or_past}
 use Rattle.std.proofs.lemmas.List.Elements.{All-contains, Contains-get_or, Contains-append_left, Contains-append_cases, Contains-push}
@@ -17,10 +17,7 @@ use Rattle.net_graph.proofs.lemmas.SearchLemmas.{Extends-more, Extends-keeps}
 
 -- found vertices are below the size
 pub found_below : (found : Finds) (members : List Bool) → HasMembers found members → (v : ℕ) → Contains found.order v → v < found.size
-found_below found members are v listed =
-    let marked : has members v ≡ true = (are.flags v).1 listed in
-    ⊎_elim (λ low. let size : length members ≡ found.size = are.size in omega arith)
-    (λ past. absurd (both_ways (has members v) (get_or_past members v false past) marked)) (cases_lt v (length members))
+found_below found members are v listed = grind (arith, are.flags v, both_ways, get_or_past, cases_lt v (length members))
 
 -- each of the vertices leads to itself
 pub LeadsToOne-start : (Step : ℕ → ℕ → Type 0) (ends : List ℕ) (v : ℕ) → Contains ends v → LeadsToOne Step ends v

@@ -21,9 +21,4 @@ length_without_flag edges set n e below size flag =
 pub length_with_flag-le-sum : (edges : List Edge) (set : List Bool) (n : ℕ) (e : Edge) → n < length edges → length edges ≡ length set →
     get_or set n false ≡ true → length_of_edges (take n edges) set + (get_or edges n e).length ≤ sum_by (λ e. e.length) edges
 length_with_flag-le-sum edges set n e below size flag =
-    omega (
-      arith,
-      length_with_flag edges set n e below size flag,
-      length_of_edges-le-sum (take (n + 1) edges) set,
-      sum_by-take-le (λ (e : Edge). e.length) edges (n + 1),
-    )
+    grind (arith, length_with_flag, length_of_edges-le-sum (take (n + 1) edges) set, sum_by-take-le)

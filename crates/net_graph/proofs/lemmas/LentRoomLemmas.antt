@@ -1,5 +1,5 @@
 -- Found numbers in lent room: the first ones, and one more.
-use Rattle.std.proofs.Common.{◌≡◌, ◌≢◌, ℕ, zero, suc, ◌+◌, ◌<◌, ◌≤◌, Bool, false, List, [], ◌∷◌, ◌++◌, map, take, length, get_or, set, replicate, cond, eqb, slice_get, Some, ⊎_elim, sym, ap, ◌∙◌, refl, arith}
+use Rattle.std.proofs.Common.{◌≡◌, ◌≢◌, ℕ, zero, suc, ◌+◌, ◌<◌, Bool, false, List, [], ◌∷◌, ◌++◌, take, length, get_or, set, replicate, eqb, slice_get, Some, sym, ap, ◌∙◌, refl, arith}
 use Rattle.std.proofs.Math.ListN.{get_or-map}
 use Rattle.std.proofs.lemmas.Bool.{cases_lt, ne_eqb}
 use Rattle.std.proofs.lemmas.List.{length-set, length-map, length-replicate, length-take-le, get_or-take, get_or-replicate, get_or_past, map-set, take_more_set}
@@ -17,13 +17,7 @@ flag_of_mark marks v = get_or-map (λ (m : ℕ). eqb m 1) marks v 0
 -- while some number has no mark there is room
 pub room_in_queue : (marks queue : List ℕ) (count v : ℕ) → AreFoundInRoom marks queue count → v < length marks → get_or marks v 0 ≢ 1 → count < length queue
 room_in_queue marks queue count v are below unmarked =
-    let long : length (flags_of_marks marks) ≡ length marks = length-map marks (λ (m : ℕ). eqb m 1) in
-    let flag : has (flags_of_marks marks) v ≡ false = flag_of_mark marks v ∙ ne_eqb (get_or marks v 0) 1 unmarked in
-    let within : count ≤ length queue = are.within in
-    let some : length (take count queue) ≡ count = length-take-le count queue within in
-    let fewer : length (take count queue) < length (flags_of_marks marks) = room_left (take count queue) (flags_of_marks marks) v are.marked (omega arith) flag in
-    let size : length queue ≡ length marks = are.size in
-    omega arith
+    grind (arith, length-map, flag_of_mark marks v, ne_eqb (get_or marks v 0) 1 unmarked, length-take-le count queue (are.within), room_left)
 
 -- the queue with one more number
 pub queue_more : (queue : List ℕ) (count v : ℕ) → count < length queue → take (count + 1) (set queue count v) ≡ take count queue ++ v ∷ []
@@ -51,27 +45,15 @@ flags_of_zeros (suc size) = ap (λ (l : List Bool). false ∷ l) (flags_of_zeros
 
 -- no number is found where there is no mark
 AreMarksOf-none : (size : ℕ) → AreMarksOf [] (replicate size false)
-AreMarksOf-none size = record {
-  below = All-nil (λ v. v < length (replicate size false));
-  marked = λ v listed. absurd (let below : listed.0 < 0 = listed.1 in omega arith);
-  listed = λ v flag. let none : has (replicate size false) v ≡ false = ⊎_elim
-      (λ (below : v < size). get_or-replicate size v false false below)
-      (λ (past : size ≤ v). get_or_past (replicate size false) v false (rw length-replicate past))
-      (cases_lt v size) in absurd cc;
-  count = omega (arith, sum_by-replicate (λ flag. cond flag 1 0) size false);
-}
+AreMarksOf-none size =
+    grind (arith, All-nil, get_or-replicate, get_or_past, length-replicate, cases_lt, sum_by-replicate)
 
 -- nothing was found
 pub AreFoundInRoom-none : (marks queue : List ℕ) (size : ℕ) → marks ≡ replicate size 0 → length queue ≡ size → AreFoundInRoom marks queue 0
-AreFoundInRoom-none marks queue size zeros long = record {
-  size = long ∙ sym (ap length zeros ∙ length-replicate {A = ℕ} size 0);
-  within = omega arith;
-  marked = rw (zeros, flags_of_zeros size) (AreMarksOf-none size);
-}
+AreFoundInRoom-none marks queue size zeros long =
+    grind (arith, length-replicate, flags_of_zeros size, AreMarksOf-none size)
 
 -- the number at a place before the count
 pub at_place : (marks queue : List ℕ) (count place : ℕ) → AreFoundInRoom marks queue count → place < count → slice_get (take count queue) place ≡ Some (get_or queue place 0)
 at_place marks queue count place are before =
-    let within : count ≤ length queue = are.within in
-    let some : length (take count queue) ≡ count = length-take-le count queue within in
-    slice_get-get_or (take count queue) place 0 (omega arith) ∙ ap (λ (x : ℕ). Some x) (get_or-take count queue place 0 before)
+    grind (arith, length-take-le count queue (are.within), slice_get-get_or, get_or-take count queue place 0 before)

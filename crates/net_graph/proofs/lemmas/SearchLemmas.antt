@@ -13,11 +13,8 @@ use Rattle.net_graph.specs.SearchLaws.{Leads-start, Leads-more, Leads-keeps}
 
 -- one more number
 pub Extends-more : (P : ℕ → Type 0) (old now : List ℕ) (v : ℕ) → Extends P old now → P v → Extends P old (now ++ v ∷ [])
-Extends-more P old now v more here = record {
-  rest = more.rest ++ v ∷ [];
-  is = rw more.is (append_assoc old more.rest (v ∷ []));
-  each = All-push P more.rest v more.each here;
-}
+Extends-more P old now v more here =
+    grind (arith, append_assoc old more.rest (v ∷ []), All-push P more.rest v more.each here)
 
 -- what is in the list stays in it
 pub Extends-keeps : (P : ℕ → Type 0) (old now : List ℕ) (v : ℕ) → Extends P old now → Contains old v → Contains now v
@@ -30,13 +27,7 @@ pub record AddsHeads (P : ℕ → Type 0) (opens : ℕ → Bool) (arcs : List Ar
 
 -- a shut arc
 pub AddsHeads-shut : (P : ℕ → Type 0) (opens : ℕ → Bool) (arcs : List Arc) (n : ℕ) (old now : List ℕ) (arc : Arc) → AddsHeads P opens arcs n old now → slice_get arcs n ≡ Some arc → opens arc.number ≡ false → AddsHeads P opens arcs (n + 1) old now
-AddsHeads-shut P opens arcs n old now arc adds at shut = record {
-  more = adds.more;
-  every = λ k x lt at_k is_open. ⊎_elim (λ earlier. adds.every k x earlier at_k is_open)
-      (λ later. let same : n ≡ k = omega arith in
-      let same_arc : arc ≡ x = same_Some arc x (sym at ∙ subst (λ i. slice_get arcs i ≡ Some x) (sym same) at_k) in
-      let closed : opens x.number ≡ false = rw (← same_arc) shut in absurd cc) (cases_lt k n);
-}
+AddsHeads-shut P opens arcs n old now arc adds at shut = grind (arith, same_Some, slice_get, cases_lt)
 
 -- an open arc
 pub AddsHeads-open : (P : ℕ → Type 0) (opens : ℕ → Bool) (arcs : List Arc) (n : ℕ) (old now next : List ℕ) (arc : Arc) → AddsHeads P opens arcs n old now → slice_get arcs n ≡ Some arc → P arc.to → (next ≡ now ++ arc.to ∷ []) ⊎ (Contains now arc.to × (next ≡ now)) → AddsHeads P opens arcs (n + 1) old next
@@ -55,8 +46,7 @@ AddsHeads-open P opens arcs n old now next arc adds at here added =
 -- when all arcs from the vertex were gone over, each vertex one step away was found
 pub AddsHeads-all : (P : ℕ → Type 0) (edges : List Edge) (opens : ℕ → Bool) (v : ℕ) (arcs : List Arc) (n : ℕ) (old now : List ℕ) → AreArcsFrom (IsArcOf edges) v arcs → length arcs ≤ n → AddsHeads P opens arcs n old now → (w : ℕ) → OpenStep edges opens v w → Contains now w
 AddsHeads-all P edges opens v arcs n old now are all adds w (arc, is, is_open, leaves, comes) =
-    let (k, lt, at) = are.every arc is leaves in
-    subst (Contains now) comes (adds.every k arc (omega arith) (slice_get-get_or arcs k arc lt ∙ ap (λ x. Some x) at) is_open)
+    grind (arith, are.every arc is leaves, slice_get-get_or)
 
 -- What a search has come to when it has gone over the vertices before the place: P holds of the found ones.
 pub record SearchSoFar (Step : ℕ → ℕ → Type 0) (P : ℕ → Type 0) (vertices place : ℕ) (order : List ℕ) : Type 0 where
@@ -75,36 +65,19 @@ LeadsFromOne-more Step starts u w (start, listed, led) step = (start, listed, Le
 
 -- from one vertex
 pub LeadsFromOne-iff : (Step : ℕ → ℕ → Type 0) (start v : ℕ) → LeadsFromOne Step (start ∷ []) v ↔ Leads Step start v
-LeadsFromOne-iff Step start v = (
-  λ (from, listed, led). ⊎_elim
-      (λ (none : Contains [] from). absurd (let below : none.0 < 0 = none.1 in omega arith))
-      (λ (is : start ≡ from). subst (λ s. Leads Step s v) (sym is) led)
-      (Contains-push_cases [] start from listed),
-  λ led. (start, Contains-push [] start, led),
-)
+LeadsFromOne-iff Step start v = grind (arith, Contains-push_cases, Contains-push)
 
 -- the order with its first vertex
 pub found_first : (order next : List ℕ) (v : ℕ) → order ≡ [] → (next ≡ order ++ v ∷ []) ⊎ (Contains order v × (next ≡ order)) → next ≡ v ∷ []
-found_first order next v none added = ⊎_elim
-    (λ new. new ∙ ap (λ xs. xs ++ v ∷ []) none)
-    (λ (listed, same). let inside : Contains [] v = rw none at listed in absurd (let below : inside.0 < 0 = inside.1 in omega arith)) added
+found_first order next v none added = grind arith
 
 -- no vertex was gone over
 pub IsGoneOver-start : (Step : ℕ → ℕ → Type 0) (start vertices : ℕ) → start < vertices → IsGoneOver vertices Step 0 (start ∷ [])
-IsGoneOver-start Step start vertices below = record {
-  below = All-push (λ v. v < vertices) [] start (All-nil (λ v. v < vertices)) below;
-  within = omega arith;
-  closed = λ k v w lt at step. absurd (omega arith);
-}
+IsGoneOver-start Step start vertices below = grind (arith, All-push, All-nil)
 
 -- as the search goes on
 pub SearchSoFar-from_gone_over : (Step : ℕ → ℕ → Type 0) (vertices place : ℕ) (order : List ℕ) → IsGoneOver vertices Step place order → SearchSoFar Step (LeadsFromOne Step order) vertices place order
-SearchSoFar-from_gone_over Step vertices place order over = record {
-  led = λ k d lt. LeadsFromOne-start Step order (get_or order k d) (Contains-get_or order k d lt);
-  below = over.below;
-  within = over.within;
-  closed = over.closed;
-}
+SearchSoFar-from_gone_over Step vertices place order over = grind (arith, LeadsFromOne-start, Contains-get_or)
 
 -- one more vertex was gone over
 pub SearchSoFar-more : (Step : ℕ → ℕ → Type 0) (P : ℕ → Type 0) (vertices place v : ℕ) (order next : List ℕ) → ((u w : ℕ) → P u → Step u w → P w) →

@@ -34,27 +34,12 @@ middle low high low' high' = int_max low low' +ℤ int_min high high'
 
 middle_amid : (low high low' high' : ℤ) → int_max low low' <ℤ int_min high high'
     → IsAmid low high (middle low high low' high') × IsAmid low' high' (middle low high low' high')
-middle_amid low high low' high' shared =
-    let greater = int_max_is low low' in
-    let lesser = int_min_is high high' in (
-      record { above = omega (arith, ints, greater, lesser); below = omega (arith, ints, greater, lesser) },
-      record { above = omega (arith, ints, greater, lesser); below = omega (arith, ints, greater, lesser) },
-    )
+middle_amid low high low' high' shared = grind (arith, int_max_is low low', int_min_is high high', ints)
 
 -- .. and two that have a point in common overlap
 common_overlaps : (low high low' high' number : ℤ) → IsAmid low high number → IsAmid low' high' number
     → int_max low low' <ℤ int_min high high'
-common_overlaps low high low' high' number amid amid' =
-    omega (
-      arith,
-      ints,
-      int_max_is low low',
-      int_min_is high high',
-      amid.above,
-      amid.below,
-      amid'.above,
-      amid'.below,
-    )
+common_overlaps low high low' high' number amid amid' = grind (arith, ints, int_max_is low low', int_min_is high high')
 
 -- between two numbers of which the first is lower
 amid_between : (low high number : ℤ) → low <ℤ high → IsBetween low high number → IsAmid low high number
@@ -75,10 +60,7 @@ upright_test b p q other = rw other refl
 
 -- numbers that aren't one are told apart
 unequal : (y z : ℤ) → y <ℤ z → int_eq y z ≡ false
-unequal y z lower = elim (cases_Bool (int_eq y z)) [
-  | inl is ↦ let same = (Decides-int_eq y z).0 is in absurd (omega (arith, ints))
-  | inr not ↦ not
-]
+unequal y z lower = grind (arith, cases_Bool (int_eq y z), Decides-int_eq y z, ints)
 
 -- what the tests of a line and of a stretch tell together
 tests_tell : (line low high from to low' high' : ℤ)
@@ -117,19 +99,15 @@ crosses_upright b p q upright ((lower, higher), shared) =
 blocked_level : (b : Rectangle) (p q : Point) (h : HalfPoint) → p.x <ℤ q.x → IsOnSegment p q h → IsWithin b h
     → ((b.y1 <ℤ p.y) × (p.y <ℤ b.y2)) × (int_max p.x b.x1 <ℤ int_min q.x b.x2)
 blocked_level b p q h later (inr on) within = absurd (omega (arith, ints, on.upright))
-blocked_level b p q h later (inl on) within = (
-  (omega (arith, ints, on.y, within.y.above), omega (arith, ints, on.y, within.y.below)),
-  common_overlaps p.x q.x b.x1 b.x2 h.twice_x (amid_between p.x q.x h.twice_x later on.x) within.x,
-)
+blocked_level b p q h later (inl on) within =
+    grind (arith, ints, common_overlaps p.x q.x b.x1 b.x2 h.twice_x (amid_between p.x q.x h.twice_x later on.x) within.x)
 
 -- .. and so is an upright one
 blocked_upright : (b : Rectangle) (p q : Point) (h : HalfPoint) → p.y <ℤ q.y → IsOnSegment p q h → IsWithin b h
     → ((b.x1 <ℤ p.x) × (p.x <ℤ b.x2)) × (int_max p.y b.y1 <ℤ int_min q.y b.y2)
 blocked_upright b p q h later (inl on) within = absurd (omega (arith, ints, on.level))
-blocked_upright b p q h later (inr on) within = (
-  (omega (arith, ints, on.x, within.x.above), omega (arith, ints, on.x, within.x.below)),
-  common_overlaps p.y q.y b.y1 b.y2 h.twice_y (amid_between p.y q.y h.twice_y later on.y) within.y,
-)
+blocked_upright b p q h later (inr on) within =
+    grind (arith, ints, common_overlaps p.y q.y b.y1 b.y2 h.twice_y (amid_between p.y q.y h.twice_y later on.y) within.y)
 
 -- the law
 pub blocking_is_crossing_lem : BlockingIsCrossing

@@ -1,13 +1,13 @@
 -- The edges of lines run along an axis.
 use Rattle.std.specs.Prelude.{ℕ, ◌+◌, ◌-◌, ◌≡◌, ◌<◌, ℤ, List, length, All}
-use Rattle.std.proofs.Common.{arith, refl, inl, inr}
+use Rattle.std.proofs.Common.{arith}
 use Rattle.std.proofs.lemmas.List.Elements.{All-append}
 use Rattle.points_in.specs.declared.point.Point.{Point}
 use Rattle.net_graph.specs.declared.edge.Edge.{Edge}
 use Rattle.hanan_grid.specs.Grid.{horizontal, vertical, horizontals, verticals}
 use Rattle.hanan_grid.specs.GridLaws.{edges_of_lines, IsRising-xs_of, IsRising-ys_of}
 use Rattle.hanan_grid.specs.LinesLaws.{IsRising, line_at-rises}
-use Rattle.hanan_grid.specs.Names.{crossing, point_of_vertex}
+use Rattle.hanan_grid.specs.Names.{point_of_vertex}
 use Rattle.hanan_grid.specs.NamesLaws.{point_of_vertex-at}
 use Rattle.hanan_grid.specs.Tables.{All-table_from}
 use Rattle.obstacles_in.specs.Obstacles.{marks_of, columns_of, rows_of}
@@ -26,17 +26,13 @@ straight_at p q p' q' from to straight = rw (from, to) straight
 horizontal_straight : (xs ys : List ℤ) (j i : ℕ) → IsRising xs → i + 1 < length xs
     → IsStraightIn xs ys (horizontal xs j i)
 horizontal_straight xs ys j i rises column =
-    straight_at _ _ (crossing xs ys i j) (crossing xs ys (i + 1) j) (point_of_vertex-at xs ys i j (omega arith))
-    (point_of_vertex-at xs ys (i + 1) j column)
-    (inl (refl, line_at-rises xs i (i + 1) (omega arith) column rises))
+    grind (arith, straight_at, point_of_vertex-at, point_of_vertex-at xs ys (i + 1) j column, line_at-rises)
 
 -- and so does a vertical one
 vertical_straight : (xs ys : List ℤ) (j i : ℕ) → IsRising ys → j + 1 < length ys → i < length xs
     → IsStraightIn xs ys (vertical (length xs) ys j i)
 vertical_straight xs ys j i rises row column =
-    straight_at _ _ (crossing xs ys i j) (crossing xs ys i (j + 1)) (point_of_vertex-at xs ys i j column)
-    (point_of_vertex-at xs ys i (j + 1) column)
-    (inr (refl, line_at-rises ys j (j + 1) (omega arith) row rises))
+    grind (arith, straight_at, point_of_vertex-at xs ys i j column, point_of_vertex-at xs ys i (j + 1) column, line_at-rises)
 
 -- all edges of lines do
 edges_straight : (xs ys : List ℤ) → IsRising xs → IsRising ys → All (IsStraightIn xs ys) (edges_of_lines xs ys)

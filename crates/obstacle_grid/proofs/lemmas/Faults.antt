@@ -1,6 +1,6 @@
 -- The faults that the graph of points and boxes may have, and what its edges join.
 use Rattle.std.specs.Prelude.{ℕ, ◌*◌, ◌≡◌, ◌<◌, ◌≤◌, Bool, true, not, List, length, filter, flat_map, get_or, All, replicate}
-use Rattle.std.specs.Prelude.{Option, Some, None, IfSome, IfNone}
+use Rattle.std.specs.Prelude.{Option, None, IfNone}
 use Rattle.std.proofs.Common.{refl, ap, subst, ◌∙◌, arith}
 use Rattle.std.proofs.lemmas.List.{length-map, get_or_append_left}
 use Rattle.std.proofs.lemmas.List.Elements.{All-filter, All-map}
@@ -10,7 +10,7 @@ use Rattle.points_in.specs.declared.point.Point.{Point}
 use Rattle.net_graph.specs.declared.edge.Edge.{Edge}
 use Rattle.net_graph.specs.Graph.{Graph, graph_of, HasEndsBelow}
 use Rattle.net_graph.specs.Fault.{IsFirst, IsFirstFault, HasSoundParts}
-use Rattle.net_graph.specs.Network.{IsNetwork, IsFirstApart}
+use Rattle.net_graph.specs.Network.{IsNetwork}
 use Rattle.net_graph.specs.declared.graph.GraphFault.{GraphFault}
 use Rattle.net_graph.specs.declared.graph.GraphFault.TheVariants.{EndOutOfRange, ZeroLength, NoTerminal}
 use Rattle.net_graph.specs.declared.graph.GraphFault.TheVariants.{TerminalOutOfRange, TooLong, Memory}
@@ -38,9 +38,7 @@ length-filter-le p xs = omega (arith, length-filter_both p (λ x. not (p x)) (λ
 point_below : (o : ObstaclesValue) (k : ℕ) (d : Point) → k < length o.points
     → vertex_of (columns_of o) (rows_of o) (get_or o.points k d) < length (columns_of o) * length (rows_of o)
 point_below o k d inside =
-    let here = get_or_append_left o.points (flat_map corners_of o.boxes) d k inside in
-    subst (λ p. vertex_of (columns_of o) (rows_of o) p < length (columns_of o) * length (rows_of o)) here
-    (vertex_of-below (marks_of o) k d (omega (arith, length-marks o)))
+    grind (arith, get_or_append_left o.points (flat_map corners_of o.boxes) d k inside, vertex_of-below, length-marks o)
 
 -- but for the total, points and boxes make a graph
 pub sound_parts : (o : ObstaclesValue) → AreObstacles o → HasSoundParts (obstacle_graph_of o)
@@ -66,9 +64,7 @@ few_terminals o are = omega (arith, length-map o.points (vertex_of (columns_of o
 none_first : {X : Type 0} {R : Type 0} (P Q : X → Type 0) (xs : List X) (n : ℕ) → All P xs
     → ((x : X) → P x → Q x → ⊥) → IsFirst Q xs n → R
 none_first P Q xs n all apart first =
-    let x = first.here.0 in
-    let at = get_or_from_slice_get xs n x x first.here.1 in
-    absurd (apart x (subst P at (all n x (slice_get_within xs n x first.here.1))) first.here.2)
+    grind (arith, get_or_from_slice_get xs n (first.here.0) (first.here.0) first.here.1, all n (first.here.0) (slice_get_within xs n (first.here.0) first.here.1))
 
 -- a graph whose parts are sound has no fault but its total and want of memory
 known_fault : (g : Graph) (fault : GraphFault) → HasSoundParts g → IsFirstFault g fault → IsTotalOrMemory fault
@@ -87,9 +83,7 @@ known_fault g (Memory e) sound first = tt
 -- so it is with these parts
 pub known_fault_of_parts : (o : ObstaclesValue) (g : Graph) (fault told : GraphFault) → AreObstacles o
     → g ≡ obstacle_graph_of o → told ≡ fault → IsFirstFault g told → IsTotalOrMemory fault
-known_fault_of_parts o g fault told are is same first =
-    known_fault (obstacle_graph_of o) fault (sound_parts o are)
-    (subst (λ f. IsFirstFault (obstacle_graph_of o) f) same (subst (λ h. IsFirstFault h told) is first))
+known_fault_of_parts o g fault told are is same first = grind (arith, known_fault, sound_parts o are)
 
 -- ---- what the edges join
 

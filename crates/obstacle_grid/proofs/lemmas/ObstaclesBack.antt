@@ -1,5 +1,5 @@
 -- The text of the graph of points and boxes is read back word for word.
-use Rattle.std.specs.Prelude.{ℕ, ◌≡◌, ◌+◌, ◌-◌, ◌*◌, ◌<◌, ◌≤◌, ◌^◌, min, max, ℤ, pos, List, [], ◌∷◌, length, map}
+use Rattle.std.specs.Prelude.{ℕ, ◌≡◌, ◌+◌, ◌-◌, ◌*◌, ◌<◌, ◌≤◌, ◌^◌, ℤ, pos, List, [], ◌∷◌, length, map}
 use Rattle.std.specs.Prelude.{filter, flat_map, get_or, sum_by, All}
 use Rattle.std.proofs.Common.{arith, refl, sym, ap, subst, ◌∙◌}
 use Rattle.std.proofs.lemmas.List.{length-map, get_or-map, get_or_append_left}
@@ -12,7 +12,7 @@ use Rattle.net_graph.specs.Graph.{Graph, IsGraph}
 use Rattle.net_graph.specs.Network.{IsNetwork}
 use Rattle.hanan_grid.specs.Grid.{horizontal, vertical, horizontals, verticals, vertex_of}
 use Rattle.hanan_grid.specs.GridLaws.{edges_of_lines, IsRising-xs_of, IsRising-ys_of, Contains-xs_of, Contains-ys_of}
-use Rattle.hanan_grid.specs.Names.{IsCrossing, point_of_vertex}
+use Rattle.hanan_grid.specs.Names.{IsCrossing}
 use Rattle.hanan_grid.specs.NamesLaws.{point_of_vertex-vertex_of}
 use Rattle.hanan_grid.specs.Tables.{All-table_from}
 use Rattle.graph_solve.specs.Task.{graph_of_stp, all_edges}
@@ -32,10 +32,7 @@ abbrev IsTurned : Edge → Type 0
 IsTurned e = turned e ≡ e
 
 turned_already : (e : Edge) → e.a ≤ e.b → IsTurned e
-turned_already e order =
-    let a : min e.a e.b ≡ e.a = omega arith in
-    let b : max e.a e.b ≡ e.b = omega arith in
-    rw (a, b) refl
+turned_already e order = grind arith
 
 edges_turned : (xs ys : List ℤ) → All IsTurned (edges_of_lines xs ys)
 edges_turned xs ys = All-append IsTurned (horizontals xs ys) (verticals xs ys)
@@ -73,11 +70,11 @@ same_point : (o : ObstaclesValue) (p q : Point) → IsCrossing (columns_of o) (r
     → IsCrossing (columns_of o) (rows_of o) q
     → vertex_of (columns_of o) (rows_of o) p ≡ vertex_of (columns_of o) (rows_of o) q → p ≡ q
 same_point o p q at at' same =
-    let xs = columns_of o in
-    let ys = rows_of o in
-    sym (point_of_vertex-vertex_of xs ys p (IsRising-xs_of (marks_of o)) (IsRising-ys_of (marks_of o)) at)
-    ∙ (ap (point_of_vertex xs ys) same
-    ∙ point_of_vertex-vertex_of xs ys q (IsRising-xs_of (marks_of o)) (IsRising-ys_of (marks_of o)) at')
+    grind (
+      arith,
+      point_of_vertex-vertex_of (columns_of o) (rows_of o) p (IsRising-xs_of (marks_of o)) (IsRising-ys_of (marks_of o)),
+      point_of_vertex-vertex_of (columns_of o) (rows_of o) q (IsRising-xs_of (marks_of o)) (IsRising-ys_of (marks_of o)) at',
+    )
 
 -- some point
 nowhere : Point

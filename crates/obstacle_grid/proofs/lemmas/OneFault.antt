@@ -1,9 +1,8 @@
 -- Points and boxes have one first fault at most, and none where all allowed edges together join the points.
 use Rattle.std.specs.Prelude.{◌≡◌, Result, Ok, Err, IfErr, IfOk, OnOk}
-use Rattle.std.proofs.Common.{sym, ap, ◌∙◌, subst, arith}
+use Rattle.std.proofs.Common.{sym, ap, ◌∙◌, arith}
 use Rattle.std.proofs.lemmas.Option.{slice_get_within, get_or_from_slice_get}
 use Rattle.net_graph.specs.Graph.{Graph}
-use Rattle.net_graph.specs.Network.{Reaches}
 use Rattle.graph_solve.specs.Task.{all_edges}
 use Rattle.graph_solve.specs.FirstLaws.{one_apart}
 use Rattle.obstacles_in.specs.Obstacles.{ObstaclesValue}
@@ -26,11 +25,11 @@ module _ (o : ObstaclesValue) where
   no_fault : (f : ObstacleTaskFault) → IsTask o → HasFirstFault o f → ⊥
   no_fault (TooLong total) task (is, long) = (let short = task.total in omega (arith, is, long, short))
   no_fault (Apart place) task (short, apart) =
-      let g = obstacle_graph_of o in
-      let v = apart.terminal in
-      let here = get_or_from_slice_get g.terminals place v v apart.at in
-      let within = slice_get_within g.terminals place v apart.at in
-      apart.apart (subst (Reaches g (all_edges g)) here (task.joined place v within))
+      grind (
+        arith,
+        get_or_from_slice_get (obstacle_graph_of o).terminals place (apart.terminal) (apart.terminal) apart.at,
+        task.joined place (apart.terminal) (slice_get_within (obstacle_graph_of o).terminals place (apart.terminal) apart.at),
+      )
   no_fault (Memory error) task has = has
 
   module _ (outcome : Result Graph ObstacleTaskFault) where

@@ -1,5 +1,5 @@
 -- The text of a graph is read back.
-use Rattle.std.specs.Prelude.{ℕ, suc, ◌≡◌, ◌+◌, ◌-◌, ◌<◌, ◌≤◌, ◌^◌, ◌==◌, min, max, true, not, if◌then◌else◌}
+use Rattle.std.specs.Prelude.{ℕ, suc, ◌≡◌, ◌+◌, ◌<◌, ◌≤◌, ◌^◌, ◌==◌, min, max, true, not, if◌then◌else◌}
 use Rattle.std.specs.Prelude.{List, [], ◌∷◌, ◌++◌, length, map, flat_map, filter, sum_by, count_by, codes, All}
 use Rattle.std.specs.Prelude.{Bool, get_or, Some, None, Ok, Err}
 use Rattle.std.proofs.Common.{arith, refl, sym, ap, subst, ◌∙◌, append_assoc}
@@ -13,7 +13,7 @@ use Rattle.stp_format.specs.declared.fault.StpFault.TheVariants.{WrongCount}
 use Rattle.stp_format.specs.declared.fault.StpSection.TheVariants as section
 use Rattle.stp_format.specs.Lines.{lines_of}
 use Rattle.stp_format.specs.Reading.{stp_of, value_of_lines, end_of_text}
-use Rattle.stp_format.specs.Sections.{◌>>=◌, Sections, no_sections, outside, in_comment, in_graph, in_terminals}
+use Rattle.stp_format.specs.Sections.{◌>>=◌, Sections, no_sections, outside, in_graph, in_terminals}
 use Rattle.stp_format.specs.Sections.{ended, listing, naming}
 use Rattle.stp_format.specs.Value.{StpGraph, StpValue}
 use Rattle.net_graph.specs.declared.edge.Edge.{Edge}
@@ -155,16 +155,7 @@ comment = codes "\nSECTION Comment\nName \"rst\"\nEND\n\n"
 -- the comment is passed over
 leads_comment : (s : Sections) → LeadsOn (outside s) comment (outside s)
 leads_comment s =
-    leads_both (outside s) (outside s) (outside s) (10 ∷ []) (codes "SECTION Comment\nName \"rst\"\nEND\n\n")
-    (leads_empty (outside s))
-    (leads_both (outside s) (in_comment s) (outside s) (codes "SECTION Comment" ++ 10 ∷ [])
-    (codes "Name \"rst\"\nEND\n\n")
-    (leads_line (outside s) (in_comment s) (codes "SECTION Comment") (codes "SECTION") (codes "Comment" ∷ [])
-    (line_by_test (codes "SECTION Comment") refl) refl refl (λ n. refl))
-    (leads_both (in_comment s) (in_comment s) (outside s) (codes "Name \"rst\"" ++ 10 ∷ []) section_end
-    (leads_line (in_comment s) (in_comment s) (codes "Name \"rst\"") (codes "Name") (codes "\"rst\"" ∷ [])
-    (line_by_test (codes "Name \"rst\"") refl) refl refl (λ n. refl))
-    (leads_section_end (in_comment s) (outside s) (λ n. refl))))
+    grind (arith, leads_both, leads_empty (outside s), leads_line, line_by_test (codes "SECTION Comment") refl, line_by_test (codes "Name \"rst\"") refl, leads_section_end)
 
 -- the last line ends the file
 leads_end : (graph : StpGraph) (terminals : List ℕ) → LeadsOn (outside (with_terminals graph terminals)) end_text
@@ -194,8 +185,7 @@ leads_body g is some few =
 pub text_parts : (g : Graph) → graph_stp_text g ≡ title ++ 10 ∷ body g
 unfolding graph_stp_text
 text_parts g =
-    append_assoc head_text (graph_text g ++ terminals_text g) end_text
-    ∙ ap (λ rest. head_text ++ rest) (append_assoc (graph_text g) (terminals_text g) end_text)
+    grind (arith, append_assoc head_text (graph_text g ++ terminals_text g) end_text, append_assoc (graph_text g) (terminals_text g) end_text)
 
 -- what its lines come to, whatever the number of its end as a line
 lines_come : (g : Graph) (end : ℕ) → IsGraph g → 1 ≤ g.vertices → length g.terminals ≤ 255
@@ -217,10 +207,7 @@ text_is_file g is few =
 
 -- the edge of a file's edge
 edge_back : (e : Edge) → edge_of (node_edge e) ≡ turned e
-edge_back e =
-    let a : min e.a e.b + 1 - 1 ≡ min e.a e.b = omega arith in
-    let b : max e.a e.b + 1 - 1 ≡ max e.a e.b = omega arith in
-    rw (a, b) refl
+edge_back e = grind arith
 
 edges_back : (edges : List Edge) → map edge_of (map node_edge edges) ≡ map turned edges
 edges_back [] = refl
@@ -230,9 +217,7 @@ edges_back (e ∷ edges) = ap (λ x. x ∷ map edge_of (map node_edge edges)) (e
 -- the vertices of a file's terminals
 vertices_back : (vertices : List ℕ) → map vertex_of (map node_of vertices) ≡ vertices
 vertices_back [] = refl
-vertices_back (v ∷ vertices) =
-    let first : v + 1 - 1 ≡ v = omega arith in
-    ap (λ x. x ∷ map vertex_of (map node_of vertices)) first ∙ ap (λ vs. v ∷ vs) (vertices_back vertices)
+vertices_back (v ∷ vertices) = grind (arith, vertices_back vertices)
 
 -- a filter that all pass
 filter_all_pass : {X : Type 0} (p : X → Bool) (xs : List X) → All (λ x. p x ≡ true) xs → filter p xs ≡ xs
@@ -254,8 +239,7 @@ different_stay (v ∷ vertices) different =
 -- the file's graph is the graph, with its edges turned
 pub graph_is_back : (g : Graph) → AreDifferent g.terminals → graph_of_stp (file_of g) ≡ with_edges_turned g
 graph_is_back g different =
-    let terminals = ap without_repeats (vertices_back g.terminals) ∙ different_stay g.terminals different in
-    rw (edges_back g.edges, terminals) refl
+    grind (arith, vertices_back g.terminals, different_stay g.terminals different, edges_back g.edges)
 
 -- the first law
 pub graphs_are_read_back_lem : GraphsAreReadBack

@@ -3,7 +3,7 @@ use Rattle.std.specs.Prelude.{ℕ, ◌≡◌, ◌<◌, ◌≤◌, ◌^◌, ◌==
 use Rattle.std.specs.Prelude.{◌++◌, length, slice_index, All, codes, Some, None, is_some, Result, Ok, Err}
 use Rattle.std.specs.Fmt.{decimal}
 use Rattle.std.specs.List.{list_all}
-use Rattle.std.proofs.Common.{arith, refl, sym, ap, ◌∙◌, append_assoc}
+use Rattle.std.proofs.Common.{arith, refl, ap, ◌∙◌, append_assoc}
 use Rattle.std.proofs.lemmas.Bool.{le-leb, ne_eqb}
 use Rattle.std.proofs.lemmas.Bool.Decides.{Decides-and, Decides-ltb}
 use Rattle.std.proofs.lemmas.List.Elements.{All-nil, All-append, All-cons}
@@ -80,9 +80,7 @@ counted_is line n fits = number_in-decimal (2 ^ 32) line n fits (omega (arith, f
 
 -- the nodes, of which there is one at least
 nodes_are : (line nodes : ℕ) → 1 ≤ nodes → nodes < 2 ^ 32 → reading.nodes_line line (decimal nodes ∷ []) ≡ Ok nodes
-nodes_are line nodes some fits =
-    let one : (nodes == 0) ≡ false = ne_eqb nodes 0 (λ e. omega arith) in
-    ap (λ r. r >>= (λ k. if k == 0 then Err (BadLine line) else Ok k)) (counted_is line nodes fits) ∙ rw one refl
+nodes_are line nodes some fits = grind (arith, nodes == 0, ne_eqb, counted_is line nodes fits)
 
 -- a number is a node's
 is_node_told : (nodes i : ℕ) → 1 ≤ i → i ≤ nodes → is_node nodes i ≡ true
@@ -114,9 +112,7 @@ edge_is line nodes i j l few i_low i_high j_low j_high fits =
 -- the node of a terminal
 terminal_is : (line nodes i : ℕ) → nodes < 2 ^ 32 → 1 ≤ i → i ≤ nodes
     → reading.terminal_line line nodes (decimal i ∷ []) ≡ Ok i
-terminal_is line nodes i few low high =
-    ap (λ r. r >>= (λ k. if is_node nodes k then Ok k else Err (NodeOutOfRange line)))
-    (counted_is line i (omega (arith, high, few))) ∙ rw (is_node_told nodes i low high) refl
+terminal_is line nodes i few low high = grind (arith, counted_is, is_node_told nodes i low high)
 
 -- ---- the line of an edge and of a terminal
 
@@ -125,11 +121,13 @@ words_of_edge : (i j l : ℕ) → i < 2 ^ 64 → j < 2 ^ 64 → l < 2 ^ 64
     → words_of (codes "E" ++ 32 ∷ (decimal i ++ 32 ∷ (decimal j ++ 32 ∷ decimal l)))
     ≡ codes "E" ∷ decimal i ∷ decimal j ∷ decimal l ∷ []
 words_of_edge i j l first second third =
-    let keyword = plain_by_test (codes "E") refl refl in
-    words_of-before (codes "E") (decimal i ++ 32 ∷ (decimal j ++ 32 ∷ decimal l)) keyword
-    ∙ ap (λ ws. codes "E" ∷ ws) (words_of-before (decimal i) (decimal j ++ 32 ∷ decimal l) (decimal_plain i first)
-    ∙ ap (λ ws. decimal i ∷ ws) (words_of-before (decimal j) (decimal l) (decimal_plain j second)
-    ∙ ap (λ ws. decimal j ∷ ws) (words_of-last (decimal l) (decimal_plain l third))))
+    grind (
+      arith,
+      words_of-before (codes "E") (decimal i ++ 32 ∷ (decimal j ++ 32 ∷ decimal l)) (plain_by_test (codes "E") refl refl),
+      words_of-before (decimal i) (decimal j ++ 32 ∷ decimal l) (decimal_plain i first),
+      words_of-before (decimal j) (decimal l) (decimal_plain j second),
+      words_of-last (decimal l) (decimal_plain l third),
+    )
 
 -- which stand on one line
 edge_on_line : (i j l : ℕ) → i < 2 ^ 64 → j < 2 ^ 64 → l < 2 ^ 64
@@ -184,10 +182,12 @@ graph_head_bytes : (nodes edges : ℕ) → (codes "SECTION Graph" ++ 10 ∷ [])
     ++ (((codes "Nodes" ++ 32 ∷ decimal nodes) ++ 10 ∷ []) ++ ((codes "Edges" ++ 32 ∷ decimal edges) ++ 10 ∷ []))
     ≡ graph_head nodes edges
 graph_head_bytes nodes edges =
-    ap (λ rest. codes "SECTION Graph\nNodes " ++ rest)
-    (append_assoc (decimal nodes) (10 ∷ []) ((codes "Edges" ++ 32 ∷ decimal edges) ++ 10 ∷ [])
-    ∙ sym (append_assoc (decimal nodes) (codes "\nEdges " ++ decimal edges) (10 ∷ []))
-    ∙ ap (λ text. text ++ 10 ∷ []) (sym (append_assoc (decimal nodes) (codes "\nEdges ") (decimal edges))))
+    grind (
+      arith,
+      append_assoc (decimal nodes) (10 ∷ []) ((codes "Edges" ++ 32 ∷ decimal edges) ++ 10 ∷ []),
+      append_assoc (decimal nodes) (codes "\nEdges " ++ decimal edges) (10 ∷ []),
+      append_assoc (decimal nodes) (codes "\nEdges ") (decimal edges),
+    )
 
 -- it begins the list of the edges
 pub leads_graph_head : (s : Sections) (nodes due : ℕ) → s.graph ≡ None → 1 ≤ nodes → nodes < 2 ^ 32 → due < 2 ^ 32

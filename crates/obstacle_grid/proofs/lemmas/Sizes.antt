@@ -1,6 +1,6 @@
 -- How many lines, crossings and edges there are.
 use Rattle.std.specs.Prelude.{ℕ, ◌+◌, ◌-◌, ◌*◌, ◌≡◌, ◌≤◌, ◌<◌, List, [], ◌∷◌, length, flat_map, refl}
-use Rattle.std.proofs.Common.{arith, sym, ap, inl, inr}
+use Rattle.std.proofs.Common.{arith, inl, inr}
 use Rattle.std.proofs.lemmas.Bool.{cases_lt}
 use Rattle.std.proofs.lemmas.List.{length-append}
 use Rattle.std.proofs.lemmas.Nat.{mul-le}
@@ -62,33 +62,13 @@ narrow_either a b sum = elim (cases_lt a 49) [
 
 -- at most 2,500 crossings of a + 1 and b + 1 lines make at most 4,900 edges
 few_edges_between : (a b : ℕ) → (a + 1) * (b + 1) ≤ 2500 → (b + 1) * a + b * (a + 1) ≤ 4900
-few_edges_between a b few =
-    let crossings : (a + 1) * (b + 1) ≡ a * b + a + b + 1 = omega arith in
-    let across : (b + 1) * a ≡ a * b + a = omega arith in
-    let up : b * (a + 1) ≡ a * b + b = omega arith in
-    elim (cases_lt (a + b) 98) [
-      | inl short ↦ omega (arith, crossings, across, up, narrow_either a b (omega arith))
-      | inr long ↦ omega (arith, crossings, across, up)
-    ]
+few_edges_between a b few = grind (arith, cases_lt (a + b) 98, narrow_either)
 
 -- the same by the counts of the lines
 few_edges_of_counts : (nx ny : ℕ) → 0 < nx → 0 < ny → nx * ny ≤ 2500 → ny * (nx - 1) + (ny - 1) * nx ≤ 4900
-few_edges_of_counts nx ny some some' few =
-    let a = nx - 1 in
-    let b = ny - 1 in
-    let x : nx ≡ a + 1 = omega arith in
-    let y : ny ≡ b + 1 = omega arith in
-    let counted : (a + 1) * (b + 1) ≤ 2500 = rw (sym x, sym y) few in
-    let bound = few_edges_between a b counted in
-    let first : ny * a ≡ (b + 1) * a = ap (λ n. n * a) y in
-    let second : b * nx ≡ b * (a + 1) = ap (λ n. b * n) x in
-    omega (arith, bound, first, second)
+few_edges_of_counts nx ny some some' few = grind (arith, few_edges_between)
 
 -- the grid has at most 4,900 edges
 pub few_edges : (o : ObstaclesValue) → AreObstacles o → length (edges_of_lines (columns_of o) (rows_of o)) ≤ 4900
 few_edges o are =
-    omega (
-      arith,
-      length-edges_of_lines (columns_of o) (rows_of o),
-      few_edges_of_counts (length (columns_of o)) (length (rows_of o)) (some_columns o are) (some_rows o are) are.small,
-    )
+    grind (arith, length-edges_of_lines (columns_of o) (rows_of o), few_edges_of_counts (length (columns_of o)) (length (rows_of o)) (some_columns o are) (some_rows o are) are.small)

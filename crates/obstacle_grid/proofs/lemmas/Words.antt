@@ -1,9 +1,8 @@
 -- Words and lines of a text that was written, as an STP file is read.
-use Rattle.std.specs.Prelude.{ℕ, ◌≡◌, ◌-◌, ◌<◌, ◌^◌, ◌==◌, ◌&&◌, ℤ, pos, true, false, not, nat_lt}
-use Rattle.std.specs.Prelude.{List, [], ◌∷◌, ◌++◌, length, get_or, filter, All, slice_index}
+use Rattle.std.specs.Prelude.{ℕ, ◌≡◌, ◌<◌, ◌^◌, ◌==◌, ◌&&◌, ℤ, pos, true, false, not}
+use Rattle.std.specs.Prelude.{List, [], ◌∷◌, ◌++◌, length, get_or, All}
 use Rattle.std.specs.Prelude.{Option, Some, Ok, option_and_then}
 use Rattle.std.specs.Fmt.{decimal}
-use Rattle.std.specs.List.{slice_split}
 use Rattle.std.specs.Str.{all_ascii_digits}
 use Rattle.std.specs.Str.Parse.{IsNumeral, digits_value, without_leading_sign, signed_digits_value}
 use Rattle.std.proofs.Common.{arith, refl, ap, ◌∙◌}
@@ -26,10 +25,7 @@ pub record IsPlain (word : List ℕ) : Type 0 where
 
 -- such a byte parts no words
 no_gap : (b : ℕ) → 32 < b → is_gap b ≡ false
-no_gap b above =
-    let blank : (b == 32) ≡ false = ne_eqb b 32 (λ e. omega arith) in
-    let tab : (b == 9) ≡ false = ne_eqb b 9 (λ e. omega arith) in
-    rw (blank, tab) refl
+no_gap b above = grind (arith, b == 32, ne_eqb, b == 9)
 
 no_gaps : (word : List ℕ) → All (λ b. 32 < b) word → All (λ b. is_gap b ≡ false) word
 no_gaps word above k d inside = no_gap (get_or word k d) (above k d inside)
@@ -40,15 +36,11 @@ not_empty word some = ap not (ne_eqb (length word) 0 (λ e. omega arith))
 
 -- a word before a blank and others
 pub words_of-before : (word rest : List ℕ) → IsPlain word → words_of (word ++ 32 ∷ rest) ≡ word ∷ words_of rest
-words_of-before word rest plain =
-    ap (filter (λ word. not (length word == 0))) (slice_split_at is_gap word 32 rest (no_gaps word plain.above) refl)
-    ∙ rw (not_empty word plain.some) refl
+words_of-before word rest plain = grind (arith, slice_split_at, no_gaps, not_empty)
 
 -- the last word
 pub words_of-last : (word : List ℕ) → IsPlain word → words_of word ≡ word ∷ []
-words_of-last word plain =
-    ap (filter (λ word. not (length word == 0))) (slice_split_none is_gap word (no_gaps word plain.above))
-    ∙ rw (not_empty word plain.some) refl
+words_of-last word plain = grind (arith, slice_split_none, no_gaps, not_empty)
 
 -- a spelled number is a word
 pub decimal_plain : (n : ℕ) → n < 2 ^ 64 → IsPlain (decimal n)
@@ -77,22 +69,15 @@ ended_more line (part ∷ parts) some = refl
 -- it has no carriage return at its end
 without_return-line : (line : List ℕ) → IsOneLine line → without_return line ≡ line
 without_return-line [] is = refl
-without_return-line (b ∷ line) is =
-    let last = is (length (b ∷ line) - 1) 0 (omega arith) in
-    let no_return : (slice_index (b ∷ line) (length (b ∷ line) - 1) == 13) ≡ false = ne_eqb _ 13 (λ e. omega arith) in
-    rw no_return refl
+without_return-line (b ∷ line) is = grind (arith, ne_eqb)
 
 no_feeds : (line : List ℕ) → IsOneLine line → All (λ b. (b == 10) ≡ false) line
-no_feeds line is k d inside =
-    let above = is k d inside in ne_eqb (get_or line k d) 10 (λ e. omega arith)
+no_feeds line is k d inside = let above = is k d inside in ne_eqb (get_or line k d) 10 (λ e. omega arith)
 
 -- the first line of a text
 pub lines_of-line : (line rest : List ℕ) → IsOneLine line → lines_of (line ++ 10 ∷ rest) ≡ line ∷ lines_of rest
 lines_of-line line rest is =
-    let parts = slice_split (λ b. b == 10) rest in
-    ap ended_lines (slice_split_at (λ b. b == 10) line 10 rest (no_feeds line is) refl)
-    ∙ ended_more line parts (omega (arith, length-slice_split (λ b. b == 10) rest))
-    ∙ ap (λ l. l ∷ lines_of rest) (without_return-line line is)
+    grind (arith, slice_split_at, no_feeds line is, ended_more, length-slice_split, without_return-line line is)
 
 -- ---- numbers
 
@@ -110,19 +95,11 @@ record HasNoSign (ds : List ℕ) : Type 0 where
 
 digits_have_no_sign : (ds : List ℕ) → IsNumeral 10 ds → HasNoSign ds
 digits_have_no_sign [] numeral = absurd (omega (arith, numeral.0))
-digits_have_no_sign (d ∷ ds) numeral =
-    let digit = digit_from_value d numeral.1.0 in
-    let no_minus = ne_eqb d 45 (λ e. omega arith) in
-    let no_plus = ne_eqb d 43 (λ e. omega arith) in
-    record { bare = rw (no_minus, no_plus) refl; value = rw (no_minus, no_plus) refl }
+digits_have_no_sign (d ∷ ds) numeral = grind (arith, digit_from_value d numeral.1.0, ne_eqb)
 
 -- digits spell their number
 spelled_digits : (ds : List ℕ) → IsNumeral 10 ds → spelled_number ds ≡ Some (pos (digits_value 10 ds))
-spelled_digits ds numeral =
-    let sign = digits_have_no_sign ds numeral in
-    let told : (not (length (without_leading_sign ds) == 0) && all_ascii_digits (without_leading_sign ds)) ≡ true =
-    rw sign.bare (numeral_told ds numeral) in
-    rw told (ap Some sign.value)
+spelled_digits ds numeral = grind (arith, digits_have_no_sign ds numeral, numeral_told ds numeral)
 
 -- a spelled number spells that number
 spelled_decimal : (n : ℕ) → n < 2 ^ 64 → spelled_number (decimal n) ≡ Some (pos n)
@@ -137,8 +114,4 @@ number_by kind line word n is = ap (or_fault (word_fault line word)) is
 -- .. which is the one that is due, where it is below the limit
 pub number_in-decimal : (limit line n : ℕ) → n < limit → n < 2 ^ 64
     → number_in (natural_below limit) line (decimal n) ≡ Ok n
-number_in-decimal limit line n low fits =
-    let below : nat_lt n limit ≡ true = (Decides-ltb n limit).1 low in
-    let kept : natural_below limit (pos n) ≡ Some n = rw below refl in
-    number_by (natural_below limit) line (decimal n) n
-    (ap (option_and_then (natural_below limit)) (spelled_decimal n fits) ∙ kept)
+number_in-decimal limit line n low fits = grind (arith, Decides-ltb n limit, number_by, spelled_decimal n fits)

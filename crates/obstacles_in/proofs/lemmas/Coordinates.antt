@@ -1,5 +1,6 @@
 -- A word that is no number rules out each box.
-use Rattle.std.specs.Prelude.{ℕ, ◌≡◌, ℤ, FitsSigned, List, [], ◌∷◌}
+use Rattle.std.proofs.Common.{arith}
+use Rattle.std.specs.Prelude.{ℕ, ◌≡◌, ℤ, FitsSigned, List, ◌∷◌}
 use Rattle.std.specs.Int.{w64}
 use Rattle.std.specs.Fmt.{signed_decimal}
 use Rattle.obstacles_in.specs.declared.rectangle.Rectangle.{Rectangle}
@@ -13,14 +14,10 @@ HasNoNumber words = (z : ℤ) (rest : List (List ℕ)) → FitsSigned w64 z → 
 -- behind two words
 pub no_right : (words w1 w2 : List (List ℕ)) (a b : List ℕ) → words ≡ a ∷ w1 → w1 ≡ b ∷ w2 → HasNoNumber w2
     → (r : Rectangle) → SpellsItem obstacles_format words r → ⊥
-no_right words w1 w2 a b e1 e2 none r spells =
-    let here : w2 ≡ signed_decimal r.x2 ∷ signed_decimal r.y2 ∷ [] = cc (spells.words_are) in
-    none r.x2 (signed_decimal r.y2 ∷ []) spells.fits.x2 here
+no_right words w1 w2 a b e1 e2 none r spells = grind arith
 
 -- behind three words
 pub no_upper : (words w1 w2 w3 : List (List ℕ)) (a b d : List ℕ) → words ≡ a ∷ w1 → w1 ≡ b ∷ w2 → w2 ≡ d ∷ w3
     → HasNoNumber w3
     → (r : Rectangle) → SpellsItem obstacles_format words r → ⊥
-no_upper words w1 w2 w3 a b d e1 e2 e3 none r spells =
-    let here : w3 ≡ signed_decimal r.y2 ∷ [] = cc (spells.words_are) in
-    none r.y2 [] spells.fits.y2 here
+no_upper words w1 w2 w3 a b d e1 e2 e3 none r spells = grind (arith, none r.y2)

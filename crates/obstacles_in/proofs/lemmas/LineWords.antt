@@ -22,20 +22,7 @@ pub boxes_word : IsWord (codes "boxes")
 boxes_word = plain (codes "boxes") (omega arith) (omega arith, (omega arith, (omega arith, (omega arith, (omega arith, tt)))))
 
 obstacles_word : IsWord (codes "obstacles")
-obstacles_word =
-    plain (codes "obstacles") (omega arith) (
-      omega arith,
-      (
-        omega arith,
-        (omega arith, (omega arith, (omega arith, (omega arith, (omega arith, (omega arith, (omega arith, tt))))))),
-      ),
-    )
+obstacles_word = grind (arith, plain)
 
 pub title : IsLineOfWords title_words
-title = (
-  omega arith,
-  (
-    plain (codes "rst") (omega arith) (omega arith, (omega arith, (omega arith, tt))),
-    (obstacles_word, (plain (codes "1") (omega arith) (omega arith, tt), tt)),
-  ),
-)
+title = grind (arith, plain, obstacles_word)

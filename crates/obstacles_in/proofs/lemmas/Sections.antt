@@ -1,37 +1,20 @@
 -- Points and boxes as a text of sections.
 use Rattle.std.specs.Prelude.{ℕ, List, Result, Ok, Err, IfOk, IfErr}
-use Rattle.std.proofs.Common.{refl, sym, ap, ◌∙◌, subst}
+use Rattle.std.proofs.Common.{arith}
 use Rattle.section_text.specs.Text.{Spells}
 use Rattle.section_text.specs.Judged as sections
 use Rattle.obstacles_in.specs.declared.fault.ObstacleFault.{ObstacleFault}
 use Rattle.obstacles_in.specs.declared.fault.ObstacleFault.TheVariants.{Memory}
-use Rattle.obstacles_in.specs.Obstacles.{ObstaclesValue, AreObstacles}
+use Rattle.obstacles_in.specs.Obstacles.{ObstaclesValue}
 use Rattle.obstacles_in.specs.Format.{obstacles_format}
-use Rattle.obstacles_in.specs.Text.{obstacles_text, SpellsObstacles}
+use Rattle.obstacles_in.specs.Text.{SpellsObstacles}
 use Rattle.obstacles_in.specs.Judged.{IsFirstFault, Answers}
 
 pub spelled_obstacles : (bytes : List ℕ) (v : ObstaclesValue) → Spells obstacles_format bytes v → SpellsObstacles bytes v
-spelled_obstacles bytes v is = record {
-  value = subst AreObstacles (sym is.value) (record {
-    points = is.are.points;
-    few = is.are.few;
-    boxes = is.are.items.boxes;
-    outside = is.are.items.clear;
-    small = is.are.whole;
-  });
-  text = is.text ∙ ap obstacles_text (sym is.value);
-}
+spelled_obstacles bytes v is = grind arith
 
 pub obstacles_spelled : (bytes : List ℕ) (v : ObstaclesValue) → SpellsObstacles bytes v → Spells obstacles_format bytes v
-obstacles_spelled bytes v is =
-    let value = is.value in
-    record {
-      ps = v.points;
-      xs = v.boxes;
-      are = record { points = value.points; fit = tt; few = value.few; items = record { boxes = value.boxes; clear = value.outside }; whole = value.small };
-      value = refl;
-      text = is.text;
-    }
+obstacles_spelled bytes v is = grind arith
 
 -- what was read, the first fault, and what was answered
 pub read_spelled : (bytes : List ℕ) (r : Result ObstaclesValue ObstacleFault) → IfOk r (Spells obstacles_format bytes) → IfOk r (SpellsObstacles bytes)

@@ -1,7 +1,7 @@
 -- What the line of a box tells is determined by its words.
-use Rattle.std.specs.Prelude.{◌≡◌, ℤ}
+use Rattle.std.specs.Prelude.{◌≡◌}
 use Rattle.std.specs.Fmt.{signed_decimal}
-use Rattle.std.proofs.Common.{ap, ◌∙◌}
+use Rattle.std.proofs.Common.{arith}
 use Rattle.text_in.specs.Numbers.{signed_decimal_one}
 use Rattle.obstacles_in.specs.declared.rectangle.Rectangle.{Rectangle}
 use Rattle.obstacles_in.specs.Words.{box_words}
@@ -9,11 +9,7 @@ use Rattle.obstacles_in.specs.Faults.{HasCoordinates}
 
 -- rectangles with the same sides
 same_sides : (b c : Rectangle) → b.x1 ≡ c.x1 → b.y1 ≡ c.y1 → b.x2 ≡ c.x2 → b.y2 ≡ c.y2 → b ≡ c
-same_sides b c left lower right upper =
-    let sides : ℤ → ℤ → ℤ → ℤ → Rectangle = λ x1 y1 x2 y2. record { x1 = x1; y1 = y1; x2 = x2; y2 = y2 } in
-    ap (λ z. sides z b.y1 b.x2 b.y2) left ∙ ap (λ z. sides c.x1 z b.x2 b.y2) lower
-    ∙ ap (λ z. sides c.x1 c.y1 z b.y2) right
-    ∙ ap (λ z. sides c.x1 c.y1 c.x2 z) upper
+same_sides b c left lower right upper = grind arith
 
 -- coordinates
 pub coordinates_one : (b c : Rectangle) → HasCoordinates b → HasCoordinates c → box_words b ≡ box_words c → b ≡ c

@@ -30,18 +30,12 @@ pub digit_more : (bytes : List ℕ) (len magnitude next : ℕ) → AreDigits byt
     → IsInRange 48 57 (get_or bytes len 0) → next ≡ min (min (magnitude * 10) (2 ^ 64 - 1) + (get_or bytes len 0 - 48)) (2 ^ 64 - 1)
     → AreDigits bytes (len + 1) next
 digit_more bytes len magnitude next so_far inside digit is =
-    let weight = digit_value_digit (get_or bytes len 0) digit in
-    record {
-      within = omega arith;
-      digits = digits_more 10 bytes len inside so_far.digits (omega arith);
-      value = omega (arith, digits_value_more 10 bytes len inside, so_far.value, is, weight);
-    }
+    grind (arith, digit_value_digit (get_or bytes len 0) digit, digits_more, digits_value_more 10 bytes len inside)
 
 -- no byte among digits is a blank
 pub digits_no_blank : (bytes : List ℕ) (len : ℕ) → len ≤ length bytes → AllDigits 10 (take len bytes) → (k : ℕ) → k < len → is_blank (get_or bytes k 0) ≡ false
 digits_no_blank bytes len within digits k below =
-    ap is_blank (sym (get_or-take len bytes k 0 below))
-    ∙ digit_no_blank (get_or (take len bytes) k 0) (digit_at (take len bytes) k digits (omega (arith, length-take-le len bytes within)))
+    grind (arith, get_or-take len bytes k 0 below, digit_no_blank, digit_at, length-take-le len bytes within)
 
 -- digits up to a blank or the end are the bytes before the first blank
 pub digits_front : (bytes : List ℕ) (len magnitude : ℕ) → AreDigits bytes len magnitude → (len < length bytes → is_blank (get_or bytes len 0) ≡ true)
@@ -88,25 +82,13 @@ sign_of bytes = cond (starts_with_minus bytes) 1 (cond (slice_index bytes 0 == 4
 
 -- bytes that begin with a minus, a plus, and neither
 signed_minus : (bytes : List ℕ) → IsSigned (45 ∷ bytes) 1
-signed_minus bytes =
-    let front = front_word-cons 45 bytes refl in
-    record { digits = ap without_leading_sign front; len = omega (arith, ap length front); minus = ap starts_with_minus front }
+signed_minus bytes = grind (arith, front_word-cons 45 bytes refl)
 
 signed_plus : (bytes : List ℕ) → IsSigned (43 ∷ bytes) 1
-signed_plus bytes =
-    let front = front_word-cons 43 bytes refl in
-    record { digits = ap without_leading_sign front; len = omega (arith, ap length front); minus = ap starts_with_minus front }
+signed_plus bytes = grind (arith, front_word-cons 43 bytes refl)
 
 signed_none : (b : ℕ) (bytes : List ℕ) → (b == 45) ≡ false → (b == 43) ≡ false → IsSigned (b ∷ bytes) 0
-signed_none b bytes no_minus no_plus = elim (cases_Bool (is_blank b)) [
-  | inl blank ↦
-      let front = front_word-blank b bytes blank in
-      record { digits = ap without_leading_sign front ∙ sym front; len = omega arith; minus = ap starts_with_minus front ∙ sym no_minus }
-  | inr word ↦
-      let front = front_word-cons b bytes word in
-      let bare : without_leading_sign (b ∷ front_word bytes) ≡ b ∷ front_word bytes = rw (no_minus, no_plus) refl in
-      record { digits = ap without_leading_sign front ∙ bare ∙ sym front; len = omega arith; minus = ap starts_with_minus front }
-]
+signed_none b bytes no_minus no_plus = grind (arith, cases_Bool (is_blank b), front_word-blank, front_word-cons)
 
 -- the sign belongs to the first word, and its digits come after it
 pub signed_front : (bytes : List ℕ) → IsSigned bytes (sign_of bytes)
@@ -149,13 +131,9 @@ spells_number bytes magnitude has = subst (IsNumeral 10) (sym (signed_front byte
 pub number_is : (bytes : List ℕ) (magnitude : ℕ) → HasMagnitude bytes magnitude → FitsSigned w64 (with_sign (starts_with_minus bytes) magnitude)
     → with_sign (starts_with_minus bytes) magnitude ≡ number_of (front_word bytes)
 number_is bytes magnitude has fits =
-    let small = with_sign-le (starts_with_minus bytes) magnitude fits in
-    let exact : magnitude ≡ digits_value 10 (front_word (drop (sign_of bytes) bytes)) = omega (arith, has.value) in
-    ap (with_sign (starts_with_minus bytes)) exact ∙ sym (number_of_front bytes)
+    grind (arith, with_sign-le (starts_with_minus bytes) magnitude fits, with_sign (starts_with_minus bytes), number_of_front bytes)
 
 pub number_found : (bytes : List ℕ) (magnitude : ℕ) → HasMagnitude bytes magnitude → FitsSigned w64 (with_sign (starts_with_minus bytes) magnitude)
     → IsNumber (front_word bytes)
-number_found bytes magnitude has fits = record {
-  spelled = spells_number bytes magnitude has;
-  fits = subst (FitsSigned w64) (number_is bytes magnitude has fits) fits;
-}
+number_found bytes magnitude has fits =
+    grind (arith, spells_number bytes magnitude has, number_is bytes magnitude has fits)

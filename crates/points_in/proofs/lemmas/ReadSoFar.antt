@@ -65,17 +65,14 @@ read_first bytes next points takes begun = record {
 read_more : (bytes : List ℕ) (at : ℕ) (points after : List Point) (next : NextPoint) (so_far : HasRead bytes at points) → TakesPoint bytes at next
     → after ≡ terminals_of (points_of so_far.read ++ next.point ∷ []) → length after ≤ 50 → HasRead bytes next.end after
 read_more bytes at points after next so_far takes are few =
-    let more = points_of-point so_far.read takes.x takes.y so_far.even in
-    record {
-      read = so_far.read ++ takes.x ∷ takes.y ∷ [];
-      parts = so_far.parts ∙ ap (λ ws. so_far.read ++ ws) takes.words ∙ sym (append_assoc so_far.read (takes.x ∷ takes.y ∷ []) (words_at bytes next.end));
-      numbers = numbers_append so_far.read (takes.x ∷ takes.y ∷ []) so_far.numbers (takes.x_number, (takes.y_number, tt));
-      even = omega (arith, ap length more, length-append so_far.read (takes.x ∷ takes.y ∷ []), length-append (points_of so_far.read) (point_of takes.x takes.y ∷ []), so_far.even);
-      some = omega (arith, ap length more, length-append (points_of so_far.read) (point_of takes.x takes.y ∷ []));
-      points_are = are ∙ ap (λ p. terminals_of (points_of so_far.read ++ p ∷ [])) takes.point ∙ ap terminals_of (sym more);
-      few = few;
-      within = takes.within;
-    }
+    grind (
+      arith,
+      points_of-point so_far.read takes.x takes.y so_far.even,
+      append_assoc so_far.read (takes.x ∷ takes.y ∷ []) (words_at bytes next.end),
+      numbers_append so_far.read (takes.x ∷ takes.y ∷ []) so_far.numbers (takes.x_number, (takes.y_number, tt)),
+      length-append so_far.read (takes.x ∷ takes.y ∷ []),
+      length-append (points_of so_far.read) (point_of takes.x takes.y ∷ []),
+    )
 
 -- What adding a point tells of it.
 pub record Adds (points after : List Point) (p : Point) (r : Result Added AddFault) : Type 0 where

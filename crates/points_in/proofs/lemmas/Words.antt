@@ -1,5 +1,5 @@
 -- The words of a text, taken from its front.
-use Rattle.std.specs.Prelude.{ℕ, ◌+◌, ◌-◌, ◌<◌, ◌≤◌, ◌≡◌, ◌==◌, true, false, not, List, [], ◌∷◌, length, take, drop}
+use Rattle.std.specs.Prelude.{ℕ, ◌+◌, ◌-◌, ◌<◌, ◌≤◌, ◌≡◌, true, false, not, List, [], ◌∷◌, length, take, drop}
 use Rattle.std.specs.List.{slice_split, after_first, position_or_len, slice_index}
 use Rattle.std.proofs.Common.{arith, refl, sym, ap, ◌∙◌, get_or, add-zero, inl, inr}
 use Rattle.std.proofs.lemmas.Bool.{cases_lt, ne_eqb}
@@ -24,17 +24,13 @@ words_from-blank at byte rest blank = rw (slice_split-cons_yes is_blank byte res
 pub words_from-part : (at : ℕ) (bytes part : List ℕ) (parts : List ℕ) → slice_split is_blank bytes ≡ part ∷ slice_split is_blank parts
     → 0 < length part → words_from at bytes ≡ record { at = at; bytes = part } ∷ words_from (at + length part + 1) parts
 unfolding words_from
-words_from-part at bytes part parts split some =
-    let some_bytes : (length part == 0) ≡ false = ne_eqb (length part) 0 (λ none. omega arith) in
-    rw (split, some_bytes) refl
+words_from-part at bytes part parts split some = grind (arith, ne_eqb)
 
 -- and so is the last one
 words_from-last : (at : ℕ) (bytes part : List ℕ) → slice_split is_blank bytes ≡ part ∷ [] → 0 < length part
     → words_from at bytes ≡ record { at = at; bytes = part } ∷ []
 unfolding words_from
-words_from-last at bytes part split some =
-    let some_bytes : (length part == 0) ≡ false = ne_eqb (length part) 0 (λ none. omega arith) in
-    rw (split, some_bytes) refl
+words_from-last at bytes part split some = grind (arith, ne_eqb)
 
 -- how many bytes stand before the first blank
 pub length-front_word : (bytes : List ℕ) → length (front_word bytes) ≡ position_or_len is_blank bytes
@@ -81,10 +77,7 @@ slice_from bytes at = take_all (length bytes - at) (drop at bytes) (omega (arith
 -- where no blank stands, a word begins
 pub front_some : (bytes : List ℕ) → 0 < length bytes → is_blank (get_or bytes 0 0) ≡ false → 0 < length (front_word bytes)
 front_some [] some word = omega arith
-front_some (b ∷ bytes) some word = omega (arith, length-front_word (b ∷ bytes), first)
-  where
-    first : 0 < position_or_len is_blank (b ∷ bytes)
-    first = rw word (omega arith)
+front_some (b ∷ bytes) some word = grind (arith, length-front_word (b ∷ bytes))
 
 -- that word and what comes after it
 pub words_at-word : (bytes : List ℕ) (at : ℕ) → at < length bytes → is_blank (slice_index bytes at) ≡ false

@@ -31,18 +31,12 @@ record HasNoSign (ds : List ℕ) : Type 0 where
 
 digits_have_no_sign : (ds : List ℕ) → IsNumeral 10 ds → HasNoSign ds
 digits_have_no_sign [] numeral = absurd (omega (arith, numeral.0))
-digits_have_no_sign (d ∷ ds) numeral =
-    let digit = digit_from_value d numeral.1.0 in
-    let no_minus = ne_eqb d 45 (λ e. omega arith) in
-    let no_plus = ne_eqb d 43 (λ e. omega arith) in
-    record { bare = rw (no_minus, no_plus) refl; value = rw (no_minus, no_plus) refl }
+digits_have_no_sign (d ∷ ds) numeral = grind (arith, digit_from_value d numeral.1.0, ne_eqb)
 
 -- a signed number's spelling is a word
 written_lacks_blanks : (z : ℤ) → FitsSigned w64 z → All (λ b. is_blank b ≡ false) (signed_decimal z)
 written_lacks_blanks (pos n) fits = digits_lack_blanks (decimal n) (decimal_is_IsNumeral n (let small = fits.sfits in omega arith)).0.1
-written_lacks_blanks (negsuc n) fits =
-    All-cons (λ b. is_blank b ≡ false) 45 (decimal (suc n)) refl
-    (digits_lack_blanks (decimal (suc n)) (decimal_is_IsNumeral (suc n) (let small = fits.sfits in omega arith)).0.1)
+written_lacks_blanks (negsuc n) fits = grind (arith, All-cons, digits_lack_blanks, decimal_is_IsNumeral)
 
 written_some : (z : ℤ) → FitsSigned w64 z → 0 < length (signed_decimal z)
 written_some (pos n) fits = decimal_nonempty n (let small = fits.sfits in omega arith)
@@ -50,25 +44,19 @@ written_some (negsuc n) fits = omega arith
 
 -- which is that number
 written_number : (z : ℤ) → FitsSigned w64 z → IsNumeral 10 (without_leading_sign (signed_decimal z)) × (number_of (signed_decimal z) ≡ z)
-written_number (pos n) fits =
-    let is = decimal_is_IsNumeral n (let small = fits.sfits in omega arith) in
-    let sign = digits_have_no_sign (decimal n) is.0 in
-    (subst (IsNumeral 10) (sym sign.bare) is.0, sign.value ∙ ap pos is.1)
+written_number (pos n) fits = grind (arith, decimal_is_IsNumeral, digits_have_no_sign)
 written_number (negsuc n) fits =
     let is = decimal_is_IsNumeral (suc n) (let small = fits.sfits in omega arith) in
     (is.0, ap (λ m. neg_ℤ (pos m)) is.1)
 
 pub written_is_number : (z : ℤ) → FitsSigned w64 z → IsNumber (signed_decimal z)
-written_is_number z fits =
-    let is = written_number z fits in
-    record { spelled = is.0; fits = subst (FitsSigned w64) (sym is.1) fits }
+written_is_number z fits = grind (arith, written_number z fits)
 
 -- a word before a blank
 word_before : (at : ℕ) (z : ℤ) (blank : ℕ) (rest : List ℕ) → FitsSigned w64 z → is_blank blank ≡ true
     → words_from at (signed_decimal z ++ blank ∷ rest) ≡ record { at = at; bytes = signed_decimal z } ∷ words_from (at + length (signed_decimal z) + 1) rest
 word_before at z blank rest fits is =
-    words_from-part at (signed_decimal z ++ blank ∷ rest) (signed_decimal z) rest
-    (slice_split_at is_blank (signed_decimal z) blank rest (written_lacks_blanks z fits) is) (written_some z fits)
+    grind (arith, words_from-part, slice_split_at is_blank (signed_decimal z) blank rest (written_lacks_blanks z fits) is, written_some z fits)
 
 -- The words of written points are their coordinates in turn.
 pub record AreWritten (words : List Word) (ps : List Point) : Type 0 where
@@ -103,6 +91,4 @@ written_words at (p ∷ ps) fits =
 
 -- so that they are listed
 pub written_lists : (ps : List Point) → AllByRecursion IsPoint ps → 0 < length ps → length (terminals_of ps) ≤ 50 → IsPointText (points_text ps) ps
-written_lists ps fits some few =
-    let written = written_words 0 ps fits in
-    record { numbers = written.numbers; points = sym written.points; even = written.even; some = some; few = few }
+written_lists ps fits some few = grind (arith, written_words 0 ps fits)

@@ -1,5 +1,5 @@
 -- The strokes of a network, flag by flag.
-use Rattle.std.proofs.Common.{ℕ, ◌≡◌, ◌+◌, ◌<◌, Bool, true, false, List, [], ◌∷◌, ◌++◌, length, take, flat_map, append_assoc, sym, ap, ◌∙◌, refl}
+use Rattle.std.proofs.Common.{ℕ, ◌≡◌, ◌+◌, ◌<◌, Bool, true, false, List, [], ◌∷◌, ◌++◌, length, take, flat_map, append_assoc, sym, refl, arith}
 use Rattle.std.specs.Prelude.{if◌then◌else◌}
 use Rattle.std.proofs.lemmas.Grind.{flat_map-append}
 use Rattle.std.proofs.lemmas.List.{append-nil}
@@ -16,9 +16,7 @@ text_if f false n = refl
 pub members-take_more : (f : ℕ → List ℕ) (set : List Bool) (n : ℕ) → n < length set →
     flat_map f (members_of (take n set)) ++ (if has set n then f n else []) ≡ flat_map f (members_of (take (n + 1) set))
 members-take_more f set n within =
-    ap (λ text. flat_map f (members_of (take n set)) ++ text) (text_if f (has set n) n)
-    ∙ sym (flat_map-append f (members_of (take n set)) (if has set n then n ∷ [] else []))
-    ∙ ap (flat_map f) (sym (members_of-more set n within))
+    grind (arith, flat_map f (members_of (take n set)), text_if f (has set n) n, flat_map-append f (members_of (take n set)) (if has set n then n ∷ [] else []), flat_map f, members_of-more set n within)
 
 -- five pieces in any grouping
 pub five_pieces : (a b c d e : List ℕ) → a ++ (b ++ (c ++ (d ++ e))) ≡ (((a ++ b) ++ c) ++ d) ++ e

@@ -13,10 +13,8 @@ use Rattle.reduced_text.specs.Text.{left_line, left_lines, number_line}
 -- one flag more: the text of a number where it is set
 pub members_with : (f : ℕ → List ℕ) (set : List Bool) (n : ℕ) → n < length set → has set n ≡ true →
     flat_map f (members_of (take n set)) ++ f n ≡ flat_map f (members_of (take (n + 1) set))
-members_with f set n below is = sym (ap (flat_map f) (members_of-more set n below
-    ∙ ap (λ b. members_of (take n set) ++ (if b then n ∷ [] else [])) is)
-    ∙ flat_map-append f (members_of (take n set)) (n ∷ [])
-    ∙ ap (λ more. flat_map f (members_of (take n set)) ++ more) (append-nil (f n)))
+members_with f set n below is =
+    grind (arith, members_of-more set n below, flat_map-append f (members_of (take n set)) (n ∷ []), append-nil (f n), f n)
 
 pub members_without : (set : List Bool) (n : ℕ) → n < length set → has set n ≡ false →
     members_of (take n set) ≡ members_of (take (n + 1) set)
@@ -31,13 +29,9 @@ left_lines-suc : (edges : List Edge) (sets : List (List Bool)) (n : ℕ) (e : Ed
 left_lines-suc [] sets n e set at set_at = absurd cc
 left_lines-suc (d ∷ edges) [] n e set at set_at = absurd cc
 left_lines-suc (d ∷ edges) (t ∷ sets) zero e set at set_at =
-    let line : left_line e set ≡ left_line d t = (
-    let edge = same_Some d e at in let same = same_Some t set set_at in cc
-    ) in
-    line ∙ sym (append-nil (left_line d t))
+    grind (arith, same_Some d e, same_Some t set set_at, append-nil (left_line d t))
 left_lines-suc (d ∷ edges) (t ∷ sets) (suc n) e set at set_at =
-    append_assoc (left_line d t) (left_lines (take n edges) (take n sets)) (left_line e set)
-    ∙ ap (λ more. left_line d t ++ more) (left_lines-suc edges sets n e set at set_at)
+    grind (arith, append_assoc (left_line d t) (left_lines (take n edges) (take n sets)) (left_line e set), left_lines-suc edges sets n e set)
 
 pub left_lines-more : (edges : List Edge) (sets : List (List Bool)) (n : ℕ) (e : Edge) (set : List Bool) →
     slice_get edges n ≡ Some e → slice_get sets n ≡ Some set →
@@ -49,11 +43,7 @@ left_lines-more edges sets n e set at set_at = left_lines-suc edges sets n e set
 -- .. and how many there are
 pub count_with : (set : List Bool) (n : ℕ) → n < length set → has set n ≡ true →
     length (members_of (take n set)) + 1 ≡ length (members_of (take (n + 1) set))
-count_with set n below is = omega (
-  arith,
-  ap length (members_of-more set n below ∙ ap (λ b. members_of (take n set) ++ (if b then n ∷ [] else [])) is),
-  length-append (members_of (take n set)) (n ∷ []),
-)
+count_with set n below is = grind (arith, members_of-more set n below, length-append (members_of (take n set)) (n ∷ []))
 
 -- .. at most as many as the numbers that were looked at
 few_members_from : (n : ℕ) (set : List Bool) (k : ℕ) → length (members_from n (take k set)) ≤ k
@@ -70,7 +60,5 @@ few_members set k = few_members_from 0 set k
 -- one number more
 pub number_more : (ns : List ℕ) (k n : ℕ) → slice_get ns k ≡ Some n →
     flat_map number_line (take k ns) ++ number_line n ≡ flat_map number_line (take (k + 1) ns)
-number_more ns k n at = sym (ap (flat_map number_line) (take_more ns k n (slice_get_within ns k n at)
-    ∙ ap (λ m. take k ns ++ m ∷ []) (get_or_from_slice_get ns k n n at))
-    ∙ flat_map-append number_line (take k ns) (n ∷ [])
-    ∙ ap (λ more. flat_map number_line (take k ns) ++ more) (append-nil (number_line n)))
+number_more ns k n at =
+    grind (arith, take_more ns k n (slice_get_within ns k n at), slice_get_within ns k n, get_or_from_slice_get ns k n n, flat_map-append number_line (take k ns) (n ∷ []), append-nil (number_line n))

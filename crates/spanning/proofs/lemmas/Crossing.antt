@@ -1,5 +1,5 @@
 -- Where a walk leaves a set of numbers for the last time.
-use Rattle.std.proofs.Common.{ℕ, zero, suc, ◌≡◌, Bool, true, false, List, inl, inr, ⊎_elim, cond, not, subst, ap, ◌∙◌, refl}
+use Rattle.std.proofs.Common.{ℕ, zero, suc, ◌≡◌, Bool, true, false, List, inl, inr, cond, not, subst, refl, arith}
 use Rattle.std.proofs.lemmas.Bool.{cases_Bool, both_ways, not-true}
 use Rattle.net_graph.specs.Flags.{has}
 use Rattle.net_graph.specs.Network.{HasEnds}
@@ -54,9 +54,7 @@ leaves_one s t is_in is_out = rw (is_in, is_out) (refl, refl)
 
 pub leaves-from_ends : (inside : List Bool) (pair : Pair) (x y : ℕ) → HasEnds (edge_of pair) x y →
     has inside x ≡ true → has inside y ≡ false → leaves inside pair ≡ true
-leaves-from_ends inside pair x y ends x_in y_out =
-    ⊎_elim (λ along. (leaves_one (has inside pair.a) (has inside pair.b) (ap (has inside) along.0 ∙ x_in) (ap (has inside) along.1 ∙ y_out)).0)
-    (λ against. (leaves_one (has inside pair.b) (has inside pair.a) (ap (has inside) against.1 ∙ x_in) (ap (has inside) against.0 ∙ y_out)).1) ends
+leaves-from_ends inside pair x y ends x_in y_out = grind (arith, leaves_one)
 
 -- the second number of a pair that leaves is outside where the first is inside
 out_from_in : (s t : Bool) → cond s (not t) t ≡ true → s ≡ true → t ≡ false

@@ -28,9 +28,7 @@ exchanged-keeps other f k g apart is = slice_get-set_true (set other f false) k 
 -- what two pairs of numbers have in common where they are the ends of one edge
 same_ends : (pair : Pair) (x y i j : ℕ) → HasEnds (edge_of pair) x y → HasEnds (edge_of pair) i j →
     ((x ≡ i) × (y ≡ j)) ⊎ ((x ≡ j) × (y ≡ i))
-same_ends pair x y i j first second =
-    ⊎_elim (λ a. ⊎_elim (λ b. inl (sym a.0 ∙ b.0, sym a.1 ∙ b.1)) (λ b. inr (sym a.0 ∙ b.0, sym a.1 ∙ b.1)) second)
-    (λ a. ⊎_elim (λ b. inr (sym a.1 ∙ b.1, sym a.0 ∙ b.0)) (λ b. inl (sym a.1 ∙ b.1, sym a.0 ∙ b.0)) second) first
+same_ends pair x y i j first second = grind arith
 
 -- What an exchange rests on: the pair k leaves the part and is not in the other set, and the pair f of the other
 -- set is the last to leave the part on the way to the outer number of the pair k.
@@ -67,19 +65,8 @@ keeps_chosen n pairs inside chosen other k f e g is =
 keeps_outside : (n : ℕ) (pairs : List Pair) (inside chosen other : List Bool) (k f : ℕ) →
     Exchanges n pairs inside chosen other k f →
     (u w : ℕ) → OutsideStep (Hop pairs other) inside u w → Hop pairs (exchanged other f k) u w
-keeps_outside n pairs inside chosen other k f e u w ((g, pair, is, at, ends), u_out, w_out) = (
-  g,
-  pair,
-  exchanged-keeps other f k g
-      (λ same.
-      let one : pair ≡ e.out = same_Some pair e.out (sym at ∙ ap (slice_get pairs) same ∙ e.out_here) in
-      let ends_too : HasEnds (edge_of e.out) u w = subst (λ p. HasEnds (edge_of p) u w) one ends in
-      ⊎_elim (λ along. both_ways (has inside u) u_out (ap (has inside) (sym along.0) ∙ e.x_in))
-      (λ against. both_ways (has inside w) w_out (ap (has inside) (sym against.0) ∙ e.x_in)) (same_ends e.out e.x e.y u w e.ends ends_too))
-      is,
-  at,
-  ends,
-)
+keeps_outside n pairs inside chosen other k f e u w ((g, pair, is, at, ends), u_out, w_out) =
+    grind (arith, exchanged-keeps, same_Some, slice_get pairs, both_ways, same_ends)
 
 -- the numbers of the pair that was taken out are linked without it
 still_linked : (n : ℕ) (pairs : List Pair) (inside chosen other : List Bool) (k f : ℕ) →
@@ -137,9 +124,7 @@ exchanged-total : (n : ℕ) (pairs : List Pair) (inside chosen other : List Bool
     (e : Exchanges n pairs inside chosen other k f) →
     e.pair.length ≤ e.out.length → total_of pairs (exchanged other f k) ≤ total_of pairs other
 exchanged-total n pairs inside chosen other k f e no_longer =
-    let apart : k ≢ f = λ same. let both : Some true ≡ Some false = sym e.held ∙ ap (slice_get other) (sym same) ∙ e.absent in cc in
-    let absent : slice_get (set other f false) k ≡ Some false = slice_get-set_other other f k false apart ∙ e.absent in
-    omega (arith, no_longer, total_of-add pairs (set other f false) k e.pair absent e.here, total_of-remove pairs other f e.out e.held e.out_here)
+    grind (arith, slice_get other, slice_get (set other f false) k, slice_get-set_other, total_of-add, total_of-remove pairs other f e.out e.held e.out_here)
 
 -- the pair that is the shortest to leave the part is taken into a set that joins, which gets no longer
 pub IsNoWorse-more : (n : ℕ) (pairs : List Pair) (inside chosen other : List Bool) (k : ℕ) →

@@ -1,5 +1,5 @@
 -- Flags that are written.
-use Rattle.std.proofs.Common.{ℕ, zero, suc, ◌≡◌, ◌≢◌, ◌<◌, ◌⊎◌, inl, inr, Bool, true, false, List, [], ◌∷◌, length, Some, slice_get, set, replicate, refl, arith, ap, ◌∙◌, sym}
+use Rattle.std.proofs.Common.{ℕ, zero, suc, ◌≡◌, ◌≢◌, ◌<◌, ◌⊎◌, Bool, true, false, List, [], ◌∷◌, length, Some, slice_get, set, replicate, refl, arith, ap}
 use Rattle.std.proofs.lemmas.Bool.{cases_eq, cases_lt}
 use Rattle.std.proofs.lemmas.List.{get_or-set_same, get_or-set_other, get_or-replicate, get_or_past, length-replicate}
 use Rattle.std.proofs.lemmas.Option.{slice_get_within, get_or_from_slice_get}
@@ -24,11 +24,8 @@ slice_get-set_other (x ∷ flags) (suc k) (suc j) flag apart = slice_get-set_oth
 -- what was set stays set where one more flag is
 pub slice_get-set_true : (flags : List Bool) (k j : ℕ) → slice_get flags j ≡ Some true →
     slice_get (set flags k true) j ≡ Some true
-slice_get-set_true flags k j is = elim (cases_eq j k) [
-  | inl same ↦ let within : k < length flags = omega (arith, slice_get_within flags j true is, same) in
-      ap (slice_get (set flags k true)) same ∙ slice_get-set_same flags k true within
-  | inr apart ↦ slice_get-set_other flags k j true apart ∙ is
-]
+slice_get-set_true flags k j is =
+    grind (arith, cases_eq j k, slice_get_within flags j true is, slice_get (set flags k true), slice_get-set_same, slice_get-set_other)
 
 -- a number that was put in is in
 pub has-set_same : (flags : List Bool) (k : ℕ) → k < length flags → has (set flags k true) k ≡ true
@@ -37,25 +34,16 @@ has-set_same flags k within = get_or-set_same flags k true false within
 -- what was in stays in
 pub has-set_true : (flags : List Bool) (k j : ℕ) → k < length flags → has flags j ≡ true →
     has (set flags k true) j ≡ true
-has-set_true flags k j within is = elim (cases_eq j k) [
-  | inl same ↦ ap (has (set flags k true)) same ∙ has-set_same flags k within
-  | inr apart ↦ get_or-set_other flags k j true false apart ∙ is
-]
+has-set_true flags k j within is = grind (arith, cases_eq j k, has-set_same flags k within, get_or-set_other)
 
 -- what is in after one number was put in
 pub has-set_cases : (flags : List Bool) (k j : ℕ) → has (set flags k true) j ≡ true →
     (j ≡ k) ⊎ (has flags j ≡ true)
-has-set_cases flags k j is = elim (cases_eq j k) [
-  | inl same ↦ inl same
-  | inr apart ↦ inr (sym (get_or-set_other flags k j true false apart) ∙ is)
-]
+has-set_cases flags k j is = grind (arith, cases_eq j k, get_or-set_other)
 
 -- nothing is in the empty set
 pub has-none : (n j : ℕ) → has (replicate n false) j ≡ false
-has-none n j = elim (cases_lt j n) [
-  | inl within ↦ get_or-replicate n j false false within
-  | inr past ↦ get_or_past (replicate n false) j false (omega (arith, length-replicate n false))
-]
+has-none n j = grind (arith, cases_lt j n, get_or-replicate, get_or_past, length-replicate n false)
 
 -- .. and no flag of it is set
 pub none_set : (n j : ℕ) → slice_get (replicate n false) j ≡ Some true → ⊥

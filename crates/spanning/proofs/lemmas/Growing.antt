@@ -1,18 +1,17 @@
 -- How the part grows, and what it is when nothing leaves it.
-use Rattle.std.proofs.Common.{ℕ, ◌≡◌, ◌+◌, ◌<◌, ◌≤◌, Bool, true, false, not, List, length, Some, slice_get, set, replicate, count_by, cond, ◌⊎◌, inl, inr, ⊎_elim, ap, ◌∙◌, sym, subst, arith, All, get_or, refl}
+use Rattle.std.proofs.Common.{ℕ, ◌≡◌, ◌+◌, ◌<◌, ◌≤◌, Bool, true, false, not, List, length, Some, slice_get, set, replicate, count_by, ◌⊎◌, inl, inr, ⊎_elim, ap, ◌∙◌, sym, subst, arith, All, get_or, refl}
 use Rattle.std.proofs.lemmas.Bool.{cases_eq, cases_Bool, both_ways}
 use Rattle.std.proofs.lemmas.List.{length-set, length-replicate}
 use Rattle.std.proofs.lemmas.List.Sums.{sum_by-set}
 use Rattle.std.proofs.lemmas.Option.{slice_get_within, same_Some, get_or_from_slice_get}
 use Rattle.net_graph.specs.Flags.{has}
-use Rattle.net_graph.specs.Joins.{slice_get-has}
 use Rattle.net_graph.specs.Network.{HasEnds}
 use Rattle.net_graph.specs.Search.{Leads}
 use Rattle.net_graph.specs.SearchLaws.{Leads-start, Leads-more, Leads-keeps}
 use Rattle.spanning.specs.declared.pair.Pair.{Pair}
 use Rattle.spanning.specs.Joining.{edge_of, Hop, JoinsBelow, total_of, all_of}
 use Rattle.spanning.specs.JoiningLaws.{Leads-hops_more, total_of-within}
-use Rattle.spanning.specs.Leaving.{HasNumbersBelow, leaves, NoneLeaves, IsShortestLeaving}
+use Rattle.spanning.specs.Leaving.{HasNumbersBelow, NoneLeaves, IsShortestLeaving}
 use Rattle.spanning.specs.Part.{IsNoWorse, IsPart}
 use Rattle.spanning.proofs.lemmas.Flags.{slice_get-set_same, slice_get-set_other, has-set_same, has-set_true, has-set_cases, has-none, none_set}
 use Rattle.spanning.proofs.lemmas.Crossing.{LeavesFrom, leaves-from_ends, second_out, second_in}
@@ -23,18 +22,7 @@ pub IsPart-of_zero : (n : ℕ) (pairs : List Pair) (inside chosen : List Bool) �
     inside ≡ set (replicate n false) 0 true →
     chosen ≡ replicate (length pairs) false → IsPart n pairs inside chosen
 IsPart-of_zero n pairs inside chosen some inside_is chosen_is =
-    let nothing : (k : ℕ) → slice_get chosen k ≡ Some true → ⊥ = λ k is. none_set (length pairs) k (ap (λ flags. slice_get flags k) (sym chosen_is) ∙ is) in
-    let within : 0 < length (replicate n false) = omega (arith, length-replicate n false) in
-    record {
-      numbers = ap length inside_is ∙ length-set (replicate n false) 0 true ∙ length-replicate n false;
-      size = ap length chosen_is ∙ length-replicate (length pairs) false;
-      start = ap (λ flags. has flags 0) inside_is ∙ has-set_same (replicate n false) 0 within;
-      chains = λ i is. ⊎_elim (λ (same : i ≡ 0). subst (λ v. Leads (Hop pairs chosen) 0 v) (sym same) (Leads-start (Hop pairs chosen) 0))
-          (λ held. absurd (both_ways (has (replicate n false) i) (has-none n i) held))
-          (has-set_cases (replicate n false) 0 i (ap (λ flags. has flags i) (sym inside_is) ∙ is));
-      closed = λ k pair is at. absurd (nothing k is);
-      least = λ other joins. record { set = other; joins = joins; includes = λ k is. absurd (nothing k (slice_get-has chosen k is)); total = omega arith };
-    }
+    grind (arith, slice_get, none_set, length-replicate n false, length-set (replicate n false) 0 true, length-replicate (length pairs) false, has-set_same, Leads-start (Hop pairs chosen) 0, both_ways, has-none, has-set_cases)
 
 -- the part with one more pair, the shortest that leaves it
 pub IsPart-more : (n : ℕ) (pairs : List Pair) (inside chosen : List Bool) (k : ℕ) →
@@ -77,32 +65,24 @@ IsPart-more n pairs inside chosen k part shortest from below =
 -- one number fewer is outside
 pub outside-less : (inside : List Bool) (i : ℕ) → i < length inside → has inside i ≡ false →
     count_by not (set inside i true) + 1 ≡ count_by not inside
-outside-less inside i within out =
-    let change = sum_by-set (λ (flag : Bool). cond (not flag) 1 0) inside i true false within in
-    let known = rw out at change in omega (arith, known)
+outside-less inside i within out = grind (arith, sum_by-set)
 
 -- where the part has all numbers, its chosen pairs join
 pub JoinsBelow-from_part : (n : ℕ) (pairs : List Pair) (inside chosen : List Bool) → IsPart n pairs inside chosen →
     ((i : ℕ) → i < length inside → has inside i ≡ true) → JoinsBelow n pairs chosen
-JoinsBelow-from_part n pairs inside chosen part full = record {
-  size = part.size;
-  chains = λ i below. part.chains i (full i (omega (arith, part.numbers)));
-}
+JoinsBelow-from_part n pairs inside chosen part full = grind arith
 
 -- .. and no set that joins is shorter
 pub least-from_part : (n : ℕ) (pairs : List Pair) (inside chosen other : List Bool) →
     IsPart n pairs inside chosen → JoinsBelow n pairs other → total_of pairs chosen ≤ total_of pairs other
 least-from_part n pairs inside chosen other part joins =
-    let better : IsNoWorse n pairs chosen other = part.least other joins in
-    omega (arith, better.total, total_of-within pairs chosen better.set better.includes)
+    grind (arith, total_of-within pairs chosen (part.least other joins).set (part.least other joins).includes)
 
 -- a hop from inside stays inside where no pair leaves
 hop_stays : (pairs : List Pair) (inside set : List Bool) → NoneLeaves pairs inside (length pairs) →
     (u w : ℕ) → has inside u ≡ true → Hop pairs set u w → has inside w ≡ true
-hop_stays pairs inside set none u w u_in (k, pair, is, at, ends) = elim (cases_Bool (has inside w)) [
-  | inl w_in ↦ w_in
-  | inr w_out ↦ absurd (both_ways (leaves inside pair) (none k pair (slice_get_within pairs k pair at) at) (leaves-from_ends inside pair u w ends u_in w_out))
-]
+hop_stays pairs inside set none u w u_in (k, pair, is, at, ends) =
+    grind (arith, cases_Bool (has inside w), both_ways, none k pair (slice_get_within pairs k pair at), slice_get_within pairs k pair, leaves-from_ends)
 
 -- where nothing leaves a part that lacks a number, nothing joins
 pub none-from_part : (n : ℕ) (pairs : List Pair) (inside chosen : List Bool) → IsPart n pairs inside chosen →

@@ -1,5 +1,5 @@
 -- Writes to a table that is kept row by row.
-use Rattle.std.proofs.Common.{ℕ, ◌≡◌, ◌≢◌, ◌+◌, ◌*◌, ◌<◌, inl, inr, List, [], ◌∷◌, ◌++◌, ◌/◌, ◌%◌, length, get_or, set, ap, ◌∙◌, sym, subst, arith}
+use Rattle.std.proofs.Common.{ℕ, ◌≡◌, ◌≢◌, ◌+◌, ◌*◌, ◌<◌, List, [], ◌∷◌, ◌++◌, ◌/◌, ◌%◌, length, get_or, set, ap, ◌∙◌, arith}
 use Rattle.std.proofs.lemmas.Bool.{cases_eq, cases_lt}
 use Rattle.std.proofs.lemmas.List.{length-set, get_or-set_same, get_or-set_other, get_or_append_left, get_or_push}
 use Rattle.std.proofs.lemmas.Nat.{mul-add-lt, same_from_place, div-mul-add, mod-mul-add}
@@ -28,34 +28,20 @@ pub RelaxesRow-more : (n middle row column x : ℕ) (old new : List ℕ) → len
     row < n → column < n → RelaxesRow n middle row column old new →
     x ≡ relaxed (entry old n) middle row column →
     RelaxesRow n middle row (column + 1) old (set new (row * n + column) x)
-RelaxesRow-more n middle row column x old new size middle_in row_in column_in before is = record {
-  size = length-set new (row * n + column) x ∙ before.size;
-  done = λ j below. elim (cases_eq j column) [
-    | inl same ↦
-        let here = entry-set_same new n row column x (before.size ∙ size) row_in column_in in
-        subst (λ v. entry (set new (row * n + column) x) n row v ≡ relaxed (entry old n) middle row v) (sym same) (here ∙ is)
-    | inr apart ↦ entry-set_column new n row j row column x (omega arith) column_in apart ∙ before.done j (omega arith)
-  ];
-  after = λ j above within. entry-set_column new n row j row column x within column_in (λ same. omega arith) ∙ before.after j (omega arith) within;
-  others = λ i j apart i_in within. entry-set_row new n i j row column x within column_in apart ∙ before.others i j apart i_in within;
-}
+RelaxesRow-more n middle row column x old new size middle_in row_in column_in before is =
+    grind (arith, length-set new (row * n + column) x, cases_eq, entry-set_same new n row column x (before.size ∙ size) row_in column_in, entry-set_column, entry-set_row)
 
 -- the length from the middle to a column, while its row is made shorter
 pub from_middle : (n middle row column : ℕ) (old new : List ℕ) → middle < n → column < n →
     RelaxesRow n middle row column old new → entry new n middle column ≡ entry old n middle column
-from_middle n middle row column old new middle_in column_in before = elim (cases_eq middle row) [
-  | inl same ↦ subst (λ v. entry new n v column ≡ entry old n v column) (sym same) (before.after column (omega arith) column_in)
-  | inr apart ↦ before.others middle column apart middle_in column_in
-]
+from_middle n middle row column old new middle_in column_in before = grind (arith, cases_eq middle row)
 
 -- a list of the values of a function of the place, with one more
 pub pushed : (f : ℕ → ℕ) (xs : List ℕ) (place x : ℕ) → length xs ≡ place →
     ((k : ℕ) → k < place → get_or xs k 0 ≡ f k) → x ≡ f place → (k : ℕ) → k < place + 1 →
     get_or (xs ++ x ∷ []) k 0 ≡ f k
-pushed f xs place x size before is k below = elim (cases_lt k place) [
-  | inl less ↦ get_or_append_left xs (x ∷ []) 0 k (omega arith) ∙ before k less
-  | inr most ↦ let same : k ≡ place = omega arith in ap (λ n. get_or (xs ++ x ∷ []) n 0) same ∙ get_or_push xs x 0 place size ∙ is ∙ ap f (sym same)
-]
+pushed f xs place x size before is k below =
+    grind (arith, cases_lt k place, get_or_append_left, get_or_push xs x 0 place size)
 
 -- the value at a place, by its row and its column
 pub entry-from_place : (f : ℕ → ℕ → ℕ) (xs : List ℕ) (n i j : ℕ) → i < n → j < n →

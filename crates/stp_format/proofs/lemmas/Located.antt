@@ -1,5 +1,5 @@
 -- Whether a point is among others, and what adding it gives.
-use Rattle.std.specs.Prelude.{ℕ, zero, suc, ◌≡◌, ◌≢◌, ◌==◌, ◌++◌, true, false, List, [], ◌∷◌, length, Contains, Ok, Err}
+use Rattle.std.specs.Prelude.{ℕ, zero, suc, ◌≡◌, ◌≢◌, ◌++◌, true, false, List, [], ◌∷◌, length, Contains, Ok, Err}
 use Rattle.std.specs.List.{list_any}
 use Rattle.std.proofs.Common.{arith, refl, sym, inl, inr}
 use Rattle.std.proofs.lemmas.Bool.{cases_Bool, ne_eqb}
@@ -37,7 +37,4 @@ pub with_too_many : (node : ℕ) (ps : List Point) (p : Point) → ¬ Contains p
 with_too_many node ps p absent full = let is = absent_not_found p ps absent in rw (is, full) refl
 
 pub with_new : (node : ℕ) (ps : List Point) (p : Point) → ¬ Contains ps p → length ps ≢ 50 → with_point node ps p ≡ Ok (ps ++ p ∷ [])
-with_new node ps p absent room =
-    let is = absent_not_found p ps absent in
-    let less : (length ps == 50) ≡ false = ne_eqb (length ps) 50 room in
-    rw (is, less) refl
+with_new node ps p absent room = grind (arith, absent_not_found p ps absent, ne_eqb (length ps) 50 room)

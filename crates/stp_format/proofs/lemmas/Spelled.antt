@@ -5,7 +5,7 @@ use Rattle.std.specs.Int.{w64}
 use Rattle.std.specs.Result.{result_ok}
 use Rattle.std.specs.Str.{all_ascii_digits, IsAscii, IsUtf8}
 use Rattle.std.specs.Str.Parse.{IsNumeral, AllDigits, digits_value, starts_with_minus, without_leading_plus, without_leading_sign, signed_digits_value, ParsesSigned}
-use Rattle.std.proofs.Common.{arith, refl, sym, ap, subst, ◌∙◌, inl, inr}
+use Rattle.std.proofs.Common.{arith, refl, sym, ap, ◌∙◌, inl, inr}
 use Rattle.std.proofs.lemmas.Bool.{cases_Bool, cases_lt, le-ltb, eqb-true, ne_eqb}
 use Rattle.std.proofs.lemmas.Bool.Decides.{Decides-ltb, Decides-and, Decides-not, Decides-eqb, Decides-like}
 use Rattle.std.proofs.lemmas.List.{get_or_past}
@@ -29,14 +29,8 @@ coordinate_some (pos n) fits = let small = fits.sfits in let is : nat_lt n (2 ^ 
 coordinate_some (negsuc n) fits = let small = fits.sfits in let is : nat_lt n (2 ^ 63) ≡ true = (Decides-ltb n (2 ^ 63)).1 (omega arith) in rw is refl
 
 pub coordinate_none : (z : ℤ) → ¬ FitsSigned w64 z → coordinate_of z ≡ None
-coordinate_none (pos n) large = elim (cases_lt n (2 ^ 63)) [
-  | inl small ↦ absurd (large (record { sfits = small }))
-  | inr big ↦ let is : nat_lt n (2 ^ 63) ≡ false = le-ltb n (2 ^ 63) big in rw is refl
-]
-coordinate_none (negsuc n) large = elim (cases_lt n (2 ^ 63)) [
-  | inl small ↦ absurd (large (record { sfits = small }))
-  | inr big ↦ let is : nat_lt n (2 ^ 63) ≡ false = le-ltb n (2 ^ 63) big in rw is refl
-]
+coordinate_none (pos n) large = grind (arith, cases_lt n (2 ^ 63), le-ltb)
+coordinate_none (negsuc n) large = grind (arith, cases_lt n (2 ^ 63), le-ltb)
 
 -- what `parse` gives at 64 bits with a sign
 pub signed_parsed : {E : Type 0} (word : List ℕ) (r : Result ℤ E) → ParsesSigned w64 10 word r → result_ok r ≡ option_and_then coordinate_of (spelled_number word)
@@ -51,52 +45,26 @@ signed_parsed word (Err e) h =
 
 -- a word that isn't text spells no number
 digits_ascii : (ds : List ℕ) → AllDigits 10 ds → IsAscii ds
-digits_ascii ds digits i = elim (cases_lt i (length ds)) [
-  | inl inside ↦ let digit = digit_at ds i digits inside in omega arith
-  | inr past ↦ rw (get_or_past ds i 0 past) (omega arith)
-]
+digits_ascii ds digits i = grind (arith, cases_lt i (length ds), digit_at, get_or_past)
 
 signed_ascii : (word : List ℕ) → IsNumeral 10 (without_leading_sign word) → IsAscii word
 signed_ascii [] numeral = IsAscii-nil
-signed_ascii (b ∷ word) numeral = elim (cases_Bool (b == 45)) [
-  | inl minus ↦
-      let rest : without_leading_sign (b ∷ word) ≡ word = rw minus refl in
-      IsAscii-cons b word (omega (arith, eqb-true b 45 minus)) (digits_ascii word (subst (AllDigits 10) rest numeral.1))
-  | inr no_minus ↦ elim (cases_Bool (b == 43)) [
-    | inl plus ↦
-        let rest : without_leading_sign (b ∷ word) ≡ word = rw (no_minus, plus) refl in
-        IsAscii-cons b word (omega (arith, eqb-true b 43 plus)) (digits_ascii word (subst (AllDigits 10) rest numeral.1))
-    | inr no_plus ↦
-        let rest : without_leading_sign (b ∷ word) ≡ b ∷ word = rw (no_minus, no_plus) refl in
-        digits_ascii (b ∷ word) (subst (AllDigits 10) rest numeral.1)
-  ]
-]
+signed_ascii (b ∷ word) numeral =
+    grind (arith, cases_Bool (b == 45), b == 45, IsAscii-cons, eqb-true, digits_ascii, cases_Bool (b == 43), b == 43)
 
 pub no_text_no_number : (word : List ℕ) → ¬ IsUtf8 word → spelled_number word ≡ None
-no_text_no_number word other = elim (cases_Bool (not (length (without_leading_sign word) == 0) && all_ascii_digits (without_leading_sign word))) [
-  | inl is ↦ absurd (other (IsUtf8-from_ascii word (signed_ascii word ((numeral_decides (without_leading_sign word)).0 is))))
-  | inr none ↦ rw none refl
-]
+no_text_no_number word other =
+    grind (arith, cases_Bool (not (length (without_leading_sign word) == 0) && all_ascii_digits (without_leading_sign word)), IsUtf8-from_ascii, signed_ascii, numeral_decides (without_leading_sign word))
 
 -- a numeral has no minus before it
 numeral_no_minus : (word : List ℕ) → IsNumeral 10 (without_leading_plus word) → starts_with_minus word ≡ false
 numeral_no_minus [] numeral = refl
-numeral_no_minus (b ∷ word) numeral = elim (cases_Bool (b == 45)) [
-  | inl minus ↦
-      let no_plus : (b == 43) ≡ false = ne_eqb b 43 (λ e. omega (arith, eqb-true b 45 minus)) in
-      let bare : without_leading_plus (b ∷ word) ≡ b ∷ word = rw no_plus refl in
-      let digit = digit_at (b ∷ word) 0 (subst (AllDigits 10) bare numeral.1) (omega arith) in
-      absurd (omega (arith, digit, eqb-true b 45 minus))
-  | inr no_minus ↦ no_minus
-]
+numeral_no_minus (b ∷ word) numeral = grind (arith, cases_Bool (b == 45), b == 45, b == 43, ne_eqb, eqb-true, digit_at)
 
 -- what is spelled without a minus
 spelled_plain : (word : List ℕ) → starts_with_minus word ≡ false → IsNumeral 10 (without_leading_plus word)
     → spelled_number word ≡ Some (pos (digits_value 10 (without_leading_plus word)))
-spelled_plain word plain numeral =
-    let bare : without_leading_sign word ≡ without_leading_plus word = rw plain refl in
-    let is : (not (length (without_leading_sign word) == 0) && all_ascii_digits (without_leading_sign word)) ≡ true = (numeral_decides (without_leading_sign word)).1 (subst (IsNumeral 10) (sym bare) numeral) in
-    rw (is, plain) refl
+spelled_plain word plain numeral = grind (arith, numeral_decides (without_leading_sign word))
 
 weight_some : (n : ℕ) → n < 2 ^ 64 → weight_of (pos n) ≡ Some n
 weight_some n small = let is : nat_lt n (2 ^ 64) ≡ true = (Decides-ltb n (2 ^ 64)).1 small in rw is refl
@@ -118,19 +86,14 @@ negative_none (suc n) other = refl
 -- and nothing else is one that `parse` refuses
 pub other_spelled : (word : List ℕ) → ¬ (IsNumeral 10 (without_leading_plus word) × (digits_value 10 (without_leading_plus word) < 2 ^ 64))
     → option_and_then coordinate_of (spelled_number word) ≢ Some (pos 0) → option_and_then weight_of (spelled_number word) ≡ None
-other_spelled word refused other = elim (cases_Bool (not (length (without_leading_sign word) == 0) && all_ascii_digits (without_leading_sign word))) [
-  | inr none ↦ rw none refl
-  | inl is ↦ elim (cases_Bool (starts_with_minus word)) [
-    | inr plain ↦
-        let bare : without_leading_sign word ≡ without_leading_plus word = rw plain refl in
-        let numeral = subst (IsNumeral 10) bare ((numeral_decides (without_leading_sign word)).0 is) in
-        ap (option_and_then weight_of) (spelled_plain word plain numeral) ∙ elim (cases_lt (digits_value 10 (without_leading_plus word)) (2 ^ 64)) [
-          | inl small ↦ absurd (refused (numeral, small))
-          | inr big ↦ weight_large (digits_value 10 (without_leading_plus word)) big
-        ]
-    | inl minus ↦
-        let spelled : spelled_number word ≡ Some (neg_ℤ (pos (digits_value 10 (without_leading_sign word)))) = rw (is, minus) refl in
-        ap (option_and_then weight_of) spelled
-        ∙ negative_none (digits_value 10 (without_leading_sign word)) (λ e. other (ap (option_and_then coordinate_of) spelled ∙ e))
-  ]
-]
+other_spelled word refused other =
+    grind (
+      arith,
+      cases_Bool (not (length (without_leading_sign word) == 0) && all_ascii_digits (without_leading_sign word)),
+      cases_Bool (starts_with_minus word),
+      numeral_decides (without_leading_sign word),
+      spelled_plain,
+      cases_lt (digits_value 10 (without_leading_plus word)) (2 ^ 64),
+      weight_large,
+      negative_none,
+    )

@@ -1,7 +1,6 @@
 -- Lines, cut off at the front of a text.
-use Rattle.std.specs.Prelude.{ℕ, ◌==◌, ◌≡◌, ◌≢◌, ◌<◌, false, List, [], ◌∷◌, ◌++◌, length, All}
-use Rattle.std.specs.List.{slice_split}
-use Rattle.std.proofs.Common.{arith, refl, ap, ◌∙◌}
+use Rattle.std.specs.Prelude.{ℕ, ◌==◌, ◌≡◌, ◌<◌, false, List, [], ◌∷◌, ◌++◌, length, All}
+use Rattle.std.proofs.Common.{arith, refl, ap}
 use Rattle.std.proofs.lemmas.Bool.{eqb-true, false_from_ne_true}
 use Rattle.std.proofs.lemmas.List.Elements.{All-weaker}
 use Rattle.std.proofs.lemmas.List.Splits.{slice_split_none, slice_split_at, length-slice_split}
@@ -10,9 +9,7 @@ use Rattle.stp_format.specs.Lines.{lines_of, ended_lines, without_return}
 
 -- no byte is a line feed, as the test tells
 other_bytes : (line : List ℕ) → IsLine line → All (λ b. (b == 10) ≡ false) line
-other_bytes line lacks =
-    All-weaker (λ b. b ≢ 10) (λ b. (b == 10) ≡ false)
-    (λ b other. false_from_ne_true (b == 10) (λ same. other (eqb-true b 10 same))) line lacks
+other_bytes line lacks = grind (arith, All-weaker, false_from_ne_true, eqb-true)
 
 ended_lines-cons : (line : List ℕ) (parts : List (List ℕ)) → 0 < length parts → ended_lines (line ∷ parts) ≡ without_return line ∷ ended_lines parts
 ended_lines-cons line [] some = absurd (omega (arith, some))
@@ -21,8 +18,7 @@ ended_lines-cons line (next ∷ more) some = refl
 -- the first line, and those behind its line feed
 pub lines_of-at : (line left : List ℕ) → IsLine line → lines_of (line ++ 10 ∷ left) ≡ without_return line ∷ lines_of left
 lines_of-at line left lacks =
-    ap ended_lines (slice_split_at (λ b. b == 10) line 10 left (other_bytes line lacks) refl)
-    ∙ ended_lines-cons line (slice_split (λ b. b == 10) left) (omega (arith, length-slice_split (λ b. b == 10) left))
+    grind (arith, slice_split_at, other_bytes line lacks, ended_lines-cons, length-slice_split)
 
 -- bytes without a line feed are the last line
 pub lines_of-none : (line : List ℕ) → IsLine line → lines_of line ≡ line ∷ []

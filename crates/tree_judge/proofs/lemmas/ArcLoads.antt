@@ -22,8 +22,7 @@ or_no true = refl
 or_no false = refl
 
 pub listed_last : (listed : List ℕ) (n : ℕ) → IsListed (listed ++ n ∷ []) n
-listed_last listed n =
-    list_any-append (eqb n) listed (n ∷ []) ∙ rw (eq-eqb n n refl) (or_yes (list_any (eqb n) listed))
+listed_last listed n = list_any-append (eqb n) listed (n ∷ []) ∙ rw (eq-eqb n n refl) (or_yes (list_any (eqb n) listed))
 
 pub listed_other : (listed : List ℕ) (n m : ℕ) → m ≢ n →
     list_any (eqb m) (listed ++ n ∷ []) ≡ list_any (eqb m) listed
@@ -35,10 +34,7 @@ listed_other listed n m apart =
 -- an edge that isn't loaded isn't listed
 unlisted : (there back listed : List ℕ) (n : ℕ) → IsList there back listed → both_loads there back n ≡ 0 →
     list_any (eqb n) listed ≡ false
-unlisted there back listed n list none = elim (cases_Bool (list_any (eqb n) listed)) [
-  | inl has ↦ absurd (omega (arith, (list.loaded n).0 has, none))
-  | inr missing ↦ missing
-]
+unlisted there back listed n list none = grind (arith, cases_Bool (list_any (eqb n) listed), list.loaded n)
 
 -- so it may be appended
 once_more : (there back listed : List ℕ) (n : ℕ) → IsList there back listed → both_loads there back n ≡ 0 →
@@ -49,10 +45,7 @@ once_more there back listed n list none =
 -- a loaded edge is one of the graph's
 pub loaded_within : (there back : List ℕ) (n : ℕ) → length back ≡ length there → 0 < both_loads there back n →
     n < length there
-loaded_within there back n size some = elim (cases_lt n (length there)) [
-  | inl within ↦ within
-  | inr past ↦ absurd (omega (arith, some, get_or_past there n 0 past, get_or_past back n 0 (omega (arith, size, past))))
-]
+loaded_within there back n size some = grind (arith, cases_lt n (length there), get_or_past)
 
 -- and there is room for it
 pub room_for : (there back listed : List ℕ) (n : ℕ) → length back ≡ length there → IsList there back listed →
@@ -93,18 +86,7 @@ pub AreLoads-same : (there back there' back' listed listed' : List ℕ) (room ro
     OthersStay there back there' back' n → (0 < both_loads there back n) ↔ (0 < both_loads there' back' n) →
     listed' ≡ listed → room' ≡ room → AreLoads there' back' listed' room'
 AreLoads-same there back there' back' listed listed' room room' n are there_size back_size others same kept stays =
-    record {
-      size = back_size ∙ are.size ∙ sym there_size;
-      room = stays ∙ are.room ∙ sym there_size;
-      list = rw kept record {
-        once = are.list.once;
-        loaded = λ m. elim (cases_eq m n) [
-          | inl is ↦
-              rw is (λ has. same.0 ((are.list.loaded n).0 has), λ some. (are.list.loaded n).1 (same.1 some))
-          | inr apart ↦ rw (others m apart) (are.list.loaded m)
-        ];
-      };
-    }
+    grind (arith, cases_eq, are.list.loaded n)
 
 -- what a test that failed tells of an edge's loads
 pub none_loaded : (total : ℕ) → (0 < total → IsTrue false) → total ≡ 0
@@ -124,14 +106,8 @@ distinct_none = tt
 -- no edge is loaded, and none is listed
 pub AreLoads-empty : (there back listed : List ℕ) (room size : ℕ) → length there ≡ size → length back ≡ size →
     room ≡ size → length listed ≡ 0 → ((n : ℕ) → both_loads there back n ≡ 0) → AreLoads there back listed room
-AreLoads-empty there back listed room size there_size back_size stays empty none = record {
-  size = back_size ∙ sym there_size;
-  room = stays ∙ sym there_size;
-  list = rw (nil_from_length listed empty) record {
-    once = distinct_none;
-    loaded = λ n. (λ has. cc, λ some. absurd (omega (arith, some, none n)));
-  };
-}
+AreLoads-empty there back listed room size there_size back_size stays empty none =
+    grind (arith, nil_from_length listed empty, distinct_none)
 
 pub AreLoads-none : (edges : ℕ) → AreLoads (replicate edges 0) (replicate edges 0) [] edges
 AreLoads-none edges = AreLoads-empty row row [] edges edges long long refl refl (λ n. omega (arith, none n))
@@ -181,7 +157,4 @@ below_still listed rest n bound more below = (
 pub none_listed : (there back listed : List ℕ) → length listed ≡ 0 →
     ((m : ℕ) → 0 < both_loads there back m → IsListed listed m) → (m : ℕ) → both_loads there back m ≡ 0
 none_listed there back (n ∷ listed) empty all m = absurd (omega (arith, empty))
-none_listed there back [] empty all m = elim (cases_lt 0 (both_loads there back m)) [
-  | inl some ↦ let never = all m some in cc
-  | inr none ↦ omega (arith, none)
-]
+none_listed there back [] empty all m = grind (arith, cases_lt 0 (both_loads there back m))

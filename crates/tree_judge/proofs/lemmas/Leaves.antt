@@ -1,6 +1,5 @@
 -- The cuts of a leaf: what one more of them makes of the loads that are kept.
-use Rattle.std.proofs.Common.{ℕ, ◌≡◌, ◌≢◌, ◌+◌, ◌<◌, ◌≤◌, List, [], ◌∷◌, ◌++◌, length, get_or, slice_get, Some, sym, ◌∙◌, subst, inl, inr, refl, sum_by, false, arith}
-use Rattle.std.specs.Prelude.{if◌then◌else◌}
+use Rattle.std.proofs.Common.{ℕ, ◌≡◌, ◌≢◌, ◌+◌, ◌<◌, ◌≤◌, List, [], ◌∷◌, ◌++◌, length, get_or, slice_get, Some, sym, ◌∙◌, subst, inl, inr, sum_by, false, arith}
 use Rattle.std.proofs.lemmas.Bool.{cases_eq, cases_lt}
 use Rattle.std.proofs.lemmas.Option.{same_Some, slice_get_within}
 use Rattle.std.proofs.lemmas.List.Sums.{sum_by-append, sum_by-cons}
@@ -14,7 +13,7 @@ use Rattle.net_graph.specs.Feasible.{KeepsRoom}
 use Rattle.tree_judge.specs.declared.leaf.Excess.{Excess}
 use Rattle.tree_judge.specs.Cuts.{IsFirstOverload, PacksCut}
 use Rattle.tree_judge.specs.ArcLoads.{ArcLoads}
-use Rattle.tree_judge.specs.Loads.{HasLoads, IsLeafOf, IsOverload, IsLoadKept, KeepsEdge, KeepsLoads, LoadsBelow, LoadsOnly}
+use Rattle.tree_judge.specs.Loads.{HasLoads, IsLeafOf, IsOverload, KeepsEdge, KeepsLoads, LoadsBelow, LoadsOnly}
 use Rattle.tree_judge.specs.Borders.{IsWhole}
 use Rattle.tree_judge.proofs.lemmas.Loading.{within_room}
 
@@ -22,8 +21,7 @@ use Rattle.tree_judge.proofs.lemmas.Loading.{within_room}
 KeepsEdge-elsewhere : (g : Graph) (cuts : List Cut) (n k : ℕ) (d : Decided) (old new : ArcLoads) → LoadsOnly n old new →
     k ≢ n → KeepsEdge g cuts d old k → KeepsEdge g cuts d new k
 KeepsEdge-elsewhere g cuts n k d old new only apart keeps e state at state_at =
-    subst (λ n. KeepsLoads state e cuts n (get_or new.back k 0)) (sym (only.there k apart))
-    (subst (λ n. KeepsLoads state e cuts (get_or old.there k 0) n) (sym (only.back k apart)) (keeps e state at state_at))
+    grind (arith, only.there k apart, only.back k apart, keeps e state)
 
 -- one edge more
 pub LoadsBelow-more : (g : Graph) (cuts : List Cut) (c : Cut) (n : ℕ) (e : Edge) (state : EdgeState) (d : Decided)
@@ -52,32 +50,18 @@ LoadsBelow-more g cuts c n e state d old new only at state_at passes below = rec
 -- before the first edge none is loaded with it
 pub LoadsBelow-none : (g : Graph) (cuts : List Cut) (c : Cut) (n : ℕ) (d : Decided) (loads : ArcLoads) → n ≡ 0 →
     IsLeafOf g cuts d loads → LoadsBelow g cuts c n d loads
-LoadsBelow-none g cuts c n d loads none leaf = record {
-  passed = λ k below. absurd (omega (arith, none, below));
-  ahead = λ k from. leaf k;
-}
+LoadsBelow-none g cuts c n d loads none leaf = grind arith
 
 -- a cut that an arc doesn't enter loads it no more
 load-none : (cuts : List Cut) (c : Cut) (u v : ℕ) → enters c.members u v ≡ false →
     load (cuts ++ c ∷ []) u v ≡ load cuts u v
-load-none cuts c u v out =
-    let amount : Cut → ℕ = λ c. if enters c.members u v then c.weight else 0 in
-    let none : amount c ≡ 0 = rw out refl in
-    let nil : sum_by amount [] ≡ 0 = refl in
-    omega (arith, sum_by-append amount cuts (c ∷ []), sum_by-cons amount c [])
+load-none cuts c u v out = grind (arith, sum_by, sum_by-append, sum_by-cons)
 
 -- so an edge of which neither arc enters it keeps its loads
 KeepsEdge-whole : (g : Graph) (cuts : List Cut) (c : Cut) (n : ℕ) (d : Decided) (loads : ArcLoads) →
     IsWhole g c.members n → KeepsEdge g cuts d loads n → KeepsEdge g (cuts ++ c ∷ []) d loads n
 KeepsEdge-whole g cuts c n d loads whole keeps e state at state_at =
-    let kept = keeps e state at state_at in
-    let out = whole e at in
-    record {
-      forward = subst (λ m. IsLoadKept state e m (get_or loads.there n 0)) (sym (load-none cuts c e.a e.b out.0))
-          kept.forward;
-      backward = subst (λ m. IsLoadKept state e m (get_or loads.back n 0)) (sym (load-none cuts c e.b e.a out.1))
-          kept.backward;
-    }
+    grind (arith, keeps e state, whole e, load-none cuts c e.a e.b (whole e at).0, load-none cuts c e.b e.a (whole e at).1)
 
 -- so such edges are passed over
 pub LoadsBelow-whole : (g : Graph) (cuts : List Cut) (c : Cut) (n m : ℕ) (d : Decided) (loads : ArcLoads) →
@@ -99,25 +83,17 @@ IsLeafOf-below g cuts c n d loads all below k e state at state_at =
 
 -- the rows keep their lengths
 pub HasLoads-only : (g : Graph) (n : ℕ) (old new : ArcLoads) → LoadsOnly n old new → HasLoads g old → HasLoads g new
-HasLoads-only g n old new only rows = record {
-  there = only.there_size ∙ rows.there;
-  back = only.back_size ∙ rows.back;
-}
+HasLoads-only g n old new only rows = grind arith
 
 -- an edge whose loads are kept keeps its room
 KeepsRoom-kept : (g : Graph) (packing : List Cut) (d : Decided) (loads : ArcLoads) (n : ℕ) →
     KeepsEdge g packing d loads n → KeepsRoom g d packing n
-KeepsRoom-kept g packing d loads n keeps e state at state_at =
-    let kept = keeps e state at state_at in
-    (within_room state e _ _ kept.forward, within_room state e _ _ kept.backward)
+KeepsRoom-kept g packing d loads n keeps e state at state_at = grind (arith, keeps e state, within_room)
 
 -- a cut with which no arc is loaded above its room may stand there
 pub PacksCut-kept : (g : Graph) (cuts : List Cut) (c : Cut) (d : Decided) (loads : ArcLoads) → IsCut g d c.members →
     IsLeafOf g (cuts ++ c ∷ []) d loads → PacksCut g d cuts c
-PacksCut-kept g cuts c d loads cut leaf = record {
-  cut = cut;
-  room = λ n. KeepsRoom-kept g (cuts ++ c ∷ []) d loads n (leaf n);
-}
+PacksCut-kept g cuts c d loads cut leaf = grind (arith, KeepsRoom-kept)
 
 -- the next edge is the first of which an arc is loaded above its room
 pub IsFirstOverload-kept : (g : Graph) (cuts : List Cut) (c : Cut) (n : ℕ) (e : Edge) (state : EdgeState) (over : Excess)
@@ -126,15 +102,4 @@ pub IsFirstOverload-kept : (g : Graph) (cuts : List Cut) (c : Cut) (n : ℕ) (e 
     (KeepsLoads state e cuts (get_or loads.there n 0) (get_or loads.back n 0) →
     IsOverload state e (cuts ++ c ∷ []) c.members over) →
     IsFirstOverload g d (cuts ++ c ∷ []) c.members n over.load over.room
-IsFirstOverload-kept g cuts c n e state over d loads at state_at below overloads =
-    let is = overloads (below.ahead n (omega arith) e state at state_at) in
-    record {
-      is = e;
-      state = state;
-      at = at;
-      state_is = state_at;
-      room_is = is.room;
-      entered = is.entered;
-      above = is.above;
-      first = λ m lt. KeepsRoom-kept g (cuts ++ c ∷ []) d loads m (below.passed m lt);
-    }
+IsFirstOverload-kept g cuts c n e state over d loads at state_at below overloads = grind (arith, KeepsRoom-kept)

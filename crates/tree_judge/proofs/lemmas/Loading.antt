@@ -1,5 +1,5 @@
 -- The loads of an edge's arcs: what one more cut adds to them.
-use Rattle.std.proofs.Common.{ℕ, ◌≡◌, List, None}
+use Rattle.std.proofs.Common.{ℕ, ◌≡◌, List, None, arith}
 use Rattle.net_graph.specs.declared.edge.Edge.{Edge}
 use Rattle.net_graph.specs.declared.state.EdgeState.{EdgeState}
 use Rattle.net_graph.specs.declared.state.EdgeState.TheVariants.{Undecided, Inside, Outside}
@@ -25,7 +25,5 @@ within_room Outside e amount kept keeps = tt
 -- the edge has no room
 pub passes_free : (state : EdgeState) (e : Edge) (packing : List Cut) (there back : ℕ) → room_of state e ≡ None →
     KeepsLoads state e packing there back
-passes_free state e packing there back is = record {
-  forward = kept_free state e (load packing e.a e.b) there is;
-  backward = kept_free state e (load packing e.b e.a) back is;
-}
+passes_free state e packing there back is =
+    grind (arith, kept_free state e (load packing e.a e.b) there is, kept_free state e (load packing e.b e.a) back is)

@@ -1,5 +1,5 @@
 -- The marks of the edges that a set parts: which edges lie before the next mark and behind the last one.
-use Rattle.std.proofs.Common.{ℕ, zero, suc, ◌≡◌, ◌+◌, ◌-◌, ◌*◌, ◌/◌, ◌^◌, ◌<◌, ◌≤◌, Bool, true, false, IsTrue, ◌↔◌, ◌⊎◌, inl, inr, List, slice_get, Some, refl, ap, sym, subst, ◌∙◌, arith, w64}
+use Rattle.std.proofs.Common.{ℕ, zero, suc, ◌≡◌, ◌+◌, ◌-◌, ◌*◌, ◌/◌, ◌^◌, ◌<◌, ◌≤◌, Bool, true, false, IsTrue, ◌↔◌, ◌⊎◌, List, slice_get, Some, refl, ap, sym, subst, ◌∙◌, arith, w64}
 use Rattle.std.specs.Int.{bit_at, from_bool, trailing_zeros}
 use Rattle.std.proofs.lemmas.Nat.Bits.{bit_at-zero, bit_at-trailing_zeros}
 use Rattle.std.proofs.lemmas.Bool.{iff_false}
@@ -33,23 +33,15 @@ whole_before g members marks n end is some fits k from below =
 pub marks_behind : (g : Graph) (members : List Bool) (marks n end gap : ℕ) → MarksParted g members marks n end →
     n + gap < end →
     MarksParted g members (marks / 2 ^ gap / 2) (n + gap + 1) end
-marks_behind g members marks n end gap is inside = record {
-  within = omega arith;
-  below = marks_behind-below marks n end gap is.below inside;
-  others = λ i low none.
-      let at : n + (gap + 1 + i) ≡ n + gap + 1 + i = omega arith in
-      subst (IsWhole g members) at (is.others (gap + 1 + i) (omega arith) (sym (bit_at-behind marks gap i) ∙ none));
-}
+marks_behind g members marks n end gap is inside =
+    grind (arith, marks_behind-below marks n end gap is.below inside, bit_at-behind)
 
 -- ---- behind the last mark
 
 -- the edges are whole
 pub whole_behind : (g : Graph) (members : List Bool) (marks n end : ℕ) → MarksParted g members marks n end → marks ≡ 0 →
     (k : ℕ) → n ≤ k → k < end → IsWhole g members k
-whole_behind g members marks n end is none k from below =
-    let at : n + (k - n) ≡ k = omega arith in
-    subst (IsWhole g members) at
-    (is.others (k - n) (omega arith) (ap (λ m. bit_at m (k - n)) none ∙ bit_at-zero (k - n)))
+whole_behind g members marks n end is none k from below = grind (arith, bit_at-zero (k - n))
 
 -- ---- marks made from the last edge to the first
 
@@ -97,7 +89,4 @@ pub whole_unless : (g : Graph) (members : List Bool) (n : ℕ) (e : Edge) (p : B
     slice_get g.edges n ≡ Some e → bit ≡ from_bool p →
     IsTrue p ↔ ((enters members e.a e.b ≡ true) ⊎ (enters members e.b e.a ≡ true)) → bit ≡ 0 → IsWhole g members n
 whole_unless g members n e p bit at is parts none x at_x =
-    let same : e ≡ x = same_Some e x (sym at ∙ at_x) in
-    let never = iff_false parts (bit_off p bit is none) in
-    subst (λ (z : Edge). (enters members z.a z.b ≡ false) × (enters members z.b z.a ≡ false)) same
-    (not_true (enters members e.a e.b) (λ y. never (inl y)), not_true (enters members e.b e.a) (λ y. never (inr y)))
+    grind (arith, same_Some e x (sym at ∙ at_x), iff_false parts (bit_off p bit is none), not_true)

@@ -1,5 +1,5 @@
 -- What one more split decides, and how what it decided is undone.
-use Rattle.std.proofs.Common.{ℕ, zero, suc, ◌≡◌, ◌<◌, List, [], ◌∷◌, length, set, slice_get, Some, None, ◌⊎◌, inl, inr, refl, sym, ap, ◌∙◌, arith, length-set}
+use Rattle.std.proofs.Common.{ℕ, zero, suc, ◌≡◌, List, [], ◌∷◌, set, slice_get, Some, None, ◌⊎◌, inl, inr, refl, sym, ap, ◌∙◌, arith, length-set}
 use Rattle.std.specs.Prelude.{Option}
 use Rattle.std.proofs.lemmas.Bool.{cases_eq}
 use Rattle.std.proofs.lemmas.Option.{same_Some, slice_get_within}
@@ -40,9 +40,7 @@ set-none (z ∷ xs) (suc n) x at = ap (λ ys. z ∷ ys) (set-none xs n x at)
 
 -- an undecided edge is so by itself
 own_edge : (g : Graph) (d : Decided) (n : ℕ) → IsUndecided g d n → slice_get d.edges n ≡ Some Undecided
-own_edge g d n undecided =
-    let (e, bare, at, decided, so) = states_of-parts g d n Undecided undecided in
-    decided ∙ ap Some (state_at_ends-undecided d.vertices e bare so).0
+own_edge g d n undecided = grind (arith, states_of-parts g d n Undecided undecided, state_at_ends-undecided)
 
 -- an undecided vertex stays as it is where it is undecided again
 own_vertex : (g : Graph) (d : Decided) (v : ℕ) → IsVertexUndecided g d v →
@@ -77,15 +75,8 @@ inside_again d (split.Vertex v) = ap (λ xs. decided_of d.edges xs) (set-set d.v
 inside_before : (d : Decided) (on : SplitOn) (n : ℕ) → slice_get (outside_of d on).edges n ≡ Some Inside →
     slice_get d.edges n ≡ Some Inside
 inside_before d (split.Vertex v) n is = is
-inside_before d (split.Edge m) n is = elim (cases_eq n m) [
-  | inl here ↦
-      let within : m < length d.edges =
-      omega (arith, slice_get_within (set d.edges m Outside) n Inside is, length-set d.edges m Outside) in
-      let written : slice_get (set d.edges m Outside) n ≡ Some Outside =
-      rw here (slice_get-set_same d.edges m Outside within) in
-      let same : Outside ≡ Inside = same_Some _ _ (sym written ∙ is) in cc
-  | inr apart ↦ sym (slice_get-set_other d.edges m n Outside apart) ∙ is
-]
+inside_before d (split.Edge m) n is =
+    grind (arith, cases_eq n m, slice_get_within (set d.edges m Outside) n Inside is, length-set d.edges m Outside, slice_get (set d.edges m Outside) n, slice_get-set_same, same_Some, slice_get-set_other)
 
 -- an edge that is undecided in the outside part is so before
 undecided_before : (g : Graph) (d : Decided) (on : SplitOn) (n : ℕ) → IsUndecidedSplit g d on →
@@ -100,6 +91,4 @@ pub state_outside : (g : Graph) (d : Decided) (on : SplitOn) (n : ℕ) (state : 
 state_outside g d on n Outside undecided is = inl refl
 state_outside g d on n Undecided undecided is = inr (undecided_before g d on n undecided is)
 state_outside g d on n Inside undecided is =
-    let (e, bare, at, decided, so) = states_of-parts g (outside_of d on) n Inside is in
-    let own = inside_before d on n (states_of-inside g (outside_of d on) n is) in
-    inr (states_of-at g d n e Inside at own)
+    grind (arith, states_of-parts g (outside_of d on) n Inside is, inside_before d on n (states_of-inside g (outside_of d on) n is), states_of-inside g (outside_of d on) n is, states_of-at)

@@ -1,5 +1,5 @@
 -- How the way to a node goes on: down into an outside part, over to an inside part, and up.
-use Rattle.std.proofs.Common.{◌≡◌, Bool, true, false, not, List, ◌∷◌, length, drop, get_or, refl, sym, ap, ◌∙◌, subst, arith, length-set}
+use Rattle.std.proofs.Common.{◌≡◌, Bool, true, false, not, List, ◌∷◌, length, drop, get_or, refl, subst, arith, length-set}
 use Rattle.std.specs.Prelude.{if◌then◌else◌}
 use Rattle.std.proofs.lemmas.Option.{slice_get_within}
 use Rattle.net_graph.specs.declared.state.EdgeState.TheVariants.{Undecided, Inside, Outside}
@@ -52,17 +52,13 @@ SameSizes-by d on false = SameSizes-outside d on
 
 -- so they are those of the graph
 HasStates-sizes : (g : Graph) (old new : Decided) → SameSizes old new → HasStates g old → HasStates g new
-HasStates-sizes g old new same states = record {
-  edges = same.edges ∙ states.edges;
-  vertices = same.vertices ∙ states.vertices;
-}
+HasStates-sizes g old new same states = grind arith
 
 -- what a split is on that is undecided has a state
 pub undecided_has_state : (g : Graph) (d own : Decided) (on : SplitOn) → HasStates g own → IsUndecidedSplit g d on →
     HasState own on
 undecided_has_state g d own (split.Edge n) states undecided =
-    let (e, bare, at, decided, so) = states_of-parts g d n Undecided undecided in
-    omega (arith, slice_get_within g.edges n e at, states.edges)
+    grind (arith, states_of-parts g d n Undecided undecided, slice_get_within)
 undecided_has_state g d own (split.Vertex v) states undecided = omega (arith, undecided.vertex, states.vertices)
 
 -- ---- down
@@ -72,11 +68,7 @@ pub StandsOnWay-down : (g : Graph) (t : Turn) (old new : Way) → StandsOnWay g 
     IsUndecidedSplit g old.decided t.on → new ≡ record old { decided = after_turn old.decided t; path = t ∷ old.path } →
     StandsOnWay g new
 StandsOnWay-down g t old new stands undecided told =
-    subst (StandsOnWay g) (sym told) (record {
-      states = HasStates-sizes g old.decided (after_turn old.decided t) (SameSizes-by old.decided t.on t.inside) stands.states;
-      splits = (subst (λ d. IsUndecidedSplit g d t.on) stands.decided undecided, stands.splits);
-      decided = ap (λ d. after_turn d t) stands.decided;
-    })
+    grind (arith, HasStates-sizes g old.decided (after_turn old.decided t) (SameSizes-by old.decided t.on t.inside) stands.states)
 
 -- ---- up and over
 
@@ -88,42 +80,32 @@ lowest_undecided g t above way stands is = (subst (IsWay g (nothing_decided g)) 
 pub lowest_has_state : (g : Graph) (t : Turn) (above : List Turn) (way : Way) → StandsOnWay g way → way.path ≡ t ∷ above →
     HasState way.decided t.on
 lowest_has_state g t above way stands is =
-    undecided_has_state g (decision_along (nothing_decided g) above) way.decided t.on stands.states
-    (lowest_undecided g t above way stands is)
+    grind (arith, undecided_has_state g (decision_along (nothing_decided g) above) way.decided t.on stands.states (lowest_undecided g t above way stands is))
 
 -- what is decided is what was decided above the lowest split and by that split
 decided_below : (g : Graph) (t : Turn) (above : List Turn) (way : Way) (inside : Bool) → StandsOnWay g way →
     way.path ≡ t ∷ above → t.inside ≡ inside →
     way.decided ≡ after_turn (decision_along (nothing_decided g) above) (record { on = t.on; inside = inside })
-decided_below g t above way inside stands is side =
-    let d = decision_along (nothing_decided g) above in
-    stands.decided ∙ ap (decision_along (nothing_decided g)) is
-    ∙ ap (λ flag. after_turn d (record { on = t.on; inside = flag })) side
+decided_below g t above way inside stands is side = grind arith
 
 -- the nodes that are due behind the lowest split and above it
 behind_below : (g : Graph) (t : Turn) (above : List Turn) (way : Way) (inside : Bool) → way.path ≡ t ∷ above →
     t.inside ≡ inside →
     decisions_behind (nothing_decided g) way.path
     ≡ decisions_behind (nothing_decided g) (record { on = t.on; inside = inside } ∷ above)
-behind_below g t above way inside is side =
-    ap (decisions_behind (nothing_decided g)) is
-    ∙ ap (λ flag. decisions_behind (nothing_decided g) (record { on = t.on; inside = flag } ∷ above)) side
+behind_below g t above way inside is side = grind arith
 
 -- out of an inside part: what the split is on is undecided again, and the same nodes are due
 pub StandsOnWay-up : (g : Graph) (t : Turn) (above : List Turn) (old new : Way) → StandsOnWay g old → old.path ≡ t ∷ above → t.inside ≡ true →
     new ≡ record old { decided = undecided_of old.decided t.on; path = above } →
     StandsOnWay g new × (decisions_behind (nothing_decided g) new.path ≡ decisions_behind (nothing_decided g) old.path)
 StandsOnWay-up g t above old new stands is inside told =
-    let top = nothing_decided g in
-    let d = decision_along top above in (
-      subst (StandsOnWay g) (sym told) (record {
-        states = HasStates-sizes g old.decided (undecided_of old.decided t.on) (SameSizes-undecided old.decided t.on)
-            stands.states;
-        splits = (subst (IsWay g top) is stands.splits).1;
-        decided = ap (λ x. undecided_of x t.on) (decided_below g t above old true stands is inside)
-            ∙ undecided_again g d t.on (lowest_undecided g t above old stands is);
-      }),
-      ap (λ (x : Way). decisions_behind top x.path) told ∙ sym (behind_below g t above old true is inside),
+    grind (
+      arith,
+      HasStates-sizes g old.decided (undecided_of old.decided t.on) (SameSizes-undecided old.decided t.on) stands.states,
+      decided_below g t above old true stands is inside,
+      undecided_again g (decision_along (nothing_decided g) above) t.on (lowest_undecided g t above old stands is),
+      behind_below g t above old true is inside,
     )
 
 -- out of an outside part into the inside one: the first node that was due
@@ -135,19 +117,11 @@ pub record GoesInside (g : Graph) (old new : Way) : Type 0 where
 pub GoesInside-over : (g : Graph) (t : Turn) (above : List Turn) (old new : Way) → StandsOnWay g old → old.path ≡ t ∷ above → t.inside ≡ false →
     new ≡ record old { decided = inside_of old.decided t.on; path = record { on = t.on; inside = true } ∷ above } → GoesInside g old new
 GoesInside-over g t above old new stands is outside told =
-    let top = nothing_decided g in
-    let d = decision_along top above in
-    let decided : inside_of old.decided t.on ≡ inside_of d t.on =
-    ap (λ x. inside_of x t.on) (decided_below g t above old false stands is outside) ∙ inside_again d t.on in
-    let before : decisions_behind top old.path ≡ inside_of d t.on ∷ decisions_behind top above =
-    behind_below g t above old false is outside in
-    record {
-      stands = subst (StandsOnWay g) (sym told) (record {
-        states = HasStates-sizes g old.decided (inside_of old.decided t.on) (SameSizes-inside old.decided t.on)
-            stands.states;
-        splits = (lowest_undecided g t above old stands is, (subst (IsWay g top) is stands.splits).1);
-        decided = decided;
-      });
-      decision = ap (λ (x : Way). x.decided) told ∙ decided ∙ sym (ap (λ ds. get_or ds 0 top) before);
-      behind = ap (λ (x : Way). decisions_behind top x.path) told ∙ sym (ap (λ ds. drop 1 ds) before);
-    }
+    grind (
+      arith,
+      decided_below g t above old false stands is outside,
+      inside_again (decision_along (nothing_decided g) above) t.on,
+      behind_below g t above old false is outside,
+      HasStates-sizes g old.decided (inside_of old.decided t.on) (SameSizes-inside old.decided t.on) stands.states,
+      lowest_undecided g t above old stands is,
+    )

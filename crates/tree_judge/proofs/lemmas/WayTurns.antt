@@ -1,10 +1,10 @@
 -- The splits of a way: what they are on has a state, and each inside edge and each met vertex is that of one of them.
-use Rattle.std.proofs.Common.{ℕ, zero, suc, ◌≡◌, Bool, true, false, List, [], ◌∷◌, slice_get, Some, inl, inr, refl, sym, ap, ◌∙◌, subst}
+use Rattle.std.proofs.Common.{ℕ, zero, suc, ◌≡◌, Bool, true, false, List, [], ◌∷◌, slice_get, Some, inl, inr, refl, sym, ap, ◌∙◌, subst, arith}
 use Rattle.std.specs.Prelude.{◌⊎◌, if◌then◌else◌}
 use Rattle.std.proofs.lemmas.Bool.{cases_eq}
 use Rattle.std.proofs.lemmas.Option.{same_Some}
-use Rattle.net_graph.specs.declared.state.EdgeState.TheVariants.{Undecided, Inside, Outside}
-use Rattle.net_graph.specs.declared.state.VertexState.TheVariants.{Met, Missed}
+use Rattle.net_graph.specs.declared.state.EdgeState.TheVariants.{Undecided, Inside}
+use Rattle.net_graph.specs.declared.state.VertexState.TheVariants.{Met}
 use Rattle.net_graph.specs.declared.state.VertexState.TheVariants as vertex
 use Rattle.net_graph.specs.EntryLaws.{slice_get-replicate, slice_get-set_other}
 use Rattle.net_graph.specs.Graph.{Graph}
@@ -32,8 +32,7 @@ turn_along g top (u ∷ above) (suc k) t way at = turn_along g top above k t way
 pub turn_has_state : (g : Graph) (way : Way) (k : ℕ) (t : Turn) → StandsOnWay g way → slice_get way.path k ≡ Some t →
     HasState way.decided t.on
 turn_has_state g way k t stands at =
-    let (d, undecided) = turn_along g (nothing_decided g) way.path k t stands.splits at in
-    undecided_has_state g d way.decided t.on stands.states undecided
+    grind (arith, turn_along g (nothing_decided g) way.path k t stands.splits, undecided_has_state)
 
 -- ---- inside edges and met vertices
 
@@ -42,27 +41,15 @@ edge_by : (d : Decided) (on : SplitOn) (inside : Bool) (n : ℕ) →
     (on ≡ split.Edge n) ⊎ (slice_get (if inside then inside_of d on else outside_of d on).edges n ≡ slice_get d.edges n)
 edge_by d (split.Vertex v) true n = inr refl
 edge_by d (split.Vertex v) false n = inr refl
-edge_by d (split.Edge m) true n = elim (cases_eq n m) [
-  | inl here ↦ inl (ap split.Edge (sym here))
-  | inr apart ↦ inr (slice_get-set_other d.edges m n Inside apart)
-]
-edge_by d (split.Edge m) false n = elim (cases_eq n m) [
-  | inl here ↦ inl (ap split.Edge (sym here))
-  | inr apart ↦ inr (slice_get-set_other d.edges m n Outside apart)
-]
+edge_by d (split.Edge m) true n = grind (arith, cases_eq n m, slice_get-set_other)
+edge_by d (split.Edge m) false n = grind (arith, cases_eq n m, slice_get-set_other)
 
 vertex_by : (d : Decided) (on : SplitOn) (inside : Bool) (v : ℕ) →
     (on ≡ split.Vertex v) ⊎ (slice_get (if inside then inside_of d on else outside_of d on).vertices v ≡ slice_get d.vertices v)
 vertex_by d (split.Edge m) true v = inr refl
 vertex_by d (split.Edge m) false v = inr refl
-vertex_by d (split.Vertex w) true v = elim (cases_eq v w) [
-  | inl here ↦ inl (ap split.Vertex (sym here))
-  | inr apart ↦ inr (slice_get-set_other d.vertices w v Met apart)
-]
-vertex_by d (split.Vertex w) false v = elim (cases_eq v w) [
-  | inl here ↦ inl (ap split.Vertex (sym here))
-  | inr apart ↦ inr (slice_get-set_other d.vertices w v Missed apart)
-]
+vertex_by d (split.Vertex w) true v = grind (arith, cases_eq v w, slice_get-set_other)
+vertex_by d (split.Vertex w) false v = grind (arith, cases_eq v w, slice_get-set_other)
 
 -- a split of the way is on this
 abbrev IsTurned : List Turn → SplitOn → Type 0

@@ -39,6 +39,4 @@ sum_from f n (tree ∷ trees) (false ∷ set) is =
 -- the trees at the places of a set are together as long as its total
 pub sum_of_places : (trees : List Tree) (set : List Bool) →
     sum_by (length_at trees) (members_of set) ≡ total_of trees set
-sum_of_places trees set =
-    sum_from (length_at trees) 0 trees set
-    (λ k. let here : 0 + k ≡ k = omega arith in rw here refl)
+sum_of_places trees set = grind (arith, sum_from)

@@ -71,10 +71,7 @@ named_cases : (ps : List Point) (trees : List Tree) (places : List ℕ) (k : ℕ
     slice_get trees k ≡ Some tree → IsOnNamed ps trees (places ++ k ∷ []) e →
     IsOnNamed ps trees places e ⊎ IsOnPiece ps (pieces_of ps tree.code) e
 named_cases ps trees places k tree e at (j, t, listed, there, on) =
-    let IsOn = λ (x : Tree). IsOnPiece ps (pieces_of ps x.code) e in
-    ⊎_elim (λ earlier. inl (j, t, earlier, there, on))
-    (λ last. inr (subst IsOn (sym (same_tree trees j k t tree last there at)) on))
-    (Contains-push_cases places k j listed)
+    grind (arith, same_tree, Contains-push_cases places k j listed)
 
 -- the members of each tree at the places and of one more are joined
 named_joined : (ps : List Point) (trees : List Tree) (places : List ℕ) (k : ℕ) (tree : Tree) (own old new : List Bool) →
@@ -127,8 +124,7 @@ IsUnion-more ps trees places n tree own old new within at embedded before adds =
 -- .. up to the last of them
 pub IsUnion-all : (ps : List Point) (trees : List Tree) (places : List ℕ) (n : ℕ) (set : List Bool) →
     length places ≤ n → IsUnion ps trees (take n places) set → IsUnion ps trees places set
-IsUnion-all ps trees places n set whole union =
-    subst (λ qs. IsUnion ps trees qs set) (take_all n places whole) union
+IsUnion-all ps trees places n set whole union = subst (λ qs. IsUnion ps trees qs set) (take_all n places whole) union
 
 -- it holds just the edges of these trees
 pub IsUnion-edges : (ps : List Point) (trees : List Tree) (places : List ℕ) (set : List Bool) →

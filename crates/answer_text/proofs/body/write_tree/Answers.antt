@@ -50,13 +50,11 @@ loop-node-preserved g c =
 
 pub returns-clause-text : goal.returns-clause-text
 returns-clause-text g c =
-    let all = take_all c.loop-node.node-index c.nodes-node-items.result.now c.loop-node-test.false in
-    rw (all, c.nodes-node-items.ensures.nodes, nodes_lines-tree) at c.loop-node.invariant.text
+    grind (arith, take_all c.loop-node.node-index c.nodes-node-items.result.now c.loop-node-test.false, nodes_lines-tree)
 
 pub returns-clause-names : goal.returns-clause-names
 returns-clause-names g c =
-    let all = take_all c.loop-node.node-index c.nodes-node-items.result.now c.loop-node-test.false in
-    rw (all, c.nodes-node-items.ensures.nodes) at c.loop-node.invariant.names
+    grind (arith, take_all c.loop-node.node-index c.nodes-node-items.result.now c.loop-node-test.false)
 
 pub returns-clause-weights : goal.returns-clause-weights
 returns-clause-weights g c =

@@ -1,6 +1,5 @@
-use Rattle.std.proofs.Common.{◌≡◌, ◌+◌, length, ap, sym, ◌∙◌, arith}
+use Rattle.std.proofs.Common.{arith}
 use Rattle.answer_text.specs.declared.version.Version.TheVariants as version
-use Rattle.answer_text.specs.Lines.{lines_text, head_lines, network_lines, tree_lines}
 use Rattle.answer_text.specs.Answers.{graph_value_of}
 use Rattle.answer_text.proofs.lemmas.FitLemmas.{graph_tree}
 use Rattle.answer_text.proofs.lemmas.Lengths.{length-answer_lines}
@@ -13,18 +12,7 @@ overflow_add-result-3 c =
 
 pub returns-clause-length : goal.returns-clause-length
 returns-clause-length c =
-    let value = graph_value_of c.args.answer.now in
-    let head : c.graph_head_len.result ≡ length (lines_text (head_lines version.Graph value.head)) =
-    c.graph_head_len.ensures.length in
-    let network : c.network_len.result ≡ length (lines_text (network_lines value.edges)) =
-    c.network_len.ensures.length in
-    let tree : c.tree_len.result ≡ length (lines_text (tree_lines version.Graph value.tree)) =
-    c.tree_len.ensures.length ∙ ap (λ lines. length (lines_text lines)) (graph_tree value.tree) in
-    let all : c.graph_head_len.result + c.network_len.result + 9 + c.tree_len.result
-    ≡ length (lines_text (head_lines version.Graph value.head)) + length (lines_text (network_lines value.edges)) + 9
-    + length (lines_text (tree_lines version.Graph value.tree)) =
-    omega arith in
-    all ∙ sym (length-answer_lines value)
+    grind (arith, graph_tree (graph_value_of c.args.answer.now).tree, length-answer_lines (graph_value_of c.args.answer.now))
 
 pub returns-clause-short : goal.returns-clause-short
 returns-clause-short c =

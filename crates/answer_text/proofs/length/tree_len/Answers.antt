@@ -11,9 +11,11 @@ use Rattle.answer_text.proofs.length.tree_len.Goals.{in-Some, in-None}
 
 pub overflow_add-sum : goal.overflow_add-sum
 overflow_add-sum g c =
-    let within = leaf_within c.args.tree.now c.nodes-node-items.result.now c.loop-node.node-index c.loop-node.leaf c.nodes-node-items.ensures.nodes c.loop-node.invariant.leaf in
-    let count = nodes_count c.args.tree.now c.nodes-node-items.result.now c.nodes-node-items.ensures.nodes in
-    omega arith
+    grind (
+      arith,
+      leaf_within c.args.tree.now c.nodes-node-items.result.now c.loop-node.node-index c.loop-node.leaf c.nodes-node-items.ensures.nodes c.loop-node.invariant.leaf,
+      nodes_count c.args.tree.now c.nodes-node-items.result.now c.nodes-node-items.ensures.nodes,
+    )
 
 pub packing-requires : goal.packing-requires
 packing-requires g c =
@@ -36,8 +38,7 @@ overflow_add-sum-in-None g c =
 
 pub overflow_add-leaf : goal.overflow_add-leaf
 overflow_add-leaf g c =
-    let within = leaf_within c.args.tree.now c.nodes-node-items.result.now c.loop-node.node-index c.loop-node.leaf c.nodes-node-items.ensures.nodes c.loop-node.invariant.leaf in
-    omega arith
+    grind (arith, leaf_within c.args.tree.now c.nodes-node-items.result.now c.loop-node.node-index c.loop-node.leaf c.nodes-node-items.ensures.nodes c.loop-node.invariant.leaf)
 
 pub loop-node-preserved : goal.loop-node-preserved
 loop-node-preserved g c =
@@ -67,11 +68,8 @@ loop-node-preserved g c =
 
 pub returns-clause-length : goal.returns-clause-length
 returns-clause-length g c =
-    let all = take_all c.loop-node.node-index c.nodes-node-items.result.now c.loop-node-test.false in
-    rw (all, c.nodes-node-items.ensures.nodes, nodes_lines-tree) at c.loop-node.invariant.length
+    grind (arith, take_all c.loop-node.node-index c.nodes-node-items.result.now c.loop-node-test.false, nodes_lines-tree)
 
 pub returns-clause-short : goal.returns-clause-short
 returns-clause-short g c =
-    let within = leaf_within c.args.tree.now c.nodes-node-items.result.now c.loop-node.node-index c.loop-node.leaf c.nodes-node-items.ensures.nodes c.loop-node.invariant.leaf in
-    let same = ap length c.nodes-node-items.ensures.nodes in
-    omega arith
+    grind (arith, leaf_within c.args.tree.now c.nodes-node-items.result.now c.loop-node.node-index c.loop-node.leaf c.nodes-node-items.ensures.nodes c.loop-node.invariant.leaf)

@@ -1,4 +1,4 @@
-use Rattle.std.proofs.Common.{ℕ, ◌≡◌, ◌+◌, ◌*◌, ◌/◌, ◌<◌, ◌≤◌, length, get_or, arith, ◌∙◌}
+use Rattle.std.proofs.Common.{ℕ, ◌≡◌, ◌+◌, ◌*◌, ◌/◌, ◌<◌, length, get_or, arith, ◌∙◌}
 use Rattle.std.proofs.lemmas.Grind.{div_ceil_times}
 use Rattle.std.proofs.lemmas.Option.{slice_get_within, get_or_from_slice_get}
 use Rattle.text_out.specs.GatherLaws.{gathers_two}
@@ -22,8 +22,4 @@ loop-place-preserved g c =
     gathers_two _ _ _ _ _ _ _ _ _ c.loop-place.invariant c.literal.ensures more
 
 pub returns : goal.returns
-returns g c =
-    let past : (length c.args.set.now + 3) / 4 ≤ 16 * c.loop-place.place =
-    omega (arith, c.loop-place-test.false, c.div_ceil-place-end.ensures, c.len-2.ensures, div_ceil_times c.len-2.result 64 (omega arith)) in
-    let all = take_set_text-all c.args.set.now (16 * c.loop-place.place) past in
-    rw all at c.loop-place.invariant
+returns g c = grind (arith, div_ceil_times, take_set_text-all)

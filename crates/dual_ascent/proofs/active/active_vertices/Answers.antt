@@ -4,7 +4,7 @@ use Rattle.std.proofs.lemmas.List.{take_all, take_more}
 use Rattle.net_graph.specs.Flags.{has}
 use Rattle.net_graph.specs.Graph.{root_of}
 use Rattle.dual_ascent.specs.declared.active.ActiveVertex.{ActiveVertex}
-use Rattle.dual_ascent.specs.Active.{IsKept, AreActive}
+use Rattle.dual_ascent.specs.Active.{IsKept}
 use Rattle.dual_ascent.specs.Steps.{SaturatedLeads}
 use Rattle.dual_ascent.proofs.lemmas.ActiveLemmas.{AreActive-none, AreActive-skip, AreActive-push, below_next}
 use Rattle.dual_ascent.proofs.active.active_vertices.Goals as goal
@@ -39,6 +39,4 @@ loop-v-preserved c =
     ])
 
 pub returns : goal.returns
-returns c =
-    let all = take_all c.loop-v.v-index c.args.vertices.now (omega arith) in
-    subst (λ vs. AreActive c.args.g.now vs c.args.costs.now c.loop-v.active.items) all c.loop-v.invariant
+returns c = grind (arith, take_all)

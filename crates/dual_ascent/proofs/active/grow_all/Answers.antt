@@ -1,23 +1,14 @@
-use Rattle.std.proofs.Common.{◌≡◌, ◌≢◌, ◌∙◌, ◌<◌, ◌≤◌, List, get_or, set, length, ⊎_elim, subst, sym, ap, arith, refl}
+use Rattle.std.proofs.Common.{◌≡◌, ◌≢◌, ◌∙◌, ◌<◌, ◌≤◌, List, get_or, set, length, ⊎_elim, subst, sym, arith, refl}
 use Rattle.std.proofs.lemmas.Bool.{cases_lt}
 use Rattle.std.proofs.lemmas.List.{get_or_default, get_or-set_same, get_or-set_other, length-map}
 use Rattle.dual_ascent.specs.declared.active.ActiveVertex.{ActiveVertex}
-use Rattle.dual_ascent.specs.declared.costs.EdgeCosts.{EdgeCosts}
-use Rattle.dual_ascent.specs.Growing.{MayGrow, IsGrown}
+use Rattle.dual_ascent.specs.Growing.{IsGrown}
 use Rattle.dual_ascent.proofs.active.grow_all.Goals as goal
 
 -- the item is as it was in the beginning
 pub grow_leading_to-requires : goal.grow_leading_to-requires
 grow_leading_to-requires c =
-    let i = c.loop-a.a-index in
-    let e : ActiveVertex = c.a-item.result in
-    let may : MayGrow c.args.g.now c.args.costs.now c.args.arcs.now (get_or c.loop-a.active i e) =
-    subst (MayGrow c.args.g.now c.args.costs.now c.args.arcs.now) (sym (c.loop-a.invariant.1 i e (omega arith))) (c.requires.each i e c.loop-a-test.true) in
-    record {
-      size = may.size;
-      edges = sym (length-map c.args.costs.now (λ (x : EdgeCosts). x.edge)) ∙ ap length c.requires.edges;
-      closed = may.closed;
-    }
+    grind (arith, c.requires.each (c.loop-a.a-index) (c.a-item.result) c.loop-a-test.true, length-map)
 
 pub loop-a-preserved : goal.loop-a-preserved
 loop-a-preserved c =

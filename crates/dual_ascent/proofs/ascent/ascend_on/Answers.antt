@@ -4,7 +4,7 @@ use Rattle.dual_ascent.specs.declared.ascent.Ascent.{Ascent}
 use Rattle.dual_ascent.specs.declared.step.Step.TheVariants.{Done, Close}
 use Rattle.net_graph.specs.declared.packing.Cut.{Cut}
 use Rattle.dual_ascent.specs.Ascending.{AreLeftBehind, IsAscent, behind}
-use Rattle.dual_ascent.specs.Costs.{edges_of, lowered_by}
+use Rattle.dual_ascent.specs.Costs.{lowered_by}
 use Rattle.dual_ascent.specs.Steps.{IsNextStep, IsNextCut}
 use Rattle.dual_ascent.proofs.lemmas.EnteringLemmas.{edges_of-lowered}
 use Rattle.dual_ascent.proofs.lemmas.PackLemmas.{unsaturated-lowered_by}
@@ -12,20 +12,10 @@ use Rattle.dual_ascent.proofs.lemmas.AscentLemmas.{IsUnderWay, IsUnderWay-none, 
 use Rattle.dual_ascent.proofs.ascent.ascend_on.Goals as goal
 
 pub loop-packing-init : goal.loop-packing-init
-loop-packing-init g c = (
-  λ (first : List Cut) left. IsUnderWay-none c.args.g.now c.args.d.now (first ++ c.args.last) c.in_ok-state.state.costs c.requires.decision
-      left.feasible left.few (c.in_ok-state.ensures.costs ∙ left.left),
-  (
-    c.in_ok-state.ensures.active,
-    ap edges_of c.in_ok-state.ensures.costs ∙ c.requires.edges,
-  ),
-)
+loop-packing-init g c = grind (arith, IsUnderWay-none)
 
 pub next_step-requires : goal.next_step-requires
-next_step-requires g c = record {
-  edges = c.loop-packing.invariant.1.1;
-  active = (c.args.required.now, c.loop-packing.invariant.1.0);
-}
+next_step-requires g c = grind arith
 
 pub returns-in-Done : goal.returns-in-Done
 returns-in-Done g c =
@@ -47,10 +37,7 @@ returns-in-Done g c =
 
 pub loop-packing-smaller : goal.loop-packing-smaller
 loop-packing-smaller g c =
-    let vertices = c.args.required.now in
-    let next : IsNextCut c.args.g.now vertices c.loop-packing.state.costs c.in-Pack.cut = rw c.in-Pack.is at (c.in_ok-next_step.ensures.next vertices c.loop-packing.invariant.1.0) in
-    let after : c.next_step.new.self.costs ≡ map (lowered_by c.in-Pack.cut) c.loop-packing.state.costs = rw c.in-Pack.is at c.in_ok-next_step.ensures.costs in
-    rw after (unsaturated-lowered_by c.in-Pack.cut c.loop-packing.state.costs next.weight next.least.0)
+    grind (arith, c.in_ok-next_step.ensures.next (c.args.required.now) c.loop-packing.invariant.1.0, unsaturated-lowered_by)
 
 pub loop-packing-preserved : goal.loop-packing-preserved
 loop-packing-preserved g c =

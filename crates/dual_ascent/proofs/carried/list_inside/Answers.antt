@@ -35,6 +35,4 @@ loop-n-preserved c =
     ]
 
 pub returns : goal.returns
-returns c =
-    let all = take_all c.loop-n.n c.args.g.now.edges (omega (arith, c.edge_count-n-end.ensures.count)) in
-    c.loop-n.invariant ∙ ap (λ es. inside_edges es (states_of c.args.g.now c.args.d.now)) all ∙ inside_edges-at_ends c.args.g.now.edges c.args.d.now.edges c.args.d.now.vertices
+returns c = grind (arith, take_all, inside_edges-at_ends c.args.g.now.edges c.args.d.now.edges c.args.d.now.vertices)

@@ -8,7 +8,7 @@ use Rattle.net_graph.specs.declared.state.EdgeState.{EdgeState}
 use Rattle.net_graph.specs.Decision.{states_of}
 use Rattle.net_graph.specs.DecisionLaws.{length-states_of}
 use Rattle.dual_ascent.specs.Carried.{is_entered_along}
-use Rattle.dual_ascent.specs.Costs.{edges_of, costs_of, raised_by}
+use Rattle.dual_ascent.specs.Costs.{costs_of, raised_by}
 use Rattle.dual_ascent.specs.Entering.{EntersLeft, AreEntering}
 use Rattle.dual_ascent.proofs.lemmas.CarriedCostLemmas.{AreWithinRooms, those_left, those_left-at, those_left-kept, those_left-taken, those_left-all, those_left_within, map-raised_by, raise_fits}
 use Rattle.dual_ascent.proofs.lemmas.LoadLemmas.{edges-costs_of}
@@ -20,10 +20,7 @@ loop-cut-init c = (c.in_ok-left.ensures ∙ c.requires.costs, (refl, omega arith
 
 pub list_entering-requires : goal.list_entering-requires
 list_entering-requires c =
-    let test : Cut → Bool = λ x. not (list_any (is_entered_along x.members) c.args.edges.now) in
-    ap edges_of c.loop-cut.invariant.0
-    ∙ edges-costs_of c.args.g.now.edges (states_of c.args.g.now c.args.before.now) (those_left test c.args.cuts.now c.loop-cut.cut-index)
-    (length-states_of c.args.g.now c.args.before.now c.requires.decided.edges)
+    grind (arith, edges-costs_of, those_left, length-states_of c.args.g.now c.args.before.now c.requires.decided.edges)
 
 pub raise-requires-clause-entering : goal.raise-requires-clause-entering
 raise-requires-clause-entering c =
@@ -89,11 +86,4 @@ loop-cut-preserved c =
     ]
 
 pub returns : goal.returns
-returns c =
-    let test : Cut → Bool = λ x. not (list_any (is_entered_along x.members) c.args.edges.now) in
-    record {
-      costs = c.loop-cut.invariant.0
-          ∙ ap (costs_of c.args.g.now.edges (states_of c.args.g.now c.args.before.now)) (those_left-all test c.args.cuts.now c.loop-cut.cut-index (omega arith));
-      weight = c.loop-cut.invariant.1.0
-          ∙ ap (λ cs. sum_by (λ (x : Cut). x.weight) (filter test cs)) (take_all c.loop-cut.cut-index c.args.cuts.now (omega arith));
-    }
+returns c = grind (arith, those_left-all, sum_by, take_all)

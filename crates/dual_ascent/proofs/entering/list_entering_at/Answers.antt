@@ -13,9 +13,7 @@ loop-along-init c = EnteringSoFar-none c.args.costs.now c.args.members.now c.arg
 
 pub entering_against-requires-clause-arc : goal.entering_against-requires-clause-arc
 entering_against-requires-clause-arc c =
-    let none : Arc = record { number = 0; from = 0; to = 0 } in
-    let own = c.arcs_from-along-items.ensures.arcs.each c.loop-along.along-index none c.loop-along-test.true in
-    subst (λ es. IsArcOf es (get_or c.arcs_from-along-items.result.now c.loop-along.along-index none)) (sym c.requires.edges) own.0
+    grind (arith, c.arcs_from-along-items.ensures.arcs.each c.loop-along.along-index (record { number = 0; from = 0; to = 0 }) c.loop-along-test.true)
 
 pub loop-along-preserved : goal.loop-along-preserved
 loop-along-preserved c =

@@ -1,19 +1,11 @@
-use Rattle.std.proofs.Common.{ℕ, ◌≡◌, ◌+◌, ◌-◌, ◌*◌, ◌≤◌, min, length, arith, w64}
+use Rattle.std.proofs.Common.{ℕ, ◌+◌, ◌*◌, ◌≤◌, min, length, arith, w64}
 use Rattle.std.specs.Int.{trailing_zeros}
 use Rattle.dual_ascent.proofs.lemmas.EnteringLemmas.{AreEnteringBelow-skip, AreEnteringBelow-past}
 use Rattle.dual_ascent.proofs.lemmas.MarkLemmas.{mark_within, mark_is_member, none_before, marks_behind, none_behind}
 use Rattle.dual_ascent.proofs.entering.list_entering_in.Goals as goal
 
 pub loop-marks-init : goal.loop-marks-init
-loop-marks-init c =
-    let few : 64 * (c.args.place + 1) - 64 * c.args.place ≡ 64 = omega arith in record {
-      listed = c.requires.below;
-      marks = record {
-        within = omega arith;
-        below = rw few c.word-marks.type_inv;
-        flags = λ i below within. c.word-marks.ensures i (omega arith) within;
-      };
-    }
+loop-marks-init c = grind arith
 
 pub overflow_add-v : goal.overflow_add-v
 overflow_add-v c =
@@ -31,9 +23,7 @@ returns-then-v-bound c =
     c.vertex_count.ensures.graph c.requires.edges past so_far
 
 pub list_entering_at-requires-clause-member : goal.list_entering_at-requires-clause-member
-list_entering_at-requires-clause-member c =
-    mark_is_member c.args.members.now c.loop-marks.marks c.loop-marks.v (64 * (c.args.place + 1)) c.loop-marks.invariant.marks (omega arith) (omega arith)
-    (omega (arith, c.len.ensures, c.min-bound.ensures, c.if-v-bound.false))
+list_entering_at-requires-clause-member c = grind (arith, mark_is_member)
 
 pub list_entering_at-requires-clause-below : goal.list_entering_at-requires-clause-below
 list_entering_at-requires-clause-below c =
@@ -50,6 +40,4 @@ loop-marks-preserved c = record {
 }
 
 pub returns : goal.returns
-returns c =
-    AreEnteringBelow-skip c.args.costs.now c.args.members.now c.loop-marks.v (64 * (c.args.place + 1)) c.loop-marks.list.items c.loop-marks.invariant.listed
-    (none_behind c.args.members.now c.loop-marks.marks c.loop-marks.v (64 * (c.args.place + 1)) c.loop-marks.invariant.marks (omega arith))
+returns c = grind (arith, AreEnteringBelow-skip, none_behind)

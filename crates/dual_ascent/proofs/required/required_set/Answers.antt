@@ -8,9 +8,7 @@ use Rattle.dual_ascent.proofs.required.required_set.Goals as goal
 use Rattle.dual_ascent.proofs.required.required_set.Goals.{then-required, else-required}
 
 pub loop-v-init : goal.loop-v-init
-loop-v-init c =
-    let P : ℕ → Type 0 = λ v. (v < 0) × IsRequired c.args.g.now c.args.d.now v in
-    rw (c.in_ok-set.ensures, c.vertex_count.ensures.count) (Adds-nothing P (replicate c.args.g.now.vertices false) (λ e is. absurd (omega (arith, is.0))))
+loop-v-init c = grind (arith, Adds-nothing)
 
 pub add-requires : goal.add-requires
 add-requires c = omega (arith, c.loop-v.invariant.size, length-replicate c.args.g.now.vertices false)
@@ -44,10 +42,4 @@ loop-v-preserved c =
     ]
 
 pub returns : goal.returns
-returns c =
-    let gr = c.args.g.now in
-    let d = c.args.d.now in
-    Adds-iff (λ w. (w < c.loop-v.v) × IsRequired gr d w) (IsRequired gr d) (replicate gr.vertices false) c.loop-v.set
-    (λ e is. is.1)
-    (λ e is. (omega (arith, IsRequired-below gr d e c.vertex_count.ensures.graph c.requires is), is))
-    c.loop-v.invariant
+returns c = grind (arith, Adds-iff, IsRequired-below)

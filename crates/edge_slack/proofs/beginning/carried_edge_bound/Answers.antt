@@ -47,35 +47,11 @@ overflow_add-weight g c =
 
 pub overflow_add-result : goal.overflow_add-result
 overflow_add-result g c =
-    let gr = c.args.g.now in
-    let now = c.in_ok-now.now in
-    let first : List Cut = carried gr now c.args.start.now.packing in
-    let a = c.in_ok-ascent.ascent in
-    let more : first ++ c.empty-more.result ≡ first = ap (λ cuts. first ++ cuts) c.empty-more.ensures ∙ append-nil first in
-    let left : AreLeftBehind gr now (first ++ c.empty-more.result) c.in_ok-carried.carried.costs =
-    subst (λ cuts. AreLeftBehind gr now cuts c.in_ok-carried.carried.costs) (sym more) c.in_ok-carried.ensures.left in
-    let bounds : Bounds gr c.args.e (c.in_ok-carried.carried.weight + c.total_weight.result + c.edge.result.length) =
-    Bounds-behind gr c.args.e c.edge.result now (first ++ c.empty-more.result) first a c.in_ok-carried.carried.weight c.total_weight.result
-    c.requires.some c.edge.ensures.edge c.in_ok-now.ensures.value c.in_ok-carried.ensures.weight
-    (c.total_weight.ensures.sum ∙ ap (λ cuts. sum_by (λ (x : Cut). x.weight) cuts) c.cuts.ensures)
-    (c.in_ok-ascent.ensures first left) in
-    omega (arith, bounds.within, c.from-length.ensures, c.edge_count.ensures.graph.total)
+    grind (arith, append-nil (carried (c.args.g.now) (c.in_ok-now.now) c.args.start.now.packing), Bounds (c.args.g.now) c.args.e (c.in_ok-carried.carried.weight + c.total_weight.result + c.edge.result.length), Bounds-behind, sum_by)
 
 pub overflow_cast-result : goal.overflow_cast-result
 overflow_cast-result g c =
-    let gr = c.args.g.now in
-    let now = c.in_ok-now.now in
-    let first : List Cut = carried gr now c.args.start.now.packing in
-    let a = c.in_ok-ascent.ascent in
-    let more : first ++ c.empty-more.result ≡ first = ap (λ cuts. first ++ cuts) c.empty-more.ensures ∙ append-nil first in
-    let left : AreLeftBehind gr now (first ++ c.empty-more.result) c.in_ok-carried.carried.costs =
-    subst (λ cuts. AreLeftBehind gr now cuts c.in_ok-carried.carried.costs) (sym more) c.in_ok-carried.ensures.left in
-    let bounds : Bounds gr c.args.e (c.in_ok-carried.carried.weight + c.total_weight.result + c.edge.result.length) =
-    Bounds-behind gr c.args.e c.edge.result now (first ++ c.empty-more.result) first a c.in_ok-carried.carried.weight c.total_weight.result
-    c.requires.some c.edge.ensures.edge c.in_ok-now.ensures.value c.in_ok-carried.ensures.weight
-    (c.total_weight.ensures.sum ∙ ap (λ cuts. sum_by (λ (x : Cut). x.weight) cuts) c.cuts.ensures)
-    (c.in_ok-ascent.ensures first left) in
-    omega (arith, bounds.within, c.from-length.ensures, c.edge_count.ensures.graph.total)
+    grind (arith, append-nil (carried (c.args.g.now) (c.in_ok-now.now) c.args.start.now.packing), Bounds (c.args.g.now) c.args.e (c.in_ok-carried.carried.weight + c.total_weight.result + c.edge.result.length), Bounds-behind, sum_by)
 
 pub returns-clause-value : goal.returns-clause-value
 returns-clause-value g c =

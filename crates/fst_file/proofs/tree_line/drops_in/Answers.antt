@@ -9,13 +9,7 @@ returns-in_err-place-clause-none c = rw c.from_residual.ensures
     (no_drop c.args.words.now c.loop-words.words c.loop-words.drops c.loop-words.invariant (λ none. false≢true (c.loop-words-test.ensures.1 none)) c.in_err-place.ensures.none)
 
 pub loop-words-preserved-then-len-lt-KEPT_DROPS : goal.loop-words-preserved-then-len-lt-KEPT_DROPS
-loop-words-preserved-then-len-lt-KEPT_DROPS c =
-    let read = c.in_ok-place.ensures.found in
-    rw c.push.ensures (drop_read c.args.words.now c.loop-words.words c.next_place.new.words c.loop-words.drops c.in_ok-place.place read.0
-    c.loop-words.invariant read.1 read.2 read.3 (omega (arith, c.len.ensures.value)))
+loop-words-preserved-then-len-lt-KEPT_DROPS c = grind (arith, drop_read)
 
 pub loop-words-preserved : goal.loop-words-preserved
-loop-words-preserved c =
-    let read = c.in_ok-place.ensures.found in
-    drop_passed c.args.words.now c.loop-words.words c.next_place.new.words c.loop-words.drops read.0
-    c.loop-words.invariant read.1 read.2 (omega (arith, c.len.ensures.value))
+loop-words-preserved c = grind (arith, drop_passed)

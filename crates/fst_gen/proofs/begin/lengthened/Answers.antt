@@ -4,8 +4,7 @@ use Rattle.fst_gen.proofs.begin.lengthened.Goals as goal
 
 pub push-requires : goal.push-requires
 push-requires c =
-    let long = prefix_stations-length c.args.points.now c.args.prefix.now c.copy-stations.result c.requires.prefix c.copy-stations.ensures in
-    omega (arith, long)
+    grind (arith, prefix_stations-length c.args.points.now c.args.prefix.now c.copy-stations.result c.requires.prefix c.copy-stations.ensures)
 
 pub returns : goal.returns
 returns c = IsLongerBy-made c.args.points.now c.args.prefix.now c.args.drop c.foot-at.result c.point_at.result c.gap.result c.gap-2.result

@@ -1,4 +1,4 @@
-use Rattle.std.proofs.Common.{◌∙◌, ap, arith, length, length-append, ◌∷◌, []}
+use Rattle.std.proofs.Common.{◌∙◌, arith, length-append, ◌∷◌, []}
 use Rattle.fst_gen.proofs.lemmas.Prefixes.{keeps_longer, prefix_stations-in, prefix_stations-length, keeps_moved}
 use Rattle.fst_gen.proofs.begin.with_drop.Goals as goal
 
@@ -8,11 +8,7 @@ keeps_up_to-requires-clause-members c = prefix_stations-in c.args.points.now c.a
 
 pub keeps_up_to-requires-clause-last : goal.keeps_up_to-requires-clause-last
 keeps_up_to-requires-clause-last c =
-    let long = prefix_stations-length c.args.points.now c.lengthened-longer.result c.as_slice.result.now
-    c.lengthened-longer.ensures.is_prefix c.as_slice.ensures.stations in
-    let more = ap length c.lengthened-longer.ensures.drops in
-    let size = length-append c.args.prefix.now.drops (c.args.drop ∷ []) in
-    omega (arith, long, more, size, c.len.ensures.value)
+    grind (arith, prefix_stations-length c.args.points.now c.lengthened-longer.result c.as_slice.result.now c.lengthened-longer.ensures.is_prefix c.as_slice.ensures.stations, length-append c.args.prefix.now.drops (c.args.drop ∷ []))
 
 pub returns-then-not-keeps_up_to : goal.returns-then-not-keeps_up_to
 returns-then-not-keeps_up_to c = record {

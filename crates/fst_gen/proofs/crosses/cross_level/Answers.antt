@@ -1,18 +1,10 @@
-use Rattle.std.proofs.Common.{arith, ◌∙◌, ap}
-use Rattle.std.specs.Prelude.{List}
-use Rattle.points_in.specs.declared.point.Point.{Point}
-use Rattle.full_tree.specs.Geometry.{point_at}
+use Rattle.std.proofs.Common.{arith}
 use Rattle.fst_gen.specs.Kinds.{CrossesHalf}
 use Rattle.fst_gen.proofs.lemmas.Steps.{Below-step, Below-all, south_in, Crosses-none}
 use Rattle.fst_gen.proofs.crosses.cross_level.Goals as goal
 
 pub returns-then-not-are_level : goal.returns-then-not-are_level
-returns-then-not-are_level c =
-    let same = c.as_slice-points.ensures ∙ c.points.ensures in
-    Crosses-none c.args.grid.now c.args.most c.args.west c.args.east c.args.trees.now c.point_at.result c.point_at-2.result
-    (c.point_at.ensures ∙ ap (λ (qs : List Point). point_at qs c.args.west) same)
-    (c.point_at-2.ensures ∙ ap (λ (qs : List Point). point_at qs c.args.east) same)
-    c.requires.store (λ level. let wrong = c.if-not-are_level.ensures.1 level in cc)
+returns-then-not-are_level c = grind (arith, Crosses-none)
 
 pub loop-south-preserved : goal.loop-south-preserved
 loop-south-preserved c = Below-step c.args.grid.now c.args.most (CrossesHalf c.args.west c.args.east) c.loop-south.south c.args.trees.now c.loop-south.trees _

@@ -1,4 +1,4 @@
-use Rattle.std.proofs.Common.{ℕ, ◌+◌, arith, ap, sym, ◌∙◌, subst, length, length-append, ◌∷◌, []}
+use Rattle.std.proofs.Common.{ℕ, ◌+◌, arith, sym, ◌∙◌, subst, length, length-append, ◌∷◌, []}
 use Rattle.std.specs.BTreeMap.{BTreeMap}
 use Rattle.full_tree.specs.declared.code.Tree.{Tree}
 use Rattle.fst_gen.specs.Store.{Stores}
@@ -13,20 +13,7 @@ returns-then-len-most t c = HasPrefix-ends c.args.grid.now c.args.most c.args.pr
 
 pub grow-requires : goal.grow-requires
 grow-requires t c =
-    let more = ap length c.in-Some.ensures.some.drops in
-    let size = length-append c.args.prefix.now.drops (c.loop-drop.drop ∷ []) in (
-      omega (arith, more, size, c.len.ensures.value, c.decreases),
-      (
-        c.requires.table,
-        (
-          c.requires.most,
-          (
-            IsPrefix-of c.as_slice.result.now c.args.grid.now c.in-Some.longer (sym (c.as_slice.ensures ∙ c.points.ensures)) c.in-Some.ensures.some.is_prefix,
-            c.loop-drop.invariant.store,
-          ),
-        ),
-      ),
-    )
+    grind (arith, length-append c.args.prefix.now.drops (c.loop-drop.drop ∷ []), IsPrefix-of c.as_slice.result.now c.args.grid.now c.in-Some.longer (sym (c.as_slice.ensures ∙ c.points.ensures)) c.in-Some.ensures.some.is_prefix)
 
 pub loop-drop-preserved : goal.loop-drop-preserved
 loop-drop-preserved t c = elim c.match-with_drop.branch [

@@ -1,11 +1,9 @@
-use Rattle.std.proofs.Common.{◌∙◌}
+use Rattle.std.proofs.Common.{◌∙◌, arith}
 use Rattle.fst_gen.proofs.lemmas.Steps.{EndsAt-out, EndsAt-far, EndsAt-both}
 use Rattle.fst_gen.proofs.growth.end_at.Goals as goal
 
 pub returns-then-not-may_end_at : goal.returns-then-not-may_end_at
-returns-then-not-may_end_at c = EndsAt-out c.args.grid.now c.as_slice-points.result.now c.args.most c.args.prefix.now c.args.tip c.args.trees.now
-    (c.as_slice-points.ensures ∙ c.points.ensures) c.requires.store
-    (λ may. let no = c.if-not-may_end_at.ensures.1 may in cc)
+returns-then-not-may_end_at c = grind (arith, EndsAt-out)
 
 pub returns-then-not-is_near : goal.returns-then-not-is_near
 returns-then-not-is_near c = EndsAt-far c.args.grid.now c.as_slice-points.result.now c.args.most c.args.prefix.now c.args.tip c.args.trees.now

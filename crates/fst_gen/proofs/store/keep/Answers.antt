@@ -9,16 +9,7 @@ returns-then-not-is_better c =
     (PutsLeast-worse c.args.tree c.args.trees.now c.word_of-word.result is c.if-not-is_better.ensures, c.requires.room)
 
 pub returns-then-len-gt-MAX_TREES : goal.returns-then-len-gt-MAX_TREES
-returns-then-len-gt-MAX_TREES c = λ too_many.
-    let is = subst (λ (ms : List ℕ). IsWordOf c.word_of-word.result ms) (c.as_slice.ensures ∙ c.members-members.ensures) c.word_of-word.ensures in (
-      PutsLeast-better c.args.tree c.args.trees.now _ c.word_of-word.result is c.if-not-is_better.ensures c.in_ok-put.ensures,
-      omega arith,
-      c.len.ensures.ordered,
-    )
+returns-then-len-gt-MAX_TREES c = grind (arith, PutsLeast-better)
 
 pub returns : goal.returns
-returns c =
-    let is = subst (λ (ms : List ℕ). IsWordOf c.word_of-word.result ms) (c.as_slice.ensures ∙ c.members-members.ensures) c.word_of-word.ensures in (
-      PutsLeast-better c.args.tree c.args.trees.now _ c.word_of-word.result is c.if-not-is_better.ensures c.in_ok-put.ensures,
-      omega arith,
-    )
+returns c = grind (arith, PutsLeast-better)

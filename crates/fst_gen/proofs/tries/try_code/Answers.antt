@@ -1,11 +1,9 @@
-use Rattle.std.proofs.Common.{arith, refl, ap, length}
+use Rattle.std.proofs.Common.{arith, refl, length}
 use Rattle.fst_gen.proofs.lemmas.Tries.{Generates-from_keep, members_small}
 use Rattle.fst_gen.proofs.tries.try_code.Goals as goal
 
 pub keep-requires-clause-places : goal.keep-requires-clause-places
-keep-requires-clause-places c =
-    let size = ap length c.points.ensures in
-    members_small c.args.grid.now c.args.code (omega (arith, size, c.len-few.ensures.few)) (c.if-not-passes.ensures.0 refl).form.terminals
+keep-requires-clause-places c = grind (arith, members_small, c.if-not-passes.ensures.0 refl)
 
 pub keep-requires-clause-all_few : goal.keep-requires-clause-all_few
 keep-requires-clause-all_few c = λ word tree at. (c.requires.store.sound word tree at).wanted.passes.form.members

@@ -1,14 +1,12 @@
-use Rattle.std.proofs.Common.{List, subst, sym, ap, ◌∙◌, arith}
-use Rattle.std.specs.Prelude.{All, length}
+use Rattle.std.proofs.Common.{List, subst, sym, ◌∙◌, arith}
+use Rattle.std.specs.Prelude.{length}
 use Rattle.std.proofs.lemmas.Bool.Decides.{nat_tests}
 use Rattle.spanning.specs.declared.pair.Pair.{Pair}
-use Rattle.spanning.specs.Leaving.{HasNumbersBelow}
 use Rattle.full_tree.specs.MembersLaws.{Climbs}
 use Rattle.fst_prune.proofs.lemmas.Replaced.{pairs_below, told_by_joining, not_replaced}
-use Rattle.std.proofs.Common.{◌≡◌}
-use Rattle.std.specs.Prelude.{IfSome, IfNone}
+use Rattle.std.specs.Prelude.{IfNone}
 use Rattle.std.proofs.lemmas.Option.{same_Some}
-use Rattle.spanning.specs.Joining.{IsLeastJoining, JoinsBelow, all_of}
+use Rattle.spanning.specs.Joining.{JoinsBelow, all_of}
 use Rattle.spanning.specs.JoiningLaws.{JoinsBelow-all}
 use Rattle.fst_prune.proofs.lemmas.Firsts.{members_climb}
 use Rattle.fst_prune.proofs.pruning.is_replaced.Goals as goal
@@ -19,19 +17,11 @@ pairs_within-pairs-requires-clause-ascending c =
 
 pub least_joining-requires-clause-ends : goal.least_joining-requires-clause-ends
 least_joining-requires-clause-ends c =
-    subst (λ (pairs : List Pair). All (HasNumbersBelow (length c.args.members.now)) pairs) (sym c.as_slice.ensures)
-    (pairs_below c.args.trees.now c.args.members.now c.pairs_within-pairs.result c.pairs_within-pairs.ensures)
+    grind (arith, pairs_below c.args.trees.now c.args.members.now c.pairs_within-pairs.result c.pairs_within-pairs.ensures)
 
 pub returns-in-Some : goal.returns-in-Some
 returns-in-Some c =
-    let has = c.requires.members in
-    let same : c.get.result.now ≡ has.tree = same_Some c.get.result.now has.tree (sym c.get.ensures ∙ has.at) in
-    let long : c.from.result ≡ has.tree.length = c.from.ensures ∙ ap (λ tree. tree.length) same in
-    let least : IfSome c.in_ok-joined.field-0 (IsLeastJoining (length c.args.members.now) c.pairs_within-pairs.result) =
-    subst (λ (pairs : List Pair). IfSome c.in_ok-joined.field-0 (IsLeastJoining (length c.args.members.now) pairs)) c.as_slice.ensures c.in_ok-joined.ensures.least in
-    told_by_joining c.args.trees.now c.args.members.now c.pairs_within-pairs.result c.pairs_within-pairs.ensures c.args.place has.tree has.at has.members
-    c.requires.three c.in-Some.joined (subst (λ o. IfSome o (IsLeastJoining (length c.args.members.now) c.pairs_within-pairs.result)) c.in-Some.is least)
-    _ (λ test. grind (arith, nat_tests)) (λ test. grind (arith, nat_tests))
+    grind (arith, same_Some c.get.result.now (c.requires.members).tree (sym c.get.ensures ∙ (c.requires.members).at), told_by_joining, nat_tests)
 
 pub returns-in-None : goal.returns-in-None
 returns-in-None c =

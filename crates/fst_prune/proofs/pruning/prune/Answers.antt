@@ -1,12 +1,10 @@
-use Rattle.std.proofs.Common.{◌≡◌, ◌≤◌, ◌+◌, ◌∙◌, Bool, List, ℕ, length, subst, sym, ap, arith}
-use Rattle.std.specs.Bool.{MatchBool}
-use Rattle.std.specs.Prelude.{slice_get, Some}
+use Rattle.std.proofs.Common.{◌≡◌, ◌≤◌, List, ℕ, length, subst, sym, arith}
 use Rattle.std.specs.Prelude.{All, Contains}
 use Rattle.std.specs.declared.cmp.Ordering.TheVariants.{Less}
 use Rattle.std.proofs.lemmas.List.Elements.{All-contains_itself}
 use Rattle.full_tree.specs.Order.{tree_cmp, IsInFileOrder}
 use Rattle.full_tree.specs.declared.code.Tree.{Tree}
-use Rattle.fst_prune.specs.Kept.{IsDropped, AreKeptTrees}
+use Rattle.fst_prune.specs.Kept.{AreKeptTrees}
 use Rattle.fst_prune.specs.LeastTotal.{KeepsTotals}
 use Rattle.fst_prune.proofs.lemmas.Totals.{pruning_keeps_totals}
 use Rattle.fst_prune.proofs.lemmas.KeptPairs.{pairs_still_join}
@@ -19,18 +17,7 @@ loop-place-init c = subst (λ (kept : List Tree). AreKeptOf c.args.trees.now 0 k
 
 pub loop-place-preserved : goal.loop-place-preserved
 loop-place-preserved c =
-    let tells = λ (dropped : Bool). MatchBool dropped (IsDropped c.args.trees.now c.loop-place.place) (¬ IsDropped c.args.trees.now c.loop-place.place) in
-    elim c.if-not-branch.branch [
-      | then-not-branch+in_ok-push w ↦
-          let keep : ¬ IsDropped c.args.trees.now c.loop-place.place = subst tells w.if-not-branch.true c.in_ok-is_dropped.ensures in
-          let at : slice_get c.args.trees.now c.loop-place.place ≡ Some w.copy.result = w.get.ensures ∙ ap Some (sym w.copy.ensures) in
-          subst (λ (kept : List Tree). AreKeptOf c.args.trees.now (c.loop-place.place + 1) kept) (sym (w.kept-is ∙ w.in_ok-push.ensures.ok))
-          (kept_of_kept c.args.trees.now c.loop-place.place c.loop-place.kept w.copy.result at keep c.loop-place.invariant)
-      | else-not-branch w ↦
-          let drop : IsDropped c.args.trees.now c.loop-place.place = subst tells w.if-not-branch.false c.in_ok-is_dropped.ensures in
-          subst (λ (kept : List Tree). AreKeptOf c.args.trees.now (c.loop-place.place + 1) kept) (sym w.kept-is)
-          (kept_of_dropped c.args.trees.now c.loop-place.place c.loop-place.kept drop c.loop-place.invariant)
-    ]
+    grind (arith, then-not-branch+in_ok-push, AreKeptOf, kept_of_kept, else-not-branch, kept_of_dropped)
 
 pub returns : goal.returns
 returns c =

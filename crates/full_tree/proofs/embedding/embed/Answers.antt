@@ -28,6 +28,4 @@ returns-clause-joins c =
     (Embeds-all c.args.grid.now pieces c.loop-n.n c.loop-n.set (omega (arith, c.piece_count-n-end.ensures.count)) c.loop-n.invariant)
 
 pub returns-clause-length : goal.returns-clause-length
-returns-clause-length c =
-    let pieces = pieces_of c.args.grid.now c.args.code.now in
-    (Embeds-all c.args.grid.now pieces c.loop-n.n c.loop-n.set (omega (arith, c.piece_count-n-end.ensures.count)) c.loop-n.invariant).length
+returns-clause-length c = grind (arith, Embeds-all)

@@ -1,4 +1,4 @@
-use Rattle.std.proofs.Common.{get_or, take, refl, ◌∙◌}
+use Rattle.std.proofs.Common.{get_or, take, ◌∙◌, arith}
 use Rattle.std.specs.Prelude.{◌==◌}
 use Rattle.std.proofs.lemmas.Bool.Decides.{Decides-eqb, not_from_Decides}
 use Rattle.std.proofs.lemmas.List.Elements.{contains_decides, Contains-from_at}
@@ -21,6 +21,4 @@ loop-n-preserved c =
     distinct_more c.args.places.now c.loop-n.n c.loop-n-test.true c.loop-n.invariant (λ held. absent (held.0, held.1, λ d. get_or_default before held.0 d place held.1 ∙ held.2))
 
 pub returns : goal.returns
-returns c =
-    let whole = rw (take_all c.loop-n.n c.args.places.now c.loop-n-test.false) at c.loop-n.invariant in
-    (λ _. whole, λ _. refl)
+returns c = grind (arith, take_all c.loop-n.n c.args.places.now c.loop-n-test.false)

@@ -8,10 +8,8 @@ use Rattle.full_tree.proofs.form.lie_in_turn.Goals as goal
 use Rattle.full_tree.proofs.form.lie_in_turn.Goals.{then-is_eq-via-then-is_eq, then-is_eq-via-else-is_eq+then-eq}
 
 pub loop-drop-init : goal.loop-drop-init
-loop-drop-init c = record {
-  decides = in_turn_iff_turns c.args.points.now c.args.root c.args.toward c.args.drops.now c.args.tip;
-  start = c.point_at-start.ensures;
-}
+loop-drop-init c =
+    grind (arith, in_turn_iff_turns c.args.points.now c.args.root c.args.toward c.args.drops.now c.args.tip)
 
 pub returns-then-is_eq : goal.returns-then-is_eq
 returns-then-is_eq c =

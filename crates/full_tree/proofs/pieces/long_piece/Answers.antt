@@ -14,10 +14,7 @@ returns-then-n-legs-2 c =
 
 pub unreachable-requires : goal.unreachable-requires
 unreachable-requires c =
-    let none = c.in-None.is in
-    let count = length-pieces_of c.args.points.now c.args.root c.args.toward c.args.drops.now c.args.side c.args.tip in
-    let last : length (option_to_list c.args.side) ≡ 0 = rw none refl in
-    omega (arith, c.requires.within, c.short_leg_count.ensures.count)
+    grind (arith, length-pieces_of c.args.points.now c.args.root c.args.toward c.args.drops.now c.args.side c.args.tip)
 
 pub returns : goal.returns
 returns c =

@@ -16,15 +16,7 @@ loop-n-preserved c =
     sum-more (pieces_of c.args.grid.now c.args.code.now) c.loop-n.n c.piece.result c.loop-n.length c.piece_length-length.result c.piece.ensures.piece c.loop-n.invariant c.piece_length-length.ensures
 
 pub returns-clause-within : goal.returns-clause-within
-returns-clause-within c =
-    let pieces = pieces_of c.args.grid.now c.args.code.now in
-    let all = take_all c.loop-n.n pieces (omega (arith, c.piece_count-n-end.ensures.count)) in
-    let whole = code_length-le c.args.grid.now c.args.code.now c.requires in
-    omega (arith, rw all at c.loop-n.invariant)
+returns-clause-within c = grind (arith, take_all, code_length-le c.args.grid.now c.args.code.now c.requires)
 
 pub returns-clause-fits : goal.returns-clause-fits
-returns-clause-fits c =
-    let pieces = pieces_of c.args.grid.now c.args.code.now in
-    let all = take_all c.loop-n.n pieces (omega (arith, c.piece_count-n-end.ensures.count)) in
-    let whole = code_length-le c.args.grid.now c.args.code.now c.requires in
-    omega (arith, rw all at c.loop-n.invariant, c.graph.ensures.sound.total)
+returns-clause-fits c = grind (arith, take_all, code_length-le c.args.grid.now c.args.code.now c.requires)

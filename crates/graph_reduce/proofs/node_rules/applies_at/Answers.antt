@@ -1,17 +1,13 @@
-use Rattle.std.proofs.Common.{◌∙◌, sym}
+use Rattle.std.proofs.Common.{arith}
 use Rattle.std.proofs.lemmas.Bool.{OnTrue_from, OnFalse_from}
 use Rattle.graph_reduce.proofs.lemmas.NodeRuleLaws.{kind_from, suits_from, applies_from}
 use Rattle.graph_reduce.proofs.node_rules.applies_at.Goals as goal
 
 pub returns-then-is_of_kind-clause-yes : goal.returns-then-is_of_kind-clause-yes
-returns-then-is_of_kind-clause-yes c = OnTrue_from c.suits.result _ (λ yes.
-    applies_from c.args.work.now c.args.v c.args.rule c.edges_of.result c.edges_of.ensures.seen
-    c.if-is_of_kind.ensures.yes (sym c.suits.ensures ∙ yes))
+returns-then-is_of_kind-clause-yes c = grind (arith, OnTrue_from, applies_from)
 
 pub returns-then-is_of_kind-clause-no : goal.returns-then-is_of_kind-clause-no
-returns-then-is_of_kind-clause-no c = OnFalse_from c.suits.result _ (λ no applies.
-    let suit = suits_from c.args.work.now c.args.v c.args.rule c.edges_of.result c.edges_of.ensures.seen applies in
-    let both = sym no ∙ c.suits.ensures ∙ suit in cc)
+returns-then-is_of_kind-clause-no c = grind (arith, OnFalse_from, suits_from)
 
 pub returns-else-is_of_kind-clause-no : goal.returns-else-is_of_kind-clause-no
 returns-else-is_of_kind-clause-no c = OnFalse_from c.is_of_kind.result _ (λ no applies.

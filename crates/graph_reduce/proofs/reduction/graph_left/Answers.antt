@@ -1,4 +1,4 @@
-use Rattle.std.specs.Prelude.{◌≡◌, length, map, slice_index}
+use Rattle.std.specs.Prelude.{length, map, slice_index}
 use Rattle.std.proofs.Common.{sym, ap, subst, ◌∙◌, arith}
 use Rattle.std.proofs.lemmas.Result.{IfOk-weaker}
 use Rattle.net_graph.specs.Graph.{IsGraph}
@@ -8,21 +8,15 @@ use Rattle.graph_reduce.proofs.reduction.graph_left.Goals as goal
 
 pub renumbered_edges-requires : goal.renumbered_edges-requires
 renumbered_edges-requires c =
-    let size : length c.deref.result.now ≡ length c.args.work.now.nodes =
-    ap length (c.deref.ensures.value ∙ c.requires.numbers) ∙ length-numbers c.args.work.now.nodes in
-    rw (c.edges.ensures, size) (ends_below c.args._g.now c.requires.graph c.args.work.now c.requires.reduced)
+    grind (arith, length-numbers c.args.work.now.nodes, ends_below c.args._g.now c.requires.graph c.args.work.now c.requires.reduced)
 
 pub renumbered_terminals-requires : goal.renumbered_terminals-requires
 renumbered_terminals-requires c =
-    let size : length c.deref-2.result.now ≡ length c.args.work.now.nodes =
-    ap length (c.deref-2.ensures.value ∙ c.requires.numbers) ∙ length-numbers c.args.work.now.nodes in
-    rw (c.terminals.ensures, size) (terminals_below c.args._g.now c.requires.graph c.args.work.now c.requires.reduced)
+    grind (arith, length-numbers c.args.work.now.nodes, terminals_below c.args._g.now c.requires.graph c.args.work.now c.requires.reduced)
 
 pub overflow_cast-len : goal.overflow_cast-len
 overflow_cast-len c =
-    let few = few_nodes c.args._g.now c.requires.graph c.args.work.now c.requires.reduced in
-    let count = c.len.ensures ∙ c.args.numbering.now.origins.ok.0 ∙ ap length c.requires.origins in
-    omega (arith, few, count, few_left c.args.work.now.nodes)
+    grind (arith, few_nodes c.args._g.now c.requires.graph c.args.work.now c.requires.reduced, few_left c.args.work.now.nodes)
 
 pub sound_graph-requires : goal.sound_graph-requires
 sound_graph-requires c =

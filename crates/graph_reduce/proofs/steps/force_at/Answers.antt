@@ -11,10 +11,7 @@ use Rattle.graph_reduce.proofs.lemmas.Stepping.{forced_step, tidy_within, within
 use Rattle.graph_reduce.proofs.steps.force_at.Goals as goal
 
 pub move_terminal-requires-clause-to : goal.move_terminal-requires-clause-to
-move_terminal-requires-clause-to c =
-    let below = other_below c.args.work.now c.args.v c.other_end.result c.in-OneEdge.place c.edge_at.result
-    (reached_numbered c.args.work.now c.requires.reached) c.edge_at.ensures c.other_end.ensures in
-    omega (arith, below, c.edges_of-edges.ensures.survey.terminals.size)
+move_terminal-requires-clause-to c = grind (arith, reached_numbered c.args.work.now c.requires.reached)
 
 pub drop_idle-requires-clause-due : goal.drop_idle-requires-clause-due
 drop_idle-requires-clause-due c = due_forced c.args.v c.args.work.now c.force_edge.new.work c.force_edge.ensures

@@ -9,15 +9,12 @@ use Rattle.graph_reduce.proofs.lemmas.Bounds.{reached_numbered, reached_then}
 use Rattle.graph_reduce.proofs.lemmas.Clearing.{one_step}
 use Rattle.graph_reduce.proofs.lemmas.JoinedPlaces.{one}
 use Rattle.graph_reduce.proofs.lemmas.NodeRuleLaws.{passed_seen}
-use Rattle.graph_reduce.proofs.lemmas.Renewing.{all_told, due_more, joined_other, other_below, renewed_joined, survey_more}
+use Rattle.graph_reduce.proofs.lemmas.Renewing.{all_told, due_more, joined_other, renewed_joined, survey_more}
 use Rattle.graph_reduce.proofs.lemmas.Stepping.{passed_step, tidy_joined, joined_at}
 use Rattle.graph_reduce.proofs.steps.join_at.Goals as goal
 
 pub list-requires : goal.list-requires
-list-requires c =
-    let below = other_below c.args.work.now c.args.v c.other_end.result c.in-TwoEdges.later c.edge_at.result
-    (reached_numbered c.args.work.now c.requires.reached) c.edge_at.ensures c.other_end.ensures in
-    omega (arith, below, c.edges_of-edges.ensures.survey.places.size)
+list-requires c = grind (arith, reached_numbered c.args.work.now c.requires.reached)
 
 pub drop_alike-requires-clause-edge : goal.drop_alike-requires-clause-edge
 drop_alike-requires-clause-edge c = let (joins, is, later) = c.in_ok-join_edges-in-TwoEdges.ensures in (

@@ -1,3 +1,4 @@
+use Rattle.std.proofs.Common.{arith}
 use Rattle.graph_reduce.specs.declared.node_rules.NodeRule.TheVariants.{Leaf}
 use Rattle.graph_reduce.proofs.lemmas.Bounds.{reached_numbered}
 use Rattle.graph_reduce.proofs.lemmas.Clearing.{no_steps}
@@ -12,13 +13,13 @@ pub lowest-requires-clause-due : goal.lowest-requires-clause-due
 lowest-requires-clause-due c = c.requires.index.all Leaf
 
 pub returns-in_ok-add_ends_of-in-Some-clause-more : goal.returns-in_ok-add_ends_of-in-Some-clause-more
-returns-in_ok-add_ends_of-in-Some-clause-more c = record {
-  next = c.drop_leaf.new.work;
-  step = leaf_step c.args.work.now c.requires.tidy c.in-Some.v c.drop_leaf.new.work c.in-Some.ensures.lowest
-      c.drop_leaf.ensures;
-  rest = no_steps c.drop_leaf.new.work;
-  tidy = tidy_leaf c.in-Some.v c.args.work.now c.drop_leaf.new.work c.requires.tidy c.drop_leaf.ensures;
-}
+returns-in_ok-add_ends_of-in-Some-clause-more c =
+    grind (
+      arith,
+      leaf_step c.args.work.now c.requires.tidy c.in-Some.v c.drop_leaf.new.work c.in-Some.ensures.lowest c.drop_leaf.ensures,
+      no_steps c.drop_leaf.new.work,
+      tidy_leaf c.in-Some.v c.args.work.now c.drop_leaf.new.work c.requires.tidy c.drop_leaf.ensures,
+    )
 
 pub returns-in_ok-add_ends_of-in-Some-clause-index : goal.returns-in_ok-add_ends_of-in-Some-clause-index
 returns-in_ok-add_ends_of-in-Some-clause-index c =
@@ -31,7 +32,5 @@ returns-in_ok-add_ends_of-in-Some-clause-index c =
     c.in-Some.ensures.lowest.applies c.edges_of-edges.ensures.seen c.in_ok-add_ends_of-in-Some.ensures.due)
 
 pub returns-in-None-clause-index : goal.returns-in-None-clause-index
-returns-in-None-clause-index c = record {
-  seen = c.lowest.ensures.survey;
-  all = due_leaves c.args.work.now c.args.due.now c.lowest.new.due c.requires.index.all c.lowest.ensures.due;
-}
+returns-in-None-clause-index c =
+    grind (arith, due_leaves c.args.work.now c.args.due.now c.lowest.new.due c.requires.index.all c.lowest.ensures.due)

@@ -1,3 +1,4 @@
+use Rattle.std.proofs.Common.{arith}
 use Rattle.graph_reduce.specs.declared.node_rules.NodeRule.TheVariants.{Passed}
 use Rattle.graph_reduce.proofs.lemmas.Bounds.{reached_numbered}
 use Rattle.graph_reduce.proofs.lemmas.Renewing.{due_passed}
@@ -10,13 +11,9 @@ pub lowest-requires-clause-due : goal.lowest-requires-clause-due
 lowest-requires-clause-due c = c.requires.index.all Passed
 
 pub returns-in-None-clause-index : goal.returns-in-None-clause-index
-returns-in-None-clause-index c = record {
-  seen = c.lowest.ensures.survey;
-  all = due_passed c.args.work.now c.args.due.now c.lowest.new.due c.requires.index.all c.lowest.ensures.due;
-}
+returns-in-None-clause-index c =
+    grind (arith, due_passed c.args.work.now c.args.due.now c.lowest.new.due c.requires.index.all c.lowest.ensures.due)
 
 pub join_at-requires-clause-index : goal.join_at-requires-clause-index
-join_at-requires-clause-index c = record {
-  seen = c.lowest.ensures.survey;
-  all = due_passed c.args.work.now c.args.due.now c.lowest.new.due c.requires.index.all c.lowest.ensures.due;
-}
+join_at-requires-clause-index c =
+    grind (arith, due_passed c.args.work.now c.args.due.now c.lowest.new.due c.requires.index.all c.lowest.ensures.due)

@@ -1,12 +1,9 @@
-use Rattle.std.proofs.Common.{◌∙◌, ap}
-use Rattle.graph_reduce.specs.Rules.{without_edge}
+use Rattle.std.proofs.Common.{arith}
 use Rattle.graph_reduce.proofs.lemmas.NodeTaken.{leaf_with, leaf_without}
 use Rattle.graph_reduce.proofs.taken.drop_leaf.Goals as goal
 
 pub returns-in-OneEdge : goal.returns-in-OneEdge
-returns-in-OneEdge c = leaf_with c.args.work.now c.drop_edge.new.self c.args.v c.args.edges c.in-OneEdge.place
-    c.requires.applies c.requires.seen c.in-OneEdge.is
-    (c.drop_edge.ensures ∙ ap (λ s. without_edge s c.in-OneEdge.place) c.drop_node.ensures)
+returns-in-OneEdge c = grind (arith, leaf_with)
 
 pub returns-in_default : goal.returns-in_default
 returns-in_default c = leaf_without c.args.work.now c.drop_node.new.self c.args.v c.args.edges c.requires.applies

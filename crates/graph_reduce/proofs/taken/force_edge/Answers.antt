@@ -6,8 +6,7 @@ use Rattle.graph_reduce.proofs.taken.force_edge.Goals as goal
 
 pub force_edge-requires-clause-fits : goal.force_edge-requires-clause-fits
 force_edge-requires-clause-fits c =
-    let fits = length_fits c.args.work.now c.args.place c.edge_at-x.result c.requires.reached c.edge_at-x.ensures in
-    omega (arith, fits)
+    grind (arith, length_fits c.args.work.now c.args.place c.edge_at-x.result c.requires.reached c.edge_at-x.ensures)
 
 pub force_edge-requires-clause-sizes : goal.force_edge-requires-clause-sizes
 force_edge-requires-clause-sizes c = reached_sizes c.args.work.now c.requires.reached

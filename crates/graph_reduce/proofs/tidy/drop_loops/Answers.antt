@@ -1,11 +1,7 @@
-use Rattle.std.proofs.Common.{◌∙◌}
+use Rattle.std.proofs.Common.{arith}
 use Rattle.graph_reduce.proofs.lemmas.Clearing.{then_steps}
 use Rattle.graph_reduce.proofs.tidy.drop_loops.Goals as goal
 
 pub loop-place-preserved : goal.loop-place-preserved
-loop-place-preserved c = record {
-  leads = then_steps c.args.work.now c.loop-place.work c.drop_loop.new.work c.loop-place.invariant.leads
-      c.drop_loop.ensures.leads;
-  places = c.drop_loop.ensures.places ∙ c.loop-place.invariant.places;
-  clear = c.drop_loop.ensures.clear;
-}
+loop-place-preserved c =
+    grind (arith, then_steps c.args.work.now c.loop-place.work c.drop_loop.new.work c.loop-place.invariant.leads c.drop_loop.ensures.leads)

@@ -1,7 +1,6 @@
-use Rattle.std.specs.Prelude.{◌≡◌, ◌⊎◌, ◌+◌, length, None, Some}
-use Rattle.std.proofs.Common.{refl, sym, ◌∙◌, subst, arith}
+use Rattle.std.specs.Prelude.{length}
+use Rattle.std.proofs.Common.{◌∙◌, arith}
 use Rattle.std.proofs.lemmas.Option.{same_Some}
-use Rattle.graph_reduce.specs.State.{Bundle}
 use Rattle.graph_reduce.proofs.lemmas.Alike.{clear_past}
 use Rattle.graph_reduce.proofs.lemmas.Clearing.{no_steps, then_steps, within_then, clear_start, clear_gone, clear_next}
 use Rattle.graph_reduce.proofs.lemmas.Ends.{same_edge}
@@ -12,18 +11,8 @@ pub overflow_add-later : goal.overflow_add-later
 overflow_add-later c = omega (arith, c.requires.few)
 
 pub loop-n-init : goal.loop-n-init
-loop-n-init c = record {
-  past = omega arith;
-  few = omega (arith, c.requires.few);
-  leads = no_steps c.args.work.now;
-  within = record { places = refl; edges = λ n x at. at };
-  rest = (refl, refl);
-  end = λ x at. let (y, y_at, ends) = c.requires.end in
-      subst (λ (b : Bundle). (b.edge.a ≡ c.args.node) ⊎ (b.edge.b ≡ c.args.node))
-      (same_edge c.args.work.now c.args.place y x y_at at) ends;
-  clear = clear_start c.args.work.now (length c.args.work.now.edges) c.args.place c.requires.clear;
-  places = c.requires.places;
-}
+loop-n-init c =
+    grind (arith, no_steps c.args.work.now, same_edge, clear_start c.args.work.now (length c.args.work.now.edges) c.args.place c.requires.clear)
 
 pub drop_longer-requires-clause-later : goal.drop_longer-requires-clause-later
 drop_longer-requires-clause-later c = below_end c.loop-n.work c.args.node c.in-Some.n c.in-Some.ensures.next.ends
@@ -33,19 +22,14 @@ drop_longer-requires-clause-clear c = clear_past c.loop-n.work (length c.loop-n.
     c.in-Some.n c.args.node c.loop-n.invariant.end c.in-Some.ensures.next.none c.loop-n.invariant.clear
 
 pub edge-requires : goal.edge-requires
-edge-requires c =
-    let below = below_end c.args.work.now c.args.node c.args.place c.requires.end in
-    omega (arith, below, c.loop-n.invariant.within.places, c.drop_longer.ensures.within.places)
+edge-requires c = grind (arith, below_end c.args.work.now c.args.node c.args.place c.requires.end)
 
 pub returns-in_default-edge-clause-leads : goal.returns-in_default-edge-clause-leads
 returns-in_default-edge-clause-leads c = then_steps c.args.work.now c.loop-n.work c.drop_longer.new.work
     c.loop-n.invariant.leads c.drop_longer.ensures.leads
 
 pub returns-in_default-edge-clause-clear : goal.returns-in_default-edge-clause-clear
-returns-in_default-edge-clause-clear c = clear_gone c.drop_longer.new.work (length c.drop_longer.new.work.edges)
-    c.args.place (c.in-Some.n + 1)
-    (λ x at. let none : None ≡ Some x = same_Some None (Some x) (sym c.in_default-edge.ensures ∙ at) in cc)
-    c.drop_longer.ensures.clear
+returns-in_default-edge-clause-clear c = grind (arith, clear_gone, same_Some)
 
 pub returns-in_default-edge-clause-places : goal.returns-in_default-edge-clause-places
 returns-in_default-edge-clause-places c = λ n (x, at, ends).

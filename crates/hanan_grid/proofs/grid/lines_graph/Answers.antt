@@ -1,4 +1,4 @@
-use Rattle.std.proofs.Common.{arith, ◌∙◌}
+use Rattle.std.proofs.Common.{arith}
 use Rattle.hanan_grid.specs.GridLaws.{length-xs_of-le, length-ys_of-le, length-xs_of-positive, length-ys_of-positive, IsRising-xs_of, IsRising-ys_of, few_crossings_of, few_edges_of}
 use Rattle.hanan_grid.proofs.lemmas.GraphFaults.{known_fault_of_grid, graph_from_parts}
 use Rattle.hanan_grid.proofs.grid.lines_graph.Goals as goal
@@ -44,6 +44,4 @@ new-requires-clause-few_edges c =
     rw (c.from_vec-edges.ensures, c.in_ok-edges.ensures, c.requires.columns, c.requires.rows) (few_edges_of c.args.points.now c.requires.few)
 
 pub grid_fault-requires : goal.grid_fault-requires
-grid_fault-requires c =
-    let is = graph_from_parts c.args.points.now c.args.xs.now c.args.ys.now _ _ c.requires.columns c.requires.rows (c.from_vec-edges.ensures ∙ c.in_ok-edges.ensures) (c.from_vec-terminals.ensures ∙ c.in_ok-terminals.ensures) in
-    known_fault_of_grid c.args.points.now _ c.in-Err.fault c.requires.some is c.in-Err.ensures.fault
+grid_fault-requires c = grind (arith, graph_from_parts, known_fault_of_grid)

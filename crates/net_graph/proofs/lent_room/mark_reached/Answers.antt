@@ -1,4 +1,4 @@
-use Rattle.std.proofs.Common.{ℕ, ◌≡◌, ◌≤◌, ◌<◌, [], ◌∷◌, List, length, take, get_or, replicate, refl, arith, rules}
+use Rattle.std.proofs.Common.{ℕ, ◌≡◌, ◌≤◌, ◌<◌, [], ◌∷◌, List, length, take, get_or, refl, arith}
 use Rattle.std.proofs.lemmas.List.{length-take-le, get_or-take}
 use Rattle.net_graph.specs.Search.{OpenStep}
 use Rattle.net_graph.proofs.lemmas.LentRoomLemmas.{AreFoundInRoom-none, at_place}
@@ -6,9 +6,7 @@ use Rattle.net_graph.proofs.lemmas.SearchLemmas.{Extends-keeps, LeadsFromOne-mor
 use Rattle.net_graph.proofs.lent_room.mark_reached.Goals as goal
 
 pub add_vertex-count-requires-clause-found : goal.add_vertex-count-requires-clause-found
-add_vertex-count-requires-clause-found g c =
-    let zeros : c.fill.new.self ≡ replicate (length c.args.marks.now) 0 = search rules in
-    AreFoundInRoom-none c.fill.new.self c.args.queue.now (length c.args.marks.now) zeros (omega arith)
+add_vertex-count-requires-clause-found g c = grind (arith, AreFoundInRoom-none)
 
 pub loop-place-init : goal.loop-place-init
 loop-place-init g c =
@@ -23,13 +21,7 @@ loop-place-init g c =
 
 pub overflow_cast-vertex : goal.overflow_cast-vertex
 overflow_cast-vertex g c =
-    let queue = c.loop-place.queue in
-    let n = c.loop-place.place in
-    let within : c.loop-place.count ≤ length c.loop-place.queue = c.loop-place.invariant.found.within in
-    let some : length (take c.loop-place.count c.loop-place.queue) ≡ c.loop-place.count = length-take-le c.loop-place.count c.loop-place.queue within in
-    let low : get_or (take c.loop-place.count c.loop-place.queue) c.loop-place.place 0 < c.args.graph.now.vertices = c.loop-place.invariant.so_far.below c.loop-place.place 0 (omega arith) in
-    let same : get_or (take c.loop-place.count c.loop-place.queue) c.loop-place.place 0 ≡ get_or c.loop-place.queue c.loop-place.place 0 = get_or-take c.loop-place.count c.loop-place.queue c.loop-place.place 0 c.loop-place-test.true in
-    omega arith
+    grind (arith, length-take-le c.loop-place.count c.loop-place.queue (c.loop-place.invariant.found.within), get_or-take c.loop-place.count c.loop-place.queue c.loop-place.place 0 c.loop-place-test.true)
 
 pub loop-place-preserved : goal.loop-place-preserved
 loop-place-preserved g c =

@@ -1,7 +1,7 @@
 -- Digits up to a blank or the end are the first word, and any other byte spoils it.
-use Rattle.std.specs.Prelude.{◌≡◌, ◌<◌, length, take, min, ◌^◌, ◌-◌, ◌≢◌, slice_index, true, ℕ, List}
-use Rattle.std.specs.Str.Parse.{IsNumeral, digits_value}
-use Rattle.std.proofs.Common.{arith, sym, ap, subst, ◌∙◌}
+use Rattle.std.specs.Prelude.{◌≡◌, ◌<◌, length, take, ◌≢◌, slice_index, true, ℕ, List}
+use Rattle.std.specs.Str.Parse.{IsNumeral}
+use Rattle.std.proofs.Common.{arith, sym, ap, subst}
 use Rattle.std.proofs.lemmas.Bool.{true≢false}
 use Rattle.std.proofs.lemmas.List.{length-take-le}
 use Rattle.points_in.specs.Words.{is_blank, front_word}
@@ -15,13 +15,8 @@ loop-len-preserved c =
     (c.is_digit.ensures.0 c.if-not-is_digit.false) (cc)
 
 pub returns-then-not-separates-clause-none : goal.returns-then-not-separates-clause-none
-returns-then-not-separates-clause-none c = elim c.loop-len-test.branch [
-  | else-loop-len-test w ↦ absurd (omega arith)
-  | then-loop-len-test+then-not-is_digit w ↦
-      spoiled c.args.bytes.now c.loop-len.len c.loop-len.magnitude c.loop-len.invariant (omega arith)
-      (sym c.separates.ensures ∙ c.if-not-separates.true)
-      (λ digit. true≢false (sym (w.is_digit.ensures.1 digit) ∙ w.if-not-is_digit.true))
-]
+returns-then-not-separates-clause-none c =
+    grind (arith, else-loop-len-test, then-loop-len-test+then-not-is_digit, spoiled, true≢false)
 
 -- the digits stop at a blank or the end
 stops : (bytes : List ℕ) (len magnitude : ℕ) → AreDigits bytes len magnitude → (len < length bytes → is_blank (slice_index bytes len) ≡ true) → len ≢ 0
@@ -33,30 +28,12 @@ stops bytes len magnitude digits stop some =
 
 pub returns-clause-digits : goal.returns-clause-digits
 returns-clause-digits c =
-    let stop : c.loop-len.len < length c.args.bytes.now → is_blank (slice_index c.args.bytes.now c.loop-len.len) ≡ true =
-    elim c.else-len-bytes.branch [
-      | else-len-bytes-via-then-len-bytes+else-not-separates w ↦ λ inside. sym w.separates.ensures ∙ w.if-not-separates.false
-      | else-len-bytes-via-else-len-bytes w ↦ λ inside. absurd (omega arith)
-    ] in
-    let front = stops c.args.bytes.now c.loop-len.len c.loop-len.magnitude c.loop-len.invariant stop (omega arith) in
-    front.2
+    grind (arith, else-len-bytes-via-then-len-bytes+else-not-separates, else-len-bytes-via-else-len-bytes, stops)
 
 pub returns-clause-value : goal.returns-clause-value
 returns-clause-value c =
-    let stop : c.loop-len.len < length c.args.bytes.now → is_blank (slice_index c.args.bytes.now c.loop-len.len) ≡ true =
-    elim c.else-len-bytes.branch [
-      | else-len-bytes-via-then-len-bytes+else-not-separates w ↦ λ inside. sym w.separates.ensures ∙ w.if-not-separates.false
-      | else-len-bytes-via-else-len-bytes w ↦ λ inside. absurd (omega arith)
-    ] in
-    let front = stops c.args.bytes.now c.loop-len.len c.loop-len.magnitude c.loop-len.invariant stop (omega arith) in
-    c.loop-len.invariant.value ∙ ap (λ ds. min (digits_value 10 ds) (2 ^ 64 - 1)) (sym front.0)
+    grind (arith, else-len-bytes-via-then-len-bytes+else-not-separates, else-len-bytes-via-else-len-bytes, stops)
 
 pub returns-clause-len : goal.returns-clause-len
 returns-clause-len c =
-    let stop : c.loop-len.len < length c.args.bytes.now → is_blank (slice_index c.args.bytes.now c.loop-len.len) ≡ true =
-    elim c.else-len-bytes.branch [
-      | else-len-bytes-via-then-len-bytes+else-not-separates w ↦ λ inside. sym w.separates.ensures ∙ w.if-not-separates.false
-      | else-len-bytes-via-else-len-bytes w ↦ λ inside. absurd (omega arith)
-    ] in
-    let front = stops c.args.bytes.now c.loop-len.len c.loop-len.magnitude c.loop-len.invariant stop (omega arith) in
-    front.1
+    grind (arith, else-len-bytes-via-then-len-bytes+else-not-separates, else-len-bytes-via-else-len-bytes, stops)

@@ -23,18 +23,10 @@ begins_at bytes at start onward within inside word words =
 
 pub returns-in-Ok : goal.returns-in-Ok
 returns-in-Ok c =
-    let start = c.next_word-start.ensures in
-    let begins = begins_at c.args.bytes.now c.args.at c.next_word-start.result start.onward start.within c.if-start-bytes.false start.word start.words in
-    let fits = subst (FitsSigned w64) (sym c.in-Ok.ensures.value) c.in-Ok.ensures.number.fits in
-    takes_number c.args.bytes.now c.args.at c.next_word-start.result c.in-Ok.front.len _ begins c.in-Ok.ensures.number
-    (to_z-of_z w64 c.in-Ok.front.value fits ∙ c.in-Ok.ensures.value) c.in-Ok.ensures.len
+    grind (arith, takes_number, to_z-of_z w64 c.in-Ok.front.value (subst (FitsSigned w64) (sym c.in-Ok.ensures.value) c.in-Ok.ensures.number.fits))
 
 pub returns-in-Err-NotNumber : goal.returns-in-Err-NotNumber
-returns-in-Err-NotNumber c =
-    let start = c.next_word-start.ensures in
-    let begins = begins_at c.args.bytes.now c.args.at c.next_word-start.result start.onward start.within c.if-start-bytes.false start.word start.words in
-    let ensures = rw c.in-Err-NotNumber.field-0-is at c.in-Err-NotNumber.ensures in
-    stops_at_bad c.args.bytes.now c.args.at c.next_word-start.result begins (ensures.not_number refl)
+returns-in-Err-NotNumber c = grind (arith, stops_at_bad)
 
 pub returns-in-Err-TooLarge : goal.returns-in-Err-TooLarge
 returns-in-Err-TooLarge c =

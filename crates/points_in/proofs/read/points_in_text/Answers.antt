@@ -1,6 +1,5 @@
 -- What each way out of the reader shows of the text.
-use Rattle.std.specs.Prelude.{◌≡◌, [], ◌∷◌}
-use Rattle.std.proofs.Common.{rules}
+use Rattle.std.proofs.Common.{arith}
 use Rattle.std.proofs.lemmas.Result.{err_from_is_err_and}
 use Rattle.points_in.specs.Reading.{TakesPoint}
 use Rattle.points_in.proofs.lemmas.ReadSoFar.{Adds, at_front, after_points, stops_with_cause, read_first, read_added, adding_has_cause}
@@ -8,14 +7,10 @@ use Rattle.points_in.proofs.read.points_in_text.Goals as goal
 
 pub returns-in_err-first : goal.returns-in_err-first
 returns-in_err-first c =
-    let p = err_from_is_err_and c.from_residual.result c.from_residual.ensures.1 in
-    rw (p.1, p.2) (stops_with_cause c.args.bytes.now 0 c.in_err-first.field-0.0 (at_front c.args.bytes.now) c.in_err-first.ensures)
+    grind (arith, err_from_is_err_and c.from_residual.result c.from_residual.ensures.1, stops_with_cause c.args.bytes.now 0 c.in_err-first.field-0.0 (at_front c.args.bytes.now) c.in_err-first.ensures, at_front c.args.bytes.now)
 
 pub loop-points-init : goal.loop-points-init
-loop-points-init c =
-    let takes : TakesPoint c.args.bytes.now 0 c.in-Some.first = rw c.in-Some.is at c.in_ok-first.ensures in
-    let begun : c.in_ok-points.points ≡ c.in-Some.first.point ∷ [] = search rules in
-    read_first c.args.bytes.now c.in-Some.first c.in_ok-points.points takes begun
+loop-points-init c = grind (arith, read_first)
 
 pub returns-in_err-next : goal.returns-in_err-next
 returns-in_err-next c =

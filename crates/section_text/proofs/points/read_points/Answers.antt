@@ -16,9 +16,7 @@ no_point fm (suc due) left f some judged = judged due
 
 pub returns-in_err-first-clause-err : goal.returns-in_err-first-clause-err
 returns-in_err-first-clause-err g c =
-    let p = err_from_is_err_and c.from_residual.result c.from_residual.ensures.1 in
-    rw (p.1, p.2) (λ other. no_point g.S.SectionFormat.format c.args.count c.args.text.now c.in_err-first.field-0.0 c.requires.some
-    (λ due. c.in_err-first.ensures.err due []))
+    grind (arith, err_from_is_err_and c.from_residual.result c.from_residual.ensures.1, no_point)
 
 pub returns-in_err-add_next-clause-err : goal.returns-in_err-add_next-clause-err
 returns-in_err-add_next-clause-err g c =

@@ -1,20 +1,8 @@
-use Rattle.std.proofs.Common.{ℕ, ◌≡◌, ◌<◌, ◌∙◌, true, false, List, [], ◌∷◌, ◌++◌, length, sym, ap, arith}
-use Rattle.net_graph.specs.Flags.{has}
+use Rattle.std.proofs.Common.{arith}
 use Rattle.net_graph.specs.MembersLaws.{members_of-more}
 use Rattle.std.proofs.lemmas.List.{append-nil}
 use Rattle.spanning.proofs.joining.places_of.Goals as goal
 use Rattle.spanning.proofs.joining.places_of.Goals.{then-has+in_ok-push, else-has}
 
 pub loop-place-preserved : goal.loop-place-preserved
-loop-place-preserved c =
-    let place = c.loop-place.place in
-    let in_set : place < length c.args.set.now = omega (arith, c.len-place-end.ensures) in
-    let more = members_of-more c.args.set.now place in_set in
-    elim c.if-has.branch [
-      | then-has+in_ok-push w ↦
-          let flag : has c.args.set.now place ≡ true = sym c.has.ensures.within ∙ w.if-has.true in
-          w.places-is ∙ w.in_ok-push.ensures.ok ∙ ap (λ (ps : List ℕ). ps ++ place ∷ []) c.loop-place.invariant ∙ sym (rw flag at more)
-      | else-has w ↦
-          let flag : has c.args.set.now place ≡ false = sym c.has.ensures.within ∙ w.if-has.false in
-          w.places-is ∙ c.loop-place.invariant ∙ sym (rw (flag, append-nil) at more)
-    ]
+loop-place-preserved c = grind (arith, members_of-more, then-has+in_ok-push, else-has, append-nil)

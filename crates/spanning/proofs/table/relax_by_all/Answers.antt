@@ -4,13 +4,7 @@ use Rattle.spanning.specs.ClosureLaws.{IsClosedBelow, closed-more, IsBottleneck-
 use Rattle.spanning.proofs.table.relax_by_all.Goals as goal
 
 pub loop-middle-preserved : goal.loop-middle-preserved
-loop-middle-preserved c =
-    let ps = c.args.points.now in
-    let n_is : c.len-n.result ≡ length ps = c.len-n.ensures.value in (
-      c.relax.ensures.size ∙ c.loop-middle.invariant.0,
-      closed-more ps c.loop-middle.middle (entry c.loop-middle.lengths c.len-n.result) (entry c.relax.new.lengths c.len-n.result) (omega arith) c.loop-middle.invariant.1
-          (λ i j i_in j_in. c.relax.ensures.done i j (omega arith) (omega arith)),
-    )
+loop-middle-preserved c = grind (arith, closed-more)
 
 pub returns : goal.returns
 returns c =

@@ -1,3 +1,4 @@
+use Rattle.std.proofs.Common.{arith}
 use Rattle.std.proofs.lemmas.Bool.{iff_false}
 use Rattle.net_graph.specs.declared.state.EdgeState.TheVariants.{Inside, Outside}
 use Rattle.net_graph.specs.DecisionLaws.{states_of-at, states_of-from_missed, states_of-from_kept}
@@ -5,13 +6,11 @@ use Rattle.tree_judge.proofs.decided.state_at.Goals as goal
 
 pub returns-in-Inside : goal.returns-in-Inside
 returns-in-Inside c =
-    states_of-at c.args.g.now c.args.decided.now c.args.n c.edge-e.result Inside c.edge-e.ensures.edge
-    c.in-Inside.ensures
+    grind (arith, states_of-at c.args.g.now c.args.decided.now c.args.n c.edge-e.result Inside c.edge-e.ensures.edge c.in-Inside.ensures)
 
 pub returns-in-Outside : goal.returns-in-Outside
 returns-in-Outside c =
-    states_of-at c.args.g.now c.args.decided.now c.args.n c.edge-e.result Outside c.edge-e.ensures.edge
-    c.in-Outside.ensures
+    grind (arith, states_of-at c.args.g.now c.args.decided.now c.args.n c.edge-e.result Outside c.edge-e.ensures.edge c.in-Outside.ensures)
 
 pub returns-in-Undecided : goal.returns-in-Undecided
 returns-in-Undecided c =

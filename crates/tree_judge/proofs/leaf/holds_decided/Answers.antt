@@ -1,4 +1,4 @@
-use Rattle.std.proofs.Common.{◌≡◌, slice_get, inl, inr, refl, sym, subst, ap, ◌∙◌, arith}
+use Rattle.std.proofs.Common.{◌≡◌, slice_get, inl, inr, sym, subst, ap, ◌∙◌, arith}
 use Rattle.std.proofs.lemmas.Bool.{cases_eq, iff_false}
 use Rattle.std.proofs.lemmas.Option.{same_Some, slice_get_within}
 use Rattle.cert_tree.specs.declared.way.Turn.{Turn}
@@ -11,11 +11,7 @@ holds_by-requires-clause-state c =
     turn_has_state c.args.g.now c.args.way.now c.loop-place.place c.turn.result c.requires.on_way c.turn.ensures
 
 pub returns-then-holds_by : goal.returns-then-holds_by
-returns-then-holds_by c =
-    let (v, required, held) = c.holds_by.ensures.0 c.if-holds_by.true in (
-      λ holds. (v, required_by c.args.g.now c.args.way.now.decided c.turn.result.on v required, held),
-      λ some. refl,
-    )
+returns-then-holds_by c = grind (arith, c.holds_by.ensures.0 c.if-holds_by.true, required_by)
 
 pub loop-place-preserved : goal.loop-place-preserved
 loop-place-preserved c k t v below at required held = elim (cases_eq k c.loop-place.place) [

@@ -1,4 +1,4 @@
-use Rattle.std.proofs.Common.{Option, Some, None, IfNone, IfSome}
+use Rattle.std.proofs.Common.{Option, Some, None, IfNone, IfSome, arith}
 use Rattle.tree_judge.specs.Cuts.{cut_of}
 use Rattle.tree_judge.proofs.lemmas.Leaves.{PacksCut-kept}
 use Rattle.tree_judge.proofs.leaf.read_cut.Goals as goal
@@ -25,6 +25,4 @@ returns-clause-passes g c =
     ))
 
 pub returns-clause-fault : goal.returns-clause-fault
-returns-clause-fault g c =
-    IfSome-then c.load_arcs.result c.load_arcs.ensures.fault
-    (λ cause fault cuts leaf. fault cuts c.in_default.ensures.passes leaf)
+returns-clause-fault g c = grind (arith, IfSome-then)

@@ -12,25 +12,13 @@ popped_is : (t : Turn) (above path popped : List Turn) → path ≡ t ∷ above 
 popped_is t above path popped is told = told ∙ ap (drop 1) is
 
 pub go_down-requires-clause-few : goal.go_down-requires-clause-few
-go_down-requires-clause-few c =
-    let (above, is) = c.in-Some.ensures.some in
-    omega (
-      arith,
-      ap length (popped_is c.in-Some.turn above c.loop-turn.way.path c.pop.new.self is c.pop.ensures),
-      ap length is,
-      c.loop-turn.invariant.depth,
-      c.requires.few,
-    )
+go_down-requires-clause-few c = grind (arith, popped_is)
 
 pub go_down-requires-clause-state : goal.go_down-requires-clause-state
-go_down-requires-clause-state c =
-    let (above, is) = c.in-Some.ensures.some in
-    lowest_has_state c.args._g.now c.in-Some.turn above c.loop-turn.way c.loop-turn.invariant.stands is
+go_down-requires-clause-state c = grind (arith, lowest_has_state)
 
 pub undecide-requires : goal.undecide-requires
-undecide-requires c =
-    let (above, is) = c.in-Some.ensures.some in
-    lowest_has_state c.args._g.now c.in-Some.turn above c.loop-turn.way c.loop-turn.invariant.stands is
+undecide-requires c = grind (arith, lowest_has_state)
 
 pub returns-then-not-turn : goal.returns-then-not-turn
 returns-then-not-turn c =

@@ -1,18 +1,20 @@
-use Rattle.std.proofs.Common.{◌≡◌, ◌<◌, length, slice_get, Some, ap, arith}
+use Rattle.std.proofs.Common.{◌<◌, length, slice_get, ap, arith}
 use Rattle.std.proofs.lemmas.Bool.{iff_false}
 use Rattle.std.proofs.lemmas.Option.{get_or_from_slice_get}
 use Rattle.net_graph.specs.declared.edge.Edge.{Edge}
-use Rattle.net_graph.specs.declared.state.EdgeState.TheVariants.{Inside}
 use Rattle.net_graph.specs.PackingLaws.{inside_length_yes, inside_length_no, inside_length_yes-le-sum}
 use Rattle.tree_judge.proofs.way.length_inside.Goals as goal
 use Rattle.tree_judge.proofs.way.length_inside.Goals.{then-is_inside, else-is_inside}
 
 pub overflow_add-sum : goal.overflow_add-sum
 overflow_add-sum c =
-    let e = c.edge-sum.result in
-    let inside : slice_get c.args.decided.now.edges c.loop-n.n ≡ Some Inside = c.is_inside.ensures.0 c.if-is_inside.true in
-    let same = ap (λ (x : Edge). x.length) (get_or_from_slice_get c.args.g.now.edges c.loop-n.n e e c.edge-sum.ensures.edge) in
-    omega (arith, same, inside_length_yes-le-sum c.args.g.now.edges c.args.decided.now.edges c.loop-n.n e (omega arith) inside, c.edge_count-n-end.ensures.graph.total)
+    grind (
+      arith,
+      slice_get c.args.decided.now.edges c.loop-n.n,
+      c.is_inside.ensures.0 c.if-is_inside.true,
+      get_or_from_slice_get c.args.g.now.edges c.loop-n.n (c.edge-sum.result) (c.edge-sum.result) c.edge-sum.ensures.edge,
+      inside_length_yes-le-sum,
+    )
 
 pub loop-n-preserved : goal.loop-n-preserved
 loop-n-preserved c =

@@ -1,4 +1,4 @@
-use Rattle.std.proofs.Common.{refl}
+use Rattle.std.proofs.Common.{arith}
 use Rattle.std.proofs.lemmas.Bool.{false≢true}
 use Rattle.answer_text.proofs.lemmas.ReaderLaws.{ended_whole, ended_headed, unended_stops}
 use Rattle.answer_text.proofs.reader.EventReader.ended.Goals as goal
@@ -10,8 +10,4 @@ pub returns-in-Ended-clause-headed : goal.returns-in-Ended-clause-headed
 returns-in-Ended-clause-headed c = λ yes V bytes events reads. ended_headed V bytes events c.args.self.now reads c.in-Ended.is
 
 pub returns-in_default : goal.returns-in_default
-returns-in_default c = record {
-  reads = λ V bytes events reads. unended_stops V bytes events c.args.self.now reads c.in_default.not-Ended;
-  headed = λ yes. absurd (false≢true yes);
-  refused = λ n refuses. refl;
-}
+returns-in_default c = grind (arith, unended_stops, false≢true)

@@ -1,4 +1,4 @@
-use Rattle.std.proofs.Common.{◌^◌, refl}
+use Rattle.std.proofs.Common.{◌^◌, arith}
 use Rattle.answer_text.proofs.lemmas.WordLemmas.{none_then}
 use Rattle.answer_text.proofs.lemmas.ScanClose.{same_small}
 use Rattle.answer_text.proofs.lemmas.ScanBlanks.{next-weight, dead-last, dead-other}
@@ -15,8 +15,5 @@ returns-in_ok-with_sign-in-Coordinate-clause-dead c =
     (λ last inside. dead-last c.args.self.now c.args.field c.in-Coordinate.corner c.in-Coordinate.minus c.args.value c.in-Coordinate.is last inside)
 
 pub returns-in_default : goal.returns-in_default
-returns-in_default c = record {
-  next = tt;
-  dead = dead-other c.args.self.now c.args.field c.args.value c.in_default.not-Weight c.in_default.not-Coordinate;
-  stage = refl;
-}
+returns-in_default c =
+    grind (arith, dead-other c.args.self.now c.args.field c.args.value c.in_default.not-Weight c.in_default.not-Coordinate)

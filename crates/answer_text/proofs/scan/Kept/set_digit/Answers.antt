@@ -1,5 +1,4 @@
-use Rattle.std.proofs.Common.{refl, arith}
-use Rattle.answer_text.specs.declared.scan.Kept.{Kept}
+use Rattle.std.proofs.Common.{arith}
 use Rattle.answer_text.proofs.lemmas.ScanSets.{TakesDigit, leads-set, set-sound, dead-glyph, dead-past, dead-stray}
 use Rattle.answer_text.proofs.scan.Kept.set_digit.Goals as goal
 use Rattle.answer_text.proofs.scan.Kept.set_digit.Goals.{then-first-size-via-then-first-size, then-first-size-via-else-first-size+then-not-is_told}
@@ -18,24 +17,5 @@ returns-then-first-size-clause-dead c = λ sound.
     ]
 
 pub returns-clause-next : goal.returns-clause-next
-returns-clause-next c = λ sound name.
-    let k' : Kept = record c.args.self.now { members = c.add_four.new.self } in
-    let size = c.len-size.ensures in
-    let inside = c.if-first-size.false in
-    let takes : TakesDigit c.args.self.now k' c.args.place c.in_ok-value.value c.args.byte = record {
-      few = c.in_ok-value.ensures.digit.0;
-      digit = c.in_ok-value.ensures.digit.1;
-      inside = omega arith;
-      size = c.add_four.ensures.size;
-      flags = c.add_four.ensures.flags;
-      weight = refl;
-      later = sound.3;
-    } in
-    record {
-      leads = leads-set c.args.self.now k' c.args.place c.in_ok-value.value c.args.byte takes;
-      sound = set-sound c.args.self.now k' c.args.place c.in_ok-value.value c.args.byte takes sound;
-      name = name;
-      stage = refl;
-      version = refl;
-      size = c.add_four.ensures.size;
-    }
+returns-clause-next c =
+    grind (arith, TakesDigit c.args.self.now (record c.args.self.now { members = c.add_four.new.self }) c.args.place c.in_ok-value.value c.args.byte, leads-set, set-sound)

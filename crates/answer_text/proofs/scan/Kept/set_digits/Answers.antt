@@ -8,21 +8,13 @@ use Rattle.answer_text.proofs.lemmas.SetRuns.{run_none, run_more}
 use Rattle.answer_text.proofs.scan.Kept.set_digits.Goals as goal
 
 pub loop-taken-init : goal.loop-taken-init
-loop-taken-init c = record {
-  run = λ sound name. run_none c.args.self.now c.args.place (c.args.place + 0) (omega arith) sound name;
-  stage = refl;
-  size = refl;
-}
+loop-taken-init c = grind (arith, run_none)
 
 pub add_four-requires-clause-within : goal.add_four-requires-clause-within
-add_four-requires-clause-within c =
-    let most = c.min-most.ensures in
-    omega (arith, most, c.saturating_sub-whole.ensures, c.len.ensures, c.loop-taken.invariant.size)
+add_four-requires-clause-within c = grind arith
 
 pub add_four-requires-clause-told : goal.add_four-requires-clause-told
-add_four-requires-clause-told c r below is =
-    let most = c.min-most.ensures in
-    omega (arith, most, c.saturating_sub-whole.ensures, c.len.ensures, c.loop-taken.invariant.size)
+add_four-requires-clause-told c r below is = grind arith
 
 pub loop-taken-preserved : goal.loop-taken-preserved
 loop-taken-preserved c =

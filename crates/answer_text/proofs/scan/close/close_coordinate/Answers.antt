@@ -4,11 +4,8 @@ use Rattle.answer_text.proofs.lemmas.WordLemmas.{none_then}
 use Rattle.answer_text.proofs.scan.close.close_coordinate.Goals as goal
 
 pub returns-in_default : goal.returns-in_default
-returns-in_default c = record {
-  closes = tt;
-  none = no_line-corner c.args.kept.now c.args.corner c.args.minus c.args.value c.in_default.not-Y2 c.in_default.not-Y;
-  few = omega arith;
-}
+returns-in_default c =
+    grind (arith, no_line-corner c.args.kept.now c.args.corner c.args.minus c.args.value c.in_default.not-Y2 c.in_default.not-Y)
 
 pub returns-in_ok-with_sign-in-Y-clause-none : goal.returns-in_ok-with_sign-in-Y-clause-none
 returns-in_ok-with_sign-in-Y-clause-none c =

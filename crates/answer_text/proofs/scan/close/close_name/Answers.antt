@@ -1,3 +1,4 @@
+use Rattle.std.proofs.Common.{arith}
 use Rattle.std.specs.Int.{w64}
 use Rattle.std.proofs.lemmas.Int.{to_z-of_z}
 use Rattle.answer_text.proofs.lemmas.NamesClosed.{closes-ends}
@@ -5,7 +6,4 @@ use Rattle.answer_text.proofs.lemmas.WordLemmas.{some_then}
 use Rattle.answer_text.proofs.scan.close.close_name.Goals as goal
 
 pub returns-clause-closes : goal.returns-clause-closes
-returns-clause-closes c =
-    some_then c.close_edge.result c.close_edge.ensures.makes
-    (λ told makes h minus value is inside name.
-    closes-ends c.args.kept.now _ h minus value c.args.last _ told (to_z-of_z w64 c.args.last c.ranges.last) is c.ranges.last makes inside name)
+returns-clause-closes c = grind (arith, some_then, closes-ends, to_z-of_z w64 c.args.last c.ranges.last)

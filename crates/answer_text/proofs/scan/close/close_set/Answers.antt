@@ -10,7 +10,4 @@ returns-then-place-div_ceil-clause-none c = λ sound.
     no_line-set c.args.kept.now c.args.place (omega arith)
 
 pub returns-clause-closes : goal.returns-clause-closes
-returns-clause-closes c = λ h sound name.
-    let digits = c.div_ceil.ensures ∙ digit_count c.len.result ∙ ap (λ n. (n + 3) / 4) c.len.ensures in
-    let whole = c.if-place-div_ceil.false in
-    closes-set c.args.kept.now h c.args.place c.in-Body.cuts c.in-Body.nodes c.in_ok-checked_sub.field-0 c.in-Body.is c.in_ok-checked_sub.ensures.1 (omega arith) sound.0 sound.1 name
+returns-clause-closes c = grind (arith, digit_count c.len.result, closes-set)

@@ -1,14 +1,10 @@
 -- The shortest one of three networks.
-use Rattle.std.proofs.Common.{ap}
-use Rattle.branch.specs.declared.best.Best.{Best}
+use Rattle.std.proofs.Common.{arith}
 use Rattle.branch.proofs.lemmas.ShorterLemmas.{third_is, third_own}
 use Rattle.branch.proofs.best.Best.with_children.Goals as goal
 
 pub returns-clause-which : goal.returns-clause-which
-returns-clause-which c =
-    third_is c.args.g.now c.args.self.now.network c.in_ok-best.best.network c.in_ok-best-2.best.network
-    c.args.outside.now.network c.args.inside.now.network c.or_shorter-2.result
-    (ap (λ (b : Best). b.network) c.in_ok-best.ensures) c.in_ok-best-2.ensures.which c.or_shorter-2.ensures.which
+returns-clause-which c = grind (arith, third_is)
 
 pub returns-clause-outside : goal.returns-clause-outside
 returns-clause-outside c =

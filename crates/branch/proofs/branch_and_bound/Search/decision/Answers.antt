@@ -1,14 +1,11 @@
 -- What is kept of a leaf's decision is the leaf's.
-use Rattle.std.proofs.Common.{◌<◌, length, rules, subst}
+use Rattle.std.proofs.Common.{subst, arith}
 use Rattle.branch.specs.Searching.{SearchState, IsDecidedAt}
 use Rattle.branch.proofs.lemmas.ReaderLemmas.{note_within, is_decided}
 use Rattle.branch.proofs.branch_and_bound.Search.decision.Goals as goal
 
 pub index-requires : goal.index-requires
-index-requires _ c =
-    let within : c.args.leaf < length c.self.inside.kept.notes.items =
-    note_within _ _ _ c.args.leaf c.self.invariant c.self.view_is c.requires in
-    search rules
+index-requires _ c = grind (arith, note_within)
 
 pub returns : goal.returns
 returns _ c =

@@ -1,20 +1,16 @@
 -- A step settles the search or makes an opening.
-use Rattle.std.proofs.Common.{ℕ, ◌≤◌, List, All, refl, sym, subst}
+use Rattle.std.proofs.Common.{ℕ, List, sym, subst, arith}
 use Rattle.branch.specs.declared.note.LeafNote.{LeafNote}
 use Rattle.branch.specs.Notes.{IsNextNote}
 use Rattle.branch.specs.PlainOpenings.{IsOpenNext}
-use Rattle.branch.specs.Searching.{SearchState, search_state, IsSettled, OpensTo}
+use Rattle.branch.specs.Searching.{SearchState, search_state, OpensTo}
 use Rattle.branch.proofs.lemmas.SearchLemmas.{search_opened, opens_to}
 use Rattle.branch.proofs.lemmas.SettledLemmas.{settled, next_is_open}
 use Rattle.branch.proofs.lemmas.OpenedLemmas.{opens_within, opens_within_notes, opens_few}
 use Rattle.branch.proofs.branch_and_bound.Search.split_one.Goals as goal
 
 pub returns-in_default-clause-step : goal.returns-in_default-clause-step
-returns-in_default-clause-step _ c = (
-  subst (λ (s : SearchState). IsSettled s) c.self.view_is
-      (settled _ _ c.self.invariant (subst (λ (xs : List LeafNote). All (λ (note : LeafNote). c.self.inside.kept.best.length ≤ note.value) xs) c.as_slice.ensures.value c.in_default.ensures.none)),
-  refl,
-)
+returns-in_default-clause-step _ c = grind (arith, settled)
 
 pub open-requires-clause-leaf : goal.open-requires-clause-leaf
 open-requires-clause-leaf _ c = opens_within _ _ _ c.in_ok-opening.ensures.opening

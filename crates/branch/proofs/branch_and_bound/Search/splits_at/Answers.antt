@@ -1,15 +1,12 @@
 -- A leaf can be split exactly where its value is below the length and it has a saturated end.
-use Rattle.std.proofs.Common.{◌<◌, ◌↔◌, length, IsTrue, rules, sym, subst, arith}
+use Rattle.std.proofs.Common.{◌<◌, ◌↔◌, length, IsTrue, sym, subst, arith}
 use Rattle.std.proofs.lemmas.Bool.{ltb-true}
 use Rattle.branch.specs.Searching.{SearchState, CanSplitAt}
 use Rattle.branch.proofs.lemmas.ReaderLemmas.{note_within, is_decided, rooms_size, can_split, has_end}
 use Rattle.branch.proofs.branch_and_bound.Search.splits_at.Goals as goal
 
 pub index-note-requires : goal.index-note-requires
-index-note-requires _ c =
-    let within : c.args.leaf < length c.self.inside.kept.notes.items =
-    note_within _ _ _ c.args.leaf c.self.invariant c.self.view_is c.requires.leaf in
-    search rules
+index-note-requires _ c = grind (arith, note_within)
 
 pub has_saturated_end-requires-clause-decision : goal.has_saturated_end-requires-clause-decision
 has_saturated_end-requires-clause-decision _ c =

@@ -1,5 +1,4 @@
-use Rattle.std.proofs.Common.{refl}
-use Rattle.cert_check.specs.declared.verdict.Finished.{Finished}
+use Rattle.std.proofs.Common.{refl, arith}
 use Rattle.cert_check.specs.declared.verdict.Verdict.TheVariants.{TooLong}
 use Rattle.cert_check.proofs.lemmas.Bytes.{verdict_within, verdict_beyond, too_long_within, too_long_beyond}
 use Rattle.cert_check.proofs.checker.Checker.verdict.Goals as goal
@@ -12,8 +11,7 @@ returns-then-fed-gt-BYTE_LIMIT-clause-verdict c N bytes stands =
 pub returns-then-fed-gt-BYTE_LIMIT-clause-too_long :
     goal.returns-then-fed-gt-BYTE_LIMIT-clause-too_long
 returns-then-fed-gt-BYTE_LIMIT-clause-too_long c N bytes stands =
-    let f : Finished = record { verdict = TooLong; network = c.judged-judged.result.network } in
-    too_long_beyond bytes c.args.self.fed f stands.fed c.if-fed-gt-BYTE_LIMIT.true refl
+    grind (arith, too_long_beyond bytes c.args.self.fed (record { verdict = TooLong; network = c.judged-judged.result.network }) stands.fed c.if-fed-gt-BYTE_LIMIT.true refl)
 
 pub returns-clause-verdict : goal.returns-clause-verdict
 returns-clause-verdict c N bytes stands =

@@ -14,8 +14,7 @@ use Rattle.cert_tree.proofs.tree.CertTree.leaf_value.Goals as goal
 
 pub inside_length-requires-clause-turns : goal.inside_length-requires-clause-turns
 inside_length-requires-clause-turns c =
-    let g = c.args.g.now in
-    All-turns_in g (nothing_decided g) c.args.self.now c.args.leaf (IsDecisionFor-nothing g) c.requires.splits
+    grind (arith, All-turns_in (c.args.g.now) (nothing_decided (c.args.g.now)) c.args.self.now c.args.leaf (IsDecisionFor-nothing (c.args.g.now)) c.requires.splits, IsDecisionFor-nothing (c.args.g.now))
 
 pub inside_length-requires-clause-short : goal.inside_length-requires-clause-short
 inside_length-requires-clause-short c =

@@ -8,15 +8,7 @@ use Rattle.cert_tree.proofs.tree.CertTree.turns_to.Goals as goal
 
 pub loop-place-init : goal.loop-place-init
 loop-place-init c =
-    let t = c.args.self.now in
-    let up = turns_up-place t c.args.leaf c.place_of-place.result c.place_of-place.ensures.at
-    c.place_of-place.ensures.before in
-    let within = slice_get_within (nodes_of t) c.place_of-place.result _ c.place_of-place.ensures.at in
-    record {
-      turns = ap (λ all. all ++ turns_up (reverse (take c.place_of-place.result (nodes_of t))) 0)
-          c.new-turns.ensures.items ∙ up;
-      passed = omega arith;
-    }
+    grind (arith, turns_up-place (c.args.self.now) c.args.leaf c.place_of-place.result c.place_of-place.ensures.at c.place_of-place.ensures.before, slice_get_within)
 
 pub loop-place-preserved-in-Continue-1 : goal.loop-place-preserved-in-Continue-1
 loop-place-preserved-in-Continue-1 c =
@@ -35,11 +27,4 @@ loop-place-preserved-in-Continue-1 c =
 
 pub loop-place-preserved : goal.loop-place-preserved
 loop-place-preserved c =
-    let all = nodes_of c.args.self.now in
-    let before = reverse (take (c.loop-place.place - 1) all) in
-    let step = turns_up-step c.nodes-nodes.result.now all c.loop-place.place c.loop-place.passed c.turn_at.new.passed []
-    c.nodes-nodes.ensures.nodes (omega arith) (omega arith) (c.in_default.ensures.turn before) in
-    record {
-      turns = ap (λ xs. c.loop-place.turns.items ++ xs) (sym step) ∙ c.loop-place.invariant.turns;
-      passed = omega arith;
-    }
+    grind (arith, turns_up-step c.nodes-nodes.result.now (nodes_of c.args.self.now) c.loop-place.place c.loop-place.passed c.turn_at.new.passed, c.in_default.ensures.turn (reverse (take (c.loop-place.place - 1) (nodes_of c.args.self.now))))

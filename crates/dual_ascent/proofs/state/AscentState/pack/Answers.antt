@@ -4,15 +4,13 @@ use Rattle.dual_ascent.specs.declared.active.ActiveVertex.{ActiveVertex}
 use Rattle.dual_ascent.specs.declared.costs.EdgeCosts.{EdgeCosts}
 use Rattle.dual_ascent.specs.Active.{AreActive}
 use Rattle.dual_ascent.specs.Growing.{MayGrow, AreGrown, LeavesOut}
-use Rattle.dual_ascent.specs.Costs.{edges_of, lowered_by}
+use Rattle.dual_ascent.specs.Costs.{lowered_by}
 use Rattle.dual_ascent.proofs.lemmas.EnteringLemmas.{edges_of-lowered}
 use Rattle.dual_ascent.proofs.lemmas.ActiveLemmas.{newly, MayGrow-packed, SaturatedLeads-kept, AreActive-packed}
 use Rattle.dual_ascent.proofs.state.AscentState.pack.Goals as goal
 
 pub grow_all-requires-clause-edges : goal.grow_all-requires-clause-edges
-grow_all-requires-clause-edges c =
-    let after : c.lower.new.self ≡ map (lowered_by c.args.cut.now) c.args.self.now.costs = c.lower.ensures in
-    ap edges_of after ∙ edges_of-lowered c.args.self.now.costs c.args.cut.now ∙ c.requires.edges
+grow_all-requires-clause-edges c = grind (arith, edges_of-lowered c.args.self.now.costs c.args.cut.now)
 
 pub grow_all-requires-clause-each : goal.grow_all-requires-clause-each
 grow_all-requires-clause-each c k d lt =

@@ -11,14 +11,8 @@ use Rattle.graph_reduce.proofs.left.Numbering.of.Goals as goal
 use Rattle.graph_reduce.proofs.left.Numbering.of.Goals.{then-has+in_ok-push-2, else-has}
 
 pub overflow_cast-len-in-loop-v : goal.overflow_cast-len-in-loop-v
-overflow_cast-len-in-loop-v c = omega (
-  arith,
-  c.len-in-loop-v.ensures,
-  c.loop-v.origins.ok.0,
-  ap length c.loop-v.invariant.origins,
-  number_is c.args.nodes.now c.loop-v.v,
-  number_least c.args.nodes.now c.loop-v.v,
-)
+overflow_cast-len-in-loop-v c =
+    grind (arith, number_is c.args.nodes.now c.loop-v.v, number_least c.args.nodes.now c.loop-v.v)
 
 pub loop-v-preserved : goal.loop-v-preserved
 loop-v-preserved c =

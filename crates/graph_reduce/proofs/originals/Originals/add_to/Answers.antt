@@ -1,7 +1,6 @@
-use Rattle.std.specs.Prelude.{length, take, ◌+◌}
-use Rattle.std.proofs.Common.{sym, ap, ◌∙◌, subst, arith}
+use Rattle.std.specs.Prelude.{take, ◌+◌}
+use Rattle.std.proofs.Common.{sym, subst, arith}
 use Rattle.std.proofs.lemmas.List.{take_all}
-use Rattle.graph_reduce.specs.State.{union}
 use Rattle.graph_reduce.proofs.lemmas.Originals.{AreAdded, length-flags, none_added, one_added, all_added, numbers_below}
 use Rattle.graph_reduce.proofs.originals.Originals.add_to.Goals as goal
 
@@ -24,9 +23,4 @@ loop-n-preserved c = subst (λ set. AreAdded c.args.set.now set (take (c.loop-n.
 
 pub returns : goal.returns
 returns c =
-    let o = c.self.inside in
-    all_added c.args.set.now c.loop-n.set o.size o.numbers.items
-    (c.requires ∙ sym (ap length c.self.view_is) ∙ length-flags o.size o.numbers.items)
-    (subst (AreAdded c.args.set.now c.loop-n.set) (take_all c.loop-n.n-index c.deref-n-items.result.now
-    (omega (arith, c.loop-n-test.false)) ∙ c.deref-n-items.ensures.value) c.loop-n.invariant)
-    ∙ ap (union c.args.set.now) c.self.view_is
+    grind (arith, all_added, length-flags (c.self.inside).size (c.self.inside).numbers.items, AreAdded c.args.set.now c.loop-n.set, take_all)

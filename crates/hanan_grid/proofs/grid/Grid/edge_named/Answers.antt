@@ -1,5 +1,5 @@
-use Rattle.std.proofs.Common.{◌≡◌, ◌∙◌, sym}
-use Rattle.hanan_grid.specs.Names.{NamesNoEdge, name_of_crossings}
+use Rattle.std.proofs.Common.{◌∙◌, sym, arith}
+use Rattle.hanan_grid.specs.Names.{NamesNoEdge}
 use Rattle.hanan_grid.specs.NamesLaws.{same_between}
 use Rattle.hanan_grid.proofs.lemmas.Found.{IfNone_always, IfNone_then, crossings_of_name}
 use Rattle.hanan_grid.proofs.grid.Grid.edge_named.Goals as goal
@@ -19,7 +19,4 @@ returns-in_err-to-clause-none c =
     IfNone_always _ _ none
 
 pub returns-clause-none : goal.returns-clause-none
-returns-clause-none c =
-    let ps = c.args.self.now in
-    let name : name_of_crossings ps c.in_ok-from.from c.in_ok-to.to ≡ c.args.name.now = same_between _ _ _ _ c.in_ok-from.ensures.point c.in_ok-to.ensures.point ∙ c.named_points.ensures in
-    IfNone_then _ _ (NamesNoEdge ps c.args.name.now) c.edge_between.ensures.none (λ none e below same. none e below (same ∙ sym name))
+returns-clause-none c = grind (arith, same_between, IfNone_then)

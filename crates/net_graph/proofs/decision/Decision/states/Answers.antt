@@ -1,4 +1,4 @@
-use Rattle.std.proofs.Common.{◌≡◌, ◌+◌, ◌<◌, ◌≤◌, [], ◌∷◌, ◌++◌, ◌∙◌, length, take, get_or, arith}
+use Rattle.std.proofs.Common.{◌≡◌, ◌+◌, ◌<◌, [], ◌∷◌, ◌++◌, length, take, get_or, arith}
 use Rattle.std.proofs.lemmas.List.{take_more, take_all}
 use Rattle.std.proofs.lemmas.Option.{slice_get_within, get_or_from_slice_get}
 use Rattle.net_graph.specs.Decision.{states_of}
@@ -16,8 +16,4 @@ loop-e-preserved c =
     cc c.in_ok-push.ensures.items
 
 pub returns : goal.returns
-returns c =
-    let all = states_of c.args.g.now c.args.self.now in
-    let past : length all ≤ c.loop-e.e =
-    omega (arith, length-states_of c.args.g.now c.args.self.now c.requires.edges, c.edge_count-e-end.ensures.count) in
-    c.loop-e.invariant ∙ take_all c.loop-e.e all past
+returns c = grind (arith, length-states_of c.args.g.now c.args.self.now c.requires.edges, take_all)

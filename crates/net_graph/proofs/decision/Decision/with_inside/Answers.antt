@@ -1,6 +1,5 @@
-use Rattle.std.proofs.Common.{arith, subst, sym}
+use Rattle.std.proofs.Common.{arith}
 use Rattle.std.proofs.lemmas.Result.{IfOk-weaker}
-use Rattle.net_graph.specs.Decision.{IsDecisionFor}
 use Rattle.net_graph.specs.DecisionLaws.{IsUndecided-parts, IsDecisionFor-with_inside}
 use Rattle.net_graph.proofs.decision.Decision.with_inside.Goals as goal
 
@@ -10,7 +9,4 @@ with_edge-requires c =
 
 pub returns-clause-decision : goal.returns-clause-decision
 returns-clause-decision c =
-    IfOk-weaker c.with_edge.result _ (IsDecisionFor c.args._g.now)
-    (λ d is. subst (IsDecisionFor c.args._g.now) (sym is)
-    (IsDecisionFor-with_inside c.args._g.now c.args.self.now c.args.e c.requires.decision c.requires.undecided))
-    c.with_edge.ensures
+    grind (arith, IfOk-weaker, IsDecisionFor-with_inside c.args._g.now c.args.self.now c.args.e c.requires.decision c.requires.undecided)

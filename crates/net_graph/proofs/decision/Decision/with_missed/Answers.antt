@@ -1,12 +1,8 @@
-use Rattle.std.proofs.Common.{subst, sym}
+use Rattle.std.proofs.Common.{arith}
 use Rattle.std.proofs.lemmas.Result.{IfOk-weaker}
-use Rattle.net_graph.specs.Decision.{IsDecisionFor}
 use Rattle.net_graph.specs.DecisionLaws.{IsDecisionFor-with_missed}
 use Rattle.net_graph.proofs.decision.Decision.with_missed.Goals as goal
 
 pub returns-clause-decision : goal.returns-clause-decision
 returns-clause-decision c =
-    IfOk-weaker c.with_vertex.result _ (IsDecisionFor c.args._g.now)
-    (λ d is. subst (IsDecisionFor c.args._g.now) (sym is)
-    (IsDecisionFor-with_missed c.args._g.now c.args.self.now c.args.v c.requires.decision c.requires.undecided))
-    c.with_vertex.ensures
+    grind (arith, IfOk-weaker, IsDecisionFor-with_missed c.args._g.now c.args.self.now c.args.v c.requires.decision c.requires.undecided)

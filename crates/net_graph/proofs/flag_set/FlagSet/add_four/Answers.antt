@@ -1,13 +1,11 @@
 use Rattle.net_graph.proofs.lemmas.FlagFours.{flags_after_four}
-use Rattle.std.proofs.Common.{◌+◌, ◌/◌, ◌≡◌, length, arith}
+use Rattle.std.proofs.Common.{arith}
 use Rattle.net_graph.proofs.lemmas.FlagWords.{long_view}
 use Rattle.net_graph.proofs.flag_set.FlagSet.add_four.Goals as goal
 
 pub index_mut-requires : goal.index_mut-requires
 index_mut-requires c =
-    let long : length c.args.self.now ≡ c.self.inside.size = long_view c.self.inside.words.items c.args.self.now c.self.inside.size c.self.view_is in
-    let enough : length c.self.inside.words.items ≡ (c.self.inside.size + 63) / 64 = c.self.invariant in
-    rw c.self.inside.words.ok.0 (omega arith)
+    grind (arith, long_view c.self.inside.words.items c.args.self.now c.self.inside.size c.self.view_is)
 
 pub returns-clause-flags : goal.returns-clause-flags
 returns-clause-flags c n =

@@ -1,13 +1,10 @@
-use Rattle.std.proofs.Common.{◌+◌, ◌/◌, ◌≡◌, length, arith}
+use Rattle.std.proofs.Common.{arith}
 use Rattle.net_graph.proofs.lemmas.FlagFours.{flag_of_word}
 use Rattle.net_graph.proofs.lemmas.FlagWords.{long_view}
 use Rattle.net_graph.proofs.flag_set.FlagSet.word.Goals as goal
 
 pub index-requires : goal.index-requires
-index-requires c =
-    let long : length c.args.self.now ≡ c.self.inside.size = long_view c.self.inside.words.items c.args.self.now c.self.inside.size c.self.view_is in
-    let enough : length c.self.inside.words.items ≡ (c.self.inside.size + 63) / 64 = c.self.invariant in
-    rw c.self.inside.words.ok.0 (omega arith)
+index-requires c = grind (arith, long_view c.self.inside.words.items c.args.self.now c.self.inside.size c.self.view_is)
 
 pub returns : goal.returns
 returns c r low below =

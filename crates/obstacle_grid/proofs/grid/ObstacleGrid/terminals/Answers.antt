@@ -1,5 +1,5 @@
 -- The lines are those of the points and boxes, at most 100 each way.
-use Rattle.std.proofs.Common.{◌≤◌, sym, subst, ◌∙◌, length}
+use Rattle.std.proofs.Common.{sym, subst, ◌∙◌, arith}
 use Rattle.hanan_grid.specs.LinesLaws.{IsRising}
 use Rattle.hanan_grid.specs.GridLaws.{IsRising-xs_of, IsRising-ys_of}
 use Rattle.obstacles_in.specs.Obstacles.{marks_of}
@@ -18,10 +18,8 @@ point_vertices-requires-clause-rising_rows c =
 
 pub point_vertices-requires-clause-few_columns : goal.point_vertices-requires-clause-few_columns
 point_vertices-requires-clause-few_columns c =
-    subst (λ lines. length lines ≤ 100) (sym (c.deref.ensures.value ∙ c.self.invariant.columns))
-    (few_columns c.self.inside.obstacles.now c.self.invariant.obstacles)
+    grind (arith, few_columns c.self.inside.obstacles.now c.self.invariant.obstacles)
 
 pub point_vertices-requires-clause-few_rows : goal.point_vertices-requires-clause-few_rows
 point_vertices-requires-clause-few_rows c =
-    subst (λ lines. length lines ≤ 100) (sym (c.deref-2.ensures.value ∙ c.self.invariant.rows))
-    (few_rows c.self.inside.obstacles.now c.self.invariant.obstacles)
+    grind (arith, few_rows c.self.inside.obstacles.now c.self.invariant.obstacles)

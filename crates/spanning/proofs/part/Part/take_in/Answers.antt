@@ -25,6 +25,4 @@ pub returns-clause-part : goal.returns-clause-part
 returns-clause-part c = rw (c.add.ensures, c.add-2.ensures) (taken c).0
 
 pub returns-clause-less : goal.returns-clause-less
-returns-clause-less c =
-    let known = taken c in
-    rw c.add.ensures (outside-less c.args.self.now.inside c.if-has.outer (omega (arith, known.1, c.requires.part.numbers)) known.2)
+returns-clause-less c = grind (arith, taken c, outside-less)

@@ -1,5 +1,4 @@
-use Rattle.std.proofs.Common.{◌∙◌, Some, refl}
-use Rattle.tree_judge.specs.Judged.{with_split}
+use Rattle.std.proofs.Common.{Some, refl, arith}
 use Rattle.tree_judge.proofs.lemmas.JudgeSteps.{none_gives, some_gives, count_passes, count_fails, stands_edges}
 use Rattle.tree_judge.proofs.judge.Judge.judge.Goals as goal
 
@@ -55,16 +54,7 @@ returns-in-Edge-clause-fault g c =
     c.judge_edge.ensures.fault)
 
 pub returns-in-Split-clause-passes : goal.returns-in-Split-clause-passes
-returns-in-Split-clause-passes g c =
-    rw c.in-Split.is
-    (none_gives c.judge_split.result _ _
-    (λ passes s stands. let (may, behind) = passes s stands in
-    (with_split c.args.g.now s c.in-Split.on, (may, refl), behind))
-    c.judge_split.ensures.passes)
+returns-in-Split-clause-passes g c = grind (arith, none_gives)
 
 pub returns-in-Split-clause-fault : goal.returns-in-Split-clause-fault
-returns-in-Split-clause-fault g c =
-    rw c.in-Split.is
-    (some_gives c.judge_split.result _ _
-    (λ cause fault s stands. (fault s stands, c.judge_split.ensures.edges ∙ stands.network))
-    c.judge_split.ensures.fault)
+returns-in-Split-clause-fault g c = grind (arith, some_gives)

@@ -1,14 +1,9 @@
-use Rattle.std.proofs.Common.{refl}
-use Rattle.tree_judge.specs.Cuts.{cut_of}
-use Rattle.tree_judge.proofs.lemmas.JudgeSteps.{CutFault-due, cut_passes}
+use Rattle.std.proofs.Common.{refl, arith}
+use Rattle.tree_judge.proofs.lemmas.JudgeSteps.{cut_passes}
 use Rattle.tree_judge.proofs.judge.Judge.judge_cut.Goals as goal
 
 pub returns-in-Some-clause-fault : goal.returns-in-Some-clause-fault
-returns-in-Some-clause-fault g c s stands = (
-  CutFault-due c.args.g.now s c.args.self.now (cut_of c.args.weight c.args.members.now) c.args.line c.in-Some.cause
-      stands (c.in-Some.ensures.fault s.cuts stands.leaf),
-  stands.network,
-)
+returns-in-Some-clause-fault g c s stands = grind (arith, c.in-Some.ensures.fault s.cuts stands.leaf)
 
 pub returns-clause-passes : goal.returns-clause-passes
 returns-clause-passes g c s stands =

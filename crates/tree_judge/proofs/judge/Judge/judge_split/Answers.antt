@@ -17,13 +17,7 @@ returns-then-not-is_split_undecided-clause-fault c s stands =
 pub returns-then-self-ge-MOST_SPLITS-clause-fault :
     goal.returns-then-self-ge-MOST_SPLITS-clause-fault
 returns-then-self-ge-MOST_SPLITS-clause-fault c s stands =
-    let undecided = c.is_split_undecided.ensures.0 c.if-not-is_split_undecided.false in (
-      refl,
-      record {
-        undecided = split_due c.args.g.now s c.args.self.now c.args.on stands undecided;
-        many = omega (arith, c.if-self-ge-MOST_SPLITS.true, stands.splits);
-      },
-    )
+    grind (arith, c.is_split_undecided.ensures.0 c.if-not-is_split_undecided.false, split_due c.args.g.now s c.args.self.now c.args.on stands (c.is_split_undecided.ensures.0 c.if-not-is_split_undecided.false))
 
 pub returns-clause-passes : goal.returns-clause-passes
 returns-clause-passes c s stands =

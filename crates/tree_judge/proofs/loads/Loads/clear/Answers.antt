@@ -1,19 +1,15 @@
-use Rattle.std.proofs.Common.{ℕ, ◌≡◌, length, replicate, ap, ◌∙◌, arith, length-set}
+use Rattle.std.proofs.Common.{ℕ, ◌≡◌, length, ◌∙◌, arith, length-set}
 use Rattle.tree_judge.specs.ArcLoads.{both_loads}
 use Rattle.tree_judge.proofs.lemmas.ArcLoads.{AreLoads-empty, below_still, listed_still, none_listed, zeros}
 use Rattle.tree_judge.proofs.loads.Loads.clear.Goals as goal
 
 pub set-requires : goal.set-requires
 set-requires c =
-    let (within, rest) = below_still c.loop-n.self-inside.listed.items c.pop.new.self.items c.in-Some.n
-    (length c.args.self.now.there) c.in-Some.ensures.items c.loop-n.invariant.within in
-    omega (arith, within, c.loop-n.invariant.there)
+    grind (arith, below_still c.loop-n.self-inside.listed.items c.pop.new.self.items c.in-Some.n (length c.args.self.now.there) c.in-Some.ensures.items c.loop-n.invariant.within)
 
 pub set-requires-in-Some : goal.set-requires-in-Some
 set-requires-in-Some c =
-    let (within, rest) = below_still c.loop-n.self-inside.listed.items c.pop.new.self.items c.in-Some.n
-    (length c.args.self.now.there) c.in-Some.ensures.items c.loop-n.invariant.within in
-    omega (arith, within, c.loop-n.invariant.back)
+    grind (arith, below_still c.loop-n.self-inside.listed.items c.pop.new.self.items c.in-Some.n (length c.args.self.now.there) c.in-Some.ensures.items c.loop-n.invariant.within)
 
 pub loop-n-preserved : goal.loop-n-preserved
 loop-n-preserved c =
@@ -34,20 +30,10 @@ loop-n-preserved c =
 
 -- no edge is listed any more
 empty : (c : goal.In_default) → (n : ℕ) → both_loads c.loop-n.self-inside.there c.loop-n.self-inside.back n ≡ 0
-empty c =
-    none_listed c.loop-n.self-inside.there c.loop-n.self-inside.back c.loop-n.self-inside.listed.items
-    (omega (arith, c.in_default.ensures.cases.0)) c.loop-n.invariant.listed
+empty c = grind (arith, none_listed)
 
 pub invariant_of-self : goal.invariant_of-self
-invariant_of-self c =
-    AreLoads-empty c.loop-n.self-inside.there c.loop-n.self-inside.back c.pop.new.self.items _ (length c.args.self.now.there)
-    c.loop-n.invariant.there c.loop-n.invariant.back (c.pop.ensures.capacity ∙ c.loop-n.invariant.room)
-    (omega (arith, c.in_default.ensures.cases.1)) (empty c)
+invariant_of-self c = grind (arith, AreLoads-empty, empty c)
 
 pub returns : goal.returns
-returns c =
-    let there = zeros c.loop-n.self-inside.there (λ k. omega (arith, empty c k))
-    ∙ ap (λ n. replicate n 0) c.loop-n.invariant.there in
-    let back = zeros c.loop-n.self-inside.back (λ k. omega (arith, empty c k))
-    ∙ ap (λ n. replicate n 0) c.loop-n.invariant.back in
-    λ i. record { there = there i; back = back i }
+returns c = grind (arith, zeros, empty)

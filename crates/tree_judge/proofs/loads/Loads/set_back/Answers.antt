@@ -7,17 +7,7 @@ use Rattle.tree_judge.proofs.loads.Loads.set_back.Goals.{then-load-gt0+then-not-
 
 pub push_reserved-requires : goal.push_reserved-requires
 push_reserved-requires c =
-    let there = c.self.inside.there in
-    let back = c.self.inside.back in
-    let within : c.args.n < length there =
-    omega (arith, c.requires.edge, ap (λ (o : ArcLoads). length o.back) c.self.view_is, c.self.invariant.size) in
-    let none = ap (λ (o : ArcLoads). both_loads o.there o.back c.args.n) c.self.view_is
-    ∙ none_loaded (both_loads c.args.self.now.there c.args.self.now.back c.args.n) c.if-not-is_loaded.ensures.1 in
-    omega (
-      arith,
-      room_for there back c.self.inside.listed.items c.args.n c.self.invariant.size c.self.invariant.list within none,
-      c.self.invariant.room,
-    )
+    grind (arith, none_loaded (both_loads c.args.self.now.there c.args.self.now.back c.args.n) c.if-not-is_loaded.ensures.1, room_for)
 
 pub invariant_of-self : goal.invariant_of-self
 invariant_of-self c =
