@@ -36,7 +36,13 @@ IsDecisionFor-inside_of g d (split.Vertex v) decision undecided = IsDecisionFor-
 pub length-decisions_of : (d : Decided) (t : Tree SplitOn) → length (decisions_of d t) ≡ length (packings_of t)
 length-decisions_of d (Leaf cuts) = refl
 length-decisions_of d (Split on o i) =
-    grind (arith, length-append (decisions_of (outside_of d on) o) (decisions_of (inside_of d on) i), length-append (packings_of o) (packings_of i), length-decisions_of (outside_of d on) o, length-decisions_of (inside_of d on) i)
+    grind (
+      arith,
+      length-append (decisions_of (outside_of d on) o) (decisions_of (inside_of d on) i),
+      length-append (packings_of o) (packings_of i),
+      length-decisions_of (outside_of d on) o,
+      length-decisions_of (inside_of d on) i,
+    )
 
 -- an element of the first of two lists, and of the second
 slice_get-append_left : {X : Type 0} (xs ys : List X) (k : ℕ) → k < length xs → slice_get (xs ++ ys) k ≡ slice_get xs k
@@ -71,14 +77,24 @@ IsLeafAt-from_inside d on o i k dk cuts leaf =
 pub IsLeafAt-outside : (d : Decided) (on : SplitOn) (o i : Tree SplitOn) (k : ℕ) (dk : Decided) (cuts : List Cut) →
     k < length (packings_of o) → IsLeafAt d (Split on o i) k dk cuts → IsLeafAt (outside_of d on) o k dk cuts
 IsLeafAt-outside d on o i k dk cuts below leaf =
-    grind (arith, length-decisions_of (outside_of d on) o, slice_get-append_left, slice_get-append_left (packings_of o) (packings_of i) k below)
+    grind (
+      arith,
+      length-decisions_of (outside_of d on) o,
+      slice_get-append_left,
+      slice_get-append_left (packings_of o) (packings_of i) k below,
+    )
 
 -- .. and those that are its inside child's
 pub IsLeafAt-inside : (d : Decided) (on : SplitOn) (o i : Tree SplitOn) (k : ℕ) (dk : Decided) (cuts : List Cut) →
     length (packings_of o) ≤ k → IsLeafAt d (Split on o i) k dk cuts →
     IsLeafAt (inside_of d on) i (k - length (packings_of o)) dk cuts
 IsLeafAt-inside d on o i k dk cuts past leaf =
-    grind (arith, length-decisions_of (outside_of d on) o, slice_get-append_right, slice_get-append_right (packings_of o) (packings_of i) k past)
+    grind (
+      arith,
+      length-decisions_of (outside_of d on) o,
+      slice_get-append_right,
+      slice_get-append_right (packings_of o) (packings_of i) k past,
+    )
 
 -- the one leaf of a leaf
 pub IsLeafAt-leaf : (d : Decided) (last : List Cut) (k : ℕ) (dk : Decided) (cuts : List Cut) →

@@ -15,7 +15,13 @@ pub trees_of-parts : {S : Type 0} (t : Tree S) (nodes : List (Option S)) (packin
     trees_of (nodes_of t ++ nodes) (packings_of t ++ packings) ≡ t ∷ trees_of nodes packings
 trees_of-parts (Leaf cuts) nodes packings = refl
 trees_of-parts (Split on o i) nodes packings =
-    grind (arith, append_assoc (nodes_of o) (nodes_of i) nodes, append_assoc (packings_of o) (packings_of i) packings, trees_of-parts o (nodes_of i ++ nodes) (packings_of i ++ packings), trees_of-parts i nodes packings)
+    grind (
+      arith,
+      append_assoc (nodes_of o) (nodes_of i) nodes,
+      append_assoc (packings_of o) (packings_of i) packings,
+      trees_of-parts o (nodes_of i ++ nodes) (packings_of i ++ packings),
+      trees_of-parts i nodes packings,
+    )
 
 -- a tree's nodes and packings give it back
 pub tree_of-parts : {S : Type 0} (t : Tree S) → tree_of (nodes_of t) (packings_of t) ≡ t
@@ -36,7 +42,13 @@ length-packings_of (Split on o i) =
 pub length-nodes_of : {S : Type 0} (t : Tree S) → length (nodes_of t) + 1 ≡ 2 * length (packings_of t)
 length-nodes_of (Leaf cuts) = omega arith
 length-nodes_of (Split on o i) =
-    grind (arith, length-append (nodes_of o) (nodes_of i), length-append (packings_of o) (packings_of i), length-nodes_of o, length-nodes_of i)
+    grind (
+      arith,
+      length-append (nodes_of o) (nodes_of i),
+      length-append (packings_of o) (packings_of i),
+      length-nodes_of o,
+      length-nodes_of i,
+    )
 
 -- the leaves of two lists
 pub leaves_in-append : {S : Type 0} (xs ys : List (Option S)) → leaves_in (xs ++ ys) ≡ leaves_in xs + leaves_in ys
@@ -48,7 +60,13 @@ leaves_in-append (Some on ∷ xs) ys = leaves_in-append xs ys
 pub leaves_in-nodes_of : {S : Type 0} (t : Tree S) → leaves_in (nodes_of t) ≡ length (packings_of t)
 leaves_in-nodes_of (Leaf cuts) = omega arith
 leaves_in-nodes_of (Split on o i) =
-    grind (arith, leaves_in-append (nodes_of o) (nodes_of i), leaves_in-nodes_of o, leaves_in-nodes_of i, length-append (packings_of o) (packings_of i))
+    grind (
+      arith,
+      leaves_in-append (nodes_of o) (nodes_of i),
+      leaves_in-nodes_of o,
+      leaves_in-nodes_of i,
+      length-append (packings_of o) (packings_of i),
+    )
 
 -- cuts are stored as the pair of their parts
 abbrev pub cut_code : Coded Cut

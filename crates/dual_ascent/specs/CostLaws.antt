@@ -65,7 +65,13 @@ loaded_full : (g : Graph) (d : Decided) (packing : List Cut) (arc n : ℕ) (e : 
     is_saturated (costs_of g.edges (states_of g d) packing) arc ≡ true →
     (room_of state e ≡ Some (load packing e.a e.b)) ⊎ (room_of state e ≡ Some (load packing e.b e.a))
 loaded_full g d packing arc n e state half at decided full =
-    grind (arith, slice_get-costs_of g.edges (states_of g d) packing n e state, left_after-none, is_used_up-some, cases_eq (arc % 2) 0)
+    grind (
+      arith,
+      slice_get-costs_of g.edges (states_of g d) packing n e state,
+      left_after-none,
+      is_used_up-some,
+      cases_eq (arc % 2) 0,
+    )
 
 -- An arc of which packed cuts leave nothing is one of an edge whose room one of its two loads fills.
 pub saturated_edge : (g : Graph) (d : Decided) (packing : List Cut) → IsDecisionFor g d → (arc : ℕ) →
@@ -78,7 +84,8 @@ saturated_edge g d packing size arc full =
       arith,
       length-states_of g d size.edges,
       slice_get-get_or,
-      loaded_full g d packing arc (arc / 2) (get_or g.edges (arc / 2) (record { a = 0; b = 0; length = 0 })) (get_or (states_of g d) (arc / 2) Undecided) refl,
+      loaded_full g d packing arc (arc / 2) (get_or g.edges (arc / 2) (record { a = 0; b = 0; length = 0 }))
+          (get_or (states_of g d) (arc / 2) Undecided) refl,
       slice_get_past,
       length-costs_of g.edges (states_of g d) packing (length-states_of g d size.edges),
       cases_lt (arc / 2) (length g.edges),

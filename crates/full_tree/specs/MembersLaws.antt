@@ -54,7 +54,14 @@ below_with_place : (p q : ℕ) (qs : List ℕ) → p < q → AllByRecursion (λ 
     → AllByRecursion (λ r. p < r) (with_place q qs)
 below_with_place p q [] first rest = (first, tt)
 below_with_place p q (r ∷ rs) first rest =
-    grind (arith, order_of q r, with_place-below, with_place-same, with_place-above, below_with_place p q rs first rest.1)
+    grind (
+      arith,
+      order_of q r,
+      with_place-below,
+      with_place-same,
+      with_place-above,
+      below_with_place p q rs first rest.1,
+    )
 
 Climbs-with_place : (p : ℕ) (qs : List ℕ) → Climbs qs → Climbs (with_place p qs)
 Climbs-with_place p [] climbs = (tt, tt)
@@ -73,7 +80,16 @@ Climbs-ascending_places (p ∷ ps) = Climbs-with_place p (ascending_places ps) (
 Contains-with_place : (p : ℕ) (qs : List ℕ) → Contains (with_place p qs) p
 Contains-with_place p [] = Contains-first p []
 Contains-with_place p (q ∷ qs) =
-    grind (arith, order_of p q, with_place-below, Contains-first p (q ∷ qs), with_place-same, Contains-first q qs, with_place-above, Contains-rest q p (with_place p qs) (Contains-with_place p qs))
+    grind (
+      arith,
+      order_of p q,
+      with_place-below,
+      Contains-first p (q ∷ qs),
+      with_place-same,
+      Contains-first q qs,
+      with_place-above,
+      Contains-rest q p (with_place p qs) (Contains-with_place p qs),
+    )
 
 Contains-with_place_more : (p r : ℕ) (qs : List ℕ) → Contains qs r → Contains (with_place p qs) r
 Contains-with_place_more p r [] member = Contains-none r member

@@ -36,7 +36,8 @@ pub stations_of-members : (ps : List Point) (code : TreeCode) → map member_of 
 stations_of-members ps (Long root toward drops side tip) =
     grind (
       arith,
-      map-append (drop_stations ps root toward (point_at ps root) drops) (end_stations ps root toward (last_foot ps root toward (point_at ps root) drops) side tip),
+      map-append (drop_stations ps root toward (point_at ps root) drops) (end_stations ps root toward
+          (last_foot ps root toward (point_at ps root) drops) side tip),
       drop_stations-members ps root toward (point_at ps root) drops,
       end_stations-members ps root toward (last_foot ps root toward (point_at ps root) drops) side tip,
       append_assoc drops (option_to_list side) (tip ∷ []),
@@ -47,4 +48,9 @@ stations_of-members ps (Cross w s e n) = refl
 pub All-stations : (P : ℕ → Type 0) (ps : List Point) (code : TreeCode) → All P (named_places code)
     → All (λ s. P s.member) (stations_of ps code)
 All-stations P ps code all k d inside =
-    grind (arith, stations_of-members ps code, length-map (stations_of ps code) member_of, get_or-map member_of (stations_of ps code) k d (member_of d) inside)
+    grind (
+      arith,
+      stations_of-members ps code,
+      length-map (stations_of ps code) member_of,
+      get_or-map member_of (stations_of ps code) k d (member_of d) inside,
+    )

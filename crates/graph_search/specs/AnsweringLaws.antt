@@ -18,7 +18,11 @@ use Rattle.graph_search.specs.TreeLaws.{nodes_on, packings_on}
 pub told_fits : (g : Graph) (asked : SplitKind) (openings first_length : ℕ) (note : ConcatNote) (s : Solved) →
     openings ≤ 255 → IsTold g asked openings first_length s → IsAnswerOn g (answer_with openings note s)
 told_fits g asked openings first_length note s small is =
-    grind (arith, nodes_on g (nothing_decided g) s.tree is.searched.valid, packings_on g (nothing_decided g) s.tree is.searched.valid is.searched.cuts)
+    grind (
+      arith,
+      nodes_on g (nothing_decided g) s.tree is.searched.valid,
+      packings_on g (nothing_decided g) s.tree is.searched.valid is.searched.cuts,
+    )
 
 -- Its head tells the network, the tree and the note.
 pub told_head : (g : Graph) (asked : SplitKind) (openings first_length : ℕ) (note : ConcatNote) (s : Solved) →
@@ -31,4 +35,9 @@ pub searched_longer : (g : Graph) (asked : SplitKind) (openings first later : �
     (tree : Tree SplitOn) → first ≤ later → IsSearched g asked openings first network tree →
     IsSearched g asked openings later network tree
 searched_longer g asked openings first later network tree longer searched =
-    grind (arith, EndsRunOfOpenings-longer g first later network tree longer searched.run, EndsRunOfOpenings-longer g first later searched.by_kind.before searched.by_kind.before_tree longer searched.by_kind.run)
+    grind (
+      arith,
+      EndsRunOfOpenings-longer g first later network tree longer searched.run,
+      EndsRunOfOpenings-longer g first later searched.by_kind.before searched.by_kind.before_tree longer
+          searched.by_kind.run,
+    )

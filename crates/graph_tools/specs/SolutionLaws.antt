@@ -32,7 +32,8 @@ pub is_for : (options : GraphOptions) (first_length : ℕ) (g : Graph) (s : Solv
 is_for options first_length g s small short is few =
     grind (
       arith,
-      searched_longer g (kind_of options.split) options.openings first_length (total_of g) s.network s.tree short is.searched,
+      searched_longer g (kind_of options.split) options.openings first_length (total_of g) s.network s.tree
+          short is.searched,
       told_head g (kind_of options.split) options.openings first_length no_note s is,
       told_fits g (kind_of options.split) options.openings first_length no_note s small is,
     )

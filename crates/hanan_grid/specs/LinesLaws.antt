@@ -54,13 +54,29 @@ below_with_value : (x z : ℤ) (ys : List ℤ) → x <ℤ z → AllByRecursion (
     → AllByRecursion (λ y. x <ℤ y) (with_value z ys)
 below_with_value x z [] first rest = (first, tt)
 below_with_value x z (y ∷ ys) first rest =
-    grind (arith, order_of z y, with_value-below, with_value-same, with_value-above, below_with_value x z ys first rest.1)
+    grind (
+      arith,
+      order_of z y,
+      with_value-below,
+      with_value-same,
+      with_value-above,
+      below_with_value x z ys first rest.1,
+    )
 
 -- rising lines rise with one more value
 IsRising-with_value : (z : ℤ) (ys : List ℤ) → IsRising ys → IsRising (with_value z ys)
 IsRising-with_value z [] rising = (tt, tt)
 IsRising-with_value z (y ∷ ys) rising =
-    grind (arith, order_of z y, with_value-below, below_all, with_value-same, with_value-above, below_with_value, IsRising-with_value z ys rising.1)
+    grind (
+      arith,
+      order_of z y,
+      with_value-below,
+      below_all,
+      with_value-same,
+      with_value-above,
+      below_with_value,
+      IsRising-with_value z ys rising.1,
+    )
 
 -- ascending values rise
 pub IsRising-ascending : (zs : List ℤ) → IsRising (ascending zs)
@@ -81,7 +97,16 @@ member_above x z (y ∷ ys) above member = elim (Contains-cases y z ys member) [
 Contains-with_value : (z : ℤ) (ys : List ℤ) → Contains (with_value z ys) z
 Contains-with_value z [] = Contains-first z []
 Contains-with_value z (y ∷ ys) =
-    grind (arith, order_of z y, with_value-below, Contains-first z (y ∷ ys), with_value-same, Contains-first y ys, with_value-above, Contains-rest y z (with_value z ys) (Contains-with_value z ys))
+    grind (
+      arith,
+      order_of z y,
+      with_value-below,
+      Contains-first z (y ∷ ys),
+      with_value-same,
+      Contains-first y ys,
+      with_value-above,
+      Contains-rest y z (with_value z ys) (Contains-with_value z ys),
+    )
 
 -- what was a line is one
 Contains-with_value_more : (z x : ℤ) (ys : List ℤ) → Contains ys x → Contains (with_value z ys) x
@@ -142,7 +167,12 @@ same_first x y xs ys rises rises' x_in y_in = elim (Contains-cases y x ys x_in) 
 same_rest : (x y z : ℤ) (xs ys : List ℤ) → x ≡ y → IsRising (x ∷ xs)
     → ((w : ℤ) → Contains (x ∷ xs) w → Contains (y ∷ ys) w) → Contains xs z → Contains ys z
 same_rest x y z xs ys same rises into member =
-    grind (arith, Contains-cases y z ys (into z (Contains-rest x z xs member)), ints, member_above x z xs rises.0 member)
+    grind (
+      arith,
+      Contains-cases y z ys (into z (Contains-rest x z xs member)),
+      ints,
+      member_above x z xs rises.0 member,
+    )
 
 -- two rising lists with the same members are one
 pub same_from_members : (xs ys : List ℤ) → IsRising xs → IsRising ys → ((z : ℤ) → Contains xs z → Contains ys z)

@@ -34,25 +34,43 @@ row_of-below nx ny v inside = div_below v nx ny (grind arith) (omega arith)
 pub IsCrossing-point_of_vertex : (xs ys : List ℤ) (v : ℕ) → v < length xs * length ys
     → IsCrossing xs ys (point_of_vertex xs ys v)
 IsCrossing-point_of_vertex xs ys v inside =
-    grind (arith, Contains-line_at xs (v % length xs) (column_of-below (length xs) (length ys) v inside), Contains-line_at ys (v / length xs) (row_of-below (length xs) (length ys) v inside))
+    grind (
+      arith,
+      Contains-line_at xs (v % length xs) (column_of-below (length xs) (length ys) v inside),
+      Contains-line_at ys (v / length xs) (row_of-below (length xs) (length ys) v inside),
+    )
 
 -- the vertex of a vertex's point is that vertex
 pub vertex_of-point_of_vertex : (xs ys : List ℤ) (v : ℕ) → IsRising xs → IsRising ys → v < length xs * length ys
     → vertex_of xs ys (point_of_vertex xs ys v) ≡ v
 vertex_of-point_of_vertex xs ys v rises rises' inside =
-    grind (arith, place_of-line_at xs (v % length xs) (column_of-below (length xs) (length ys) v inside) rises, place_of-line_at ys (v / length xs) (row_of-below (length xs) (length ys) v inside) rises', vertex_number-parts (length xs) v)
+    grind (
+      arith,
+      place_of-line_at xs (v % length xs) (column_of-below (length xs) (length ys) v inside) rises,
+      place_of-line_at ys (v / length xs) (row_of-below (length xs) (length ys) v inside) rises',
+      vertex_number-parts (length xs) v,
+    )
 
 -- the vertex of a crossing is one
 pub vertex_of-crossing-below : (xs ys : List ℤ) (p : Point) → IsRising xs → IsRising ys → IsCrossing xs ys p
     → vertex_of xs ys p < length xs * length ys
 vertex_of-crossing-below xs ys p rises rises' at =
-    grind (arith, mul-add-lt (place_of p.y ys) (length xs) (place_of p.x xs) (length ys) (place_of-below p.y ys at.y rises') (place_of-below p.x xs at.x rises))
+    grind (
+      arith,
+      mul-add-lt (place_of p.y ys) (length xs) (place_of p.x xs) (length ys) (place_of-below p.y ys at.y rises')
+          (place_of-below p.x xs at.x rises),
+    )
 
 -- the point of a crossing's vertex is that crossing
 pub point_of_vertex-vertex_of : (xs ys : List ℤ) (p : Point) → IsRising xs → IsRising ys → IsCrossing xs ys p
     → point_of_vertex xs ys (vertex_of xs ys p) ≡ p
 point_of_vertex-vertex_of xs ys p rises rises' at =
-    grind (arith, point_of_vertex-at xs ys (place_of p.x xs) (place_of p.y ys) (place_of-below p.x xs at.x rises), line_at-place_of p.x xs at.x rises, line_at-place_of p.y ys at.y rises')
+    grind (
+      arith,
+      point_of_vertex-at xs ys (place_of p.x xs) (place_of p.y ys) (place_of-below p.x xs at.x rises),
+      line_at-place_of p.x xs at.x rises,
+      line_at-place_of p.y ys at.y rises',
+    )
 
 -- ---- edges and names
 
@@ -103,14 +121,25 @@ pub name_of-horizontal : (xs ys : List ℤ) (e j i : ℕ) → IsHorizontal xs ys
     → name_of xs ys (slice_index_or (edges_of_lines xs ys) e no_edge)
     ≡ name_between (crossing xs ys i j) (crossing xs ys (i + 1) j)
 name_of-horizontal xs ys e j i is =
-    grind (arith, point_of_vertex-at, point_of_vertex-at xs ys (i + 1) j is.column, get_or-horizontal xs ys j i no_edge is.row is.column, same_between)
+    grind (
+      arith,
+      point_of_vertex-at,
+      point_of_vertex-at xs ys (i + 1) j is.column,
+      get_or-horizontal xs ys j i no_edge is.row is.column,
+      same_between,
+    )
 
 -- a vertical edge is named by its crossings
 pub name_of-vertical : (xs ys : List ℤ) (e j i : ℕ) → IsVertical xs ys e j i
     → name_of xs ys (slice_index_or (edges_of_lines xs ys) e no_edge)
     ≡ name_between (crossing xs ys i j) (crossing xs ys i (j + 1))
 name_of-vertical xs ys e j i is =
-    grind (arith, point_of_vertex-at xs ys i j is.column, point_of_vertex-at xs ys i (j + 1) is.column, get_or-vertical xs ys j i no_edge is.row is.column)
+    grind (
+      arith,
+      point_of_vertex-at xs ys i j is.column,
+      point_of_vertex-at xs ys i (j + 1) is.column,
+      get_or-vertical xs ys j i no_edge is.row is.column,
+    )
 
 -- two horizontal edges with one name are one
 same_horizontal : (xs ys : List ℤ) (e f j i l k : ℕ) → IsRising xs → IsRising ys → IsHorizontal xs ys e j i

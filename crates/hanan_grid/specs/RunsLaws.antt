@@ -33,7 +33,12 @@ pub IsVertical-from_edge : (ps : List Point) (e row column : ℕ) → row + 1 < 
     slice_get (hanan_grid_of ps).edges e ≡ Some (vertical (length (xs_of ps)) (ys_of ps) row column) →
     IsVertical (xs_of ps) (ys_of ps) e row column
 IsVertical-from_edge ps e row column row_in column_in at =
-    grind (arith, same_number ps e (vertical_number (xs_of ps) (ys_of ps) row column) (vertical (length (xs_of ps)) (ys_of ps) row column), slice_get-vertical (xs_of ps) (ys_of ps) row column row_in column_in)
+    grind (
+      arith,
+      same_number ps e (vertical_number (xs_of ps) (ys_of ps) row column) (vertical (length (xs_of ps))
+          (ys_of ps) row column),
+      slice_get-vertical (xs_of ps) (ys_of ps) row column row_in column_in,
+    )
 
 -- the number of a horizontal edge
 pub IsHorizontal-from_edge : (ps : List Point) (e row column : ℕ) → row < length (ys_of ps) →
@@ -41,7 +46,11 @@ pub IsHorizontal-from_edge : (ps : List Point) (e row column : ℕ) → row < le
     slice_get (hanan_grid_of ps).edges e ≡ Some (horizontal (xs_of ps) row column) →
     IsHorizontal (xs_of ps) (ys_of ps) e row column
 IsHorizontal-from_edge ps e row column row_in column_in at =
-    grind (arith, same_number ps e (horizontal_number (xs_of ps) row column) (horizontal (xs_of ps) row column), slice_get-horizontal (xs_of ps) (ys_of ps) row column row_in column_in)
+    grind (
+      arith,
+      same_number ps e (horizontal_number (xs_of ps) row column) (horizontal (xs_of ps) row column),
+      slice_get-horizontal (xs_of ps) (ys_of ps) row column row_in column_in,
+    )
 
 -- ---- sets
 

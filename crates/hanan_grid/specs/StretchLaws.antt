@@ -121,7 +121,11 @@ crossing-places : (ps : List Point) (p : Point) (x y : ℤ) → IsCrossing (xs_o
     y ≡ p.y →
     crossing (xs_of ps) (ys_of ps) (place_of x (xs_of ps)) (place_of y (ys_of ps)) ≡ p
 crossing-places ps p x y at same_x same_y =
-    grind (arith, line_at-place_of p.x (xs_of ps) at.x (IsRising-xs_of ps), line_at-place_of p.y (ys_of ps) at.y (IsRising-ys_of ps))
+    grind (
+      arith,
+      line_at-place_of p.x (xs_of ps) at.x (IsRising-xs_of ps),
+      line_at-place_of p.y (ys_of ps) at.y (IsRising-ys_of ps),
+    )
 
 -- crossings of one y are the ends of a stretch in a row
 pub IsRowStretch-from_same : (ps : List Point) (p q : Point) → IsCrossing (xs_of ps) (ys_of ps) p →

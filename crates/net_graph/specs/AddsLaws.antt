@@ -16,12 +16,25 @@ slice_get-set_same set n flag within =
 slice_get-set_other : (set : List Bool) (n e : ℕ) (flag : Bool) → e ≢ n → slice_get (slice_set set n flag) e ≡
     slice_get set e
 slice_get-set_other set n e flag apart =
-    grind (arith, cases_lt e (length set), slice_get-get_or, length-set set n flag, get_or-set_other set n e flag false apart, slice_get_past)
+    grind (
+      arith,
+      cases_lt e (length set),
+      slice_get-get_or,
+      length-set set n flag,
+      get_or-set_other set n e flag false apart,
+      slice_get_past,
+    )
 
 -- nothing is in the empty set
 none_before : (size e : ℕ) → slice_get (replicate size false) e ≡ Some true → ⊥
 none_before size e inside =
-    grind (arith, slice_get_within (replicate size false) e true inside, slice_get-get_or (replicate size false) e false (slice_get_within (replicate size false) e true inside), get_or-replicate, length-replicate size false)
+    grind (
+      arith,
+      slice_get_within (replicate size false) e true inside,
+      slice_get-get_or (replicate size false) e false (slice_get_within (replicate size false) e true inside),
+      get_or-replicate,
+      length-replicate size false,
+    )
 
 -- nothing was put in
 pub Adds-nothing : (P : ℕ → Type 0) (set : List Bool) → ((e : ℕ) → P e → ⊥) → Adds P set set

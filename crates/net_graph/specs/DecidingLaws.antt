@@ -41,7 +41,13 @@ IsRequired-with_vertex g d v w state undecided required =
 pub IsUndecided-before_edge : (g : Graph) (d : Decided) (n k : ℕ) (state : EdgeState) → IsUndecided g d n →
     IsUndecided g (with_edge d n state) k → IsUndecided g d k
 IsUndecided-before_edge g d n k state undecided is =
-    grind (arith, cases_eq k n, states_of-parts g (with_edge d n state) k Undecided is, states_of-at, slice_get-set_other)
+    grind (
+      arith,
+      cases_eq k n,
+      states_of-parts g (with_edge d n state) k Undecided is,
+      states_of-at,
+      slice_get-set_other,
+    )
 
 -- .. and so was one that is undecided where one more vertex is decided
 pub IsUndecided-before_vertex : (g : Graph) (d : Decided) (v k : ℕ) (state : VertexState) → IsVertexUndecided g d v →

@@ -160,7 +160,14 @@ states_of-from_kept g d n e at decided kept =
 pub IsUndecided-parts : (g : Graph) (d : Decided) (n : ℕ) → IsDecisionFor g d → IsUndecided g d n →
     (n < length g.edges) × (slice_get d.edges n ≡ Some Undecided) × (IsFree g d n → ⊥)
 IsUndecided-parts g d n decision undecided =
-    grind (arith, states_of-parts g d n Undecided undecided, slice_get_within, state_at_ends-undecided, states_of-from_free, same_Some)
+    grind (
+      arith,
+      states_of-parts g d n Undecided undecided,
+      slice_get_within,
+      state_at_ends-undecided,
+      states_of-from_free,
+      same_Some,
+    )
 
 -- no end of an undecided edge is missed
 pub undecided-not_missed : (g : Graph) (d : Decided) (n : ℕ) (e : Edge) → IsDecisionFor g d → IsUndecided g d n →
@@ -180,7 +187,12 @@ no_vertex_decided g v state is = slice_get-replicate g.vertices v vertex.Undecid
 -- nothing decided is a decision on each graph
 pub IsDecisionFor-nothing : (g : Graph) → IsDecisionFor g (nothing_decided g)
 IsDecisionFor-nothing g =
-    grind (arith, length-replicate (length g.edges) Undecided, length-replicate g.vertices vertex.Undecided, no_vertex_decided)
+    grind (
+      arith,
+      length-replicate (length g.edges) Undecided,
+      length-replicate g.vertices vertex.Undecided,
+      no_vertex_decided,
+    )
 
 -- .. with which every edge set agrees
 pub Agrees-nothing : (g : Graph) (set : List Bool) → Agrees g (nothing_decided g) set

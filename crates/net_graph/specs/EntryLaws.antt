@@ -14,7 +14,14 @@ slice_get-set_same xs n x within = grind (arith, slice_get-get_or, length-set xs
 pub slice_get-set_other : {A : Type 0} (xs : List A) (n k : ℕ) (x : A) → k ≢ n →
     slice_get (slice_set xs n x) k ≡ slice_get xs k
 slice_get-set_other xs n k x apart =
-    grind (arith, cases_lt k (length xs), slice_get-get_or, length-set xs n x, get_or-set_other xs n k x x apart, slice_get_past)
+    grind (
+      arith,
+      cases_lt k (length xs),
+      slice_get-get_or,
+      length-set xs n x,
+      get_or-set_other xs n k x x apart,
+      slice_get_past,
+    )
 
 -- each entry of a list of one entry again and again
 pub slice_get-replicate : {A : Type 0} (size n : ℕ) (x y : A) → slice_get (replicate size x) n ≡ Some y → x ≡ y

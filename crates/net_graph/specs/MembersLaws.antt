@@ -23,4 +23,10 @@ flag_more n false = refl
 pub members_of-more : (set : List Bool) (n : ℕ) → n < length set → members_of (take (n + 1) set) ≡
     members_of (take n set) ++ (if has set n then n ∷ [] else [])
 members_of-more set n within =
-    grind (arith, take_more set n false within, members_from-append 0 (take n set) (get_or set n false ∷ []), length-take n set, flag_more n (get_or set n false))
+    grind (
+      arith,
+      take_more set n false within,
+      members_from-append 0 (take n set) (get_or set n false ∷ []),
+      length-take n set,
+      flag_more n (get_or set n false),
+    )

@@ -17,7 +17,12 @@ use Rattle.points_in.specs.Words.{Word, words_of}
 pub length-terminals_of-append : (ps qs : List Point) → length (terminals_of ps) ≤ length (terminals_of (ps ++ qs))
 length-terminals_of-append ps [] = omega (arith, ap (λ rs. length (terminals_of rs)) (append-nil ps))
 length-terminals_of-append ps (q ∷ qs) =
-    grind (arith, length-terminals_of-push ps q, length-terminals_of-append (ps ++ q ∷ []) qs, append_assoc ps (q ∷ []) qs)
+    grind (
+      arith,
+      length-terminals_of-push ps q,
+      length-terminals_of-append (ps ++ q ∷ []) qs,
+      append_assoc ps (q ∷ []) qs,
+    )
 
 -- more words list the same points and more
 pub points_of-append : (xs ys : List Word) → (more : List Point) × (points_of (xs ++ ys) ≡ points_of xs ++ more)
@@ -38,7 +43,12 @@ number_among (x ∷ xs) y ys numbers = number_among xs y ys numbers.1
 -- the front of words that raise no fault raises none
 pub sound_front : (xs ys : List Word) → AreSound (xs ++ ys) → AreSound xs
 sound_front xs ys sound =
-    grind (arith, points_of-append xs ys, numbers_front xs ys sound.numbers, length-terminals_of-append (points_of xs) (points_of-append xs ys).0)
+    grind (
+      arith,
+      points_of-append xs ys,
+      numbers_front xs ys sound.numbers,
+      length-terminals_of-append (points_of xs) (points_of-append xs ys).0,
+    )
 
 -- a word that fails raises one
 pub fails_not_sound : (before : List Word) (word : Word) (after : List Word) (fault : PointFault)
@@ -49,7 +59,10 @@ fails_not_sound before word after (BadNumber at) fails sound =
 fails_not_sound before word after (NumberTooLarge at) fails sound =
     fails.2 (number_among before word after sound.numbers).fits
 fails_not_sound before word after (TooManyPoints at) fails sound =
-    grind (arith, sound_front (before ++ word ∷ []) after (subst AreSound (sym (append_assoc before (word ∷ []) after)) sound))
+    grind (
+      arith,
+      sound_front (before ++ word ∷ []) after (subst AreSound (sym (append_assoc before (word ∷ []) after)) sound),
+    )
 fails_not_sound before word after OddCount fails sound = fails
 fails_not_sound before word after NoPoints fails sound = fails
 fails_not_sound before word after (Memory e) fails sound = fails

@@ -44,13 +44,26 @@ terminals_of_push : (ps : List Point) (p : Point)
     → terminals_of (ps ++ p ∷ []) ≡ cond (holds p (terminals_of ps)) (terminals_of ps) (terminals_of ps ++ p ∷ [])
 terminals_of_push [] p = refl
 terminals_of_push (a ∷ ps) p =
-    grind (arith, terminals_of_push ps p, cases_Bool (same_point a p), cases_Bool (holds p (terminals_of ps)), filter-append, append-nil, holds-filter)
+    grind (
+      arith,
+      terminals_of_push ps p,
+      cases_Bool (same_point a p),
+      cases_Bool (holds p (terminals_of ps)),
+      filter-append,
+      append-nil,
+      holds-filter,
+    )
 
 -- one more point takes no terminal away
 pub length-terminals_of-push : (ps : List Point) (p : Point)
     → length (terminals_of ps) ≤ length (terminals_of (ps ++ p ∷ []))
 length-terminals_of-push ps p =
-    grind (arith, cases_Bool (holds p (terminals_of ps)), terminals_of_push ps p, length-append (terminals_of ps) (p ∷ []))
+    grind (
+      arith,
+      cases_Bool (holds p (terminals_of ps)),
+      terminals_of_push ps p,
+      length-append (terminals_of ps) (p ∷ []),
+    )
 
 -- a repeat changes nothing
 pub terminals_of_repeat : (ps : List Point) (p : Point) → Contains (terminals_of ps) p

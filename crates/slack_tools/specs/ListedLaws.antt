@@ -31,7 +31,15 @@ pub passing_text : (f : ℕ → List ℕ) (p : ℕ → Bool) (n : ℕ) →
     flat_map f (filter p (range_with_len 0 n)) ++ (if p n then f n else [])
     ≡ flat_map f (filter p (range_with_len 0 (n + 1)))
 passing_text f p n =
-    grind (arith, flat_map f (filter p (range_with_len 0 n)), text_if f (p n) n, p n, flat_map-append f (filter p (range_with_len 0 n)) (if p n then n ∷ [] else []), flat_map f, passing_more p n)
+    grind (
+      arith,
+      flat_map f (filter p (range_with_len 0 n)),
+      text_if f (p n) n,
+      p n,
+      flat_map-append f (filter p (range_with_len 0 n)) (if p n then n ∷ [] else []),
+      flat_map f,
+      passing_more p n,
+    )
 
 -- the number is the one that may be there
 only_one : (flag : Bool) (n e : ℕ) → Contains (if flag then n ∷ [] else []) e → (e ≡ n) × (flag ≡ true)

@@ -31,7 +31,11 @@ distance_of-same ps i = let p = slice_index_or ps i origin in omega (arith, no_w
 -- .. and as far from another as that one from it
 pub distance_of-back : (ps : List Point) (i j : ℕ) → distance_of ps i j ≡ distance_of ps j i
 distance_of-back ps i j =
-    grind (arith, same_way (slice_index_or ps i origin).x (slice_index_or ps j origin).x, same_way (slice_index_or ps i origin).y (slice_index_or ps j origin).y)
+    grind (
+      arith,
+      same_way (slice_index_or ps i origin).x (slice_index_or ps j origin).x,
+      same_way (slice_index_or ps i origin).y (slice_index_or ps j origin).y,
+    )
 
 -- longer hops lead at least as far
 pub Leads-longer : (ps : List Point) (least most i j : ℕ) → least ≤ most → Leads (IsHop ps least) i j →

@@ -131,7 +131,11 @@ packs_without_fault g d cuts c n cause packs fault =
 same_overloads : (g : Graph) (d : Decided) (cuts : List Cut) (c : Cut) (n : ℕ) (cause cause' : Cause) →
     Overloads g d cuts c n cause → Overloads g d cuts c n cause' → cause ≡ cause'
 same_overloads g d cuts c n cause cause' over over' =
-    grind (arith, same_overload g d (cuts ++ c ∷ []) c.members over.edge over'.edge over.amount over'.amount over.room over'.room over.first over'.first)
+    grind (
+      arith,
+      same_overload g d (cuts ++ c ∷ []) c.members over.edge over'.edge over.amount over'.amount over.room
+          over'.room over.first over'.first,
+    )
 
 -- the line of one that may not has one
 pub same_cut_fault : (g : Graph) (d : Decided) (cuts : List Cut) (c : Cut) (n : ℕ) (cause cause' : Cause) →

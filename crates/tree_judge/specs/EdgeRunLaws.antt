@@ -108,7 +108,12 @@ front_skips claim front rest k s is =
 front_takes : (claim : Claim) (front rest : List Bool) (k : ℕ) (s : SoFar) →
     HasFront claim front (true ∷ rest) k s → HasFront claim (front ++ true ∷ []) rest (k + 1) (with_edge s k)
 front_takes claim front rest k s is =
-    grind (arith, length-append front (true ∷ []), set_at front false (replicate (length rest) false) true k (sym is.place), later front true (replicate (length rest) false))
+    grind (
+      arith,
+      length-append front (true ∷ []),
+      set_at front false (replicate (length rest) false) true k (sym is.place),
+      later front true (replicate (length rest) false),
+    )
 
 -- where no edge is due the network is whole
 front_whole : (claim : Claim) (front rest : List Bool) (k : ℕ) (s : SoFar) → HasFront claim front rest k s →
@@ -120,7 +125,11 @@ front_whole claim front rest k s is none =
 none_behind : (claim : Claim) (front rest : List Bool) (k : ℕ) (s : SoFar) (m : ℕ) →
     HasFront claim front rest k s → k ≤ m → has s.network m ≡ false
 none_behind claim front rest k s m is behind =
-    grind (arith, get_or-append_right front (replicate (length rest) false) k m false (sym is.place) behind, has-none (length rest) (m - k))
+    grind (
+      arith,
+      get_or-append_right front (replicate (length rest) false) k m false (sym is.place) behind,
+      has-none (length rest) (m - k),
+    )
 
 -- the next edge is one of the graph
 next_inside : (g : Graph) (claim : Claim) (front : List Bool) (flag : Bool) (rest : List Bool) (k : ℕ) (s : SoFar)
