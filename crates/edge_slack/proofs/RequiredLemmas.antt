@@ -29,7 +29,7 @@ required_before : (g : Graph) (e : ℕ) (x : Edge) (v : ℕ) → slice_get g.edg
     IsRequired g (edge_taken_in g e) v → OrAnEnd g x v
 required_before g e x v at within (inl terminal) = inl (inl (inl terminal))
 required_before g e x v at within (inr (inl (n, y, inside, there, ends))) =
-    grind (arith, same_Some, slice_get g.edges, state_taken_in g e n Inside within inside)
+    grind (arith, same_Some, state_taken_in g e n Inside within inside)
 required_before g e x v at within (inr (inr met)) =
     let not : Met ≡ vertex.Undecided = vertex_taken_in g e v Met met in cc
 

@@ -65,7 +65,7 @@ pub row_more : (ps : List Point) (row low column n : ℕ) (old set : List Bool) 
     Adds (IsInRowBelow ps row low column) old set →
     Adds (IsInRowBelow ps row low (column + 1)) old (slice_set set n true)
 row_more ps row low column n old set above within is adds =
-    grind (arith, Adds-then, slice_set set n true, Adds-one set n within, IsHorizontal, cases_lt, horizontal_number)
+    grind (arith, Adds-then, Adds-one set n within, cases_lt)
 
 -- all edges of a row between two columns
 pub row_all : (ps : List Point) (row from to bound : ℕ) (old set : List Bool) → max from to ≤ bound →
@@ -84,7 +84,7 @@ pub column_part_more : (ps : List Point) (column low row n : ℕ) (old set : Lis
     Adds (IsInColumnPart ps column low row) old set →
     Adds (IsInColumnPart ps column low (row + 1)) old (slice_set set n true)
 column_part_more ps column low row n old set above within is adds =
-    grind (arith, Adds-then, slice_set set n true, Adds-one set n within, IsVertical, cases_lt, vertical_number)
+    grind (arith, Adds-then, Adds-one set n within, cases_lt)
 
 -- all edges of a column between two rows
 pub column_part_all : (ps : List Point) (column from to bound : ℕ) (old set : List Bool) →

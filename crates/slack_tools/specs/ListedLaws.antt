@@ -33,11 +33,9 @@ pub passing_text : (f : ℕ → List ℕ) (p : ℕ → Bool) (n : ℕ) →
 passing_text f p n =
     grind (
       arith,
-      flat_map f (filter p (range_with_len 0 n)),
       text_if f (p n) n,
       p n,
       flat_map-append f (filter p (range_with_len 0 n)) (if p n then n ∷ [] else []),
-      flat_map f,
       passing_more p n,
     )
 

@@ -1,5 +1,5 @@
 -- How the next open leaf can be opened.
-use Rattle.std.proofs.Common.{ℕ, ◌≡◌, ◌<◌, ◌≤◌, ◌^◌, ◌↔◌, ◌⊎◌, ⊎_elim, inl, inr, Bool, true, false, List, length, slice_get, sum_by, IsTrue, Option, Some, None, refl, ap, sym, ◌∙◌, subst, arith, get_or}
+use Rattle.std.proofs.Common.{ℕ, ◌≡◌, ◌<◌, ◌≤◌, ◌^◌, ◌↔◌, ◌⊎◌, ⊎_elim, inl, inr, Bool, true, false, List, length, slice_get, IsTrue, Option, Some, None, refl, ap, sym, ◌∙◌, subst, arith, get_or}
 use Rattle.std.proofs.lemmas.Option.{same_Some, slice_get_within, slice_get_read}
 use Rattle.net_graph.specs.declared.state.EdgeState.TheVariants.{Inside}
 use Rattle.net_graph.specs.declared.packing.Cut.{Cut}
@@ -51,7 +51,7 @@ pub record IsNextLeaf (g : Graph) (kept : Frontier) (place : ℕ) (note : LeafNo
 pub next_leaf : (g : Graph) (kept : Frontier) (place : ℕ) (note : LeafNote) → IsSearch g kept → IsNextNote kept.best.length kept.notes.items place →
     note ≡ get_or kept.notes.items place note → (leaf : DecidedLeaf) × IsNextLeaf g kept place note leaf
 next_leaf g kept place note search next is =
-    grind (arith, slice_get_within, same_Some, slice_get_read, slice_get kept.notes.items place, beside_right, flag_at)
+    grind (arith, slice_get_within, same_Some, slice_get_read, beside_right, flag_at)
 
 -- an edge with a saturated arc is undecided or inside
 saturated_cases : (g : Graph) (d : Decided) (packing : List Cut) (n : ℕ) → HasSaturatedArc g d packing n →
@@ -60,7 +60,7 @@ saturated_cases g d packing n (e, state, at, state_at, saturated) = grind (arith
 
 pub saturated_inside : (g : Graph) (d : Decided) (packing : List Cut) (n : ℕ) → HasSaturatedArc g d packing n → (IsUndecided g d n → ⊥) →
     slice_get d.edges n ≡ Some Inside
-saturated_inside g d packing n arc other = grind (arith, slice_get d.edges n, saturated_cases g d packing n arc)
+saturated_inside g d packing n arc other = grind (arith, saturated_cases g d packing n arc)
 
 candidate_vertex : (asked : SplitKind) (g : Graph) (d : Decided) (set : List Bool) (v : ℕ) → IsCandidate asked g d set (split.Vertex v) → IsVertexToSplit g d set v
 candidate_vertex asked g d set v is = grind arith
@@ -87,7 +87,6 @@ leaf_to_split g kept place v note search (leaf, leaf_at, below, splits) is =
       slice_get_within,
       same_Some,
       slice_get_read,
-      slice_get kept.notes.items place,
       flag_at,
     )
 
@@ -107,7 +106,7 @@ as_if_both : (g : Graph) (anew : Bool) (parent : List Cut) (d_out d_in : Decided
     (IsTrue inside.note.is_anew ↔ MayBeNone g anew (carried g d_in parent)) →
     (as_if : List Cut) × MayBe anew parent as_if × MayBegin g as_if d_out outside × MayBegin g as_if d_in inside
 as_if_both g anew parent d_out d_in outside inside both out_begins in_begins out_flag in_flag =
-    grind (arith, both parent, sum_by, carried-in_units, both (in_units parent), cases_Bool outside.note.is_anew)
+    grind (arith, both parent, carried-in_units, both (in_units parent), cases_Bool outside.note.is_anew)
 
 module _ (g : Graph) (kept : Frontier) (place : ℕ) (note : LeafNote) (search : IsSearch g kept) (leaf : DecidedLeaf)
     (is_next : IsNextLeaf g kept place note leaf) where

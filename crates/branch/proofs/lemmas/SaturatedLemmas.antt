@@ -24,7 +24,7 @@ module _ (H : ℕ → Type 0) where
   -- one more number, which was put in
   pub put_more : (old set : List Bool) (n : ℕ) → n < length set → Adds (λ k. (k < n) × H k) old set → H n →
       Adds (λ k. (k < n + 1) × H k) old (slice_set set n true)
-  put_more old set n within adds here = grind (arith, Adds-then, slice_set set n true, Adds-one set n within, cases_lt)
+  put_more old set n within adds here = grind (arith, Adds-then, Adds-one set n within, cases_lt)
 
   -- .. or wasn't
   pub put_none : (old set : List Bool) (n : ℕ) → Adds (λ k. (k < n) × H k) old set → (H n → ⊥) →

@@ -37,7 +37,7 @@ state_written : {A : Type 0} (xs : List A) (n k : ℕ) (x y : A) → n < length 
     slice_get (slice_set xs n x) k ≡ Some y →
     ((k ≡ n) × (x ≡ y)) ⊎ (slice_get xs k ≡ Some y)
 state_written xs n k x y within found =
-    grind (arith, cases_eq k n, same_Some, slice_get-set_same xs n x within, slice_get (slice_set xs n x), slice_get-set_other)
+    grind (arith, cases_eq k n, same_Some, slice_get-set_same xs n x within, slice_get-set_other)
 
 -- a set that agrees and has the edge in its root part agrees where the edge is inside
 Agrees-with_inside : (g : Graph) (d : Decided) (set : List Bool) (n : ℕ) → n < length d.edges → Agrees g d set →

@@ -38,12 +38,12 @@ slice_get_some (x ∷ xs) (suc k) below = slice_get_some xs k (omega arith)
 -- a set with the tree respects the choices that take it too
 Respects-taken : (choices : List Choice) (flags : List Bool) (place : ℕ) → slice_get flags place ≡ Some true →
     Respects choices flags → Respects (set choices place Taken) flags
-Respects-taken choices flags place in_set respects = grind (arith, slice_get-set_cases, slice_get flags)
+Respects-taken choices flags place in_set respects = grind (arith, slice_get-set_cases)
 
 -- a set without the tree respects the choices that leave it out too
 Respects-left_out : (choices : List Choice) (flags : List Bool) (place : ℕ) → slice_get flags place ≡ Some false →
     Respects choices flags → Respects (set choices place LeftOut) flags
-Respects-left_out choices flags place not_in_set respects = grind (arith, slice_get-set_cases, slice_get flags)
+Respects-left_out choices flags place not_in_set respects = grind (arith, slice_get-set_cases)
 
 -- every set respects that nothing is decided
 Respects-no_choices : (trees : List Tree) (flags : List Bool) → Respects (no_choices trees) flags
@@ -78,7 +78,7 @@ bounded_trail_lem n trees total trail bounded flags joined =
 -- the trees that are taken are in each set that respects the choices
 taken_of-within : (choices : List Choice) (flags : List Bool) → Respects choices flags → IsWithin (taken_of choices) flags
 taken_of-within choices flags respects k at =
-    grind (arith, slice_get_within (taken_of choices) k true, slice_get-map is_taken choices k, slice_get_some, length-map choices is_taken, slice_get choices k, slice_get flags k)
+    grind (arith, slice_get_within (taken_of choices) k true, slice_get-map is_taken choices k, slice_get_some, length-map choices is_taken)
 
 -- each set that respects the choices is within the trees that are not left out
 remaining_of-holds : (choices : List Choice) (flags : List Bool) → length flags ≡ length choices → Respects choices flags →

@@ -65,7 +65,6 @@ pub cost_of-set_same : (costs : List EdgeCosts) (arc : ℕ) (cost : Option ℕ) 
 cost_of-set_same costs arc cost d within =
     grind (
       arith,
-      slice_get (set costs (arc / 2) (with_cost (get_or costs (arc / 2) d) arc cost)) (arc / 2),
       slice_get-get_or,
       length-set costs (arc / 2) (with_cost (get_or costs (arc / 2) d) arc cost),
       get_or-set_same costs (arc / 2) (with_cost (get_or costs (arc / 2) d) arc cost) d within,
@@ -78,13 +77,9 @@ pub cost_of-set_other : (costs : List EdgeCosts) (arc other : ℕ) (cost : Optio
 cost_of-set_other costs arc other cost d within apart =
     grind (
       arith,
-      slice_get (set costs (arc / 2) (with_cost (get_or costs (arc / 2) d) arc cost)) (other / 2),
-      slice_get (set costs (arc / 2) (with_cost (get_or costs (arc / 2) d) arc cost)),
       slice_get-get_or,
       length-set costs (arc / 2) (with_cost (get_or costs (arc / 2) d) arc cost),
       get_or-set_same costs (arc / 2) (with_cost (get_or costs (arc / 2) d) arc cost) d within,
-      slice_get costs (other / 2),
-      slice_get costs,
       slice_get-get_or costs (arc / 2) d within,
       cost_in-with_other,
       slice_get-set_apart,

@@ -236,7 +236,7 @@ raised_is = changed_is raised_after (λ weight. refl) raised_after-zero
 pub cost_of-lowered : (costs : List EdgeCosts) (cut : Cut) (arc : Arc) → IsArcOf (edges_of costs) arc →
     cost_of (map (lowered_by cut) costs) arc.number ≡ left_after (cost_of costs arc.number) (weight_on cut arc.from arc.to)
 cost_of-lowered costs cut arc (n, e, at, way) =
-    grind (arith, costs_at costs n e, slice_get (map (lowered_by cut) costs) n, slice_get-map (lowered_by cut) costs n, cost_of-even, cost_of-odd)
+    grind (arith, costs_at costs n e, slice_get-map (lowered_by cut) costs n, cost_of-even, cost_of-odd)
 
 -- an arc that enters is one of those of an edge
 pub Entering-from_arc : (costs : List EdgeCosts) (members : List Bool) (arc : Arc) (left : ℕ) → IsArcOf (edges_of costs) arc → enters members arc.from arc.to ≡ true → cost_of costs arc.number ≡ Some left → Entering costs members left

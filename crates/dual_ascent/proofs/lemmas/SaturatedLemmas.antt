@@ -67,7 +67,6 @@ Saturated-from_open g decision packing size u v (arc, (n, e, at, way), full, lea
       arith,
       slice_get_within g.edges n e,
       length-states_of g decision size.edges,
-      slice_get (states_of g decision) n,
       slice_get-get_or,
       slice_get-costs_of g.edges (states_of g decision) packing n e (get_or (states_of g decision) n Undecided),
       is_saturated-even,

@@ -9,12 +9,12 @@ use Rattle.net_graph.specs.Found.{AreMarksOf}
 
 -- one more mark is one more that is counted
 count-set : (marks : List Bool) (v : ℕ) → v < length marks → has marks v ≡ false → count_by (λ flag. flag) (set marks v true) ≡ count_by (λ flag. flag) marks + 1
-count-set marks v within unmarked = grind (arith, count_by, sum_by-set)
+count-set marks v within unmarked = grind (arith, sum_by-set)
 
 -- while some number has no mark there are fewer in the list than numbers
 pub room_left : (order : List ℕ) (marks : List Bool) (v : ℕ) → AreMarksOf order marks → v < length marks → has marks v ≡ false → length order < length marks
 room_left order marks v are within unmarked =
-    grind (arith, count_by, count-set marks v within unmarked, count_by-le-length, length-set marks v true)
+    grind (arith, count-set marks v within unmarked, count_by-le-length, length-set marks v true)
 
 -- one more number and its mark
 pub AreMarksOf-more : (order : List ℕ) (marks : List Bool) (v : ℕ) → AreMarksOf order marks → v < length marks → has marks v ≡ false → AreMarksOf (order ++ v ∷ []) (set marks v true)

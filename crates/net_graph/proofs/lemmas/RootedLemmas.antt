@@ -12,7 +12,7 @@ pub record HoldsBelow (P : ℕ → Type 0) (bound : ℕ) (set : List Bool) : Typ
 -- the next number has P and was put in
 pub HoldsBelow-yes : (P : ℕ → Type 0) (n : ℕ) (set : List Bool) → n < length set → P n → HoldsBelow P n set → HoldsBelow P (n + 1) (slice_set set n true)
 HoldsBelow-yes P n set within is so_far =
-    grind (arith, cases_eq, slice_get (slice_set set n true), slice_get-set_same set n true within, slice_get-set_other)
+    grind (arith, cases_eq, slice_get-set_same set n true within, slice_get-set_other)
 
 -- the next number has no P
 pub HoldsBelow-no : (P : ℕ → Type 0) (n : ℕ) (set : List Bool) → (P n → ⊥) → HoldsBelow P n set → HoldsBelow P (n + 1) set

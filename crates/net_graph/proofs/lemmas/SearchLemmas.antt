@@ -27,7 +27,7 @@ pub record AddsHeads (P : ℕ → Type 0) (opens : ℕ → Bool) (arcs : List Ar
 
 -- a shut arc
 pub AddsHeads-shut : (P : ℕ → Type 0) (opens : ℕ → Bool) (arcs : List Arc) (n : ℕ) (old now : List ℕ) (arc : Arc) → AddsHeads P opens arcs n old now → slice_get arcs n ≡ Some arc → opens arc.number ≡ false → AddsHeads P opens arcs (n + 1) old now
-AddsHeads-shut P opens arcs n old now arc adds at shut = grind (arith, same_Some, slice_get, cases_lt)
+AddsHeads-shut P opens arcs n old now arc adds at shut = grind (arith, same_Some, cases_lt)
 
 -- an open arc
 pub AddsHeads-open : (P : ℕ → Type 0) (opens : ℕ → Bool) (arcs : List Arc) (n : ℕ) (old now next : List ℕ) (arc : Arc) → AddsHeads P opens arcs n old now → slice_get arcs n ≡ Some arc → P arc.to → (next ≡ now ++ arc.to ∷ []) ⊎ (Contains now arc.to × (next ≡ now)) → AddsHeads P opens arcs (n + 1) old next

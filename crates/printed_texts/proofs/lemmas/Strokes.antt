@@ -16,7 +16,7 @@ text_if f false n = refl
 pub members-take_more : (f : ℕ → List ℕ) (set : List Bool) (n : ℕ) → n < length set →
     flat_map f (members_of (take n set)) ++ (if has set n then f n else []) ≡ flat_map f (members_of (take (n + 1) set))
 members-take_more f set n within =
-    grind (arith, flat_map f (members_of (take n set)), text_if f (has set n) n, flat_map-append f (members_of (take n set)) (if has set n then n ∷ [] else []), flat_map f, members_of-more set n within)
+    grind (arith, text_if f (has set n) n, flat_map-append f (members_of (take n set)) (if has set n then n ∷ [] else []), members_of-more set n within)
 
 -- five pieces in any grouping
 pub five_pieces : (a b c d e : List ℕ) → a ++ (b ++ (c ++ (d ++ e))) ≡ (((a ++ b) ++ c) ++ d) ++ e

@@ -66,7 +66,7 @@ keeps_outside : (n : ℕ) (pairs : List Pair) (inside chosen other : List Bool) 
     Exchanges n pairs inside chosen other k f →
     (u w : ℕ) → OutsideStep (Hop pairs other) inside u w → Hop pairs (exchanged other f k) u w
 keeps_outside n pairs inside chosen other k f e u w ((g, pair, is, at, ends), u_out, w_out) =
-    grind (arith, exchanged-keeps, same_Some, slice_get pairs, both_ways, same_ends)
+    grind (arith, exchanged-keeps, same_Some, both_ways, same_ends)
 
 -- the numbers of the pair that was taken out are linked without it
 still_linked : (n : ℕ) (pairs : List Pair) (inside chosen other : List Bool) (k f : ℕ) →
@@ -124,7 +124,7 @@ exchanged-total : (n : ℕ) (pairs : List Pair) (inside chosen other : List Bool
     (e : Exchanges n pairs inside chosen other k f) →
     e.pair.length ≤ e.out.length → total_of pairs (exchanged other f k) ≤ total_of pairs other
 exchanged-total n pairs inside chosen other k f e no_longer =
-    grind (arith, slice_get other, slice_get (set other f false) k, slice_get-set_other, total_of-add, total_of-remove pairs other f e.out e.held e.out_here)
+    grind (arith, slice_get-set_other, total_of-add, total_of-remove pairs other f e.out e.held e.out_here)
 
 -- the pair that is the shortest to leave the part is taken into a set that joins, which gets no longer
 pub IsNoWorse-more : (n : ℕ) (pairs : List Pair) (inside chosen other : List Bool) (k : ℕ) →

@@ -25,7 +25,7 @@ slice_get-set_other (x ∷ flags) (suc k) (suc j) flag apart = slice_get-set_oth
 pub slice_get-set_true : (flags : List Bool) (k j : ℕ) → slice_get flags j ≡ Some true →
     slice_get (set flags k true) j ≡ Some true
 slice_get-set_true flags k j is =
-    grind (arith, cases_eq j k, slice_get_within flags j true is, slice_get (set flags k true), slice_get-set_same, slice_get-set_other)
+    grind (arith, cases_eq j k, slice_get_within flags j true is, slice_get-set_same, slice_get-set_other)
 
 -- a number that was put in is in
 pub has-set_same : (flags : List Bool) (k : ℕ) → k < length flags → has (set flags k true) k ≡ true

@@ -22,7 +22,7 @@ pub IsPart-of_zero : (n : ℕ) (pairs : List Pair) (inside chosen : List Bool) �
     inside ≡ set (replicate n false) 0 true →
     chosen ≡ replicate (length pairs) false → IsPart n pairs inside chosen
 IsPart-of_zero n pairs inside chosen some inside_is chosen_is =
-    grind (arith, slice_get, none_set, length-replicate n false, length-set (replicate n false) 0 true, length-replicate (length pairs) false, has-set_same, Leads-start (Hop pairs chosen) 0, both_ways, has-none, has-set_cases)
+    grind (arith, none_set, length-replicate n false, length-set (replicate n false) 0 true, length-replicate (length pairs) false, has-set_same, Leads-start (Hop pairs chosen) 0, both_ways, has-none, has-set_cases)
 
 -- the part with one more pair, the shortest that leaves it
 pub IsPart-more : (n : ℕ) (pairs : List Pair) (inside chosen : List Bool) (k : ℕ) →

@@ -1,5 +1,5 @@
 -- The cuts of a leaf: what one more of them makes of the loads that are kept.
-use Rattle.std.proofs.Common.{ℕ, ◌≡◌, ◌≢◌, ◌+◌, ◌<◌, ◌≤◌, List, [], ◌∷◌, ◌++◌, length, get_or, slice_get, Some, sym, ◌∙◌, subst, inl, inr, sum_by, false, arith}
+use Rattle.std.proofs.Common.{ℕ, ◌≡◌, ◌≢◌, ◌+◌, ◌<◌, ◌≤◌, List, [], ◌∷◌, ◌++◌, length, get_or, slice_get, Some, sym, ◌∙◌, subst, inl, inr, false, arith}
 use Rattle.std.proofs.lemmas.Bool.{cases_eq, cases_lt}
 use Rattle.std.proofs.lemmas.Option.{same_Some, slice_get_within}
 use Rattle.std.proofs.lemmas.List.Sums.{sum_by-append, sum_by-cons}
@@ -55,7 +55,7 @@ LoadsBelow-none g cuts c n d loads none leaf = grind arith
 -- a cut that an arc doesn't enter loads it no more
 load-none : (cuts : List Cut) (c : Cut) (u v : ℕ) → enters c.members u v ≡ false →
     load (cuts ++ c ∷ []) u v ≡ load cuts u v
-load-none cuts c u v out = grind (arith, sum_by, sum_by-append, sum_by-cons)
+load-none cuts c u v out = grind (arith, sum_by-append, sum_by-cons)
 
 -- so an edge of which neither arc enters it keeps its loads
 KeepsEdge-whole : (g : Graph) (cuts : List Cut) (c : Cut) (n : ℕ) (d : Decided) (loads : ArcLoads) →

@@ -76,7 +76,7 @@ inside_before : (d : Decided) (on : SplitOn) (n : ℕ) → slice_get (outside_of
     slice_get d.edges n ≡ Some Inside
 inside_before d (split.Vertex v) n is = is
 inside_before d (split.Edge m) n is =
-    grind (arith, cases_eq n m, slice_get_within (set d.edges m Outside) n Inside is, length-set d.edges m Outside, slice_get (set d.edges m Outside) n, slice_get-set_same, same_Some, slice_get-set_other)
+    grind (arith, cases_eq n m, slice_get_within (set d.edges m Outside) n Inside is, length-set d.edges m Outside, slice_get-set_same, same_Some, slice_get-set_other)
 
 -- an edge that is undecided in the outside part is so before
 undecided_before : (g : Graph) (d : Decided) (on : SplitOn) (n : ℕ) → IsUndecidedSplit g d on →

@@ -86,4 +86,4 @@ loop-cut-preserved c =
     ]
 
 pub returns : goal.returns
-returns c = grind (arith, those_left-all, sum_by, take_all)
+returns c = grind (arith, those_left-all, take_all)

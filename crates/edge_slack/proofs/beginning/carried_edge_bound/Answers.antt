@@ -47,11 +47,11 @@ overflow_add-weight g c =
 
 pub overflow_add-result : goal.overflow_add-result
 overflow_add-result g c =
-    grind (arith, append-nil (carried (c.args.g.now) (c.in_ok-now.now) c.args.start.now.packing), Bounds (c.args.g.now) c.args.e (c.in_ok-carried.carried.weight + c.total_weight.result + c.edge.result.length), Bounds-behind, sum_by)
+    grind (arith, append-nil (carried (c.args.g.now) (c.in_ok-now.now) c.args.start.now.packing), Bounds-behind)
 
 pub overflow_cast-result : goal.overflow_cast-result
 overflow_cast-result g c =
-    grind (arith, append-nil (carried (c.args.g.now) (c.in_ok-now.now) c.args.start.now.packing), Bounds (c.args.g.now) c.args.e (c.in_ok-carried.carried.weight + c.total_weight.result + c.edge.result.length), Bounds-behind, sum_by)
+    grind (arith, append-nil (carried (c.args.g.now) (c.in_ok-now.now) c.args.start.now.packing), Bounds-behind)
 
 pub returns-clause-value : goal.returns-clause-value
 returns-clause-value g c =

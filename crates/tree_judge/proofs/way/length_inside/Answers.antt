@@ -1,4 +1,4 @@
-use Rattle.std.proofs.Common.{◌<◌, length, slice_get, ap, arith}
+use Rattle.std.proofs.Common.{◌<◌, length, ap, arith}
 use Rattle.std.proofs.lemmas.Bool.{iff_false}
 use Rattle.std.proofs.lemmas.Option.{get_or_from_slice_get}
 use Rattle.net_graph.specs.declared.edge.Edge.{Edge}
@@ -10,7 +10,6 @@ pub overflow_add-sum : goal.overflow_add-sum
 overflow_add-sum c =
     grind (
       arith,
-      slice_get c.args.decided.now.edges c.loop-n.n,
       c.is_inside.ensures.0 c.if-is_inside.true,
       get_or_from_slice_get c.args.g.now.edges c.loop-n.n (c.edge-sum.result) (c.edge-sum.result) c.edge-sum.ensures.edge,
       inside_length_yes-le-sum,

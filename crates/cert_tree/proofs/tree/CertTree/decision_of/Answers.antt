@@ -4,7 +4,7 @@ use Rattle.std.proofs.lemmas.List.{reverse-reverse}
 use Rattle.net_graph.specs.Decision.{nothing_decided}
 use Rattle.cert_tree.specs.LeafLaws.{IsLeafAt-found}
 use Rattle.cert_tree.specs.Way.{after_turns, way_to}
-use Rattle.cert_tree.proofs.lemmas.Ways.{AreUndecidedTurns, AreUndecidedTurns-way, decision-way, reverse-last}
+use Rattle.cert_tree.proofs.lemmas.Ways.{AreUndecidedTurns-way, decision-way, reverse-last}
 use Rattle.cert_tree.proofs.tree.CertTree.decision_of.Goals as goal
 
 pub loop-turn-init : goal.loop-turn-init
@@ -12,14 +12,12 @@ loop-turn-init c =
     grind (
       arith,
       reverse-reverse (way_to c.args.self.now c.args.leaf),
-      AreUndecidedTurns (c.args.g.now) c.in_ok-decision.decision,
-      AreUndecidedTurns,
       AreUndecidedTurns-way (c.args.g.now) (nothing_decided (c.args.g.now)) c.args.self.now c.args.leaf c.requires.splits,
     )
 
 pub loop-turn-preserved : goal.loop-turn-preserved
 loop-turn-preserved c =
-    grind (arith, reverse-last c.loop-turn.turns.items c.pop.new.self.items c.in-Some.turn (c.in-Some.ensures.items), AreUndecidedTurns (c.args.g.now) (c.loop-turn.decision), AreUndecidedTurns)
+    grind (arith, reverse-last c.loop-turn.turns.items c.pop.new.self.items c.in-Some.turn (c.in-Some.ensures.items))
 
 pub returns-clause-leaf : goal.returns-clause-leaf
 returns-clause-leaf c =

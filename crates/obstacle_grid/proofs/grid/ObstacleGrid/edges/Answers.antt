@@ -1,7 +1,7 @@
 -- The lines are those of the points and boxes, 1 to 100 each way.
 use Rattle.std.proofs.Common.{arith}
 use Rattle.std.proofs.lemmas.Result.{IfOk-weaker}
-use Rattle.hanan_grid.specs.GridLaws.{edges_of_lines, ends_below}
+use Rattle.hanan_grid.specs.GridLaws.{ends_below}
 use Rattle.obstacle_grid.proofs.lemmas.Sizes.{few_columns, few_rows, some_columns, some_rows, few_edges}
 use Rattle.obstacle_grid.proofs.grid.ObstacleGrid.edges.Goals as goal
 
@@ -20,8 +20,8 @@ line_edges-requires-clause-few_rows c = grind (arith, few_rows c.self.inside.obs
 
 pub returns-clause-few : goal.returns-clause-few
 returns-clause-few c =
-    grind (arith, edges_of_lines c.deref.result.now c.deref-2.result.now, few_edges c.self.inside.obstacles.now c.self.invariant.obstacles, IfOk-weaker)
+    grind (arith, few_edges c.self.inside.obstacles.now c.self.invariant.obstacles, IfOk-weaker)
 
 pub returns-clause-ends : goal.returns-clause-ends
 returns-clause-ends c =
-    grind (arith, IfOk-weaker, edges_of_lines c.deref.result.now c.deref-2.result.now, ends_below c.deref.result.now c.deref-2.result.now)
+    grind (arith, IfOk-weaker, ends_below c.deref.result.now c.deref-2.result.now)
