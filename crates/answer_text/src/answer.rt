@@ -19,7 +19,7 @@ use rst_outside::{PutFault, Sink};
 use text_out::{Block, finish};
 
 /// An answer on a grid, or in a graph.
-#[derive(Debug, Drop)]
+#[derive(Drop)]
 pub struct Answer {
     /// What it says of itself.
     pub head: AnswerHead,

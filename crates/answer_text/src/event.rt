@@ -27,7 +27,7 @@ pub enum Event {
 }
 
 /// An event, with the number of the line that ends it, counted from 1, and the members of a cut.
-#[derive(Debug, Drop)]
+#[derive(Drop)]
 pub struct AnswerEvent {
     /// The line, counted from 1.
     pub line: u64,

@@ -8,7 +8,7 @@ use net_graph::{EdgeSet, NetGraph, length};
 use std::alloc::AllocError;
 
 /// A network and its length.
-#[derive(Debug, Drop)]
+#[derive(Drop)]
 pub(crate) struct Best {
     pub network: EdgeSet,
     pub length: u64,

@@ -17,7 +17,7 @@ use std::alloc::{AllocError, Global};
 
 /// What a search keeps: what it splits its leaves on, the length of the network that it began with, the best network,
 /// the tree, and beside each of its leaves, in preorder, a note.
-#[derive(Debug, Drop)]
+#[derive(Drop)]
 pub(crate) struct Frontier {
     pub kind: SplitKind,
     pub first_length: u64,

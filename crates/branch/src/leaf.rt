@@ -15,7 +15,7 @@ use net_graph::{Decision, NetGraph, Packing, value};
 use std::alloc::{AllocError, Global};
 
 /// A leaf for the tree: its packing, and what is kept beside it.
-#[derive(Debug, Drop)]
+#[derive(Drop)]
 pub(crate) struct NewLeaf {
     pub packing: Packing,
     pub note: LeafNote,

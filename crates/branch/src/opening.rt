@@ -21,7 +21,7 @@ use std::alloc::{AllocError, Global};
 
 /// What is made of a leaf, given by its place in preorder: what it is split on, two new leaves, and the best
 /// network with theirs looked at.
-#[derive(Debug, Drop)]
+#[derive(Drop)]
 pub(crate) struct Opening {
     pub leaf: u32,
     pub on: SplitOn,

@@ -5,7 +5,7 @@ use net_graph::EdgeSet;
 
 /// What a search found: a network with its length, and a tree with the bound that no network is shorter than,
 /// which is the lesser of the tree's value and the length.
-#[derive(Debug, Drop)]
+#[derive(Drop)]
 pub struct Solved {
     pub network: EdgeSet,
     /// The sum of the lengths of the network's edges.

@@ -57,7 +57,7 @@ impl Verdict {
 }
 
 /// The verdict on an answer, and the edges whose lines came before its first failing line.
-#[derive(Debug, Drop)]
+#[derive(Drop)]
 pub struct Finished {
     pub verdict: Verdict,
     pub network: EdgeSet,

@@ -12,7 +12,7 @@ use std::alloc::{AllocError, Global};
 use tree_judge::Room;
 
 /// What a checker of an answer works in, which is handed to it whole.
-#[derive(Debug, Drop)]
+#[derive(Drop)]
 pub struct Workroom {
     /// A set of the graph's edges, for the network.
     pub network: EdgeSet,

@@ -14,7 +14,7 @@ use std::marker::Model;
 
 /// A tree whose leaves have packings and whose splits have edges or vertices. It is kept in preorder: a split, then
 /// its outside child, then its inside child. Leaves and nodes are named by their places in this order.
-#[derive(Debug, Drop)]
+#[derive(Drop)]
 pub struct CertTree {
     nodes: Vec<Option<SplitOn>>,
     packings: Vec<Packing>,

@@ -8,7 +8,7 @@ use std::marker::Model;
 
 /// 1 to 50 points with coordinates from 0 to 9999, in the order in which they were drawn. A point may stand in it more
 /// than once. Contracts see the list of the points.
-#[derive(Debug, Drop)]
+#[derive(Drop)]
 pub struct Drawn {
     pub(crate) items: Vec<Point>,
 }

@@ -15,7 +15,7 @@ use std::alloc::{AllocError, Global};
 
 /// A required vertex that saturated arcs don't lead to from the root, with the vertices that saturated arcs lead to it
 /// from.
-#[derive(Debug, Drop)]
+#[derive(Drop)]
 pub(crate) struct ActiveVertex {
     pub vertex: u32,
     pub leading: Found,

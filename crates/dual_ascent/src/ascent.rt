@@ -21,7 +21,7 @@ use net_graph::{Cut, Decision, NetGraph, Packing, VertexSet};
 use std::alloc::{AllocError, Global};
 
 /// What an ascent comes to.
-#[derive(Debug, Drop)]
+#[derive(Drop)]
 pub struct Ascent {
     /// The packing that the ascent began with, and the cuts that it added.
     pub packing: Packing,

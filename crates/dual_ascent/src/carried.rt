@@ -68,7 +68,7 @@ pub fn carry_costs(
 }
 
 /// What is told of a carried packing without its cuts.
-#[derive(Debug, Drop)]
+#[derive(Drop)]
 pub struct CarriedRooms {
     /// What it leaves of the rooms.
     pub costs: ReducedCosts,

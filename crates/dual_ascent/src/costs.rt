@@ -13,7 +13,7 @@ use std::marker::Model;
 
 /// What is left of the room of an edge's two arcs, which are their reduced costs. `None` is left of an arc that can't
 /// be saturated: its edge is outside, or it is loaded above its room.
-#[derive(Clone, Copy, Debug, PartialEq, Eq)]
+#[derive(Clone, Copy, PartialEq, Eq)]
 pub(crate) struct EdgeCosts {
     pub edge: Edge,
     /// What is left of the arc from the edge's end a to its end b.
@@ -91,7 +91,7 @@ fn whole_costs(
 
 /// What packed cuts leave of the room of all arcs, which are the arcs' reduced costs (after Wong 1984). As a passage
 /// it opens the saturated arcs, of which nothing is left. Contracts see it by edges.
-#[derive(Debug, Drop)]
+#[derive(Drop)]
 pub struct ReducedCosts {
     edges: Vec<EdgeCosts>,
 }

@@ -18,7 +18,7 @@ use std::alloc::{AllocError, Global};
 
 /// What is left of the arcs' rooms and the active vertices, both brought up to date after each step. The lists are
 /// filled anew in each step; they are kept so that a step takes no memory but for its cut.
-#[derive(Debug, Drop)]
+#[derive(Drop)]
 pub(crate) struct AscentState {
     pub costs: ReducedCosts,
     pub active: Vec<ActiveVertex>,

@@ -3,7 +3,7 @@
 use net_graph::{Cut, VertexSet};
 
 /// How an ascent goes on.
-#[derive(Debug, Drop)]
+#[derive(Drop)]
 pub(crate) enum Step {
     /// Saturated arcs lead from the root to every required vertex.
     Done,

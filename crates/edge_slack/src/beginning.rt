@@ -15,7 +15,7 @@ use std::alloc::{AllocError, Global};
 
 /// What the bounds of edges may begin with: the decision that decides nothing, a packing that is feasible under it,
 /// what this leaves of the rooms of all arcs, and the set of the vertices that are required.
-#[derive(Debug, Drop)]
+#[derive(Drop)]
 pub struct Beginning {
     pub decision: Decision,
     pub packing: Packing,

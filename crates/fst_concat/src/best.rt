@@ -10,7 +10,7 @@ use spanning::PlaceList;
 use std::alloc::{AllocError, Global};
 
 /// A concatenation: the places of its trees and its total.
-#[derive(Debug, Drop)]
+#[derive(Drop)]
 pub struct Best {
     pub places: PlaceList,
     pub total: u128,

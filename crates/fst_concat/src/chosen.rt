@@ -4,7 +4,7 @@ use crate::trail::Trail;
 use spanning::PlaceList;
 
 /// How far a search came.
-#[derive(Debug, Drop)]
+#[derive(Drop)]
 pub enum ChosenKind {
     /// No concatenation has a smaller total.
     Least,
@@ -13,7 +13,7 @@ pub enum ChosenKind {
 }
 
 /// A concatenation: the places of its trees, ascending, and its total.
-#[derive(Debug, Drop)]
+#[derive(Drop)]
 pub struct Chosen {
     pub kind: ChosenKind,
     pub places: PlaceList,

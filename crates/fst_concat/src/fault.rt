@@ -3,7 +3,7 @@
 use std::alloc::AllocError;
 
 /// Why no concatenation is chosen.
-#[derive(Debug, Drop)]
+#[derive(Drop)]
 pub enum ConcatFault {
     /// All trees together don't join the terminals.
     Unspanned {

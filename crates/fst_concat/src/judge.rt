@@ -17,7 +17,7 @@ use full_tree::{Places, Tree};
 use std::alloc::{AllocError, Global};
 
 /// What is found of choices.
-#[derive(Clone, Copy, Debug)]
+#[derive(Clone, Copy)]
 pub enum Verdict {
     /// Nothing that respects them is below the best total.
     Done,

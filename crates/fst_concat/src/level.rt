@@ -11,7 +11,7 @@ use full_tree::Tree;
 pub const MAX_LEVELS: usize = 64;
 
 /// A partition of at most 50 terminals, by a label for each, with its amount.
-#[derive(Clone, Copy, Debug)]
+#[derive(Clone, Copy)]
 pub struct Level {
     pub labels: [u8; 50],
     pub amount: u64,

@@ -11,7 +11,7 @@ use partition_fit::{Fitter, Level as PartLevel, Proposal as Fitted};
 use std::alloc::{AllocError, Global};
 
 /// What is proposed for choices.
-#[derive(Debug, Drop)]
+#[derive(Drop)]
 pub struct Proposal {
     levels: Vec<Level>,
     bound: u128,

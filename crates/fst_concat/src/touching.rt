@@ -10,7 +10,7 @@ use std::alloc::{AllocError, Global};
 const NO_PART: u8 = 255;
 
 /// The parts, numbered by their first terminals.
-#[derive(Clone, Copy, Debug)]
+#[derive(Clone, Copy)]
 pub struct Parts {
     number_of: [u8; 64],
     count: u8,
@@ -76,7 +76,7 @@ impl Parts {
 }
 
 /// The open trees that touch several parts, each with its place in the list.
-#[derive(Debug, Drop)]
+#[derive(Drop)]
 pub struct Touching {
     items: Vec<Item>,
     places: Vec<u32>,

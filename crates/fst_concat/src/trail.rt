@@ -8,7 +8,7 @@ use std::marker::Model;
 
 /// A step of a trail that is read in preorder: a split stands before the part with its tree, and that before the part
 /// without it.
-#[derive(Clone, Copy, Debug)]
+#[derive(Clone, Copy)]
 pub(crate) enum Step {
     /// An end.
     Close,
@@ -18,7 +18,7 @@ pub(crate) enum Step {
 
 /// The trail of a search: an end, or a split on a place of the list, with the part without that tree and the part with
 /// it. Contracts see the tree of it; it is kept as one list in preorder.
-#[derive(Debug, Drop)]
+#[derive(Drop)]
 pub struct Trail {
     steps: Vec<Step>,
     splits: u32,

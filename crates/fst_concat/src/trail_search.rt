@@ -17,7 +17,7 @@ use std::alloc::{AllocError, Global};
 
 /// Where a search stands: its steps so far, the choices still to be judged, the last of them next, how many splits it
 /// used, and the least total that an end was left open with.
-#[derive(Debug, Drop)]
+#[derive(Drop)]
 pub(crate) struct Way {
     pub steps: Vec<Step>,
     pub pending: Vec<ItemList<Choice>>,

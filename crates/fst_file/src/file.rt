@@ -6,7 +6,7 @@ use std::marker::Model;
 
 /// Points, by their grid, and at most 20,000 full trees of them, each in form and with its length, in
 /// strictly ascending file order. Contracts see the points and the trees.
-#[derive(Debug, Drop)]
+#[derive(Drop)]
 pub struct FstFile {
     /// The grid of the points.
     pub grid: Grid,

@@ -3,7 +3,7 @@
 use std::alloc::{AllocError, AllocFailed};
 
 /// Why a generation gives no list.
-#[derive(Debug, Drop)]
+#[derive(Drop)]
 pub enum GenFault {
     /// There are more than 20,000 trees.
     TooManyTrees,

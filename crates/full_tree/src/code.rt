@@ -5,7 +5,7 @@ use crate::way::Way;
 use lists::ItemList;
 
 /// A full Steiner tree, named by the places of its terminals in a list of points, counted from 0.
-#[derive(Debug, Drop)]
+#[derive(Drop)]
 pub enum TreeCode {
     /// A long leg runs from the root in a direction to a corner. From there a short leg runs across
     /// it to the tip; where the tip lies straight ahead, it is the corner itself.
@@ -37,7 +37,7 @@ pub enum TreeCode {
 }
 
 /// A full tree with its length.
-#[derive(Debug, Drop)]
+#[derive(Drop)]
 pub struct Tree {
     /// The sum of the lengths of the tree's pieces, where `tree_length` made it.
     pub length: u64,

@@ -11,7 +11,7 @@ pub const MAX_PLACES: usize = 8;
 
 /// A list of at most 8 places of points, in the value itself: it takes no memory. Contracts see the
 /// list of the places.
-#[derive(Debug, Drop)]
+#[derive(Drop)]
 pub struct Places {
     items: SmallVec<u8, 8>,
 }

@@ -18,7 +18,7 @@ pub(crate) struct Bundle {
 
 /// What one edge stands for: a set of edges of a graph, in a list. Sets that have no edge in common take no more room
 /// than the graph's edges.
-#[derive(Debug, Drop)]
+#[derive(Drop)]
 pub struct Originals {
     numbers: Vec<u32>,
     // How many edges the graph has.

@@ -19,7 +19,7 @@ use std::alloc::{AllocError, Global};
 use std::marker::Model;
 
 /// A smaller graph whose networks lift: what is left of a graph after its reduction.
-#[derive(Debug, Drop)]
+#[derive(Drop)]
 pub struct Reduced {
     graph: NetGraph,
     origins: Vec<u32>,

@@ -12,7 +12,7 @@ use tool_frame::{Answer, AnswerStatus};
 
 /// A network of a graph, lifted from its reduction: its edges and its length, a bound below which no network of the
 /// graph falls, and whether the search in the reduced graph proved its network a shortest one.
-#[derive(Debug, Drop)]
+#[derive(Drop)]
 pub struct Lifted {
     pub network: EdgeSet,
     pub length: u64,

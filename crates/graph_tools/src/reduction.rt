@@ -11,7 +11,7 @@ use std::alloc::{AllocError, Global};
 use tool_frame::{Answer, AnswerStatus};
 
 /// The reduction of a graph.
-#[derive(Debug, Drop)]
+#[derive(Drop)]
 pub struct GraphReduction {
     pub reduced: Reduced,
 }

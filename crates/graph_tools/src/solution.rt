@@ -22,7 +22,7 @@ const NO_NOTE: ConcatNote = ConcatNote {
 };
 
 /// An answer, and the graph that it is for.
-#[derive(Debug, Drop)]
+#[derive(Drop)]
 pub struct GraphSolution {
     pub graph: NetGraph,
     pub answer: CutAnswer,

@@ -25,7 +25,7 @@ use std::marker::Model;
 /// Hanan's grid of terminals: a vertical line through each terminal's x and a horizontal line through
 /// each terminal's y, with a vertex at each crossing and an edge between neighbours on a line (Hanan
 /// 1966). Contracts see the list of the terminals, since everything else is a function of it.
-#[derive(Debug, Drop)]
+#[derive(Drop)]
 pub struct Grid {
     points: Points,
     xs: Vec<i64>,

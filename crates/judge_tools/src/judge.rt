@@ -22,7 +22,7 @@ use verdict_line::{Judged, judge_input};
 pub const ANSWER_LIMIT: u64 = (1 << 32) - 1;
 
 /// Why an answer isn't judged.
-#[derive(Clone, Copy, Debug, PartialEq, Eq)]
+#[derive(Clone, Copy, PartialEq, Eq)]
 pub enum CheckFault {
     /// The points' file gives no grid.
     Points(PointsFault),
@@ -51,7 +51,7 @@ impl Fault for CheckFault {
 }
 
 /// What is found of an answer, and the grid that it is for.
-#[derive(Debug, Drop)]
+#[derive(Drop)]
 pub struct Judgement {
     pub grid: Grid,
     pub judged: Judged,

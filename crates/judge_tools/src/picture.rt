@@ -9,7 +9,7 @@ use rst_outside::{PutFault, Sink};
 use tool_frame::{Answer, AnswerStatus};
 
 /// A network on the grid of points, of which a tool prints a plot.
-#[derive(Debug, Drop)]
+#[derive(Drop)]
 pub struct Picture {
     pub grid: Grid,
     pub network: EdgeSet,

@@ -20,7 +20,7 @@ use verdict_line::write_refusal;
 pub const UPGRADE_LIMIT: u64 = 1 << 28;
 
 /// Why `upgrade` refuses.
-#[derive(Clone, Copy, Debug, PartialEq, Eq)]
+#[derive(Clone, Copy, PartialEq, Eq)]
 pub enum UpgradeFault {
     /// The points' file gives no grid.
     Points(PointsFault),
@@ -53,7 +53,7 @@ impl Fault for UpgradeFault {
 }
 
 /// The bytes of an answer's text, for cuts that are sets of so many vertices.
-#[derive(Debug, Drop)]
+#[derive(Drop)]
 pub(crate) struct TakenAnswer {
     pub vertices: u32,
     pub bytes: Vec<u8>,

@@ -10,7 +10,7 @@ use std::marker::Model;
 
 /// A way along an edge from one of its ends to the other. Edge n has the arcs 2n, from its end a to its end b, and
 /// 2n + 1, from b to a.
-#[derive(Clone, Copy, Debug, PartialEq, Eq)]
+#[derive(Clone, Copy, PartialEq, Eq)]
 pub struct Arc {
     /// Its number among the arcs, below twice the number of edges.
     pub number: u32,
@@ -28,7 +28,7 @@ pub fn partner(arc: u32) -> u32
 }
 
 /// All arcs of a graph, by the vertex that they lead from.
-#[derive(Debug, Drop)]
+#[derive(Drop)]
 pub struct ArcTable {
     // In the order of the vertices that they lead from.
     arcs: Vec<Arc>,

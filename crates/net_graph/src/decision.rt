@@ -22,7 +22,7 @@ use std::alloc::{AllocError, Global};
 use std::marker::Model;
 
 /// A decision on the edges and vertices of a graph. Contracts see the two lists of their states, by number.
-#[derive(Debug, Drop)]
+#[derive(Drop)]
 pub struct Decision {
     edges: Vec<EdgeState>,
     vertices: Vec<VertexState>,

@@ -3,7 +3,7 @@
 use lists::ItemList;
 
 /// An edge between two vertices, which are given by their numbers, with its length.
-#[derive(Clone, Copy, Debug, PartialEq, Eq)]
+#[derive(Clone, Copy, PartialEq, Eq)]
 pub struct Edge {
     pub a: u32,
     pub b: u32,

@@ -8,7 +8,7 @@ use std::alloc::{AllocError, Global};
 use std::marker::Model;
 
 /// A set of numbers below a size that never changes, 64 flags to a word. Contracts see the list of its flags.
-#[derive(Debug, Drop)]
+#[derive(Drop)]
 pub(crate) struct FlagSet {
     words: Vec<u64>,
     size: u32,

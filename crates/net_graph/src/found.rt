@@ -9,7 +9,7 @@ use std::alloc::{AllocError, Global};
 use std::marker::Model;
 
 /// The vertices found so far, in the order in which they were found, each once.
-#[derive(Debug, Drop)]
+#[derive(Drop)]
 pub struct Found {
     marks: VertexSet,
     // Has room for each vertex, so that none is moved while a search runs.

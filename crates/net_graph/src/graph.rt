@@ -39,7 +39,7 @@ pub enum GraphFault {
 
 /// A graph with edge lengths and terminals. Its vertices are the numbers below a bound. Edges and terminals are
 /// known by their places. The first terminal is the root.
-#[derive(Debug, Drop)]
+#[derive(Drop)]
 pub struct NetGraph {
     vertices: u32,
     edges: EdgeList,

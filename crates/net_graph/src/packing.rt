@@ -11,7 +11,7 @@ use std::alloc::{AllocError, Global};
 use std::marker::Model;
 
 /// A set of vertices apart from the root, with a weight of at least 1.
-#[derive(Debug, Drop)]
+#[derive(Drop)]
 pub struct Cut {
     pub weight: u64,
     pub members: VertexSet,
@@ -31,7 +31,7 @@ impl Cut {
 }
 
 /// A list of cuts. Contracts see the list itself.
-#[derive(Debug, Drop)]
+#[derive(Drop)]
 pub struct Packing {
     cuts: Vec<Cut>,
 }

@@ -9,7 +9,7 @@ use std::alloc::{AllocError, Global};
 use std::marker::Model;
 
 /// A set of edges of a graph, by their numbers. Its size is the number of the graph's edges.
-#[derive(Debug, Drop)]
+#[derive(Drop)]
 pub struct EdgeSet {
     flags: FlagSet,
 }
@@ -91,7 +91,7 @@ impl EdgeSet {
 }
 
 /// A set of vertices of a graph, by their numbers. Its size is the number of the graph's vertices.
-#[derive(Debug, Drop)]
+#[derive(Drop)]
 pub struct VertexSet {
     flags: FlagSet,
 }

@@ -9,7 +9,7 @@ pub enum EdgeState {
 }
 
 /// What a decision says of a vertex: that it has to be reached, that it must not be, or nothing.
-#[derive(Clone, Copy, Debug, PartialEq, Eq)]
+#[derive(Clone, Copy, PartialEq, Eq)]
 pub enum VertexState {
     Undecided,
     Met,

@@ -8,7 +8,7 @@ use rst_outside::{PutFault, Sink};
 use tool_frame::{Answer, AnswerStatus};
 
 /// A graph that is printed as an STP file.
-#[derive(Debug, Drop)]
+#[derive(Drop)]
 pub struct GraphFile {
     pub graph: NetGraph,
 }

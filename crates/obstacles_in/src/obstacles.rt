@@ -12,7 +12,7 @@ use std::marker::Model;
 /// may overlap, touch and contain one another. The lines through the points and along the sides of the boxes cross in
 /// at most 2,500 places. Contracts see the list of the points and the list of the boxes. It is made by
 /// `read_obstacles` alone.
-#[derive(Debug, Drop)]
+#[derive(Drop)]
 pub struct Obstacles {
     pub(crate) points: Points,
     pub(crate) boxes: ItemList<Rectangle>,

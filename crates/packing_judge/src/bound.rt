@@ -7,7 +7,7 @@ use net_graph::{Decision, NetGraph, Packing, feasible, value};
 use std::alloc::{AllocError, Global};
 
 /// A packing that is feasible where nothing is decided, with its value, which no network is shorter than.
-#[derive(Debug, Drop)]
+#[derive(Drop)]
 pub struct Bound {
     pub packing: Packing,
     pub value: u128,

@@ -20,7 +20,7 @@ use tight_packing::{Aims, Budget, Guesses, Proposal, Settings, propose};
 const MOST_EDGES: u32 = 10_000;
 
 /// What comes of an exchange.
-#[derive(Debug, Drop)]
+#[derive(Drop)]
 pub struct Exchanged {
     /// How it ended.
     pub outcome: Outcome,

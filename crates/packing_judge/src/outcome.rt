@@ -9,7 +9,7 @@ use net_graph::{EdgeSet, NetGraph, Packing, length};
 use std::alloc::{AllocError, Global};
 
 /// How an exchange, or an ascent along a network, ended.
-#[derive(Debug, Drop)]
+#[derive(Drop)]
 pub enum Outcome {
     /// The value of the packing is at least the wanted one, and at most the length of the network.
     Tight(Bound),

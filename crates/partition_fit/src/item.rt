@@ -1,7 +1,7 @@
 //! Trees that may be used, as the parts that they touch.
 
 /// A tree that may be used.
-#[derive(Clone, Copy, Debug)]
+#[derive(Clone, Copy)]
 pub struct Item {
     /// The parts that it touches, one bit for each: at least two, below 50.
     pub touched: u64,

@@ -8,7 +8,7 @@ use rst_outside::{PutFault, Sink};
 use tool_frame::{Answer, AnswerStatus};
 
 /// Drawn points that a tool prints.
-#[derive(Debug, Drop)]
+#[derive(Drop)]
 pub struct DrawnList {
     pub drawn: Drawn,
 }

@@ -15,7 +15,7 @@ pub const MAX_POINTS: usize = 50;
 
 /// 1 to 50 distinct points, in the order in which they came. Contracts see the list of the points.
 /// Room for 50 is kept from the start, so that only making a list takes memory.
-#[derive(Debug, Drop)]
+#[derive(Drop)]
 pub struct Points {
     items: Vec<Point>,
 }
@@ -33,7 +33,7 @@ impl Model for Points {
 }
 
 /// What became of a point that was added.
-#[derive(Clone, Copy, Debug, PartialEq, Eq)]
+#[derive(Clone, Copy, PartialEq, Eq)]
 pub enum Added {
     /// It is the last of the list now.
     New,

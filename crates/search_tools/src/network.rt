@@ -22,7 +22,7 @@ const DESCENTS: u32 = 100;
 
 /// A network of a grid that is made of full trees, or that is shorter than such a one, and what is told of their
 /// concatenation.
-#[derive(Debug, Drop)]
+#[derive(Drop)]
 pub struct Found {
     pub network: EdgeSet,
     pub note: ConcatNote,

@@ -19,7 +19,7 @@ use std::alloc::{AllocError, Global};
 use tool_frame::{Answer, AnswerStatus, Stop};
 
 /// An answer, and the grid that it is for.
-#[derive(Debug, Drop)]
+#[derive(Drop)]
 pub struct Solution {
     pub grid: Grid,
     pub answer: CutAnswer,

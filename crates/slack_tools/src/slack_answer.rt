@@ -8,7 +8,7 @@ use rst_outside::{PutFault, Sink};
 use tool_frame::{Answer, AnswerStatus};
 
 /// A bound for each edge of a grid, of which those above a threshold are printed, or all where there is none.
-#[derive(Debug, Drop)]
+#[derive(Drop)]
 pub(crate) struct SlackAnswer {
     pub grid: Grid,
     pub above: Option<u64>,

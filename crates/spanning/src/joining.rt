@@ -14,7 +14,7 @@ use net_graph::{EdgeSet, VertexSet};
 use std::alloc::{AllocError, Global};
 
 /// A set of pairs that joins numbers: the places of its pairs, ascending, and the sum of their lengths.
-#[derive(Debug, Drop)]
+#[derive(Drop)]
 pub struct Joined {
     pub places: PlaceList,
     pub total: u128,

@@ -14,7 +14,7 @@ use net_graph::{EdgeSet, VertexSet};
 use std::alloc::{AllocError, Global};
 
 /// The numbers that are joined so far, and the pairs that were chosen for it.
-#[derive(Debug, Drop)]
+#[derive(Drop)]
 pub struct Part {
     pub inside: VertexSet,
     pub chosen: EdgeSet,

@@ -11,7 +11,7 @@ use std::marker::Model;
 
 /// The bottleneck of each two terminals. Contracts see the list of the terminals, since the bottlenecks are a
 /// function of it.
-#[derive(Debug, Drop)]
+#[derive(Drop)]
 pub struct Table {
     points: Points,
     // By row and then by column.

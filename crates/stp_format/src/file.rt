@@ -14,7 +14,7 @@ use std::marker::Model;
 /// What an STP file of this profile holds: how many nodes there are, edges between them, terminals among them, and,
 /// where it has a section for them, points of nodes. Nodes are counted from 1. Only `read_stp` makes one. No tool takes
 /// more of it than `points_of` gives.
-#[derive(Debug, Drop)]
+#[derive(Drop)]
 pub struct StpFile {
     graph: Graph,
     terminals: ItemList<u32>,

@@ -21,7 +21,7 @@ use std::alloc::Global;
 use std::marker::Model;
 
 /// How many nodes there are, and the edges between them, in order.
-#[derive(Debug, Drop)]
+#[derive(Drop)]
 pub(crate) struct Graph {
     pub(crate) nodes: u32,
     pub(crate) edges: ItemList<StpEdge>,

@@ -11,7 +11,7 @@ use std::collections::BTreeMap;
 use std::marker::Model;
 
 /// The points of some nodes. Contracts see each node with its point, in ascending order of the nodes.
-#[derive(Debug, Drop)]
+#[derive(Drop)]
 pub(crate) struct NodePoints {
     map: BTreeMap<u32, Point>,
 }

@@ -17,7 +17,7 @@ const ORDERS: u8 = 2;
 const ENOUGH: u32 = 16;
 
 /// What a leaf is split on, and the seed of the order of both children's ascents.
-#[derive(Clone, Copy, Debug)]
+#[derive(Clone, Copy)]
 pub struct Choice {
     /// The edge, by its number.
     pub edge: u32,

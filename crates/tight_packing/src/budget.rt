@@ -1,7 +1,7 @@
 //! How much work may be done.
 
 /// How much work may be done; it is looked at between rounds.
-#[derive(Clone, Copy, Debug)]
+#[derive(Clone, Copy)]
 pub struct Budget {
     /// Rounds of sweeps with new cuts, and multipliers.
     pub rounds: u32,

@@ -14,7 +14,7 @@ const BRANCH_FACTOR: i128 = 3;
 const PARTS: i128 = 1 << 20;
 
 /// What a test that there is no packing shows. Nothing is promised of it.
-#[derive(Debug, Drop)]
+#[derive(Drop)]
 pub struct Guesses {
     /// Of each edge the share in percent that shorter networks have of it; empty where there was no test.
     pub shares: Vec<u32>,

@@ -14,7 +14,7 @@ use net_graph::{NetGraph, Packing};
 use std::alloc::{AllocError, Global};
 
 /// What an exchange proposes.
-#[derive(Debug, Drop)]
+#[derive(Drop)]
 pub struct Proposal {
     /// Cuts of the graph's vertices. That they fit into the rooms is not promised.
     pub packing: Packing,

@@ -1,7 +1,7 @@
 //! How an exchange goes.
 
 /// How an exchange goes on grids, and how in other graphs.
-#[derive(Clone, Copy, Debug)]
+#[derive(Clone, Copy)]
 pub struct Settings {
     /// Units kept free on each arc at first, of at most half its length; the rounding spends them.
     pub reserve: i64,

@@ -7,7 +7,7 @@ ghost use Rattle.tool_frame.specs.Stops.{IsWithin};
 use std::alloc::AllocError;
 
 /// Why a step gives no value. `?` makes one of want of memory.
-#[derive(Debug, Drop)]
+#[derive(Drop)]
 pub enum Stop<F> {
     /// What was read has a fault.
     Fault(F),

@@ -21,7 +21,7 @@ use tool_frame::Stop;
 const ALL_MEMBERS: u8 = 8;
 
 /// Points with two lists of their full trees.
-#[derive(Debug, Drop)]
+#[derive(Drop)]
 pub struct TreeLists {
     /// The points and their trees of up to so many members.
     pub file: FstFile,

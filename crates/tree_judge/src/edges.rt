@@ -8,7 +8,7 @@ use net_graph::{EdgeSet, NetGraph};
 use std::marker::Model;
 
 /// The edges that were read so far, whose numbers ascend. Contracts see their set.
-#[derive(Debug, Drop)]
+#[derive(Drop)]
 pub(crate) struct EdgesRead {
     network: EdgeSet,
     /// One more than the greatest number, or 0.

@@ -29,7 +29,7 @@ use net_graph::{EdgeSet, NetGraph, VertexSet};
 
 /// A judge of an answer on a graph, which is told the answer's steps one after another. It takes no memory: it works in
 /// the room that it is handed. It keeps what stands for the steps so far.
-#[derive(Debug, Drop)]
+#[derive(Drop)]
 pub struct Judge {
     /// What the answer claims.
     claim: Claim,

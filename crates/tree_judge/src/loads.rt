@@ -9,7 +9,7 @@ use std::marker::Model;
 
 /// The loads of the arcs of a graph, which lists the edges of which an arc is loaded, so that a leaf which ends clears
 /// these alone.
-#[derive(Debug, Drop)]
+#[derive(Drop)]
 pub(crate) struct Loads {
     /// Of each edge, the load of its arc from its end a to its end b.
     there: Row,

@@ -11,7 +11,7 @@ use std::marker::Model;
 pub(crate) const MOST_SPLITS: u32 = 255;
 
 /// The splits on the way to a node, at most 255. Contracts see them from the lowest one up.
-#[derive(Debug, Drop)]
+#[derive(Drop)]
 pub(crate) struct Path {
     /// From the top one down, with room for 255.
     turns: Vec<Turn>,

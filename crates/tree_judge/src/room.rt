@@ -20,7 +20,7 @@ const _: () = prove!(size_of::<Turn>() == 12);
 
 /// What a judge works in, for an answer on a graph of E edges and V vertices. It takes 21 E + 17 V + 3060 bytes, and no
 /// more however long the answer.
-#[derive(Debug, Drop)]
+#[derive(Drop)]
 pub struct Room {
     /// The loads of a leaf's cuts.
     pub(crate) loads: Loads,

@@ -9,7 +9,7 @@ use std::alloc::{AllocError, Global};
 use std::marker::Model;
 
 /// The numbers of a search, two for each vertex. Contracts see for how many vertices they are.
-#[derive(Debug, Drop)]
+#[derive(Drop)]
 pub(crate) struct SearchRoom {
     marks: Row,
     queue: Row,

@@ -8,7 +8,7 @@ use std::alloc::{AllocError, Global};
 use std::marker::Model;
 
 /// What is decided of each edge itself, whatever its ends, and of each vertex.
-#[derive(Debug, Drop)]
+#[derive(Drop)]
 pub(crate) struct States {
     edges: Vec<EdgeState>,
     vertices: Vec<VertexState>,

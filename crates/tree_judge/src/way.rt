@@ -15,7 +15,7 @@ use net_graph::{EdgeState, NetGraph, VertexState};
 use std::alloc::{AllocError, Global};
 
 /// The way of splits to the node that is read.
-#[derive(Debug, Drop)]
+#[derive(Drop)]
 pub(crate) struct Way {
     /// What is decided at the node.
     pub(crate) decided: States,

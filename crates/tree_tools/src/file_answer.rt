@@ -7,7 +7,7 @@ use rst_outside::{PutFault, Sink};
 use tool_frame::{Answer, AnswerStatus};
 
 /// A file of full trees that a tool prints.
-#[derive(Debug, Drop)]
+#[derive(Drop)]
 pub struct FileAnswer {
     pub file: FstFile,
 }

@@ -8,7 +8,7 @@ use rst_outside::{PutFault, Sink};
 use tool_frame::{Answer, AnswerStatus};
 
 /// A file of full trees, of whose points a tool prints the grid.
-#[derive(Debug, Drop)]
+#[derive(Drop)]
 pub struct GraphAnswer {
     pub file: FstFile,
 }

@@ -8,7 +8,7 @@ use rst_outside::{PutFault, Sink};
 use tool_frame::{Answer, AnswerStatus};
 
 /// The list of a file's trees, with or without their pieces.
-#[derive(Debug, Drop)]
+#[derive(Drop)]
 pub struct Listing {
     pub file: FstFile,
     pub pieces: bool,

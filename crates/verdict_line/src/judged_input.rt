@@ -20,7 +20,7 @@ const BLOCK: usize = 1 << 16;
 
 /// What is found of an answer that isn't too long: the verdict on it, and the edges whose lines came before its first
 /// wrong one. Of an answer that is accepted they are its network.
-#[derive(Debug, Drop)]
+#[derive(Drop)]
 pub struct Judged {
     pub ruling: Ruling,
     pub network: EdgeSet,
