@@ -7,7 +7,7 @@ use Rattle.net_graph.specs.declared.state.EdgeState.TheVariants.{Undecided, Insi
 use Rattle.net_graph.specs.declared.packing.Cut.{Cut}
 use Rattle.net_graph.specs.Graph.{Graph}
 use Rattle.net_graph.specs.Network.{length_of_edges}
-use Rattle.net_graph.specs.Decision.{Decided, IsMissed, IsFree, IsDecisionFor, InRootPart, Agrees, states_of}
+use Rattle.net_graph.specs.Decision.{Decided, IsMissed, IsFree, InRootPart, Agrees, states_of}
 use Rattle.net_graph.specs.DecisionLaws.{length-states_of, states_of-inside, states_of-from_inside, states_of-free}
 use Rattle.net_graph.specs.Packing.{IsWithinRoom, IsFeasible, inside_length}
 use Rattle.duality.specs.Duality.{WeakDuality}
@@ -116,13 +116,6 @@ inside_length-same (e ∷ es) (own ∷ bare) (state ∷ states) size same =
     first Outside Undecided here rest = rest
     first Outside Outside here rest = rest
 
--- what a decision's agreeing set and a feasible packing give
-IsCovered-from_agrees : (g : Graph) (d : Decided) (packing : List Cut) (set : List Bool) (hops : ℕ) →
-    IsDecisionFor g d → IsFeasible g d packing → Agrees g d set →
-    IsCovered (is_away g set hops) packing g.edges (states_of g d) set
-IsCovered-from_agrees g d packing set hops decision feasible agrees =
-    grind (arith, length-states_of g d decision.edges, states_of-inside, edge_load-le-open_length g d packing set hops feasible agrees)
-
 -- no network that agrees with a decision is shorter than the value of a feasible packing
 pub weak_duality_lem : WeakDuality
 weak_duality_lem g d packing decision feasible set agrees network =
@@ -133,5 +126,5 @@ weak_duality_lem g d packing decision feasible set agrees network =
       sum-le-set_load g set hops packing (entries hops (le_refl hops)),
       inside_length-same g.edges d.edges (states_of g d) size (λ n. (states_of-from_inside g d n decision, states_of-inside g d n)),
       length-from_covered (is_away g set hops) packing g.edges (states_of g d) set
-          (IsCovered-from_agrees g d packing set hops decision feasible agrees),
+          (grind (arith, length-states_of g d decision.edges, states_of-inside, edge_load-le-open_length g d packing set hops feasible agrees)),
     )

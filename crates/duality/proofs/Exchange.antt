@@ -38,18 +38,13 @@ arc_load-cons away c cs v w =
     elim (away v w) as (λ (b : Bool). cond b (load (c ∷ cs) v w) 0 ≡ cond b (load (c ∷ []) v w) 0 + cond b (load cs v w) 0)
     [ true ↦ load-cons c cs v w | false ↦ refl ]
 
--- the same of an edge
-edge_load-cons : (away : ℕ → ℕ → Bool) (c : Cut) (cs : List Cut) (e : Edge) →
-    edge_load away (c ∷ cs) e ≡ edge_load away (c ∷ []) e + edge_load away cs e
-edge_load-cons away c cs e = omega (arith, arc_load-cons away c cs e.a e.b, arc_load-cons away c cs e.b e.a)
-
 -- the same of a set
 set_load-cons : (away : ℕ → ℕ → Bool) (c : Cut) (cs : List Cut) (es : List Edge) (set : List Bool) →
     set_load away (c ∷ cs) es set ≡ set_load away (c ∷ []) es set + set_load away cs es set
 set_load-cons away c cs [] set = refl
 set_load-cons away c cs (e ∷ es) [] = refl
 set_load-cons away c cs (e ∷ es) (false ∷ set) = omega (arith, set_load-cons away c cs es set)
-set_load-cons away c cs (e ∷ es) (true ∷ set) = omega (arith, edge_load-cons away c cs e, set_load-cons away c cs es set)
+set_load-cons away c cs (e ∷ es) (true ∷ set) = omega (arith, arc_load-cons away c cs e.a e.b, arc_load-cons away c cs e.b e.a, set_load-cons away c cs es set)
 
 -- an arc that enters a cut is loaded with the cut's weight
 arc_load_entered : (away : ℕ → ℕ → Bool) (c : Cut) (v w : ℕ) → away v w ≡ true → enters c.members v w ≡ true →

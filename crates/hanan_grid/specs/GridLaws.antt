@@ -183,8 +183,3 @@ terminals_below ps =
 -- the grid of at most 50 points has at most 2500 crossings
 pub few_crossings_of : (ps : List Point) → length ps ≤ 50 → (hanan_grid_of ps).vertices ≤ 2500
 few_crossings_of ps few = grind (arith, few_crossings, length-xs_of-le ps, length-ys_of-le ps)
-
--- and at most 4900 edges
-pub few_edges_of : (ps : List Point) → length ps ≤ 50 → length (hanan_grid_of ps).edges ≤ 4900
-few_edges_of ps few =
-    grind (arith, length-edges_of_lines (xs_of ps) (ys_of ps), few_edges, length-xs_of-le ps, length-ys_of-le ps)

@@ -86,11 +86,6 @@ pub record IsVertical (xs ys : List ℤ) (e j i : ℕ) : Type 0 where
   pub column : i < length xs
   pub number : e ≡ vertical_number xs ys j i
 
--- a number below the horizontal edges' is one of theirs
-horizontal_from : (xs ys : List ℤ) (e : ℕ) → e < length ys * (length xs - 1)
-    → IsHorizontal xs ys e (e / (length xs - 1)) (e % (length xs - 1))
-horizontal_from xs ys e inside = grind (arith, column_of-below, row_of-below, vertex_number-parts (length xs - 1) e)
-
 -- a number that is as far behind them as this one is a vertical edge's
 vertical_from : (xs ys : List ℤ) (e k : ℕ) → e ≡ length ys * (length xs - 1) + k → k < (length ys - 1) * length xs
     → IsVertical xs ys e (k / length xs) (k % length xs)
@@ -102,7 +97,7 @@ pub edge_cases : (xs ys : List ℤ) (e : ℕ) → e < length (edges_of_lines xs 
 edge_cases xs ys e inside =
     let across = length ys * (length xs - 1) in
     elim (cases_lt e across) [
-      | inl before ↦ inl (e / (length xs - 1), e % (length xs - 1), horizontal_from xs ys e before)
+      | inl before ↦ inl (e / (length xs - 1), e % (length xs - 1), (grind (arith, column_of-below, row_of-below, vertex_number-parts (length xs - 1) e)))
       | inr behind ↦ let k = e - across in
           inr (
             k / length xs,

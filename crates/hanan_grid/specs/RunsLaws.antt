@@ -1,5 +1,5 @@
 -- Laws of the edges of a row and of a column: how they add up in a set, and where they lead.
-use Rattle.std.proofs.Common.{ℕ, zero, suc, ◌≡◌, ◌+◌, ◌-◌, ◌<◌, ◌≤◌, min, max, Bool, true, List, length, slice_get}
+use Rattle.std.proofs.Common.{ℕ, zero, suc, ◌≡◌, ◌+◌, ◌-◌, ◌<◌, ◌≤◌, Bool, true, List, length, slice_get}
 use Rattle.std.proofs.Common.{slice_set, Some, ◌⊎◌, inl, inr, sym, ap, ◌∙◌, subst, arith}
 use Rattle.std.proofs.lemmas.Bool.{cases_lt}
 use Rattle.std.proofs.lemmas.Option.{get_or_from_slice_get, slice_get_within}
@@ -13,7 +13,6 @@ use Rattle.hanan_grid.specs.Grid.{xs_of, ys_of, horizontal, vertical, hanan_grid
 use Rattle.hanan_grid.specs.GridLaws.{horizontal_number, vertical_number, slice_get-horizontal, slice_get-vertical}
 use Rattle.hanan_grid.specs.Names.{name_of, no_edge}
 use Rattle.hanan_grid.specs.NamesLaws.{IsHorizontal, IsVertical, same_edge}
-use Rattle.hanan_grid.specs.Runs.{IsInRow, IsInColumnBetween}
 
 -- ---- numbers
 
@@ -67,12 +66,6 @@ pub row_more : (ps : List Point) (row low column n : ℕ) (old set : List Bool) 
 row_more ps row low column n old set above within is adds =
     grind (arith, Adds-then, Adds-one set n within, cases_lt)
 
--- all edges of a row between two columns
-pub row_all : (ps : List Point) (row from to bound : ℕ) (old set : List Bool) → max from to ≤ bound →
-    bound ≤ max from to → Adds (IsInRowBelow ps row (min from to) bound) old set →
-    Adds (IsInRow ps row from to) old set
-row_all ps row from to bound old set top end adds = grind (arith, cases_lt from to)
-
 -- the edges of a column from the lower of two rows to a row
 abbrev pub IsInColumnPart : List Point → ℕ → ℕ → ℕ → ℕ → Type 0
 IsInColumnPart ps column low bound e = (row : ℕ) × (low ≤ row) × (row < bound)
@@ -85,13 +78,6 @@ pub column_part_more : (ps : List Point) (column low row n : ℕ) (old set : Lis
     Adds (IsInColumnPart ps column low (row + 1)) old (slice_set set n true)
 column_part_more ps column low row n old set above within is adds =
     grind (arith, Adds-then, Adds-one set n within, cases_lt)
-
--- all edges of a column between two rows
-pub column_part_all : (ps : List Point) (column from to bound : ℕ) (old set : List Bool) →
-    max from to ≤ bound → bound ≤ max from to →
-    Adds (IsInColumnPart ps column (min from to) bound) old set →
-    Adds (IsInColumnBetween ps column from to) old set
-column_part_all ps column from to bound old set top end adds = grind (arith, cases_lt from to)
 
 -- ---- walks
 

@@ -31,8 +31,8 @@ use Rattle.hanan_grid.specs.NamesLaws.{IsHorizontal, IsVertical, edge_cases, poi
 use Rattle.hanan_grid.specs.NamesLaws.{column_of-below, row_of-below, vertex_of-crossing-below}
 use Rattle.hanan_grid.specs.NamesLaws.{point_of_vertex-vertex_of}
 use Rattle.hanan_grid.specs.Runs.{IsInRow, IsInColumnBetween}
-use Rattle.hanan_grid.specs.RunsLaws.{IsPassed, line_leads, IsInRowBelow, row_more, row_all, IsInColumnPart}
-use Rattle.hanan_grid.specs.RunsLaws.{column_part_more, column_part_all}
+use Rattle.hanan_grid.specs.RunsLaws.{IsPassed, line_leads, IsInRowBelow, row_more, IsInColumnPart}
+use Rattle.hanan_grid.specs.RunsLaws.{column_part_more}
 use Rattle.hanan_grid.specs.Stretch.{IsBetween, LiesBetween, IsOnStretch, IsVertexOnStretch, IsGridStretch}
 
 -- ---- lines between lines
@@ -458,8 +458,7 @@ row_stretch_set ps p q row a b is =
     record {
       set = part.set;
       adds = Adds-row_stretch ps p q row a b (no_edges ps) part.set is
-          (row_all ps row a b (min a b + (max a b - min a b)) (no_edges ps) part.set (omega arith)
-          (omega arith) part.adds);
+          (grind (arith, cases_lt a b));
       long = omega (arith, ints, x, x', y, y', apart);
     }
 
@@ -478,8 +477,7 @@ column_stretch_set ps p q column a b is =
     record {
       set = part.set;
       adds = Adds-column_stretch ps p q column a b (no_edges ps) part.set is
-          (column_part_all ps column a b (min a b + (max a b - min a b)) (no_edges ps) part.set (omega arith)
-          (omega arith) part.adds);
+          (grind (arith, cases_lt a b));
       long = omega (arith, ints, x, x', y, y', apart);
     }
 
@@ -569,11 +567,6 @@ column_leads ps set column a b t column_in a_in b_in t_in between holds =
       inl (refl, refl),
     ))
 
--- an edge of the row is on the stretch
-IsOnStretch-row : (ps : List Point) (p q : Point) (row a b e : ℕ) → IsRowStretch ps p q row a b →
-    IsInRow ps row a b e → IsOnStretch ps p q e
-IsOnStretch-row ps p q row a b e is on = grind (arith, IsOnStretch-in_row ps row a b e is.a_in is.b_in on)
-
 -- an edge of the column is on the stretch
 IsOnStretch-column : (ps : List Point) (p q : Point) (column a b e : ℕ) →
     IsColumnStretch ps p q column a b → IsInColumnBetween ps column a b e → IsOnStretch ps p q e
@@ -624,7 +617,7 @@ Leads-stretch ps p q set v is holds on =
           let led = row_leads ps set r (place_of p.x xs) (place_of q.x xs) i at.row_in at.a_in at.b_in i_in
           (IsBetween-same p.x q.x (line_at xs (place_of p.x xs)) (line_at xs (place_of q.x xs))
           (line_at xs i) x x' on.between.x)
-          (λ e inside. holds e (IsOnStretch-row ps p q r (place_of p.x xs) (place_of q.x xs) e at inside)) in
+          (λ e inside. holds e (grind (arith, IsOnStretch-in_row ps r (place_of p.x xs) (place_of q.x xs) e at.a_in at.b_in inside))) in
           subst (λ w. Leads Step (vertex_of xs ys p) w) (ap (λ k. vertex_number nx i k) (sym row) ∙ parts) led
     ]
 

@@ -13,10 +13,6 @@ use Rattle.net_graph.specs.Decision.{Decided, IsMissed, IsRequired, IsUndecided,
 use Rattle.net_graph.specs.DecisionLaws.{IsRequired-fewer, has_missed_end-iff, state_at_ends-undecided, states_of-at, states_of-parts, states_of-from_kept}
 use Rattle.net_graph.specs.EntryLaws.{slice_get-set_other}
 
--- an undecided edge is so by itself, and neither of its ends is missed
-undecided_itself : (g : Graph) (d : Decided) (n : ℕ) → IsUndecided g d n → slice_get d.edges n ≡ Some Undecided
-undecided_itself g d n undecided = grind (arith, states_of-parts g d n Undecided undecided, state_at_ends-undecided)
-
 -- what was required is so where one more edge is decided
 pub IsRequired-with_edge : (g : Graph) (d : Decided) (n v : ℕ) (state : EdgeState) → IsUndecided g d n →
     IsRequired g d v → IsRequired g (with_edge d n state) v
@@ -27,7 +23,7 @@ IsRequired-with_edge g d n v state undecided required =
     inside k is = elim (cases_eq k n) [
       | inl here ↦
           let same : Undecided ≡ Inside =
-          same_Some _ _ (sym (undecided_itself g d n undecided) ∙ ap (slice_get d.edges) (sym here) ∙ is) in cc
+          same_Some _ _ (sym (grind (arith, states_of-parts g d n Undecided undecided, state_at_ends-undecided)) ∙ ap (slice_get d.edges) (sym here) ∙ is) in cc
       | inr apart ↦ slice_get-set_other d.edges n k state apart ∙ is
     ]
 

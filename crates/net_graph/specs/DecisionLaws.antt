@@ -99,12 +99,6 @@ decided_at g d n decision within =
     let none : Edge = record { a = 0; b = 0; length = 0 } in
     (_, _, slice_get-get_or g.edges n none within, slice_get-get_or d.edges n Undecided (omega (arith, decision.edges)))
 
--- an end of an inside edge is not missed
-pub inside-not_missed : (g : Graph) (d : Decided) (n : ℕ) (e : Edge) → IsDecisionFor g d →
-    slice_get d.edges n ≡ Some Inside →
-    slice_get g.edges n ≡ Some e → IsMissed d e.a ⊎ IsMissed d e.b → ⊥
-inside-not_missed g d n e decision inside at missed = grind arith
-
 -- an edge's state is Inside where it is inside
 pub states_of-inside : (g : Graph) (d : Decided) (n : ℕ) → slice_get (states_of g d) n ≡ Some Inside →
     slice_get d.edges n ≡ Some Inside
@@ -140,7 +134,7 @@ states_of-from_free g d n decision within free =
     (λ (missed : (x : Edge) × (slice_get g.edges n ≡ Some x) × (IsMissed d x.a ⊎ IsMissed d x.b)).
     states_of-at g d n missed.0 state missed.1 decided
     ∙ ap Some (state_at_missed d.vertices missed.0 state ((has_missed_end-iff d missed.0).1 missed.2)
-    (λ inside. inside-not_missed g d n missed.0 decision (decided ∙ ap Some inside) missed.1 missed.2)))
+    (λ inside. (grind arith))))
     free
 
 -- an edge that is undecided by itself is free where one of its ends is missed

@@ -61,15 +61,6 @@ module _ {X F V : Type 0} (fm : Format X F V) (lawful : IsLawful fm) where
   abbrev Tells : Told X → List (List ℕ) → Told X → Type 0
   Tells t words t' = IsRight t' × (lines_told t' ≡ lines_told t ++ words ∷ [])
 
-  -- the lines of the points, with one more of them
-  head_push : (due : ℕ) (ps : List Point) (p : Point) → head_lines (length (ps ++ p ∷ []) + due) (ps ++ p ∷ []) ≡ head_lines (length ps + suc due) ps ++ point_words p ∷ []
-  head_push due ps p = grind (arith, length_push ps p, map-append point_words ps (p ∷ []))
-
-  -- the lines of the items, with one more of them
-  item_push : (ps : List Point) (due : ℕ) (xs : List X) (x : X) → item_lines ps (length (xs ++ x ∷ []) + due) (xs ++ x ∷ []) ≡ item_lines ps (length xs + suc due) xs ++ fm.item_words x ∷ []
-  item_push ps due xs x =
-      grind (arith, length_push xs x, map-append fm.item_words xs (x ∷ []), append_assoc (head_lines (length ps) ps) (count_words fm.kind (length xs + suc due) ∷ map fm.item_words xs) (fm.item_words x ∷ []), fm.item_words x)
-
   tells : (t t' : Told X) (words : List (List ℕ)) → IsRight t → Passes fm t words t' → Tells t words t'
   tells nothing t' words right (e, is) = subst (Tells nothing words) (sym is) (tt, ap (λ w. w ∷ []) (sym e))
   tells title t' words right (count, spells, some, few, is) = subst (Tells title words) (sym is) (
@@ -95,7 +86,7 @@ module _ {X F V : Type 0} (fm : Format X F V) (lawful : IsLawful fm) where
       are = All-push IsPoint ps p right.are spells.fits;
       fit = fit;
     },
-    head_push due ps p ∙ ap (λ w. head_lines (length ps + suc due) ps ++ w ∷ []) (sym spells.words_are),
+    (grind (arith, length_push ps p, map-append point_words ps (p ∷ []))) ∙ ap (λ w. head_lines (length ps + suc due) ps ++ w ∷ []) (sym spells.words_are),
   )
   tells (items ps zero xs) t' words right (e, is) = subst (Tells (items ps zero xs) words) (sym is) (
     right,
@@ -110,7 +101,7 @@ module _ {X F V : Type 0} (fm : Format X F V) (lawful : IsLawful fm) where
       few = let few = right.few in omega (arith, length_push xs x);
       right = lawful.push ps xs x right.right follows;
     },
-    item_push ps due xs x ∙ ap (λ w. item_lines ps (length xs + suc due) xs ++ w ∷ []) (sym spells.words_are),
+    (grind (arith, length_push xs x, map-append fm.item_words xs (x ∷ []), append_assoc (head_lines (length ps) ps) (count_words fm.kind (length xs + suc due) ∷ map fm.item_words xs) (fm.item_words x ∷ []), fm.item_words x)) ∙ ap (λ w. item_lines ps (length xs + suc due) xs ++ w ∷ []) (sym spells.words_are),
   )
   tells (ended ps xs) t' words right passes = absurd passes
 

@@ -1,5 +1,7 @@
 -- The steps of an answer all pass exactly where what it says of its network and its tree is sound, and they tell its
 -- bound.
+use Rattle.std.proofs.lemmas.List.{length-replicate}
+use Rattle.tree_judge.specs.MemberLaws.{members_of-empty}
 use Rattle.std.proofs.Common.{ℕ, ◌≡◌, ◌≤◌, Bool, List, [], ◌∷◌, ◌++◌, length, get_or, None, refl, sym, ap, ◌∙◌}
 use Rattle.std.proofs.Common.{replicate, false, subst, arith}
 use Rattle.net_graph.specs.Graph.{Graph}
@@ -11,7 +13,7 @@ use Rattle.cert_tree.specs.TreeValue.{IsValidTree, tree_value}
 use Rattle.tree_judge.specs.declared.claim.Claim.{Claim}
 use Rattle.tree_judge.specs.declared.step.Step.TheVariants as step
 use Rattle.tree_judge.specs.Answers.{IsSound, TellsAnswer, answer_steps, bound_of}
-use Rattle.tree_judge.specs.EdgeRunLaws.{HasNumbers-none, TellsNetwork, TellsNetwork-from_runs, network_passes}
+use Rattle.tree_judge.specs.EdgeRunLaws.{TellsNetwork, TellsNetwork-from_runs, network_passes}
 use Rattle.tree_judge.specs.Fresh.{IsFresh}
 use Rattle.tree_judge.specs.Judged.{SoFar, bound_found, decision_due, least_with, nothing_told}
 use Rattle.tree_judge.specs.Networks.{IsMeasured}
@@ -83,7 +85,7 @@ answer_sound g claim edges t s (claimed, claimed_is, (begun, (begun_is, right), 
     let fresh = subst (IsFresh g) (sym whole)
     (record { decisions = refl; splits = refl; cuts = refl; values = refl }) in
     let network = TellsNetwork-from_runs g begun parts.0 [] edges parts.1 (ap (λ x. x.edges_due) whole) right
-    (rw empty (HasNumbers-none g)) fresh in
+    (rw empty (grind (arith, length-replicate (length g.edges) false, members_of-empty (length g.edges)))) fresh in
     answer_from_tree g claim edges t begun parts.0 s (ap (λ x. x.claim) whole) network parts.2 weights
 
 -- ---- sound answers pass

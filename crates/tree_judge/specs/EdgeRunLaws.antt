@@ -1,18 +1,18 @@
 -- What the steps of edges tell that all pass: the network of their numbers. Those of a network that is as claimed pass.
-use Rattle.std.proofs.Common.{ℕ, suc, zero, ◌≡◌, ◌+◌, ◌-◌, ◌<◌, ◌≤◌, Bool, true, false, List, [], ◌∷◌, ◌++◌, length}
+use Rattle.std.proofs.Common.{ℕ, suc, zero, ◌≡◌, ◌+◌, ◌-◌, ◌≤◌, Bool, true, false, List, [], ◌∷◌, ◌++◌, length}
 use Rattle.std.proofs.Common.{set}
 use Rattle.std.proofs.Common.{refl, sym, ap, ◌∙◌, subst, arith, append_assoc, length-append, inl, inr}
 use Rattle.std.specs.Prelude.{replicate}
 use Rattle.std.proofs.lemmas.Bool.{cases_lt, false≢true}
-use Rattle.std.proofs.lemmas.List.{append-nil, get_or-append_right, length-replicate, length-set, set_at}
+use Rattle.std.proofs.lemmas.List.{append-nil, get_or-append_right, length-set, set_at}
 use Rattle.net_graph.specs.Flags.{has}
 use Rattle.net_graph.specs.Graph.{Graph}
 use Rattle.net_graph.specs.Members.{members_from, members_of}
 use Rattle.tree_judge.specs.declared.claim.Claim.{Claim}
 use Rattle.tree_judge.specs.Edges.{FollowsEdges}
 use Rattle.tree_judge.specs.Fresh.{IsFresh, IsFresh-edge}
-use Rattle.tree_judge.specs.Judged.{IsNetworkRight, SoFar, nothing_told, with_edge}
-use Rattle.tree_judge.specs.MemberLaws.{members_of-above, members_of-empty}
+use Rattle.tree_judge.specs.Judged.{IsNetworkRight, SoFar, with_edge}
+use Rattle.tree_judge.specs.MemberLaws.{members_of-above}
 use Rattle.tree_judge.specs.Networks.{IsMeasured}
 use Rattle.tree_judge.specs.Runs.{Runs, edge_steps}
 
@@ -22,15 +22,6 @@ use Rattle.tree_judge.specs.Runs.{Runs, edge_steps}
 pub record HasNumbers (g : Graph) (network : List Bool) (numbers : List ℕ) : Type 0 where
   pub size : length network ≡ length g.edges
   pub told : members_of network ≡ numbers
-
--- before the first edge there is none
-pub HasNumbers-none : (g : Graph) → HasNumbers g (nothing_told g).network []
-HasNumbers-none g = grind (arith, length-replicate (length g.edges) false, members_of-empty (length g.edges))
-
--- one more number
-HasNumbers-more : (g : Graph) (network : List Bool) (numbers : List ℕ) (e : ℕ) → HasNumbers g network numbers →
-    FollowsEdges g network e → HasNumbers g (set network e true) (numbers ++ e ∷ [])
-HasNumbers-more g network numbers e has_numbers follows = grind (arith, length-set network e true, members_of-above)
 
 -- what stands behind the last edge: the same claim, nothing of the tree, and a network with all these numbers that is
 -- as claimed
@@ -54,7 +45,7 @@ TellsNetwork-from_runs g s s' before (e ∷ numbers) (m, (follows, is, right), r
     let network_is : m.network ≡ set s.network e true = ap (λ x. x.network) is in
     let due_is : m.edges_due ≡ s.edges_due - 1 = ap (λ x. x.edges_due) is in
     let more : HasNumbers g m.network (before ++ e ∷ []) =
-    rw network_is (HasNumbers-more g s.network before e has_numbers follows) in
+    rw network_is (grind (arith, length-set s.network e true, members_of-above)) in
     let rest = TellsNetwork-from_runs g m s' (before ++ e ∷ []) numbers runs (omega arith) right more
     (IsFresh-edge g e s m fresh is) in
     record {
@@ -98,12 +89,6 @@ network_later : (g : Graph) (printed : ℕ) (front : List Bool) (flag : Bool) (r
     → IsNetworkOf g printed front (flag ∷ rest) → IsNetworkOf g printed (front ++ flag ∷ []) rest
 network_later g printed front flag rest is = grind (arith, later front flag rest)
 
--- a number that is none of the edges
-front_skips : (claim : Claim) (front rest : List Bool) (k : ℕ) (s : SoFar) →
-    HasFront claim front (false ∷ rest) k s → HasFront claim (front ++ false ∷ []) rest (k + 1) s
-front_skips claim front rest k s is =
-    grind (arith, length-append front (false ∷ []), later front false (replicate (length rest) false))
-
 -- one that is
 front_takes : (claim : Claim) (front rest : List Bool) (k : ℕ) (s : SoFar) →
     HasFront claim front (true ∷ rest) k s → HasFront claim (front ++ true ∷ []) rest (k + 1) (with_edge s k)
@@ -131,18 +116,12 @@ none_behind claim front rest k s m is behind =
       has-none (length rest) (m - k),
     )
 
--- the next edge is one of the graph
-next_inside : (g : Graph) (claim : Claim) (front : List Bool) (flag : Bool) (rest : List Bool) (k : ℕ) (s : SoFar)
-    → IsNetworkOf g claim.length front (flag ∷ rest) → HasFront claim front (flag ∷ rest) k s → k < length g.edges
-next_inside g claim front flag rest k s network is =
-    omega (arith, network.size, is.place, length-append front (flag ∷ rest))
-
 -- it follows those before it
 next_follows : (g : Graph) (claim : Claim) (front rest : List Bool) (k : ℕ) (s : SoFar) →
     IsNetworkOf g claim.length front (true ∷ rest) → HasFront claim front (true ∷ rest) k s →
     FollowsEdges g s.network k
 next_follows g claim front rest k s network is = record {
-  inside = next_inside g claim front true rest k s network is;
+  inside = omega (arith, network.size, is.place, length-append front (true ∷ rest));
   above = λ m held. elim (cases_lt m k) [
     | inl before ↦ before
     | inr behind ↦
@@ -178,7 +157,7 @@ edges_pass g claim front [] k s network is fresh =
     }
 edges_pass g claim front (false ∷ rest) k s network is fresh =
     let behind = edges_pass g claim (front ++ false ∷ []) rest (k + 1) s
-    (network_later g claim.length front false rest network) (front_skips claim front rest k s is) fresh in
+    (network_later g claim.length front false rest network) (grind (arith, length-append front (false ∷ []), later front false (replicate (length rest) false))) fresh in
     record {
       last = behind.last;
       runs = behind.runs;

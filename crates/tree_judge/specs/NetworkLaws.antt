@@ -32,11 +32,6 @@ apart_no_sooner : (g : Graph) (network : List Bool) (place place' : ℕ) → IsF
 apart_no_sooner g network place place' first first' sooner =
     first.apart (first'.before place first.terminal sooner first.at)
 
-same_first_apart : (g : Graph) (network : List Bool) (place place' : ℕ) → IsFirstApart g network place →
-    IsFirstApart g network place' → place ≡ place'
-same_first_apart g network place place' first first' =
-    grind (arith, cases_lt place place', apart_no_sooner, cases_lt place' place)
-
 -- edges that are the network have no fault
 pub measured_without_fault : {P : Type 0} (g : Graph) (printed : ℕ) (network : List Bool) (cause : Cause) →
     IsMeasured g printed network → NetworkFault g printed network cause → P
@@ -52,7 +47,7 @@ pub same_network_fault : (g : Graph) (printed : ℕ) (network : List Bool) (caus
 same_network_fault g printed network cause cause' fault fault' =
     elim (network_causes g printed network cause fault) [
       | inl (place, is, first) ↦ elim (network_causes g printed network cause' fault') [
-        | inl (place', is', first') ↦ is ∙ ap NotJoined (same_first_apart g network place place' first first') ∙ sym is'
+        | inl (place', is', first') ↦ is ∙ ap NotJoined (grind (arith, cases_lt place place', apart_no_sooner, cases_lt place' place)) ∙ sym is'
         | inr (said', found', _, wrong') ↦ apart_from_network g network place wrong'.joins first
       ]
       | inr (said, found, is, wrong) ↦ elim (network_causes g printed network cause' fault') [

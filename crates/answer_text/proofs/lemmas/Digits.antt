@@ -1,12 +1,7 @@
 -- A set of a known size is told by its digits.
-use Rattle.std.proofs.Common.{ℕ, ◌≡◌, ◌<◌, ◌≤◌, Bool, false, List, [], ◌∷◌, ◌++◌, length, refl, arith}
-use Rattle.std.specs.Fmt.{digit_glyph}
+use Rattle.std.proofs.Common.{ℕ, ◌≡◌, ◌<◌, ◌≤◌, Bool, List, [], ◌∷◌, ◌++◌, length, refl, arith}
 use Rattle.std.proofs.lemmas.Bool.Decides.{nat_tests}
 use Rattle.answer_text.specs.Words.{flag_value, four_value, four_digit, set_text}
-
--- a digit tells its value
-digit_one : (m n : ℕ) → m < 16 → n < 16 → digit_glyph false m ≡ digit_glyph false n → m ≡ n
-digit_one m n p q e = grind (arith, nat_tests)
 
 -- a flag counts at most once
 flag_value-le : (a : Bool) → flag_value a ≤ 1
@@ -18,7 +13,7 @@ four_value-below a b c d = omega (arith, flag_value-le a, flag_value-le b, flag_
 
 -- four flags are told by their digit
 four_one : (a b c d a' b' c' d' : Bool) → four_digit a b c d ≡ four_digit a' b' c' d' → (a ≡ a') × (b ≡ b') × (c ≡ c') × (d ≡ d')
-four_one a b c d a' b' c' d' e = grind (arith, digit_one, flag_value-le)
+four_one a b c d a' b' c' d' e = grind (arith, nat_tests, flag_value-le)
 
 -- a set is told by its digits, whatever follows them
 pub set_front : (s t : List Bool) (p q : List ℕ) → length s ≡ length t → set_text s ++ p ≡ set_text t ++ q → (s ≡ t) × (p ≡ q)

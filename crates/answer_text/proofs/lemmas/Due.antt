@@ -23,7 +23,7 @@ use Rattle.answer_text.specs.declared.version.Version.{Version}
 use Rattle.answer_text.specs.declared.version.Version.TheVariants as version
 use Rattle.answer_text.specs.Forms.{IsVersionOf, most_edges, set_size}
 use Rattle.answer_text.specs.Notes.{no_note}
-use Rattle.answer_text.specs.Spelling.{FitsHead, FitsSplit, FitsTree, FitsAnswer}
+use Rattle.answer_text.specs.Spelling.{FitsSplit, FitsTree, FitsAnswer}
 use Rattle.answer_text.specs.Lines.{split_line, tree_lines, head_lines, proof_lines, body_lines, answer_lines, run}
 use Rattle.answer_text.specs.LineFits.{FitsLine, FitsLines, version_with, version_from}
 use Rattle.answer_text.proofs.lemmas.Steps.{step-split_line}
@@ -83,10 +83,6 @@ tree_fits : (v : Version) (F : Form) (t : Tree SplitName) → FitsTree v F t →
 tree_fits v F (Leaf cuts) f = All-cons (FitsLine v F) (line.Leaf (length cuts)) (map line.Cut cuts) f.count (All-map (FitsLine v F) line.Cut cuts f.each)
 tree_fits v F (Split on o i) f = search (All-cons, split_fits, All-append, tree_fits v F o f.1, tree_fits v F i f.2)
 
--- the lines of a head that fits fit
-head_fits : (v : Version) (F : Form) (h : AnswerHead) → IsVersionOf F v → FitsHead h → All (FitsLine v F) (head_lines v h)
-head_fits v F h of f = grind arith
-
 -- the lines of an answer that fits fit
 version_fits : (F : Form) (a : WrittenAnswer) → FitsAnswer F a → All (FitsLine a.version F) (answer_lines a)
 version_fits F a f =
@@ -96,7 +92,7 @@ version_fits F a f =
     let below : All P (map line.Edge a.edges ++ proof_lines a.version a.tree) =
     All-append P (map line.Edge a.edges) (proof_lines a.version a.tree) (All-map P line.Edge a.edges f.edges)
     (All-cons P line.Tree (tree_lines a.version a.tree ++ line.End ∷ []) tt behind) in
-    All-append P (head_lines a.version a.head) (body_lines a) (head_fits a.version F a.head f.version f.head)
+    All-append P (head_lines a.version a.head) (body_lines a) (grind arith)
     (All-cons P (line.Count (length a.edges)) (map line.Edge a.edges ++ proof_lines a.version a.tree) (edges_counted F a.edges f.edges f.count) below)
 
 -- from any version on: the title tells the answer's
@@ -157,13 +153,9 @@ run_edges_end : (F : Form) (edges : ℕ) → run (stage.Edges edges) (edges_end 
 run_edges_end F zero = refl
 run_edges_end F (suc edges) = run_edges_end F edges
 
--- the end of a head does
-run_openings_end : (F : Form) → run stage.Openings (openings_end F) ≡ Some stage.Done
-run_openings_end F = grind arith
-
 -- from every stage the end is reached
 pub run-end_of : (v : Version) (F : Form) (s : Stage) → run s (end_of v F s) ≡ Some stage.Done
-run-end_of v F s = grind (arith, run_openings_end, run_edges_end, run_body_end)
+run-end_of v F s = grind (arith, run_edges_end, run_body_end)
 
 -- these lines fit
 body_end_fits : (v : Version) (F : Form) (cuts nodes : ℕ) → All (FitsLine v F) (body_end F cuts nodes)

@@ -41,9 +41,6 @@ noted_one F note = grind arith
 bare_none : (F : Form) → HasNoNote F → note_lines F ≡ 0
 bare_none F none = grind arith
 
-all_silent : (F : Form) → 4 + note_lines F ≡ silent_lines F
-all_silent F = grind arith
-
 -- how many lines of the head are due that are no event
 abbrev silent : Form → Stage → ℕ
 silent F stage.Title = 4 + note_lines F
@@ -79,4 +76,4 @@ count_events F w h n s s' (l ∷ ls) e f = absurd cc
 pub events_from-front : (F : Form) (w : Version) (a : WrittenAnswer) (s : Stage) (ls more : List Line) → run stage.Title ls ≡ Some s → FitsLines w F ls → ls ++ more ≡ answer_lines a
     → events_from no_head 1 ls ≡ take (length ls + 1 - suc (silent_lines F)) (events_of a)
 events_from-front F w a s ls more due fits parts =
-    grind (arith, events_from-append no_head 1 ls more, all_silent F, count_events F w no_head 1 stage.Title s ls due fits, take-append_seam (events_from no_head 1 ls) (events_from (head_from no_head ls) (1 + length ls) more))
+    grind (arith, events_from-append no_head 1 ls more, count_events F w no_head 1 stage.Title s ls due fits, take-append_seam (events_from no_head 1 ls) (events_from (head_from no_head ls) (1 + length ls) more))

@@ -1,5 +1,5 @@
 -- What is kept of a form while its lines are read.
-use Rattle.std.proofs.Common.{suc, zero, ◌≡◌, ◌<◌, ◌≤◌, List, [], ◌∷◌, arith, refl, sym, subst, Option, Some, None}
+use Rattle.std.proofs.Common.{suc, zero, ◌≡◌, ◌<◌, ◌≤◌, List, [], ◌∷◌, arith, refl, subst, Option, Some, None}
 use Rattle.std.specs.Prelude.{All, ◌^◌, length, option_and_then}
 use Rattle.answer_text.specs.declared.form.Form.{Form}
 use Rattle.answer_text.specs.declared.form.Form.TheVariants as form
@@ -33,15 +33,11 @@ abbrev pub HasRoom : Form → Stage → Type 0
 HasRoom F (stage.Edges edges) = edges ≤ most_edges F
 HasRoom F s = Unit {0}
 
--- a line keeps to that
-pub room_step : (v : Version) (F : Form) (s s' : Stage) (l : Line) → step s l ≡ Some s' → FitsLine v F l → HasRoom F s → HasRoom F s'
-room_step v F s s' l e f room = grind arith
-
 -- and so do lines
 room_steps : (w : Version) (F : Form) (ls : List Line) (due : Option Stage) (s s' : Stage) (l : Line) → due ≡ step s l → option_and_then (λ u. run u ls) due ≡ Some s' → FitsLine (version_with w l) F l
     → FitsLines (version_with w l) F ls → HasRoom F s → ((u : Stage) → run u ls ≡ Some s' → HasRoom F u → HasRoom F s') → HasRoom F s'
 room_steps w F ls None s s' l is e f g room more = absurd cc
-room_steps w F ls (Some u) s s' l is e f g room more = more u e (room_step (version_with w l) F s u l (sym is) f room)
+room_steps w F ls (Some u) s s' l is e f g room more = more u e (grind arith)
 
 pub room_behind : (w : Version) (F : Form) (s s' : Stage) (ls : List Line) → run s ls ≡ Some s' → FitsLines w F ls → HasRoom F s → HasRoom F s'
 room_behind w F s s' [] e f room = let is : s ≡ s' = cc in subst (HasRoom F) is room

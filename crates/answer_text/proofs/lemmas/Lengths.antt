@@ -10,12 +10,11 @@ use Rattle.answer_text.specs.declared.label.EdgeLabel.TheVariants as edge
 use Rattle.answer_text.specs.declared.label.VertexLabel.TheVariants as vertex
 use Rattle.net_graph.specs.declared.packing.Cut.{Cut}
 use Rattle.hanan_grid.specs.declared.name.EdgeName.{EdgeName}
-use Rattle.answer_text.specs.declared.head.AnswerHead.{AnswerHead}
 use Rattle.answer_text.specs.declared.version.Version.TheVariants as version
 use Rattle.answer_text.specs.Value.{WrittenAnswer}
 use Rattle.answer_text.specs.AnswerLine.{Line}
 use Rattle.answer_text.specs.LineKinds as line
-use Rattle.answer_text.specs.Words.{set_text, status_word, concat_word, edge_words}
+use Rattle.answer_text.specs.Words.{set_text, edge_words}
 use Rattle.answer_text.specs.Lines.{line_bytes, line_text, lines_text, head_lines, network_lines, tree_lines, answer_lines}
 
 -- the text of lines and of one more
@@ -27,24 +26,9 @@ pub cut_lines-more : (cuts : List Cut) (i : ℕ) (d : Cut) → i < length cuts �
 cut_lines-more cuts i d inside =
     grind (arith, lines_text-push (map line.Cut (take i cuts)) (line.Cut (get_or cuts i d)), map-append line.Cut (take i cuts) (get_or cuts i d ∷ []), take_more cuts i d inside)
 
--- the length of lines and of one before them
-pub length-line : (l : Line) (ls : List Line) → length (lines_text (l ∷ ls)) ≡ length (line_bytes l) + 1 + length (lines_text ls)
-length-line l ls = omega (arith, length-append (line_text l) (lines_text ls), length-append (line_bytes l) (10 ∷ []))
-
 -- a word and a number
 word_number : (word : List ℕ) (n : ℕ) → length (word ++ decimal n) ≡ length word + length (decimal n)
 word_number word n = length-append word (decimal n)
-
--- the first six lines
-pub length-head_lines : (h : AnswerHead) → length (lines_text (head_lines version.Two h))
-    ≡ 55 + length (decimal h.length) + length (decimal h.bound) + length (decimal h.openings) + length (decimal h.concat.total) + length (status_word h.optimal) + length (concat_word h.concat.least)
-length-head_lines h = grind (arith, length-append)
-
--- the first five lines in a graph
-pub length-graph_head_lines : (h : AnswerHead) → length (lines_text (head_lines version.Graph h))
-    ≡ 45 + length (decimal h.length) + length (decimal h.bound) + length (decimal h.openings)
-    + length (status_word h.optimal)
-length-graph_head_lines h = grind (arith, length-append)
 
 -- the line of an edge's ends
 pub length-edge : (e : EdgeName) → length (line_text (line.Edge (edge.Ends e))) ≡ 4 + length (signed_decimal e.x1) + length (signed_decimal e.y1) + length (signed_decimal e.x2) + length (signed_decimal e.y2)
@@ -71,7 +55,7 @@ length-cut c = simp length-append (omega arith)
 
 -- a word's line with a number, and lines behind it
 pub length-number : (word : List ℕ) (n : ℕ) (l : Line) (ls : List Line) → line_bytes l ≡ word ++ decimal n → length (lines_text (l ∷ ls)) ≡ length word + 1 + length (decimal n) + length (lines_text ls)
-length-number word n l ls is = omega (arith, length-line l ls, ap length is, word_number word n)
+length-number word n l ls is = omega (arith, length-append (line_text l) (lines_text ls), length-append (line_bytes l) (10 ∷ []), ap length is, word_number word n)
 
 -- one more piece adds its length
 pub sum_more : (front piece whole : List ℕ) (sum more : ℕ) → sum ≡ length front → more ≡ length piece → front ++ piece ≡ whole → sum + more ≡ length whole

@@ -16,14 +16,13 @@ use Rattle.answer_text.specs.declared.label.EdgeLabel.{EdgeLabel}
 use Rattle.answer_text.specs.declared.label.EdgeLabel.TheVariants as edge
 use Rattle.answer_text.specs.declared.label.VertexLabel.{VertexLabel}
 use Rattle.answer_text.specs.declared.label.VertexLabel.TheVariants as vertex
-use Rattle.answer_text.specs.declared.head.ConcatNote.{ConcatNote}
 use Rattle.answer_text.specs.AnswerLine.{Line}
 use Rattle.answer_text.specs.LineKinds as line
 use Rattle.answer_text.specs.declared.line.Stage.{Stage}
 use Rattle.answer_text.specs.declared.line.Stage.TheVariants as stage
 use Rattle.answer_text.specs.declared.version.Version.{Version}
 use Rattle.answer_text.specs.declared.version.Version.TheVariants as version
-use Rattle.answer_text.specs.Words.{four_value, four_digit, set_text, status_word, concat_word, title_words, name_words, point_words, edge_words, vertex_words}
+use Rattle.answer_text.specs.Words.{four_value, four_digit, set_text, status_word, concat_word, name_words, point_words, edge_words, vertex_words}
 use Rattle.answer_text.specs.Forms.{HasNote, HasNoNote, SaysKind, set_size}
 use Rattle.answer_text.specs.Spelling.{FitsName, FitsPoint, FitsEdge, FitsVertex, FitsCut}
 use Rattle.answer_text.specs.Lines.{line_bytes, line_text, lines_text, step}
@@ -130,10 +129,6 @@ line_bytes-lacks v F line.End f = lacks_by 10 (codes "end") refl
 same_number : (word : List ℕ) (m n : ℕ) → m < 2 ^ 128 → n < 2 ^ 128 → word ++ decimal m ≡ word ++ decimal n → m ≡ n
 same_number word m n p q e = number_one m n p q (append_cancel_left word (decimal m) (decimal n) e)
 
--- titles
-same_title : (a b : Version) → title_words a ≡ title_words b → a ≡ b
-same_title a b same = grind arith
-
 -- names behind one word
 same_name_words : (d e : EdgeName) → FitsName d → FitsName e → name_words d ≡ name_words e → d ≡ e
 same_name_words d e f g same = (edge_front d e [] [] f g (ap (λ x. (x ++ codes "\n") ++ []) same)).0
@@ -178,9 +173,6 @@ same_cut_words V c d f g same = (cut_front V c d [] [] f g (ap (λ x. (x ++ code
 same_status : (a b : Bool) → codes "status " ++ status_word a ≡ codes "status " ++ status_word b → a ≡ b
 same_status a b same = (status_front a b [] [] (ap (λ x. x ++ []) (append_cancel_left (codes "status ") (status_word a) (status_word b) same))).0
 
-same_concat : (c k : ConcatNote) → c.total < 2 ^ 128 → k.total < 2 ^ 128 → line_bytes (line.Concat c) ≡ line_bytes (line.Concat k) → c ≡ k
-same_concat c k f g same = grind (arith, number_one)
-
 -- version 1 doesn't say what a split is on
 bare_says : (v : Version) → v ≡ version.One → SaysKind v → ⊥
 bare_says v one says = grind arith
@@ -192,7 +184,7 @@ two_heads F note none = grind arith
 -- two lines that are due at one stage of a text and have the same bytes are the same
 pub same_line : (v : Version) (F : Form) (s : Stage) (l m : Line) (s' s'' : Stage) → step s l ≡ Some s' → step s m ≡ Some s'' → FitsLine (version_with v l) F l
     → FitsLine (version_with v m) F m → line_bytes l ≡ line_bytes m → l ≡ m
-same_line v F stage.Title (line.Title a) (line.Title b) s' s'' d e f g same = ap line.Title (same_title a b same)
+same_line v F stage.Title (line.Title a) (line.Title b) s' s'' d e f g same = ap line.Title (grind arith)
 same_line v F stage.Length (line.Length m) (line.Length n) s' s'' d e f g same = ap line.Length (same_number (codes "length ") m n (omega arith) (omega arith) same)
 same_line v F stage.Bound (line.Bound m) (line.Bound n) s' s'' d e f g same = ap line.Bound (same_number (codes "bound ") m n (omega arith) (omega arith) same)
 same_line v F stage.Status (line.Status a) (line.Status b) s' s'' d e f g same = ap line.Status (same_status a b same)
@@ -200,7 +192,7 @@ same_line v F stage.Openings (line.Openings m) (line.Openings n) s' s'' d e f g 
 same_line v F stage.Openings (line.LastOpenings m) (line.LastOpenings n) s' s'' d e f g same = let few = f.1 in let few_too = g.1 in ap line.LastOpenings (same_number (codes "openings ") m n (omega arith) (omega arith) same)
 same_line v F stage.Openings (line.Openings m) (line.LastOpenings n) s' s'' d e f g same = absurd (two_heads F f.0 g.0)
 same_line v F stage.Openings (line.LastOpenings m) (line.Openings n) s' s'' d e f g same = absurd (two_heads F g.0 f.0)
-same_line v F stage.Concat (line.Concat c) (line.Concat k) s' s'' d e f g same = ap line.Concat (same_concat c k f g same)
+same_line v F stage.Concat (line.Concat c) (line.Concat k) s' s'' d e f g same = ap line.Concat (grind (arith, number_one))
 same_line v F stage.Count (line.Count m) (line.Count n) s' s'' d e f g same = ap line.Count (same_number (codes "edges ") m n (omega (arith, most_edges-few F)) (omega (arith, most_edges-few F)) same)
 same_line v F (stage.Edges zero) line.Tree line.Tree s' s'' d e f g same = refl
 same_line v F (stage.Edges (suc k)) (line.Edge a) (line.Edge b) s' s'' d e f g same = ap line.Edge (same_edge_words F a b f g same)

@@ -17,11 +17,11 @@ use Rattle.answer_text.specs.declared.split.SplitName.{SplitName}
 use Rattle.answer_text.specs.declared.split.SplitName.TheVariants as name
 use Rattle.answer_text.specs.declared.version.Version.{Version}
 use Rattle.answer_text.specs.declared.version.Version.TheVariants as version
-use Rattle.answer_text.specs.Forms.{HasNote, HasNoNote, IsVersionOf, SaysKind, set_size}
+use Rattle.answer_text.specs.Forms.{HasNote, set_size}
 use Rattle.answer_text.specs.Notes.{no_note}
 use Rattle.answer_text.specs.Spelling.{FitsEdge, FitsCut, FitsSplit, FitsTree, FitsNote, FitsAnswer}
 use Rattle.answer_text.specs.declared.head.AnswerHead.{AnswerHead}
-use Rattle.answer_text.specs.Lines.{split_line, tree_lines, result_lines, head_lines, network_lines, proof_lines, answer_lines, step, run}
+use Rattle.answer_text.specs.Lines.{split_line, tree_lines, result_lines, network_lines, proof_lines, answer_lines, step, run}
 use Rattle.answer_text.specs.LineFits.{FitsLines}
 use Rattle.answer_text.proofs.lemmas.Steps.{step-done}
 use Rattle.answer_text.proofs.lemmas.FormLemmas.{most_edges-few}
@@ -77,10 +77,6 @@ split_body v F p on ls [] (o ∷ i ∷ trees) name none two fit parts =
 split_as : (v : Version) (F : Form) (p : ℕ) (on : SplitName) (l : Line) (ls : List Line) → split_line v on ≡ l → FitsSplit v F on → Body v F 0 (suc (suc p)) ls → Body v F 0 (suc p) (l ∷ ls)
 split_as v F p on l ls is fits rest = grind (arith, split_body)
 
--- where a line says what a split is on, an edge's says so
-edge_said : (v : Version) (d : EdgeLabel) → SaysKind v → split_line v (name.Edge d) ≡ line.SplitEdge d
-edge_said v d says = grind arith
-
 -- lines up to the end are those
 body_value : (v : Version) (F : Form) (cut_count tree_count : ℕ) (ls : List Line) → run (stage.Body cut_count tree_count) ls ≡ Some stage.Done → FitsLines v F ls → Body v F cut_count tree_count ls
 body_value v F c p [] e f = absurd cc
@@ -109,7 +105,7 @@ body_value v F zero (suc p) (line.Leaf n ∷ ls) e f =
 body_value v F zero (suc p) (line.Split d ∷ ls) e f =
     split_as v F p (name.Edge d) (line.Split d) ls (ap (λ w. split_line w (name.Edge d)) f.0.0) f.0.1 (body_value v F 0 (suc (suc p)) ls e f.1)
 body_value v F zero (suc p) (line.SplitEdge d ∷ ls) e f =
-    split_as v F p (name.Edge d) (line.SplitEdge d) ls (edge_said v d f.0.0) f.0.1 (body_value v F 0 (suc (suc p)) ls e f.1)
+    split_as v F p (name.Edge d) (line.SplitEdge d) ls (grind arith) f.0.1 (body_value v F 0 (suc (suc p)) ls e f.1)
 body_value v F zero (suc p) (line.SplitVertex d ∷ ls) e f =
     split_as v F p (name.Vertex d) (line.SplitVertex d) ls refl f.0 (body_value v F 0 (suc (suc p)) ls e f.1)
 body_value v F (suc c) p (line.Cut d ∷ ls) e f =
@@ -173,18 +169,8 @@ pub record Told (F : Form) (ls : List Line) : Type 0 where
   pub fits : FitsAnswer F answer
   pub lines : ls ≡ answer_lines answer
 
--- a head with a note, in a text of a form that has one
-noted_head : (F : Form) (v : Version) (h : AnswerHead) (ls : List Line) → IsVersionOf F v → HasNote F
-    → (result_lines v h ++ (line.Openings h.openings ∷ line.Concat h.concat ∷ [])) ++ ls ≡ head_lines v h ++ ls
-noted_head F v h ls of note = grind arith
-
 noted_fits : (F : Form) (h : AnswerHead) → HasNote F → FitsNote F h
 noted_fits F h note = grind arith
-
--- and one without, in a text of a form that has none
-bare_head : (F : Form) (v : Version) (h : AnswerHead) (ls : List Line) → IsVersionOf F v → HasNoNote F
-    → (result_lines v h ++ (line.LastOpenings h.openings ∷ [])) ++ ls ≡ head_lines v h ++ ls
-bare_head F v h ls of none = grind arith
 
 bare_fits : (F : Form) (h : AnswerHead) → h.concat ≡ no_note → FitsNote F h
 bare_fits F h is = grind arith
@@ -212,7 +198,7 @@ answer_value F w (line.Title v ∷ line.Length l ∷ line.Bound b ∷ line.Statu
         tree = rest.tree_fit;
       };
       lines = ap (λ x. result_lines v h ++ (line.Openings n ∷ line.Concat c ∷ x)) body
-          ∙ noted_head F v h (network_lines rest.edges ++ proof_lines v rest.tree) title.1 openings_fits.0;
+          ∙ (grind arith);
     }
 answer_value F w (line.Title v ∷ line.Length l ∷ line.Bound b ∷ line.Status o ∷ line.LastOpenings n ∷ line.Count m ∷ ls) e
     (title, (length_fits, (bound_fits, (status_fits, (openings_fits, (count_fits, f)))))) =
@@ -230,6 +216,6 @@ answer_value F w (line.Title v ∷ line.Length l ∷ line.Bound b ∷ line.Statu
         tree = rest.tree_fit;
       };
       lines = ap (λ x. result_lines v h ++ (line.LastOpenings n ∷ x)) body
-          ∙ bare_head F v h (network_lines rest.edges ++ proof_lines v rest.tree) title.1 openings_fits.0;
+          ∙ (grind arith);
     }
 answer_value F w ls e f = absurd cc

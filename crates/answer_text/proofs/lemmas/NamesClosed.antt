@@ -31,7 +31,7 @@ use Rattle.answer_text.specs.Events.{head_with, line_told, event_at}
 use Rattle.answer_text.specs.Given.{given}
 use Rattle.answer_text.specs.Scanning.{IsInField, signed, name_line, BehindNumber, BehindCoordinate, Left, IsNoLineLeft, Closes, MakesLine}
 use Rattle.answer_text.proofs.lemmas.ScanNumbers.{over_end}
-use Rattle.answer_text.proofs.lemmas.Steps.{step-split, step-split_line}
+use Rattle.answer_text.proofs.lemmas.Steps.{step-split_line}
 use Rattle.answer_text.proofs.lemmas.ScanClose.{closes_number}
 
 -- what is kept with a line of an edge or a vertex makes the line
@@ -46,7 +46,7 @@ makes-edge k e edges left is less = grind arith
 
 -- the line of a split: two parts are due behind it
 split_due : (k : Kept) (v : Version) (on : SplitName) (cuts nodes : ℕ) (s' : Stage) → k.stage ≡ stage.Body cuts nodes → step k.stage (split_line v on) ≡ Some s' → stage.Body cuts (nodes + 1) ≡ s'
-split_due k v on cuts nodes s' is e = grind (arith, step-split, step-split_line)
+split_due k v on cuts nodes s' is e = grind (arith, step-split_line)
 
 -- it tells nothing of the head or the version, and its event is the split
 split_event : (v : Version) (on : SplitName) (h : AnswerHead) (n : ℕ) (members : List Bool) → event_at n (line_told h (split_line v on)) ≡ given n (Some (event.Split on)) members
@@ -111,10 +111,6 @@ inner_corner k c z l inner inner_too h = grind arith
 
 pub no_line-corner : (k : Kept) (c : Corner) (minus : Bool) (v : ℕ) → (c ≡ corner.Y2 → ⊥) → (c ≡ corner.Y → ⊥) → IsInField (field.Coordinate c minus) v → IsNoLineLeft k (scan.Number (field.Coordinate c minus) v)
 no_line-corner k c minus v inner inner_too inside l s' left due = inner_corner k c (signed minus v) l inner inner_too (over_end k (field.Coordinate c minus) v l inside left)
-
-pub no_line-ends : (k : Kept) (c : Corner) (minus : Bool) (v : ℕ) → c ≡ corner.Y2 → ((e : EdgeLabel) (s' : Stage) → step k.stage (name_line k.version k.stage e) ≡ Some s' → ⊥)
-    → IsInField (field.Coordinate c minus) v → IsNoLineLeft k (scan.Number (field.Coordinate c minus) v)
-no_line-ends k c minus v is none inside l s' left due = grind arith
 
 -- a vertex where no node is due
 vertex_line : (k : Kept) (z : ℤ) (l : Line) → BehindCoordinate k corner.Y z [] l → (p : VertexLabel) × (l ≡ line.SplitVertex p)

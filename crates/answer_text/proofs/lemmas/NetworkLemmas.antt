@@ -1,5 +1,5 @@
 -- The lines of a network's edges, one flag after another.
-use Rattle.std.proofs.Common.{ℕ, ◌≡◌, ◌+◌, ◌<◌, Bool, true, false, cond, List, [], ◌∷◌, ◌++◌, length, take, ap, sym, ◌∙◌, length-append, arith}
+use Rattle.std.proofs.Common.{ℕ, ◌≡◌, ◌+◌, ◌<◌, Bool, true, false, cond, List, [], ◌∷◌, ◌++◌, length, take, ap, sym, ◌∙◌, arith}
 use Rattle.std.specs.Prelude.{All, map}
 use Rattle.std.proofs.lemmas.List.{append-nil, map-append, length-map}
 use Rattle.std.proofs.lemmas.List.Elements.{All-push, All-same}
@@ -11,7 +11,7 @@ use Rattle.answer_text.specs.LineKinds as line
 use Rattle.answer_text.specs.Lines.{line_text, lines_text}
 use Rattle.answer_text.specs.Spelling.{FitsEdge}
 use Rattle.answer_text.specs.Answers.{Labels, edge_labels}
-use Rattle.answer_text.proofs.lemmas.Lengths.{lines_text-push, sum_more}
+use Rattle.answer_text.proofs.lemmas.Lengths.{lines_text-push}
 
 -- a member is one more number
 pub members-member : (set : List Bool) (e : ℕ) → e < length set → has set e ≡ true → members_of (take (e + 1) set) ≡ members_of (take e set) ++ e ∷ []
@@ -47,10 +47,6 @@ pub lines-other : (L : Labels) (set : List Bool) (e : ℕ) → e < length set �
     → lines_text (map line.Edge (edge_labels L (members_of (take e set)))) ≡ lines_text (map line.Edge (edge_labels L (members_of (take (e + 1) set))))
 lines-other L set e inside is = ap (λ numbers. lines_text (map line.Edge (edge_labels L numbers))) (sym (members-other set e inside is))
 
--- a member counts as one
-pub count-member : (set : List Bool) (e count : ℕ) → e < length set → has set e ≡ true → count ≡ length (members_of (take e set)) → count + 1 ≡ length (members_of (take (e + 1) set))
-count-member set e count inside is so_far = grind (arith, members-member, length-append)
-
 -- another number as none
 pub count-other : (set : List Bool) (e count : ℕ) → e < length set → has set e ≡ false → count ≡ length (members_of (take e set)) → count ≡ length (members_of (take (e + 1) set))
 count-other set e count inside is so_far = so_far ∙ sym (ap length (members-other set e inside is))
@@ -58,8 +54,3 @@ count-other set e count inside is so_far = so_far ∙ sym (ap length (members-ot
 -- the count of the members counts their names
 pub count-names : (L : Labels) (numbers : List ℕ) (count : ℕ) → count ≡ length numbers → count ≡ length (edge_labels L numbers)
 count-names L numbers count is = is ∙ sym (length-map numbers L.edge)
-
--- a member's line adds its length
-pub lines_length-member : (L : Labels) (set : List Bool) (e sum : ℕ) → e < length set → has set e ≡ true → sum ≡ length (lines_text (map line.Edge (edge_labels L (members_of (take e set)))))
-    → sum + length (line_text (line.Edge (L.edge e))) ≡ length (lines_text (map line.Edge (edge_labels L (members_of (take (e + 1) set)))))
-lines_length-member L set e sum inside is so_far = grind (arith, sum_more, lines-member)

@@ -2,7 +2,7 @@
 use Rattle.std.proofs.Common.{ℕ, ◌≡◌, ◌+◌, ◌≤◌, List, length, get_or, take, arith, subst}
 use Rattle.std.specs.Prelude.{All, slice_get, Some}
 use Rattle.std.proofs.lemmas.Option.{slice_get-get_or, slice_get_within}
-use Rattle.std.proofs.lemmas.List.Elements.{All-more, All-weaker}
+use Rattle.std.proofs.lemmas.List.Elements.{All-more}
 use Rattle.net_graph.specs.declared.packing.Cut.{Cut}
 use Rattle.net_graph.specs.Graph.{Graph, IsGraph}
 use Rattle.answer_text.specs.Answers.{IsPackingOn}
@@ -23,9 +23,3 @@ All-found_more P xs i x all found holds =
 -- a packing has at most 19601 cuts
 pub packing-few : (g : Graph) (packings : List (List Cut)) (leaf : ℕ) (cuts : List Cut) → IsGraph g → All (IsPackingOn g) packings → slice_get packings leaf ≡ Some cuts → length cuts ≤ 19601
 packing-few g packings leaf cuts sound all found = let packing = All-found (IsPackingOn g) packings leaf cuts all found in omega arith
-
--- of at most 2500 vertices
-pub packing-small : (g : Graph) (packings : List (List Cut)) (leaf : ℕ) (cuts : List Cut) → IsGraph g → All (IsPackingOn g) packings → slice_get packings leaf ≡ Some cuts
-    → All (λ c. length c.members ≤ 2500) cuts
-packing-small g packings leaf cuts sound all found =
-    grind (arith, All-found (IsPackingOn g) packings leaf cuts all found, All-weaker)

@@ -38,11 +38,6 @@ pub record Behind (ls ms : List Line) (bytes : List ℕ) : Type 0 where
 pub line_split : (l : Line) (ls : List Line) (bytes : List ℕ) → lines_text (l ∷ ls) ++ bytes ≡ line_bytes l ++ 10 ∷ (lines_text ls ++ bytes)
 line_split l ls bytes = append_assoc (line_text l) (lines_text ls) bytes ∙ append_assoc (line_bytes l) (10 ∷ []) (lines_text ls ++ bytes)
 
--- a line is not empty
-line_some : (l : Line) (ls : List Line) (bytes : List ℕ) → lines_text (l ∷ ls) ++ bytes ≡ [] → ⊥
-line_some l ls bytes none =
-    grind (arith, line_split l ls bytes, length-append (line_bytes l) (10 ∷ (lines_text ls ++ bytes)))
-
 -- the first of lines that were due tells the first of others that were due, and the texts go on alike
 pub record FirstLine (v : Version) (F : Form) (s' s'' : Stage) (l m : Line) (ls ms : List Line) (p q : List ℕ) : Type 0 where
   pub same : l ≡ m
@@ -74,7 +69,7 @@ first_line v F s s' s'' l m ls ms p q d e f g text =
 lines_front : (v : Version) (F : Form) (s s' s'' : Stage) (ls ms : List Line) (bytes : List ℕ) → run s ls ≡ Some s' → run s ms ≡ Some s'' → FitsLines v F ls → FitsLines v F ms
     → lines_text ls ++ bytes ≡ lines_text ms → Behind ls ms bytes
 lines_front v F s s' s'' [] ms bytes d e f g same = record { rest = ms; lines = refl; text = same }
-lines_front v F s s' s'' (l ∷ ls) [] bytes d e f g same = absurd (line_some l ls bytes same)
+lines_front v F s s' s'' (l ∷ ls) [] bytes d e f g same = absurd (grind (arith, line_split l ls bytes, length-append (line_bytes l) (10 ∷ (lines_text ls ++ bytes))))
 lines_front v F s s' s'' (l ∷ ls) (m ∷ ms) bytes d e f g same =
     let regroup : line_bytes l ++ 10 ∷ (lines_text ls ++ bytes) ≡ line_bytes m ++ 10 ∷ lines_text ms =
     sym (line_split l ls bytes) ∙ same ∙ append_assoc (line_bytes m) (10 ∷ []) (lines_text ms) in

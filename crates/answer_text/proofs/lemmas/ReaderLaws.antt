@@ -25,20 +25,20 @@ use Rattle.answer_text.specs.Words.{version_number}
 use Rattle.answer_text.specs.Lines.{answer_lines, body_lines, head_lines, line_bytes, line_text, lines_text, step, run}
 use Rattle.answer_text.specs.LineFits.{FitsLine, FitsLines, IsLineRead, IsNoLine, version_with, version_from}
 use Rattle.answer_text.specs.Events.{events_of, events_from, no_head, head_with, line_told, event_at}
-use Rattle.answer_text.specs.Reading.{BeginsAnswer, line_feeds, IsReadWhole, StopsAt}
+use Rattle.answer_text.specs.Reading.{BeginsAnswer, line_feeds, StopsAt}
 use Rattle.answer_text.specs.LinesRead.{ReadSoFar}
 use Rattle.answer_text.specs.Given.{given}
 use Rattle.answer_text.specs.Scanning.{Left, IsUnderway, IsSound, IsDead, IsNoLineLeft, IsNext, IsRun, Closes, first_scan}
 use Rattle.answer_text.specs.Reader.{Reads, BeginsWith, CeasesAt, TellsVersion}
 use Rattle.answer_text.proofs.lemmas.ReadSoFar.{read_none, read_more, fits_more}
-use Rattle.answer_text.proofs.lemmas.ReadLaws.{begins_answer, begun_events, read_whole, stops, stops_unended, stops_at_line, answer_front, front_cases, due_line, no_answer}
+use Rattle.answer_text.proofs.lemmas.ReadLaws.{begins_answer, begun_events, stops, stops_unended, stops_at_line, answer_front, front_cases, due_line, no_answer}
 use Rattle.answer_text.proofs.lemmas.LineTexts.{line_feeds-append, line_feeds-lacks, line_feeds-lines}
 use Rattle.answer_text.proofs.lemmas.Steps.{step-done}
 use Rattle.answer_text.specs.declared.scan.Kept.{Kept}
 use Rattle.answer_text.proofs.lemmas.FormLemmas.{first_of, room_behind, version_behind}
 use Rattle.answer_text.proofs.lemmas.Machine.{run-append, answer_value}
 use Rattle.answer_text.proofs.lemmas.ScanLines.{start_due, start_left, start_ended}
-use Rattle.answer_text.proofs.lemmas.ScanMore.{some_left, underway, underway-sound, underway-open}
+use Rattle.answer_text.proofs.lemmas.ScanMore.{some_left, underway, underway-open}
 
 -- ---- the first byte is due
 
@@ -138,7 +138,7 @@ reads_run F bytes events more old new r on line fed =
       left = λ rest l s' read.
           run.leads.on rest l (r.left (more ++ rest) l s' (subst (λ s. Read old.kept.version s (r.begun ++ (more ++ rest)) l s') run.stage
           (subst (λ v. Read v new.kept.stage (r.begun ++ (more ++ rest)) l s') run.version (subst (λ x. Read new.kept.version new.kept.stage x l s') (append_assoc r.begun more rest) read))));
-      sound = underway-sound new.kept new.scan run.sound;
+      sound = grind arith;
       name = run.name;
       at_end = λ e. absurd (underway-open new.kept new.scan e run.sound);
       count = fed ∙ ap (λ n. n + length more) r.count ∙ sym (length-append bytes more);
@@ -269,9 +269,6 @@ ceases_end F bytes events reader r none =
     subst (λ n. CeasesAt F bytes 10 n events) (sym so_far.count) (subst (λ es. CeasesAt F bytes 10 (length so_far.lines + 1) es) (sym so_far.told) (subst (λ x. CeasesAt F x 10 (length so_far.lines + 1) (events_from no_head 1 so_far.lines)) (sym so_far.text) at_line))
 
 -- ---- the end
-
-pub ended_whole : (F : Form) (bytes : List ℕ) (events : List AnswerEvent) (reader : EventReader) → Reads F bytes events reader → reader.scan ≡ scan.Ended → IsReadWhole F bytes events
-ended_whole F bytes events reader r is = grind (arith, r.at_end is, append-nil (lines_text (r.lines).lines), read_whole)
 
 -- the lines of an answer are more than those of a head
 head_long : (v : Version) (h : AnswerHead) (ls : List Line) → 5 + length ls ≤ length (head_lines v h ++ ls)

@@ -11,11 +11,10 @@ use Rattle.answer_text.specs.AnswerLine.{Line}
 use Rattle.answer_text.specs.LineKinds as line
 use Rattle.answer_text.specs.declared.line.Stage.{Stage}
 use Rattle.answer_text.specs.declared.line.Stage.TheVariants as stage
-use Rattle.answer_text.specs.Value.{WrittenAnswer}
 use Rattle.cert_tree.specs.Tree.{Tree}
 use Rattle.cert_tree.specs.Tree.Tree.{Leaf, Split}
 use Rattle.answer_text.specs.Forms.{first_version}
-use Rattle.answer_text.specs.Spelling.{FitsAnswer, OneReading}
+use Rattle.answer_text.specs.Spelling.{OneReading}
 use Rattle.answer_text.specs.Lines.{lines_text, split_line, tree_lines, answer_lines, run}
 use Rattle.answer_text.specs.LineFits.{FitsLines, version_with}
 use Rattle.answer_text.proofs.lemmas.Due.{run-answer, answer_fits}
@@ -93,13 +92,9 @@ edges_one [] (e ∷ es) p q same = absurd cc
 edges_one (d ∷ ds) [] p q same = absurd cc
 edges_one (d ∷ ds) (e ∷ es) p q same = search (edges_one ds es p q cc)
 
--- an answer
-answer_one : (F : Form) (a b : WrittenAnswer) → FitsAnswer F a → FitsAnswer F b → answer_lines a ≡ answer_lines b → a ≡ b
-answer_one F a b f g same = grind (arith, edges_one, tree_one)
-
 -- No spelling is a proper front of another, and bytes spell one answer at most.
 pub one_reading_lem : OneReading
 one_reading_lem F a b p q x y f g e =
     let same = lines_one (first_version F) F stage.Title (answer_lines x) (answer_lines y) p q (run-answer x) (run-answer y) (answer_fits (first_version F) F x f.fits) (answer_fits (first_version F) F y g.fits)
     (sym (ap (λ s. s ++ p) f.spelled) ∙ e ∙ ap (λ s. s ++ q) g.spelled) in
-    (f.spelled ∙ ap lines_text same.0 ∙ sym g.spelled, answer_one F x y f.fits g.fits same.0)
+    (f.spelled ∙ ap lines_text same.0 ∙ sym g.spelled, (grind (arith, edges_one, tree_one)))

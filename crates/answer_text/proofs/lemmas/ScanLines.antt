@@ -7,7 +7,6 @@ use Rattle.answer_text.specs.AnswerLine.{Line}
 use Rattle.answer_text.specs.LineKinds as line
 use Rattle.answer_text.specs.declared.form.Form.{Form}
 use Rattle.answer_text.specs.declared.form.Form.TheVariants as form
-use Rattle.answer_text.specs.declared.label.EdgeLabel.{EdgeLabel}
 use Rattle.answer_text.specs.declared.line.Stage.{Stage}
 use Rattle.answer_text.specs.declared.line.Stage.TheVariants as stage
 use Rattle.answer_text.specs.declared.scan.Kept.{Kept}
@@ -33,10 +32,6 @@ leaf_due v F k nodes rest l h =
           (record { told = h.1 ∙ ap (λ x. codes "leaf " ++ x) (number_text k field.Leaf h.0 l n n.follows.0); fits = n.inside.limit; due = refl }),
     )
 
--- where a text says what a split is on, an edge's line says so
-split_said : (v : Version) (s : Stage) (nodes : ℕ) (e : EdgeLabel) → SaysKind v → s ≡ stage.Body 0 (suc nodes) → name_line v s e ≡ line.SplitEdge e
-split_said v s nodes e says is = grind arith
-
 -- so is that of a split on an edge or a vertex, where the text says which
 split_due : (v : Version) (F : Form) (k : Kept) (nodes : ℕ) (rest : List ℕ) (l : Line) → SaysKind v → k.version ≡ v → k.stage ≡ stage.Body 0 (suc nodes)
     → (behind : List ℕ) × (rest ≡ codes "split " ++ behind) × ForkLeft k (scan.On F) behind l → (s' : Stage) × IsLineRead v F (stage.Body 0 (suc nodes)) rest l s'
@@ -44,7 +39,7 @@ split_due v F k nodes rest l says told is h = ⊎_elim
     (λ (on_edge : WordLeft k (word.Edge F) 0 h.0 l).
     let n = edge_text F k on_edge.0 l on_edge.2 in (
       stage.Body 0 (suc (suc nodes)),
-      read_as v F (stage.Body 0 (suc nodes)) (stage.Body 0 (suc (suc nodes))) rest l (line.SplitEdge n.0) (n.3 ∙ ap (λ w. name_line w k.stage n.0) told ∙ split_said v k.stage nodes n.0 says is)
+      read_as v F (stage.Body 0 (suc nodes)) (stage.Body 0 (suc (suc nodes))) rest l (line.SplitEdge n.0) (n.3 ∙ ap (λ w. name_line w k.stage n.0) told ∙ (grind arith))
           (record { told = h.1 ∙ ap (λ x. codes "split " ++ x) (on_edge.1 ∙ ap (λ x. codes "edge " ++ x) n.2); fits = (says, n.1); due = refl }),
     ))
     (λ (on_vertex : WordLeft k (word.Vertex F) 0 h.0 l).

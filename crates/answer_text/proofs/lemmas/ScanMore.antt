@@ -130,9 +130,6 @@ word_some k word.End can name = ([], line.End, (refl, refl))
 pub underway : (k : Kept) (s : Scan) → IsSound k s → (s ≡ scan.Ended) ⊎ IsUnderway k s
 underway k s sound = grind arith
 
-pub underway-sound : (k : Kept) (s : Scan) → IsUnderway k s → IsSound k s
-underway-sound k s sound = grind arith
-
 pub underway-open : (k : Kept) (s : Scan) → s ≡ scan.Ended → IsUnderway k s → ⊥
 underway-open k s is sound = subst (IsUnderway k) is sound
 

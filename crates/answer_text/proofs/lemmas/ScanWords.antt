@@ -10,7 +10,7 @@ use Rattle.answer_text.specs.declared.scan.Scan.TheVariants as scan
 use Rattle.answer_text.specs.declared.form.Form.{Form}
 use Rattle.answer_text.specs.declared.version.Version.{Version}
 use Rattle.answer_text.specs.Forms.{HasVertices, IsVersionOf}
-use Rattle.answer_text.specs.Scanning.{word_bytes, behind_word, ForkLeft, Left, LeadsTo, IsOpen, IsUnderway}
+use Rattle.answer_text.specs.Scanning.{word_bytes, behind_word, ForkLeft, Left, LeadsTo, IsOpen}
 
 -- the byte at a place of a word and those behind it
 word_split : (w : Word) (place b : ℕ) → place < length (word_bytes w) → get_or (word_bytes w) place 0 ≡ b → drop place (word_bytes w) ≡ b ∷ drop (place + 1) (word_bytes w)
@@ -38,10 +38,6 @@ leads-last k w place b inside is last =
           (behind_left k w rest l).0 (subst (λ x. ForkLeft k (behind_word w) x l) all next.2);
       back = λ rest l h. one.back rest l (rest, sym (ap (λ x. x ++ rest) none), (behind_left k w rest l).1 h);
     }
-
--- what is open behind a word is underway
-pub behind_underway : (k : Kept) (w : Word) → IsOpen (behind_word w) → IsUnderway k (behind_word w)
-behind_underway k w can = grind arith
 
 -- a split's word, where a node is due in a text of the form
 pub split_open : (F : Form) (v : Version) → IsVersionOf F v × HasVertices F → IsOpen (behind_word (word.Split v F))

@@ -1,5 +1,5 @@
 -- The digits of a set, by its words.
-use Rattle.std.proofs.Common.{ℕ, ◌≡◌, ◌+◌, ◌-◌, ◌*◌, ◌/◌, ◌%◌, ◌^◌, ◌<◌, ◌≤◌, Bool, List, [], ◌∷◌, ◌++◌, map, length, take, get_or, bit_and, min, eqb, refl, ap, sym, ◌∙◌, arith}
+use Rattle.std.proofs.Common.{ℕ, ◌≡◌, ◌+◌, ◌-◌, ◌*◌, ◌/◌, ◌%◌, ◌^◌, ◌<◌, Bool, List, [], ◌∷◌, ◌++◌, map, length, take, get_or, bit_and, min, eqb, refl, ap, sym, ◌∙◌, arith}
 use Rattle.std.specs.Int.{bit_at}
 use Rattle.std.specs.List.{range_with_len}
 use Rattle.std.proofs.Math.Nat.{div-div-eq-div-mul}
@@ -18,16 +18,12 @@ use Rattle.answer_text.specs.SetLaws.{digit_in_word, digit_at_place, take_set_te
 bit_in_mask : (word k r : ℕ) → r < k → bit_at (bit_and word (2 ^ k - 1)) r ≡ bit_at word r
 bit_in_mask word k r below = grind (arith, bit_at_and, bit_at_ones)
 
--- the others are cleared
-bit_past_mask : (word k r : ℕ) → k ≤ r → bit_at (bit_and word (2 ^ k - 1)) r ≡ 0
-bit_past_mask word k r above = grind (arith, bit_at_and, bit_at_ones_above)
-
 -- a word of a set without what stands past the set's end
 pub flag_within : (set : List Bool) (word place r : ℕ) → 64 * place < length set → length set - 64 * place < 64
     → ((r : ℕ) → r < 64 → 64 * place + r < length set → has set (64 * place + r) ≡ eqb (bit_at word r) 1)
     → has set (64 * place + r) ≡ eqb (bit_at (bit_and word (1 * 2 ^ (length set - 64 * place) % 2 ^ 64 - 1)) r) 1
 flag_within set word place r inside last told =
-    grind (arith, one_shl (length set - 64 * place) 64 last, bit_in_mask, get_or_past, bit_past_mask, cases_lt r (length set - 64 * place))
+    grind (arith, one_shl (length set - 64 * place) 64 last, bit_in_mask, get_or_past, bit_at_and, bit_at_ones_above, cases_lt r (length set - 64 * place))
 
 -- ---- the digits of a word
 
@@ -60,12 +56,6 @@ word_digit word n =
     (eqb (bit_of_four word n 2 (omega arith) i) 1) (eqb (bit_of_four word n 3 (omega arith) i) 1))
     ∙ ap (λ v. four_digit (eqb (bit_at word v) 1) (eqb (bit_at word (4 * n + 1)) 1) (eqb (bit_at word (4 * n + 2)) 1)
     (eqb (bit_at word (4 * n + 3)) 1)) first
-
--- it is that of the set at its place there
-pub digit_in_set : (set : List Bool) (word place n : ℕ) → n < 16
-    → ((r : ℕ) → r < 64 → has set (64 * place + r) ≡ eqb (bit_at word r) 1)
-    → digit_in_word word n ≡ digit_at_place set (16 * place + n)
-digit_in_set set word place n few told = grind arith
 
 -- ---- the digits of all words
 

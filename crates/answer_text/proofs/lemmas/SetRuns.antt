@@ -7,17 +7,12 @@ use Rattle.answer_text.specs.declared.scan.Kept.{Kept}
 use Rattle.answer_text.specs.declared.scan.Scan.{Scan}
 use Rattle.answer_text.specs.declared.scan.Scan.TheVariants as scan
 use Rattle.answer_text.specs.Spelling.{FitsName}
-use Rattle.answer_text.specs.Scanning.{Left, IsRun, IsSound}
+use Rattle.answer_text.specs.Scanning.{Left, IsRun}
 use Rattle.answer_text.proofs.lemmas.ScanSets.{TakesDigit, leads-set, set-sound}
 
 -- no digit ends a line
 glyph_apart : (value byte : ℕ) → value < 16 → byte ≡ digit_glyph false value → byte ≢ 10
 glyph_apart value byte few is e = let high : 48 ≤ digit_glyph false value = grind (arith, nat_tests) in omega arith
-
--- no byte is a run
-pub run_none : (k : Kept) (place next : ℕ) → next ≡ place → IsSound k (scan.Set place) → FitsName k.name
-    → IsRun k (scan.Set place) [] k (scan.Set next)
-run_none k place next is sound name = grind arith
 
 -- one digit more
 pub run_more : (k k' k'' : Kept) (s : Scan) (bytes : List ℕ) (place next value byte : ℕ)

@@ -3,13 +3,12 @@ use Rattle.std.proofs.Common.{ℕ, ◌≡◌, ◌+◌, ◌<◌, ◌≤◌, Bool,
 use Rattle.std.proofs.lemmas.List.Elements.{All-push}
 use Rattle.std.proofs.lemmas.Option.{slice_get_within}
 use Rattle.net_graph.specs.Graph.{Graph}
-use Rattle.net_graph.specs.declared.edge.Edge.{Edge}
 use Rattle.net_graph.specs.declared.state.EdgeState.{EdgeState}
 use Rattle.net_graph.specs.declared.state.EdgeState.TheVariants.{Undecided}
-use Rattle.net_graph.specs.Decision.{Decided, IsUndecided, states_of}
+use Rattle.net_graph.specs.Decision.{Decided, states_of}
 use Rattle.dual_ascent.specs.declared.candidate.Candidate.{Candidate}
-use Rattle.branch.specs.Candidates.{IsEdgeToSplit, IsVertexToSplit, HasNoEdgeToSplit, HasNoVertexToSplit}
-use Rattle.branch.specs.Notes.{IsEdgeCandidate, IsVertexCandidate}
+use Rattle.branch.specs.Candidates.{IsEdgeToSplit, HasNoEdgeToSplit}
+use Rattle.branch.specs.Notes.{IsEdgeCandidate}
 
 -- each of the list is a candidate, and where it is empty no number below a limit is sought
 pub record IsGathered (IsCandidate : Candidate → Type 0) (IsSought : ℕ → Type 0) (seen : ℕ) (list : List Candidate) : Type 0 where
@@ -17,8 +16,6 @@ pub record IsGathered (IsCandidate : Candidate → Type 0) (IsSought : ℕ → T
   pub every : list ≡ [] → (n : ℕ) → n < seen → IsSought n → ⊥
 
 module _ (IsCandidate : Candidate → Type 0) (IsSought : ℕ → Type 0) where
-  pub gathered_first : (list : List Candidate) → list ≡ [] → IsGathered IsCandidate IsSought 0 list
-  gathered_first list is = grind arith
 
   pub gathered_more : (seen : ℕ) (list : List Candidate) (c : Candidate) → IsGathered IsCandidate IsSought seen list → IsCandidate c →
       IsGathered IsCandidate IsSought (seen + 1) (list ++ c ∷ [])
@@ -29,18 +26,10 @@ module _ (IsCandidate : Candidate → Type 0) (IsSought : ℕ → Type 0) where
       IsGathered IsCandidate IsSought (seen + 1) list
   gathered_kept seen list so_far none = grind arith
 
-pub edge_candidate : (g : Graph) (d : Decided) (set : List Bool) (n : ℕ) (c : Candidate) (edge : Edge) → c.number ≡ n →
-    slice_get set n ≡ Some true → IsUndecided g d n → slice_get g.edges n ≡ Some edge → c.size ≡ edge.length → IsEdgeCandidate g d set c
-edge_candidate g d set n c edge is within undecided at size = grind arith
-
 pub no_edge : (g : Graph) (d : Decided) (set : List Bool) (seen : ℕ) (list : List Candidate) →
     IsGathered (IsEdgeCandidate g d set) (IsEdgeToSplit g d set) seen list → length set ≤ seen → list ≡ [] → HasNoEdgeToSplit g d set
 no_edge g d set seen list so_far all empty = λ n sought.
     so_far.every empty n (let below : n < length set = slice_get_within set n true sought.within in omega arith) sought
-
-pub no_vertex : (g : Graph) (d : Decided) (set : List Bool) (seen : ℕ) (list : List Candidate) →
-    IsGathered (IsVertexCandidate g d set) (IsVertexToSplit g d set) seen list → g.vertices ≤ seen → list ≡ [] → HasNoVertexToSplit g d set
-no_vertex g d set seen list so_far all empty = grind arith
 
 -- an edge that isn't in the set
 pub not_within : (g : Graph) (d : Decided) (set : List Bool) (n : ℕ) → slice_get set n ≡ Some false → IsEdgeToSplit g d set n → ⊥

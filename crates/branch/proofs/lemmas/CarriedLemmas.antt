@@ -3,10 +3,7 @@ use Rattle.std.proofs.Common.{◌*◌, ◌≤◌, List, length, arith}
 use Rattle.net_graph.specs.declared.packing.Cut.{Cut}
 use Rattle.net_graph.specs.Graph.{Graph}
 use Rattle.net_graph.specs.Decision.{Decided}
-use Rattle.dual_ascent.specs.Carried.{carried, at_most_twice, unentered, inside_edges}
-
-at_most_twice-few : (g : Graph) (cuts : List Cut) → length (at_most_twice g cuts) ≤ 2 * length g.edges
-at_most_twice-few g cuts = grind arith
+use Rattle.dual_ascent.specs.Carried.{carried}
 
 pub carried-few : (g : Graph) (d : Decided) (packing : List Cut) → length (carried g d packing) ≤ 2 * length g.edges
-carried-few g d packing = at_most_twice-few g (unentered (inside_edges g.edges d.edges) packing)
+carried-few g d packing = grind arith

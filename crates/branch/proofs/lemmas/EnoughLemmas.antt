@@ -121,15 +121,12 @@ left-outside g d e undecided = search (undecided_count-set, states-set_outside)
 abbrev MissesNoFewer : List VertexState → List VertexState → Type 0
 MissesNoFewer fewer more = (k : ℕ) → is_missed (slice_get fewer k) ≡ true → is_missed (slice_get more k) ≡ true
 
-one_undecided-le : (state : EdgeState) → one_undecided state ≤ 1
-one_undecided-le state = grind arith
-
 -- an edge at an end that is missed stays free
 one_at_ends : (fewer more : List VertexState) (e : Edge) (state : EdgeState) → MissesNoFewer fewer more →
     one_undecided (state_at_ends more e state) ≤ one_undecided (state_at_ends fewer e state)
 one_at_ends fewer more e Inside misses = omega arith
 one_at_ends fewer more e Outside misses = omega arith
-one_at_ends fewer more e Undecided misses = grind (arith, one_undecided-le)
+one_at_ends fewer more e Undecided misses = grind (arith)
 
 left-missing : (es : List Edge) (ss : List EdgeState) (fewer more : List VertexState) → MissesNoFewer fewer more →
     undecided_count (states_at_ends es ss more) ≤ undecided_count (states_at_ends es ss fewer)

@@ -1,6 +1,5 @@
 -- Counting the edges of a set that end at a vertex.
 use Rattle.std.proofs.Common.{ℕ, zero, suc, ◌≡◌, ◌+◌, ◌<◌, ◌≤◌, ◌⊎◌, ⊎_elim, Bool, true, false, List, [], ◌∷◌, length, take, get_or, slice_get, Some, refl, arith, add-one}
-use Rattle.std.proofs.lemmas.List.{length-take}
 use Rattle.std.proofs.lemmas.Option.{slice_get-get_or}
 use Rattle.net_graph.specs.declared.edge.Edge.{Edge}
 use Rattle.branch.specs.Meeting.{end_count, edges_at}
@@ -8,9 +7,6 @@ use Rattle.branch.specs.Meeting.{end_count, edges_at}
 -- the edge ends at the vertex
 abbrev pub EndsAt : ℕ → Edge → Type 0
 EndsAt v e = (e.a ≡ v) ⊎ (e.b ≡ v)
-
-pub end_count-cases : (v : ℕ) (e : Edge) → (EndsAt v e × (end_count v e ≡ 1)) ⊎ (end_count v e ≡ 0)
-end_count-cases v e = grind arith
 
 end_count-le : (v : ℕ) (e : Edge) → end_count v e ≤ 1
 end_count-le v e = grind arith
@@ -62,11 +58,7 @@ meeting (e ∷ es) (true ∷ set) v some =
     ⊎_elim
     (λ (at : EndsAt v e × (end_count v e ≡ 1)). record { number = 0; edge = e; at = refl; within = refl; ends = at.0 })
     (λ (none : end_count v e ≡ 0). meeting_later e true es set v (meeting es set v (omega arith)))
-    (end_count-cases v e)
-
--- no more are counted than were gone over
-pub edges_at-le_seen : (es : List Edge) (set : List Bool) (n v : ℕ) → edges_at (take n es) set v ≤ n
-edges_at-le_seen es set n v = omega (arith, edges_at-le (take n es) set v, length-take n es)
+    (grind arith)
 
 -- .. as a loop writes the next number
 pub counted_more : (es : List Edge) (set : List Bool) (n v count : ℕ) (e : Edge) → slice_get es n ≡ Some e → slice_get set n ≡ Some true →

@@ -34,7 +34,7 @@ use Rattle.branch.specs.Variants.{in_units, MayBe, MayBeNone, MayBegin}
 use Rattle.branch.specs.Searching.{search_state, is_anew_at, IsSearch, IsOpeningOf, IsPlain, CanSplitAt}
 use Rattle.branch.proofs.lemmas.ListLemmas.{beside_left, beside_right}
 use Rattle.branch.proofs.lemmas.TreeLemmas.{length-leaves_of, packing_at}
-use Rattle.branch.proofs.lemmas.UnitLemmas.{carried-in_units}
+use Rattle.branch.proofs.lemmas.UnitLemmas.{length-in_units, unentered-in_units}
 use Rattle.branch.proofs.lemmas.VariantLemmas.{flag_at}
 use Rattle.std.proofs.lemmas.Bool.{cases_Bool}
 use Rattle.branch.proofs.lemmas.InsideLemmas.{inside-covers}
@@ -62,9 +62,6 @@ pub saturated_inside : (g : Graph) (d : Decided) (packing : List Cut) (n : ℕ) 
     slice_get d.edges n ≡ Some Inside
 saturated_inside g d packing n arc other = grind (arith, saturated_cases g d packing n arc)
 
-candidate_vertex : (asked : SplitKind) (g : Graph) (d : Decided) (set : List Bool) (v : ℕ) → IsCandidate asked g d set (split.Vertex v) → IsVertexToSplit g d set v
-candidate_vertex asked g d set v is = grind arith
-
 -- what is chosen is undecided
 pub choice_undecided : (g : Graph) (note : LeafNote) (asked : SplitKind) (on : SplitOn) → IsChoice g note asked on → IsUndecidedSplit g note.decision on
 choice_undecided g note asked on choice = grind arith
@@ -90,12 +87,6 @@ leaf_to_split g kept place v note search (leaf, leaf_at, below, splits) is =
       flag_at,
     )
 
--- .. has a note
-pub split_within : (g : Graph) (kept : Frontier) (place v : ℕ) → IsSearch g kept → CanSplitAt (search_state g kept) place v →
-    place < length kept.notes.items
-split_within g kept place v search (leaf, leaf_at, below, splits) =
-    grind (arith, beside_left (IsKeptNote g kept.best.length) (leaves_of (nothing_decided g) kept.tree) kept.notes.items place leaf search.notes leaf_at, slice_get_within)
-
 -- Two children of the same carried cuts, each of which begins with them or with no cut: there is one packing that the
 -- leaf may have with which both begin as they may.
 as_if_both : (g : Graph) (anew : Bool) (parent : List Cut) (d_out d_in : Decided) (outside inside : NewLeaf) →
@@ -106,7 +97,7 @@ as_if_both : (g : Graph) (anew : Bool) (parent : List Cut) (d_out d_in : Decided
     (IsTrue inside.note.is_anew ↔ MayBeNone g anew (carried g d_in parent)) →
     (as_if : List Cut) × MayBe anew parent as_if × MayBegin g as_if d_out outside × MayBegin g as_if d_in inside
 as_if_both g anew parent d_out d_in outside inside both out_begins in_begins out_flag in_flag =
-    grind (arith, both parent, carried-in_units, both (in_units parent), cases_Bool outside.note.is_anew)
+    grind (arith, both parent, unentered-in_units, length-in_units, both (in_units parent), cases_Bool outside.note.is_anew)
 
 module _ (g : Graph) (kept : Frontier) (place : ℕ) (note : LeafNote) (search : IsSearch g kept) (leaf : DecidedLeaf)
     (is_next : IsNextLeaf g kept place note leaf) where
@@ -195,7 +186,7 @@ module _ (g : Graph) (kept : Frontier) (place : ℕ) (note : LeafNote) (search :
 
   choice_splits : (asked : SplitKind) (on : SplitOn) → IsChoice g note asked on → IsSplitOf g leaf on
   choice_splits asked (split.Edge e) choice = grind arith
-  choice_splits asked (split.Vertex v) choice = grind (arith, shown_vertex, candidate_vertex)
+  choice_splits asked (split.Vertex v) choice = grind (arith, shown_vertex)
 
   -- a child, once its decision is known to be one more on the leaf's
   child_note : (next : Decided → Decided) (now : Decided) (child : NewLeaf) → now ≡ next note.decision →

@@ -1,5 +1,5 @@
 -- A search whose only leaf another one replaces.
-use Rattle.std.proofs.Common.{ℕ, ◌≡◌, ◌<◌, ◌≤◌, Bool, List, [], ◌∷◌, length, slice_get, get_or, Option, Some}
+use Rattle.std.proofs.Common.{ℕ, ◌≡◌, ◌<◌, ◌≤◌, List, [], ◌∷◌, length, slice_get, get_or, Some}
 use Rattle.std.proofs.Common.{arith}
 use Rattle.std.proofs.lemmas.List.Sums.{sum_by-append}
 use Rattle.std.proofs.lemmas.Option.{slice_get-get_or}
@@ -14,11 +14,10 @@ use Rattle.cert_tree.specs.Tree.Tree.{Leaf, Split}
 use Rattle.cert_tree.specs.Preorder.{split_count}
 use Rattle.cert_tree.specs.PreorderLaws.{length-packings_of}
 use Rattle.cert_tree.specs.TreeValue.{tree_value}
-use Rattle.branch.specs.declared.best.Best.{Best}
 use Rattle.branch.specs.declared.note.LeafNote.{LeafNote}
 use Rattle.branch.specs.declared.frontier.Frontier.{Frontier}
 use Rattle.branch.specs.Leaves.{DecidedLeaf, leaf_under, leaves_of}
-use Rattle.branch.specs.Notes.{IsBest, IsKeptNote, IsNoteOf, IsUpToOwn, AreNotesOf, shorter_of, shown_first}
+use Rattle.branch.specs.Notes.{IsKeptNote, IsNoteOf, AreNotesOf, shorter_of, shown_first}
 use Rattle.branch.specs.Searching.{SearchState, search_state, IsSearch, IsRaised}
 use Rattle.branch.proofs.lemmas.ListLemmas.{AllZip-length, beside_right}
 use Rattle.branch.proofs.lemmas.TreeLemmas.{length-leaves_of}
@@ -58,11 +57,6 @@ pub shown_is : (g : Graph) (kept : Frontier) (note : LeafNote) → IsSearch g ke
     shown_first kept.notes.items ≡ note.network
 shown_is g kept note search is = shown_first-at kept.notes.items note (some_note g kept search) is
 
--- a best network stays where the other one is no shorter
-best_stays : (g : Graph) (best : Best) (own : Option (List Bool)) → IsBest g best → IsUpToOwn g best.length own →
-    best.network ≡ shorter_of g best.network own
-best_stays g best own is_best up_to = grind arith
-
 -- Another leaf in place of the only one, of a value that isn't less, raises the search.
 pub raised : (g : Graph) (old new : Frontier) (s : SearchState) (first note : LeafNote) (packing cuts : List Cut) →
     IsSearch g old → search_state g old ≡ s → split_count s.tree ≡ 0 → first ≡ get_or old.notes.items 0 first →
@@ -79,4 +73,4 @@ pub stays_raised : (g : Graph) (kept : Frontier) (s : SearchState) (first note :
     IsNoteOf g (leaf_under (nothing_decided g) packing) note → BeginsWith packing cuts → note.value ≤ first.value →
     IsRaised cuts s s
 stays_raised g kept s first note packing cuts search view none is of_note begins less =
-    grind (arith, only_value, worth, first_kept, shown_is, best_stays)
+    grind (arith, only_value, worth, first_kept, shown_is)

@@ -1,5 +1,5 @@
 -- What a search keeps, through its openings.
-use Rattle.std.proofs.Common.{ℕ, suc, ◌≡◌, ◌+◌, ◌<◌, ◌≤◌, ⊎_elim, Bool, true, false, List, [], ◌∷◌, length, slice_get, slice_set, Option, Some, refl, ap, sym, ◌∙◌, subst, arith}
+use Rattle.std.proofs.Common.{ℕ, suc, ◌≡◌, ◌+◌, ◌<◌, ◌≤◌, ⊎_elim, Bool, true, false, List, [], ◌∷◌, length, slice_get, slice_set, Some, refl, ap, sym, ◌∙◌, subst, arith}
 use Rattle.std.specs.List.{AllZip, insert}
 use Rattle.std.proofs.lemmas.Option.{same_Some, slice_get_within}
 use Rattle.std.proofs.lemmas.Bool.{cases_Bool}
@@ -16,7 +16,7 @@ use Rattle.cert_tree.specs.Tree.{Tree, split_with}
 use Rattle.cert_tree.specs.Tree.Tree.{Leaf}
 use Rattle.cert_tree.specs.Preorder.{split_count}
 use Rattle.cert_tree.specs.Replaced.{replaced}
-use Rattle.cert_tree.specs.Decisions.{outside_of, inside_of, IsUndecidedSplit}
+use Rattle.cert_tree.specs.Decisions.{outside_of, inside_of}
 use Rattle.cert_tree.specs.TreeValue.{IsValidTree}
 use Rattle.branch.specs.declared.note.LeafNote.{LeafNote}
 use Rattle.branch.specs.declared.best.Best.{Best}
@@ -26,9 +26,9 @@ use Rattle.branch.specs.Leaves.{DecidedLeaf, leaf_under, leaves_of}
 use Rattle.branch.specs.States.{IsReadyLeaf, IsOpenLeaf, IsSameOrShorter, IsShownBy, IsState, leaf_value}
 use Rattle.branch.specs.Candidates.{IsCandidate}
 use Rattle.branch.specs.PlainOpenings.{IsOpenNext, IsPlainOpening}
-use Rattle.branch.specs.Openings.{IsOpening, IsSplitOf, BeginsAt}
+use Rattle.branch.specs.Openings.{IsOpening, BeginsAt}
 use Rattle.branch.specs.Runs.{EndsOpenings, EndsRunOfOpenings}
-use Rattle.branch.specs.Notes.{IsBest, ShowsOwn, IsNoteOf, IsUpToOwn, IsKeptNote, AreNotesOf}
+use Rattle.branch.specs.Notes.{IsBest, IsNoteOf, IsUpToOwn, IsKeptNote, AreNotesOf}
 use Rattle.branch.specs.Variants.{in_units, MayBe, IsVariant, MayBegin}
 use Rattle.branch.specs.declared.leaf.NewLeaf.{NewLeaf}
 use Rattle.branch.specs.Searching.{search_state, is_anew_at, IsSearch, IsOpeningOf, IsPlain, IsOpened, OpensTo, IsSplitAt}
@@ -36,12 +36,7 @@ use Rattle.branch.proofs.lemmas.ListLemmas.{two_at, insert-set, AllZip-two_at, A
 use Rattle.branch.proofs.lemmas.VariantLemmas.{IsLike-may_be, like_value, like_split, variant_same, variant_splits, variant_state, variant_split}
 use Rattle.branch.proofs.lemmas.VariantLemmas.{flags_same_before, flags_same_behind, flag_of_outside, flag_of_inside}
 use Rattle.branch.proofs.lemmas.TreeLemmas.{leaves_of-replaced, IsValidTree-replaced, split_count-replaced}
-use Rattle.branch.proofs.lemmas.ShorterLemmas.{IsSameOrShorter-le, shorter_own}
-
--- an open leaf can be opened
-own_ready : (g : Graph) (network : List Bool) (leaf : DecidedLeaf) (own : Option (List Bool)) → ShowsOwn g leaf own →
-    IsUpToOwn g (length_of g network) own → IsOpenLeaf g (length_of g network) leaf → IsReadyLeaf g (length_of g network) leaf
-own_ready g network leaf own shows up_to below = grind (arith, length_of_edges-le-sum)
+use Rattle.branch.proofs.lemmas.ShorterLemmas.{shorter_own}
 
 -- a best network and a valid tree with notes are a state
 pub state_of : (g : Graph) (best : Best) (tree : Tree SplitOn) (notes : List LeafNote) → IsBest g best →
@@ -53,13 +48,8 @@ state_of g best tree notes is_best valid are = record {
       (leaves_of (nothing_decided g) tree)
       (λ k leaf at below.
       let (note, _, kept) = beside_left (IsKeptNote g best.length) (leaves_of (nothing_decided g) tree) notes k leaf are at in
-      own_ready g best.network leaf note.network kept.0.own
-      (subst (λ (n : ℕ). IsUpToOwn g n note.network) is_best.length kept.1) below);
+      grind (arith, length_of_edges-le-sum));
 }
-
--- what may be split is undecided
-split_undecided : (g : Graph) (leaf : DecidedLeaf) (on : SplitOn) → IsSplitOf g leaf on → IsUndecidedSplit g leaf.decision on
-split_undecided g leaf on splits = grind arith
 
 -- a new leaf that may have another packing begins with what is carried to it
 may_begin : (g : Graph) (parent : List Cut) (d : Decided) (leaf : NewLeaf) (packing : List Cut) → MayBegin g parent d leaf →
@@ -92,10 +82,10 @@ module _ (g : Graph) (old : Frontier) (opening : Opening) (search : IsSearch g o
   opened_valid : IsValidTree g (nothing_decided g) opened_tree
   opened_valid =
       IsValidTree-replaced opening.on opening.outside.packing opening.inside.packing g (nothing_decided g) old.tree opening.leaf op.leaf op.at
-      search.valid (split_undecided g op.leaf opening.on op.splits) op.outside.feasible op.inside.feasible
+      search.valid (grind arith) op.outside.feasible op.inside.feasible
 
   opened_shorter : length_of g opening.best.network ≤ length_of g old.best.network
-  opened_shorter = IsSameOrShorter-le g old.best.network opening.best.network op.network_is
+  opened_shorter = grind arith
 
   opened_less : opening.best.length ≤ old.best.length
   opened_less = let less = opened_shorter in let before = search.best.length in let after = op.best.length in omega arith
@@ -151,9 +141,6 @@ module _ (g : Graph) (old : Frontier) (opening : Opening) (search : IsSearch g o
         network_is = op.network_is;
       }
 
-  opened_state : IsState g opening.best.network opened_tree
-  opened_state = grind (arith, state_of, opened_within, opened_valid, opened_notes)
-
   -- the flags of the leaves before and after
   abbrev old_flags : ℕ → Bool
   old_flags = is_anew_at old.notes.items
@@ -200,7 +187,7 @@ module _ (g : Graph) (old : Frontier) (opening : Opening) (search : IsSearch g o
       let new_splits = variant_splits new_flags 0 opened_tree other of_new in
       let old_splits = variant_splits old_flags 0 old.tree was.earlier was.variant in
       let count : split_count other ≡ suc (split_count was.earlier) = omega (arith, opened_count) in
-      let state = variant_state new_flags g opening.best.network opened_tree other of_new opened_state in
+      let state = variant_state new_flags g opening.best.network opened_tree other of_new (grind (arith, state_of, opened_within, opened_valid, opened_notes)) in
       subst (λ (n : ℕ). EndsOpenings g old.first_length n opening.best.network other) (sym count) (
         state,
         count,

@@ -1,11 +1,9 @@
 -- What a search comes to.
-use Rattle.std.proofs.Common.{ℕ, ◌≡◌, ◌+◌, ◌*◌, ◌<◌, ◌≤◌, Bool, List, length, min, take, Option, All, IsTrue, ◌↔◌, sym, ◌∙◌, subst, arith}
-use Rattle.std.specs.Prelude.{IfNone, IfSome, is_some, not}
+use Rattle.std.proofs.Common.{ℕ, ◌≡◌, ◌+◌, ◌*◌, ◌<◌, ◌≤◌, Bool, List, length, min, take, All, IsTrue, ◌↔◌, sym, ◌∙◌, subst, arith}
 use Rattle.std.proofs.Math.Nat.{min-le_left, min-le_right, le-min}
 use Rattle.std.proofs.lemmas.Option.{slice_get_within, slice_get-get_or, same_Some}
 use Rattle.net_graph.specs.declared.packing.Cut.{Cut}
 use Rattle.net_graph.specs.Graph.{Graph}
-use Rattle.net_graph.specs.Network.{IsLowerBound}
 use Rattle.net_graph.specs.Decision.{nothing_decided}
 use Rattle.net_graph.specs.DecisionLaws.{IsDecisionFor-nothing, Agrees-nothing}
 use Rattle.net_graph.specs.Saturation.{IsMaximal}
@@ -43,9 +41,6 @@ module _ (g : Graph) (kept : Frontier) (search : IsSearch g kept) where
       bound ≡ min (tree_value g (nothing_decided g) kept.tree) kept.best.length
   bound_is bound lesser = grind (arith, tree_above, min, le-min, min-le_left, min-le_right, beside_right, tree_value-le)
 
-  pub bound_lower : (bound : ℕ) → IsLesserOfNotes kept.best.length kept.notes.items bound → TreesBoundNetworks → IsLowerBound g bound
-  bound_lower bound lesser law = grind (arith, tree_above, IsDecisionFor-nothing, Agrees-nothing)
-
   pub few_cuts : All (λ (packing : List Cut). length packing ≤ 4 * length g.edges + 1) (packings_of kept.tree)
   few_cuts = all_from_places (λ (packing : List Cut). length packing ≤ 4 * length g.edges + 1) (packings_of kept.tree)
       (λ k packing at.
@@ -65,13 +60,7 @@ module _ (g : Graph) (kept : Frontier) (search : IsSearch g kept) where
       IsSolved g kept.first_length
       (record { network = kept.best.network; length = kept.best.length; bound = bound; optimal = optimal; tree = kept.tree })
   solved_is bound optimal lesser agree law =
-      grind (arith, bound_is bound lesser, bound_lower bound lesser law, few_cuts, open_maximal, search.run kept.tree (variant_same (is_anew_at kept.notes.items) 0 kept.tree))
-
-  -- the search is settled exactly where no open leaf was found
-  pub settled_where_none : (found : Option ℕ) (none : Bool) → is_some found ≡ not none →
-      IfNone found (All (λ (note : LeafNote). kept.best.length ≤ note.value) kept.notes.items) →
-      IfSome found (IsNextNote kept.best.length kept.notes.items) → IsTrue none ↔ IsSettled (search_state g kept)
-  settled_where_none found none is each next = grind (arith, settled, beside_right, tree_value-le)
+      grind (arith, bound_is bound lesser, tree_above, IsDecisionFor-nothing, Agrees-nothing, few_cuts, open_maximal, search.run kept.tree (variant_same (is_anew_at kept.notes.items) 0 kept.tree))
 
   -- the leaves before one whose note is the next have greater values
   earlier_leaves : (place value : ℕ) → All (λ (other : LeafNote). value < other.value) (take place kept.notes.items) →

@@ -11,7 +11,7 @@ use Rattle.net_graph.specs.declared.packing.Cut.{Cut}
 use Rattle.net_graph.specs.Graph.{Graph}
 use Rattle.net_graph.specs.Decision.{Decided}
 use Rattle.net_graph.specs.Packing.{IsCut, enters, load}
-use Rattle.dual_ascent.specs.Carried.{carried, unentered}
+use Rattle.dual_ascent.specs.Carried.{unentered}
 use Rattle.branch.specs.Variants.{in_units}
 
 -- the cut with the weight 1
@@ -46,9 +46,6 @@ length-in_units (c ∷ cuts) =
       length-in_units cuts,
     )
 
-times_flag : (flag : Bool) (n : ℕ) → n * (if flag then 1 else 0) ≡ (if flag then n else 0)
-times_flag flag n = grind arith
-
 -- what a cut loads onto an arc
 abbrev load_of : ℕ → ℕ → Cut → ℕ
 load_of u v c = if enters c.members u v then c.weight else 0
@@ -61,7 +58,6 @@ load-in_units (c ∷ cuts) u v =
       arith,
       sum_by-append (load_of u v) (replicate c.weight (unit_of c)) (in_units cuts),
       sum_by-replicate (load_of u v) c.weight (unit_of c),
-      times_flag (enters c.members u v) c.weight,
       sum_by-cons (load_of u v) c cuts,
       load-in_units cuts u v,
     )
@@ -94,8 +90,3 @@ pub unentered-in_units : (edges : List Edge) (cuts : List Cut) →
 unentered-in_units edges [] = refl
 unentered-in_units edges (c ∷ cuts) =
     grind (arith, filter-append, filter-passes, filter-fails, unentered-in_units edges cuts)
-
--- where the carried cuts would in units be more than two for each edge, nothing is carried of the units
-pub carried-in_units : (g : Graph) (d : Decided) (cuts : List Cut) →
-    2 * length g.edges < sum_by (λ c. c.weight) (carried g d cuts) → carried g d (in_units cuts) ≡ []
-carried-in_units g d cuts heavy = grind (arith, unentered-in_units, length-in_units)

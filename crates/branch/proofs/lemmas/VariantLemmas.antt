@@ -22,7 +22,6 @@ use Rattle.cert_tree.specs.Decisions.{outside_of, inside_of}
 use Rattle.cert_tree.specs.TreeValue.{IsValidTree}
 use Rattle.branch.specs.declared.note.LeafNote.{LeafNote}
 use Rattle.branch.specs.Leaves.{DecidedLeaf, leaf_under, leaves_of}
-use Rattle.branch.specs.SaturatedArcs.{HasSaturatedArc}
 use Rattle.branch.specs.States.{AreSaturated, IsReadyLeaf, IsOpenLeaf, IsState}
 use Rattle.branch.specs.Openings.{IsSplitOf}
 use Rattle.branch.specs.Variants.{in_units, MayBe, IsVariantFrom, IsVariant}
@@ -72,11 +71,8 @@ module _ (g : Graph) (d : Decided) (own other : List Cut) (like : IsLike own oth
   like_maximal maximal = λ v required.
       Leads-weaker (SaturatedStep g d own) (SaturatedStep g d other) like_step (root_of g) v (maximal v required)
 
-  pub like_arc : (n : ℕ) → HasSaturatedArc g d own n → HasSaturatedArc g d other n
-  like_arc n (e, state, at, state_at, full) = grind arith
-
   like_saturated : (set : List Bool) → AreSaturated g d own set → AreSaturated g d other set
-  like_saturated set are = record { size = are.size; arcs = λ n at. like_arc n (are.arcs n at) }
+  like_saturated set are = record { size = are.size; arcs = λ n at. (grind arith) }
 
   pub like_ready : (limit : ℕ) → IsReadyLeaf g limit (leaf_under d own) → IsReadyLeaf g limit (leaf_under d other)
   like_ready limit ready = search (like_maximal, like_saturated)

@@ -187,10 +187,6 @@ AreActive-packed g vertices costs after list grown rest root is more active are 
           omega arith);
     }
 
--- of no vertices
-pub AreActive-none : (g : Graph) (costs : List EdgeCosts) → AreActive g [] costs []
-AreActive-none g costs = grind arith
-
 -- of one more, which the root leads to
 pub AreActive-skip : (g : Graph) (vertices : List ℕ) (costs : List EdgeCosts) (list : List ActiveVertex) (v : ℕ) → AreActive g vertices costs list → SaturatedLeads g costs (root_of g) v → AreActive g (vertices ++ v ∷ []) costs list
 AreActive-skip g vertices costs list v active reached = record {

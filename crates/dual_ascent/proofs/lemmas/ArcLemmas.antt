@@ -1,8 +1,7 @@
 -- The arcs of edges, and what is left of them.
-use Rattle.std.proofs.Common.{ℕ, ◌≡◌, ◌≢◌, ◌+◌, ◌*◌, ◌/◌, ◌%◌, ◌<◌, eqb, List, length, get_or, set, slice_get, Option, Some, None, sym, ap, ◌∙◌, arith}
+use Rattle.std.proofs.Common.{ℕ, ◌≡◌, ◌≢◌, ◌+◌, ◌*◌, ◌/◌, ◌<◌, List, length, get_or, set, slice_get, Option, Some, None, sym, ap, ◌∙◌, arith}
 use Rattle.std.specs.Option.{option_map}
-use Rattle.std.proofs.Math.Seq.{map-set_same}
-use Rattle.std.proofs.lemmas.Bool.{cases_Bool, cases_eq, cases_lt}
+use Rattle.std.proofs.lemmas.Bool.{cases_eq, cases_lt}
 use Rattle.std.proofs.lemmas.List.{length-set, length-map, get_or-set_same, get_or-set_other}
 use Rattle.std.proofs.lemmas.Option.{same_Some, slice_get_within, slice_get_past, slice_get-get_or, get_or_from_slice_get, slice_get-map}
 use Rattle.net_graph.specs.declared.arcs.Arc.{Arc}
@@ -10,7 +9,7 @@ use Rattle.net_graph.specs.declared.edge.Edge.{Edge}
 use Rattle.net_graph.specs.Arcs.{IsArcOf}
 use Rattle.net_graph.specs.Graph.{Graph, IsGraph}
 use Rattle.dual_ascent.specs.declared.costs.EdgeCosts.{EdgeCosts}
-use Rattle.dual_ascent.specs.Costs.{cost_in, cost_of, with_cost, edges_of}
+use Rattle.dual_ascent.specs.Costs.{cost_of, with_cost, edges_of}
 
 -- an arc's number is below twice the number of edges
 pub IsArcOf-number : (edges : List Edge) (x : Arc) → IsArcOf edges x → x.number < 2 * length edges
@@ -42,18 +41,6 @@ costs_at costs n e at =
     let here : slice_get costs n ≡ Some c = slice_get-get_or costs n none within in
     (c, here, same_Some c.edge e (sym (slice_get-edges_of costs n c here) ∙ at))
 
--- an edge's own arc is as it is
-cost_in-with_same : (c : EdgeCosts) (arc : ℕ) (cost : Option ℕ) → cost_in (Some (with_cost c arc cost)) arc ≡ cost
-cost_in-with_same c arc cost = grind arith
-
--- .. and the other one as it was
-cost_in-with_other : (c : EdgeCosts) (arc other : ℕ) (cost : Option ℕ) → other / 2 ≡ arc / 2 → other ≢ arc → cost_in (Some (with_cost c arc cost)) other ≡ cost_in (Some c) other
-cost_in-with_other c arc other cost edge apart = grind arith
-
--- the edges stay
-pub edges_of-set : (costs : List EdgeCosts) (place arc : ℕ) (cost : Option ℕ) (d : EdgeCosts) → edges_of (set costs place (with_cost (get_or costs place d) arc cost)) ≡ edges_of costs
-edges_of-set costs place arc cost d = grind (arith, cases_Bool (eqb (arc % 2) 0), map-set_same)
-
 -- a place that was not written
 slice_get-set_apart : (costs : List EdgeCosts) (n k : ℕ) (c d : EdgeCosts) → k ≢ n → slice_get (set costs n c) k ≡ slice_get costs k
 slice_get-set_apart costs n k c d apart =
@@ -68,7 +55,6 @@ cost_of-set_same costs arc cost d within =
       slice_get-get_or,
       length-set costs (arc / 2) (with_cost (get_or costs (arc / 2) d) arc cost),
       get_or-set_same costs (arc / 2) (with_cost (get_or costs (arc / 2) d) arc cost) d within,
-      cost_in-with_same (get_or costs (arc / 2) d) arc cost,
     )
 
 -- .. and of another one
@@ -81,7 +67,6 @@ cost_of-set_other costs arc other cost d within apart =
       length-set costs (arc / 2) (with_cost (get_or costs (arc / 2) d) arc cost),
       get_or-set_same costs (arc / 2) (with_cost (get_or costs (arc / 2) d) arc cost) d within,
       slice_get-get_or costs (arc / 2) d within,
-      cost_in-with_other,
       slice_get-set_apart,
       cases_eq (other / 2) (arc / 2),
     )

@@ -1,5 +1,5 @@
 -- What an ascent keeps from step to step, and what it ends with.
-use Rattle.std.proofs.Common.{ℕ, ◌≡◌, ◌+◌, ◌-◌, ◌*◌, ◌≤◌, ◌<◌, Bool, true, eqb, eqb-true, List, [], ◌∷◌, ◌++◌, map, length, slice_get, All, Contains, Some, None, ◌⊎◌, inl, inr, ⊎_elim, refl, ◌↔◌, IsTrue, get_or, sym, ap, subst, ◌∙◌, arith, length-append, append_assoc, append-nil}
+use Rattle.std.proofs.Common.{ℕ, ◌≡◌, ◌+◌, ◌-◌, ◌*◌, ◌≤◌, ◌<◌, Bool, true, eqb, eqb-true, List, [], ◌∷◌, ◌++◌, map, length, slice_get, All, Contains, Some, None, ◌⊎◌, inl, inr, ⊎_elim, refl, ◌↔◌, IsTrue, get_or, sym, ap, subst, ◌∙◌, arith, length-append, append_assoc}
 use Rattle.std.proofs.lemmas.Bool.{cond_both, eqb-false}
 use Rattle.std.proofs.lemmas.List.Elements.{All-contains}
 use Rattle.std.proofs.lemmas.List.Sums.{sum_by_push}
@@ -22,8 +22,8 @@ use Rattle.dual_ascent.specs.Costs.{left_after, left_of, costs_of, lowered_by, i
 use Rattle.dual_ascent.specs.Steps.{AreRequired, SaturatedLeads, Parts, IsNextCut}
 use Rattle.dual_ascent.proofs.lemmas.LoadLemmas.{map-lowered_by}
 use Rattle.dual_ascent.proofs.lemmas.SaturatedLemmas.{SaturatedStep-iff_open}
-use Rattle.dual_ascent.proofs.lemmas.PackLemmas.{IsFeasible-push, unsaturated-lowered_by, unsaturated-le}
-use Rattle.dual_ascent.specs.CostLaws.{left_after-le, length-costs_of, slice_get-costs_of}
+use Rattle.dual_ascent.proofs.lemmas.PackLemmas.{IsFeasible-push, unsaturated-lowered_by}
+use Rattle.dual_ascent.specs.CostLaws.{left_after-le, slice_get-costs_of}
 
 -- the packing is feasible, the costs are what it leaves, and each cut so far took the room of an arc
 pub record IsUnderWay (g : Graph) (decision : Decided) (start packing : List Cut) (costs : List EdgeCosts) : Type 0 where
@@ -31,12 +31,6 @@ pub record IsUnderWay (g : Graph) (decision : Decided) (start packing : List Cut
   pub left : costs ≡ costs_of g.edges (states_of g decision) packing
   pub begins : BeginsWith packing start
   pub few : length packing + unsaturated costs ≤ 4 * length g.edges
-
--- at the start
-pub IsUnderWay-none : (g : Graph) (decision : Decided) (start : List Cut) (costs : List EdgeCosts) → IsDecisionFor g decision → IsFeasible g decision start →
-    length start ≤ 2 * length g.edges → costs ≡ costs_of g.edges (states_of g decision) start → IsUnderWay g decision start start costs
-IsUnderWay-none g decision start costs size feasible few are =
-    grind (arith, append-nil, unsaturated-le, length-costs_of, length-states_of)
 
 -- a packing with one more cut begins with the same cuts
 BeginsWith-push : (start packing : List Cut) (cut : Cut) → BeginsWith packing start → BeginsWith (packing ++ cut ∷ []) start
@@ -131,11 +125,6 @@ IsClosingCut-from_parts : (g : Graph) (decision : Decided) (packing : List Cut) 
     IsFeasible g decision packing → Parts g vertices members → IsLeastOf (Entering (costs_of g.edges (states_of g decision) packing) members) None → IsClosingCut g decision members
 IsClosingCut-from_parts g decision packing vertices members size are feasible parts none =
     search (IsCut-from_parts, free_where_closed)
-
--- cuts that stand before stay there
-pub closed_with-behind : (g : Graph) (members : List Bool) (first packing : List Cut) →
-    first ++ closed_with g members packing ≡ closed_with g members (first ++ packing)
-closed_with-behind g members first packing = grind (arith, append_assoc)
 
 -- a set that only arcs of outside edges enter closes an ascent
 pub IsClosed-from_under_way : (g : Graph) (decision : Decided) (start packing : List Cut) (costs : List EdgeCosts) (vertices : List ℕ) (members : List Bool) → IsDecisionFor g decision → AreRequired g decision vertices →

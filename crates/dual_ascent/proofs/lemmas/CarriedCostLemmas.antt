@@ -1,9 +1,7 @@
 -- What a packing leaves of the rooms once cuts were taken back, and once more is decided.
-use Rattle.std.proofs.Common.{ℕ, suc, ◌≡◌, ◌+◌, ◌^◌, ◌≤◌, ◌<◌, Bool, true, false, List, [], ◌∷◌, ◌++◌, filter, map, length, sum_by, take, drop, get_or, slice_get, Option, Some, ⊎_elim, refl, sym, ap, subst, ◌∙◌, arith, append_assoc, append-nil}
-use Rattle.std.specs.Prelude.{IfSome}
+use Rattle.std.proofs.Common.{ℕ, suc, ◌≡◌, ◌+◌, ◌^◌, ◌≤◌, ◌<◌, Bool, true, false, List, [], ◌∷◌, ◌++◌, filter, map, length, sum_by, take, drop, get_or, slice_get, Some, ⊎_elim, refl, sym, ap, subst, ◌∙◌, arith, append-nil}
 use Rattle.std.specs.List.{zip}
 use Rattle.std.proofs.Math.Seq.{drop-cons}
-use Rattle.std.proofs.lemmas.List.{take_all, drop_all}
 use Rattle.std.proofs.lemmas.List.Elements.{filter_more}
 use Rattle.std.proofs.lemmas.List.Sums.{sum_by-cons, sum_by-append, sum_by-take-drop, get_or-le-sum_by}
 use Rattle.std.proofs.lemmas.Option.{same_Some, slice_get-get_or, slice_get_within, get_or_from_slice_get}
@@ -92,10 +90,6 @@ raise_fits g states front cut rest x graph size own =
 abbrev pub those_left : (Cut → Bool) → List Cut → ℕ → List Cut
 those_left test packing i = filter test (take i packing) ++ drop i packing
 
--- a smaller load is within a room, too
-within-less : (room : Option ℕ) (m n : ℕ) → m ≤ n → IfSome room (λ r. n ≤ r) → IfSome room (λ r. m ≤ r)
-within-less room m n less fits = grind arith
-
 -- they load no more than all
 load-those_left : (test : Cut → Bool) (packing : List Cut) (i u v : ℕ) → load (those_left test packing i) u v ≤ load packing u v
 load-those_left test packing i u v = grind (arith, sum_by-append, load-fewer, sum_by-take-drop)
@@ -104,29 +98,18 @@ load-those_left test packing i u v = grind (arith, sum_by-append, load-fewer, su
 pub those_left_within : (edges : List Edge) (states : List EdgeState) (test : Cut → Bool) (packing : List Cut) (i : ℕ) →
     AreWithinRooms edges states packing → AreWithinRooms edges states (those_left test packing i)
 those_left_within edges states test packing i within n e state at is =
-    grind (arith, within n e state, within-less, load-those_left test packing i e.a e.b, load-those_left test packing i e.b e.a)
+    grind (arith, within n e state, load-those_left test packing i e.a e.b, load-those_left test packing i e.b e.a)
 
 -- the cut that is looked at is the first of the rest
 pub those_left-at : (test : Cut → Bool) (packing : List Cut) (i : ℕ) (c : Cut) → i < length packing → get_or packing i c ≡ c →
     those_left test packing i ≡ filter test (take i packing) ++ c ∷ drop (i + 1) packing
 those_left-at test packing i c within is = grind (arith, drop-cons packing i c within)
 
--- behind one that passes they are as before
-pub those_left-kept : (test : Cut → Bool) (packing : List Cut) (i : ℕ) (c : Cut) → i < length packing → get_or packing i c ≡ c →
-    test c ≡ true → those_left test packing (i + 1) ≡ those_left test packing i
-those_left-kept test packing i c within is passes =
-    grind (arith, filter_more test packing i c within, append_assoc (filter test (take i packing)) (c ∷ []) (drop (i + 1) packing), those_left-at test packing i c within is)
-
 -- behind one that doesn't, it is missing
 pub those_left-taken : (test : Cut → Bool) (packing : List Cut) (i : ℕ) (c : Cut) → i < length packing → get_or packing i c ≡ c →
     test c ≡ false → those_left test packing (i + 1) ≡ filter test (take i packing) ++ drop (i + 1) packing
 those_left-taken test packing i c within is fails =
     grind (arith, filter_more test packing i c within, append-nil (filter test (take i packing)))
-
--- behind the last one they are those that pass
-pub those_left-all : (test : Cut → Bool) (packing : List Cut) (i : ℕ) → length packing ≤ i → those_left test packing i ≡ filter test packing
-those_left-all test packing i past =
-    grind (arith, take_all i packing past, drop_all i packing past, append-nil (filter test packing))
 
 -- ---- more that is decided
 

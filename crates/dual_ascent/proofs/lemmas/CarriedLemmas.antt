@@ -1,7 +1,7 @@
 -- A packing carried to the next decision stays feasible.
 use Rattle.std.proofs.Common.{ℕ, zero, suc, ◌≡◌, ◌≤◌, ◌<◌, Bool, true, false, not, ◌||◌, List, [], ◌∷◌, ◌++◌, filter, length, slice_get, All, Contains, Some, ⊎_elim, refl, sym, ap, subst, ◌∙◌, arith, append-nil, append_assoc}
 use Rattle.std.specs.List.{list_any}
-use Rattle.std.proofs.lemmas.Bool.{cases_Bool, not-true}
+use Rattle.std.proofs.lemmas.Bool.{cases_Bool}
 use Rattle.std.proofs.lemmas.List.Elements.{All-filter, All-head, All-tail, All-weaker, Contains-append_right, filter_passes}
 use Rattle.std.proofs.lemmas.List.Folds.{list_any-from_Any}
 use Rattle.std.proofs.lemmas.List.Sums.{sum_by-cons}
@@ -24,10 +24,6 @@ abbrev pub inside_one : Edge → EdgeState → List Edge
 inside_one e Inside = e ∷ []
 inside_one e Undecided = []
 inside_one e Outside = []
-
--- an edge that isn't inside
-pub inside_one-none : (e : Edge) (state : EdgeState) → (state ≡ Inside → ⊥) → inside_one e state ≡ []
-inside_one-none e state out = grind arith
 
 -- the first edge and the others
 inside_first : (e : Edge) (state : EdgeState) (es : List Edge) (states : List EdgeState) → inside_edges (e ∷ es) (state ∷ states) ≡ inside_one e state ++ inside_edges es states
@@ -56,10 +52,6 @@ inside_listed (x ∷ edges) [] n e at inside = absurd cc
 inside_listed (x ∷ edges) (t ∷ states) zero e at inside = grind arith
 inside_listed (x ∷ edges) (t ∷ states) (suc n) e at inside =
     rw (inside_first x t edges states) (Contains-append_right (inside_one x t) (inside_edges edges states) e (inside_listed edges states n e at inside))
-
--- a test that passes nowhere fails at each
-list_any-fails : (test : Edge → Bool) (edges : List Edge) (e : Edge) → list_any test edges ≡ false → Contains edges e → test e ≡ false
-list_any-fails test edges e none listed = grind (arith, list_any-from_Any)
 
 -- neither of two holds
 neither : (x y : Bool) → (x || y) ≡ false → (x ≡ false) × (y ≡ false)
@@ -117,7 +109,7 @@ room_kept g before now packing n e Inside one feasible at decided =
     let apart : All (λ c. (enters c.members e.a e.b ≡ false) × (enters c.members e.b e.a ≡ false)) (filter test packing) =
     All-weaker (λ c. test c ≡ true) (λ c. (enters c.members e.a e.b ≡ false) × (enters c.members e.b e.a ≡ false))
     (λ c passes. neither (enters c.members e.a e.b) (enters c.members e.b e.a)
-    (list_any-fails (is_entered_along c.members) edges e (not-true (list_any (is_entered_along c.members) edges) passes) listed))
+    (grind (arith, list_any-from_Any)))
     (filter test packing) (filter_passes test packing) in
     let there : load (filter test packing) e.a e.b ≡ 0 = load-none (filter test packing) e.a e.b (λ k d lt. (apart k d lt).0) in
     let back : load (filter test packing) e.b e.a ≡ 0 = load-none (filter test packing) e.b e.a (λ k d lt. (apart k d lt).1) in

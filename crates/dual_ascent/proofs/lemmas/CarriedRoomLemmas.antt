@@ -1,5 +1,5 @@
 -- What a carried packing leaves of the rooms.
-use Rattle.std.proofs.Common.{ℕ, ◌≡◌, ◌*◌, ◌≤◌, Bool, refl, not, List, map, length, slice_get, Some, arith}
+use Rattle.std.proofs.Common.{ℕ, ◌≡◌, ◌≤◌, Bool, refl, not, List, map, length, slice_get, Some, arith}
 use Rattle.std.specs.List.{list_any, zip}
 use Rattle.std.proofs.lemmas.List.Filters.{length-filter_both}
 use Rattle.net_graph.specs.declared.edge.Edge.{Edge}
@@ -11,7 +11,7 @@ use Rattle.net_graph.specs.Decision.{Decided, IsDecisionFor, states_of}
 use Rattle.net_graph.specs.DecisionLaws.{length-states_of}
 use Rattle.net_graph.specs.Packing.{load, IsFeasible}
 use Rattle.dual_ascent.specs.declared.costs.EdgeCosts.{EdgeCosts}
-use Rattle.dual_ascent.specs.Carried.{DecidesOneMore, carried, inside_edges, is_entered_along, unentered}
+use Rattle.dual_ascent.specs.Carried.{DecidesOneMore, inside_edges, is_entered_along, unentered}
 use Rattle.dual_ascent.specs.Costs.{costs_of, left_in}
 use Rattle.dual_ascent.proofs.lemmas.CarriedCostLemmas.{costs_in}
 use Rattle.dual_ascent.proofs.lemmas.CarriedLemmas.{room_kept, undecided_before}
@@ -37,8 +37,3 @@ pub unentered-le : (edges : List Edge) (parent : List Cut) → length (unentered
 unentered-le edges parent =
     let test : Cut → Bool = λ c. not (list_any (is_entered_along c.members) edges) in
     omega (arith, length-filter_both test (λ c. not (test c)) (λ c. refl) parent)
-
--- of few cuts all are carried that no arc of an inside edge enters
-pub carried-all : (g : Graph) (now : Decided) (parent : List Cut) → length parent ≤ 2 * length g.edges →
-    carried g now parent ≡ unentered (inside_edges g.edges now.edges) parent
-carried-all g now parent few = grind (arith, unentered-le)

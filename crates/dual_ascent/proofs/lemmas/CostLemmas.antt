@@ -7,9 +7,8 @@ use Rattle.net_graph.specs.declared.edge.Edge.{Edge}
 use Rattle.net_graph.specs.declared.state.EdgeState.{EdgeState}
 use Rattle.net_graph.specs.declared.packing.Cut.{Cut}
 use Rattle.dual_ascent.specs.declared.entering.EnteringArc.{EnteringArc}
-use Rattle.dual_ascent.specs.Costs.{left_of, costs_of, lowered_by, lesser_of, IsLeastOf}
+use Rattle.dual_ascent.specs.Costs.{left_of, costs_of, lesser_of, IsLeastOf}
 use Rattle.dual_ascent.specs.Entering.{IsLeftOfOne}
-use Rattle.dual_ascent.proofs.lemmas.LoadLemmas.{map-lowered_by}
 
 -- the costs are those of each edge and its state
 pub map-zip-left_of : (edges : List Edge) (decision : List EdgeState) (packing : List Cut) →
@@ -37,8 +36,3 @@ IsLeftOfOne-more list i d least within so_far =
     (λ n (e, listed, is). (e, Contains-append_left (take i list) (last ∷ []) e listed, is))
     (λ n is. (last, Contains-push (take i list) last, sym is))
     so_far (refl, λ n is. omega arith))
-
--- one more cut of a packing
-pub costs_of-take : (edges : List Edge) (decision : List EdgeState) (packing : List Cut) (i : ℕ) (c : Cut) → i < length packing →
-    map (lowered_by (get_or packing i c)) (costs_of edges decision (take i packing)) ≡ costs_of edges decision (take (i + 1) packing)
-costs_of-take edges decision packing i c within = grind (arith, map-lowered_by, take_more)

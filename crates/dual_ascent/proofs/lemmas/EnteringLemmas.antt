@@ -1,6 +1,5 @@
 -- The arcs that enter a set, gathered one after another, and what a cut leaves of them.
-use Rattle.std.proofs.Common.{ℕ, ◌≡◌, ◌≢◌, ◌+◌, ◌-◌, ◌<◌, ◌≤◌, min, Bool, true, false, not, ◌&&◌, List, [], ◌∷◌, ◌++◌, map, length, get_or, slice_get, Option, Some, None, All, Contains, ◌⊎◌, inl, inr, ⊎_elim, refl, sym, ap, subst, ◌∙◌, arith}
-use Rattle.std.specs.Option.{SomeIff}
+use Rattle.std.proofs.Common.{ℕ, ◌≡◌, ◌≢◌, ◌+◌, ◌<◌, ◌≤◌, min, Bool, true, false, not, ◌&&◌, List, [], ◌∷◌, ◌++◌, map, length, get_or, slice_get, Option, Some, None, All, Contains, ◌⊎◌, inl, inr, ⊎_elim, refl, sym, ap, subst, ◌∙◌, arith}
 use Rattle.std.proofs.lemmas.Bool.{cases_eq, cases_lt}
 use Rattle.std.proofs.lemmas.List.{length-map, same_lists, get_or-map}
 use Rattle.std.proofs.lemmas.List.Elements.{All-push, Contains-append_left, Contains-push, Contains-push_cases}
@@ -21,14 +20,6 @@ use Rattle.dual_ascent.proofs.lemmas.ArcLemmas.{IsArcOf-below, cost_of-even, cos
 
 -- ---- arcs turned round
 
--- an arc of an edge turned round is the edge's other arc
-pub IsArcOf-turned : (edges : List Edge) (arc : Arc) → IsArcOf edges arc → IsArcOf edges (turned arc)
-IsArcOf-turned edges arc (n, e, at, way) = grind arith
-
--- turned round twice, it is as before
-pub turned-turned : (edges : List Edge) (arc : Arc) → IsArcOf edges arc → turned (turned arc) ≡ arc
-turned-turned edges arc (n, e, at, way) = grind arith
-
 -- ---- the arcs at members of the set
 
 ends_of : (x y : Bool) → y && not x ≡ true → (x ≡ false) × (y ≡ true)
@@ -41,10 +32,6 @@ enters-ends members u v entered = ends_of (has members u) (has members v) entere
 -- it leads to a vertex within the set's size
 entered_within : (members : List Bool) (u v : ℕ) → enters members u v ≡ true → v < length members
 entered_within members u v entered = slice_get_within members v true (slice_get-has members v (enters-ends members u v entered).1)
-
--- at the start
-pub AreEnteringBelow-none : (costs : List EdgeCosts) (members : List Bool) → AreEnteringBelow costs members 0 []
-AreEnteringBelow-none costs members = grind arith
 
 -- where the vertices from one to another are no members
 pub AreEnteringBelow-skip : (costs : List EdgeCosts) (members : List Bool) (v w : ℕ) (list : List EnteringArc) →
@@ -91,7 +78,7 @@ found_here : (costs : List EdgeCosts) (members : List Bool) (along arc : Arc) (l
     HasOnly costs members along found → along ≡ turned arc → IsArcOf (edges_of costs) arc → enters members arc.from arc.to ≡ true →
     cost_of costs arc.number ≡ Some left → found ≡ Some (record { arc = arc; left = left })
 found_here costs members along arc left found only same is_arc entered is =
-    grind (arith, turned-turned (edges_of costs) arc is_arc, enters-ends members arc.from arc.to entered)
+    grind (arith, enters-ends members arc.from arc.to entered)
 
 -- one more arc, whose other one doesn't enter or can't be saturated
 pub EnteringSoFar-skip : (costs : List EdgeCosts) (members : List Bool) (v : ℕ) (gone : List Arc) (along : Arc) (list : List EnteringArc) →
@@ -135,15 +122,11 @@ EnteringSoFar-all costs members v arcs list from so_far = record {
       (λ (earlier : arc.to < v). so_far.every arc left (inl earlier) is_arc entered is)
       (λ (later : v ≤ arc.to).
       let here : arc.to ≡ v = omega arith in
-      so_far.every arc left (inr (from.every (turned arc) (IsArcOf-turned (edges_of costs) arc is_arc) here)) is_arc entered is)
+      so_far.every arc left (inr (from.every (turned arc) (grind arith) here)) is_arc entered is)
       (cases_lt arc.to v);
 }
 
 -- ---- what a cut leaves of them
-
--- no more is taken from what is left of an arc than there is
-pub left_after-checked : (rest : Option ℕ) (left weight : ℕ) → SomeIff rest (weight ≤ left) (left - weight) → rest ≡ left_after (Some left) weight
-left_after-checked rest left weight refused = grind arith
 
 -- what is left of these arcs was changed by the weight
 pub record ChangedSoFar (after : Option ℕ → ℕ → Option ℕ) (before : List EdgeCosts) (weight : ℕ) (list : List EnteringArc) (now : List EdgeCosts) : Type 0 where
@@ -181,18 +164,11 @@ ChangedSoFar-more after before now next weight list e so_far here edges others =
 pub left_after-zero : (cost : Option ℕ) → left_after cost 0 ≡ cost
 left_after-zero cost = grind arith
 
-raised_after-zero : (cost : Option ℕ) → raised_after cost 0 ≡ cost
-raised_after-zero cost = grind arith
-
 -- what is left of the arcs that enter the cut was changed by its weight, and of no others
 cost_of-changed_so_far : (after : Option ℕ → ℕ → Option ℕ) → ((weight : ℕ) → after None weight ≡ None) → ((cost : Option ℕ) → after cost 0 ≡ cost) →
     (before now : List EdgeCosts) (cut : Cut) (list : List EnteringArc) → AreEntering before cut.members list → ChangedSoFar after before cut.weight list now →
     (arc : Arc) → IsArcOf (edges_of before) arc → cost_of now arc.number ≡ after (cost_of before arc.number) (weight_on cut arc.from arc.to)
 cost_of-changed_so_far after gone unchanged before now cut list are so_far arc is_arc = grind arith
-
--- an edge's costs by their parts
-costs_with : (c : EdgeCosts) (e : Edge) (there back : Option ℕ) → c.edge ≡ e → c.there ≡ there → c.back ≡ back → c ≡ record { edge = e; there = there; back = back }
-costs_with c e there back edge first second = grind arith
 
 -- what a cut makes of an edge's costs, where it changes what is left of an arc so
 abbrev changed_by : (Option ℕ → ℕ → Option ℕ) → Cut → EdgeCosts → EdgeCosts
@@ -219,7 +195,7 @@ changed_is after gone unchanged before now cut list are so_far =
     sym (cost_of-even now k n at_now) ∙ cost_of-changed_so_far after gone unchanged before now cut list are so_far (forward_arc k b.edge) (k, b.edge, at_edge, inl refl) ∙ ap (λ c. after c (weight_on cut b.edge.a b.edge.b)) (cost_of-even before k b at) in
     let back : n.back ≡ after b.back (weight_on cut b.edge.b b.edge.a) =
     sym (cost_of-odd now k n at_now) ∙ cost_of-changed_so_far after gone unchanged before now cut list are so_far (backward_arc k b.edge) (k, b.edge, at_edge, inr refl) ∙ ap (λ c. after c (weight_on cut b.edge.b b.edge.a)) (cost_of-odd before k b at) in
-    let same : n ≡ changed_by after cut b = costs_with n b.edge (after b.there (weight_on cut b.edge.a b.edge.b)) (after b.back (weight_on cut b.edge.b b.edge.a)) edge there back in
+    let same : n ≡ changed_by after cut b = grind arith in
     same ∙ sym (get_or-map (changed_by after cut) before k d d low))
 
 -- what all arcs lost is what the cut takes
@@ -230,7 +206,7 @@ lowered_is = changed_is left_after (λ weight. refl) left_after-zero
 -- .. and what they gained is what it gives back
 pub raised_is : (before now : List EdgeCosts) (cut : Cut) (list : List EnteringArc) → AreEntering before cut.members list →
     ChangedSoFar raised_after before cut.weight list now → now ≡ map (raised_by cut) before
-raised_is = changed_is raised_after (λ weight. refl) raised_after-zero
+raised_is = changed_is raised_after (λ weight. refl) (grind arith)
 
 -- what the cut leaves of an arc
 pub cost_of-lowered : (costs : List EdgeCosts) (cut : Cut) (arc : Arc) → IsArcOf (edges_of costs) arc →

@@ -11,7 +11,7 @@ use Rattle.net_graph.specs.Decision.{Decided, states_of}
 use Rattle.net_graph.specs.Packing.{enters, load, IsCut, IsWithinRoom, IsFeasible}
 use Rattle.net_graph.specs.Packing.{room_of}
 use Rattle.dual_ascent.specs.declared.costs.EdgeCosts.{EdgeCosts}
-use Rattle.dual_ascent.specs.Costs.{left_after, weight_on, left_of, costs_of, lowered_by, unsaturated_arc, unsaturated_of, unsaturated, EntersWith, Entering}
+use Rattle.dual_ascent.specs.Costs.{left_after, weight_on, left_of, costs_of, lowered_by, unsaturated_arc, unsaturated_of, unsaturated, Entering}
 use Rattle.dual_ascent.proofs.lemmas.LoadLemmas.{load-push}
 use Rattle.dual_ascent.specs.CostLaws.{slice_get-costs_of}
 
@@ -57,10 +57,6 @@ unsaturated_arc-entered : (cut : Cut) (room : Option ℕ) (u v : ℕ) → 0 < cu
     unsaturated_arc (left_after room (weight_on cut u v)) < unsaturated_arc room
 unsaturated_arc-entered cut room u v some entered is = grind arith
 
--- .. and so fewer of its edge's arcs have room
-unsaturated_of-entered : (cut : Cut) (room : EdgeCosts) → 0 < cut.weight → EntersWith cut.members room cut.weight → unsaturated_of (lowered_by cut room) < unsaturated_of room
-unsaturated_of-entered cut room some ways = grind (arith, unsaturated_arc-entered)
-
 -- one more cut leaves no more arcs with room
 unsaturated-map-le : (cut : Cut) (costs : List EdgeCosts) → unsaturated (map (lowered_by cut) costs) ≤ unsaturated costs
 unsaturated-map-le cut [] = omega arith
@@ -79,7 +75,7 @@ unsaturated-map-lt cut (first ∷ costs) (suc n) room at less =
 -- a cut whose weight is what was left of an arc that enters it leaves fewer arcs with room
 pub unsaturated-lowered_by : (cut : Cut) (costs : List EdgeCosts) → 0 < cut.weight → Entering costs cut.members cut.weight → unsaturated (map (lowered_by cut) costs) < unsaturated costs
 unsaturated-lowered_by cut costs some (room, (k, below, is), ways) =
-    unsaturated-map-lt cut costs k room (slice_get-get_or costs k room below ∙ ap (λ x. Some x) is) (unsaturated_of-entered cut room some ways)
+    unsaturated-map-lt cut costs k room (slice_get-get_or costs k room below ∙ ap (λ x. Some x) is) (grind (arith, unsaturated_arc-entered))
 
 -- there are at most two arcs an edge
 pub unsaturated-le : (costs : List EdgeCosts) → unsaturated costs ≤ 2 * length costs

@@ -1,12 +1,12 @@
 -- The list of the required vertices, one vertex after another.
-use Rattle.std.proofs.Common.{ℕ, ◌≡◌, ◌+◌, ◌<◌, ◌≤◌, List, [], ◌∷◌, ◌++◌, length, All, Contains, ⊎_elim, subst, arith, length-append}
+use Rattle.std.proofs.Common.{ℕ, ◌≡◌, ◌+◌, ◌<◌, ◌≤◌, List, [], ◌∷◌, ◌++◌, All, Contains, ⊎_elim, subst, arith, length-append}
 use Rattle.std.specs.List.Sorted.{IsStrictlyIncreasing}
 use Rattle.std.proofs.lemmas.Bool.{cases_lt}
 use Rattle.std.proofs.lemmas.List.{get_or_append_left, get_or_push}
 use Rattle.std.proofs.lemmas.List.Elements.{All-push, All-weaker, All-contains, Contains-append_left, Contains-push}
 use Rattle.std.proofs.lemmas.Option.{slice_get_within, get_or_from_slice_get}
 use Rattle.net_graph.specs.Graph.{Graph, IsGraph}
-use Rattle.net_graph.specs.Decision.{Decided, IsDecisionFor, IsRequired, EndsInside}
+use Rattle.net_graph.specs.Decision.{Decided, IsDecisionFor, IsRequired}
 use Rattle.dual_ascent.specs.Steps.{AreRequired}
 
 -- the required ones of the vertices below a bound
@@ -15,11 +15,6 @@ pub record RequiredBelow (g : Graph) (decision : Decided) (bound : ℕ) (list : 
   pub below : All (λ v. v < bound) list
   pub every : (v : ℕ) → v < bound → IsRequired g decision v → Contains list v
   pub ascending : IsStrictlyIncreasing list
-
--- a number above all numbers of a rising list
-IsStrictlyIncreasing-push : (list : List ℕ) (v : ℕ) → IsStrictlyIncreasing list → All (λ w. w < v) list → IsStrictlyIncreasing (list ++ v ∷ [])
-IsStrictlyIncreasing-push list v rises below k within =
-    grind (arith, length-append list (v ∷ []), get_or_append_left, get_or_push, cases_lt (k + 1) (length list))
 
 -- one more vertex, which isn't required
 pub RequiredBelow-skip : (g : Graph) (decision : Decided) (v : ℕ) (list : List ℕ) → RequiredBelow g decision v list → (IsRequired g decision v → ⊥) → RequiredBelow g decision (v + 1) list
@@ -32,18 +27,13 @@ RequiredBelow-take g decision v list so_far here = record {
   below = All-push (λ w. w < v + 1) list v (All-weaker (λ w. w < v) (λ w. w < v + 1) (λ w low. omega arith) list so_far.below) (omega arith);
   every = λ w low required. ⊎_elim (λ less. Contains-append_left list (v ∷ []) w (so_far.every w less required))
       (λ last. let same : v ≡ w = omega arith in subst (Contains (list ++ v ∷ [])) same (Contains-push list v)) (cases_lt w v);
-  ascending = IsStrictlyIncreasing-push list v so_far.ascending so_far.below;
+  ascending = grind (arith, length-append, get_or_append_left, get_or_push, cases_lt);
 }
-
--- an end of an inside edge is a vertex
-EndsInside-below : (g : Graph) (decision : Decided) (v : ℕ) → IsGraph g → EndsInside g decision v → v < g.vertices
-EndsInside-below g decision v graph (n, e, inside, at, ends) =
-    grind (arith, get_or_from_slice_get g.edges n e e, graph.ends n e (slice_get_within g.edges n e at), slice_get_within g.edges n e)
 
 -- a required vertex is a vertex
 pub IsRequired-below : (g : Graph) (decision : Decided) (v : ℕ) → IsGraph g → IsDecisionFor g decision → IsRequired g decision v → v < g.vertices
 IsRequired-below g decision v graph decided required =
-    grind (arith, All-contains, EndsInside-below g decision v graph, slice_get_within)
+    grind (arith, All-contains, get_or_from_slice_get, slice_get_within, slice_get_within)
 
 -- when all vertices were gone over
 pub AreRequired-all : (g : Graph) (decision : Decided) (bound : ℕ) (list : List ℕ) → IsGraph g → IsDecisionFor g decision → g.vertices ≤ bound → RequiredBelow g decision bound list → AreRequired g decision list

@@ -13,7 +13,7 @@ use Rattle.full_tree.specs.Geometry.{across, RisesFrom}
 use Rattle.full_tree.specs.declared.code.TreeCode.TheVariants.{Long}
 use Rattle.full_tree.specs.Code.{named_places}
 use Rattle.full_tree.specs.Form.{along_of, across_of, LieInTurn, IsOnShortLeg}
-use Rattle.full_tree.proofs.lemmas.Signs.{TurnsFrom, sides_iff_turns, across-itself, between_from_turns, turns_from_between}
+use Rattle.full_tree.proofs.lemmas.Signs.{TurnsFrom, sides_iff_turns, across-itself, turns_from_between}
 
 -- a test that answers no decides what doesn't hold
 pub no : {P : Type 0} → ¬ P → IsTrue false ↔ P
@@ -117,7 +117,7 @@ differ z y o is off same = grind arith
 -- the sides of a tip and of a side
 pub on_short_leg : (ps : List Point) (root : ℕ) (toward : Way) (tip q : ℕ) (b : Bool) (ahead turn reach : Ordering) → ahead ≡ int_cmp (along_of ps root toward q) (along_of ps root toward tip) → ahead ≢ Equal → turn ≡ int_cmp (across_of ps root toward q) (pos 0) → turn ≢ Equal → reach ≡ int_cmp (across_of ps root toward tip) (across_of ps root toward q) → b ≡ (ordering_index reach == ordering_index turn) → IsTrue b ↔ IsOnShortLeg ps root toward tip q
 on_short_leg ps root toward tip q b ahead turn reach ahead_is off turn_is turns reach_is test =
-    grind (arith, between_from_turns, orderings_decide reach turn, differ (along_of ps root toward q) (along_of ps root toward tip) ahead ahead_is off, turns_from_between)
+    grind (arith, orderings_decide reach turn, differ (along_of ps root toward q) (along_of ps root toward tip) ahead ahead_is off, turns_from_between)
 
 -- a side that lies on the long leg's line hangs on no short leg
 pub off_short_leg : (ps : List Point) (root : ℕ) (toward : Way) (tip q : ℕ) (turn : Ordering) → turn ≡ int_cmp (across_of ps root toward q) (pos 0) → turn ≡ Equal → ¬ IsOnShortLeg ps root toward tip q

@@ -15,7 +15,7 @@ use Rattle.full_tree.specs.declared.code.TreeCode.{TreeCode}
 use Rattle.full_tree.specs.declared.code.TreeCode.TheVariants.{Long, Cross}
 use Rattle.full_tree.specs.Geometry.{point_at, meet}
 use Rattle.full_tree.specs.Code.{named_places}
-use Rattle.full_tree.specs.Form.{across_of, IsOnShortLeg, IsCrossShape, IsInForm}
+use Rattle.full_tree.specs.Form.{across_of, IsOnShortLeg, IsInForm}
 use Rattle.full_tree.specs.Pieces.{piece_between, line_over, foot, side_foot, long_leg, short_leg, drop_pieces, side_piece, crossing_of, pieces_of}
 use Rattle.full_tree.specs.Joined.{IsStraight, GrowsFrom, HangsTogether, ends_of, IsOnGrid, JoinsMembers}
 use Rattle.full_tree.proofs.lemmas.Meets.{ahead, aside, ahead-meet, aside-meet, point_seen-meet, point_seen-foot, straight_ahead, straight_across, same_seen, aside-across, IsCrossing-point_at, IsCrossing-meet}
@@ -252,9 +252,6 @@ long_places P root w drops side tip all =
 
 -- ---- crosses
 
-cross_straight : (ps : List Point) (west south east north : ℕ) → IsCrossShape (point_at ps west) (point_at ps south) (point_at ps east) (point_at ps north) → All IsStraight (pieces_of ps (Cross west south east north))
-cross_straight ps west south east north shape = grind arith
-
 cross_on_grid : (ps : List Point) (west south east north : ℕ) → All (λ k. k < length ps) (named_places (Cross west south east north)) → All (IsOnGrid ps) (pieces_of ps (Cross west south east north))
 cross_on_grid ps west south east north inside =
     let places = west ∷ south ∷ east ∷ north ∷ [] in
@@ -283,7 +280,7 @@ joins_members ps (Long root w drops side tip) form =
       members = long_members ps root w drops side tip;
     }
 joins_members ps (Cross west south east north) form = record {
-  straight = cross_straight ps west south east north form.shape;
+  straight = grind arith;
   on_grid = cross_on_grid ps west south east north form.terminals;
   together = cross_together ps west south east north;
   members = hung_ends (λ k. crossing_of ps west south) (point_at ps) (west ∷ south ∷ east ∷ north ∷ []) (pieces_of ps (Cross west south east north)) (λ x held. held);

@@ -26,7 +26,7 @@ use Rattle.full_tree.specs.Geometry.{point_at, along, across, RisesFrom, IsBetwe
 use Rattle.full_tree.specs.Form.{along_of, across_of, IsOnShortLeg, IsCrossShape, IsInForm}
 use Rattle.full_tree.specs.Pieces.{piece_between, line_over, foot, side_foot, long_leg, short_leg, drop_pieces, side_piece, crossing_of, length_of_piece, code_length}
 use Rattle.full_tree.proofs.lemmas.Signs.{along-itself, across-itself}
-use Rattle.full_tree.proofs.lemmas.Meets.{ahead, aside, distance_seen, distance_ahead, distance_across, along-same, across-same, lines_ahead, lines_aside, IsRising-lines_ahead, IsRising-lines_aside, Contains-lines_ahead, Contains-lines_aside, IsCrossing-point_at, total_seen}
+use Rattle.full_tree.proofs.lemmas.Meets.{ahead, aside, distance_seen, distance_ahead, distance_across, along-same, across-same, lines_ahead, lines_aside, IsRising-lines_aside, Contains-lines_ahead, Contains-lines_aside, IsCrossing-point_at, total_seen}
 use Rattle.full_tree.proofs.lemmas.Joins.{aside-foot, ahead-foot, ahead-side_foot, aside-side_foot, long_places}
 
 -- ---- counting lines
@@ -92,20 +92,14 @@ rows_enough ps root w tip q leg root_in q_in =
 
 -- ---- one piece
 
--- a piece across is at most as long as the lines ahead lie apart
-across_le : (ps : List Point) (w : Way) (p q : Point) → ahead w p ≡ ahead w q → Contains (lines_aside w ps) (aside w p) → Contains (lines_aside w ps) (aside w q) → distance_between p q ≤ width_of (lines_aside w ps)
-across_le ps w p q plumb held held' =
-    grind (arith, apart_le (lines_aside w ps) (aside w p) (aside w q) held held' (IsRising-lines_aside w ps), ints, distance_seen w p q)
-
 -- a piece ahead is at most as long as the lines across lie apart
 ahead_le : (ps : List Point) (w : Way) (p q : Point) → aside w p ≡ aside w q → Contains (lines_ahead w ps) (ahead w p) → Contains (lines_ahead w ps) (ahead w q) → distance_between p q ≤ width_of (lines_ahead w ps)
 ahead_le ps w p q level held held' =
-    grind (arith, apart_le (lines_ahead w ps) (ahead w p) (ahead w q) held held' (IsRising-lines_ahead w ps), ints, distance_seen w p q)
+    grind (arith, apart_le (lines_ahead w ps) (ahead w p) (ahead w q) held held' (grind (arith, IsRising-xs_of, IsRising-ys_of)), ints, distance_seen w p q)
 
 -- a drop, from its foot
 drop_le : (ps : List Point) (root : ℕ) (w : Way) (k : ℕ) → root < length ps → k < length ps → distance_between (foot ps root w k) (point_at ps k) ≤ width_of (lines_aside w ps)
-drop_le ps root w k root_in k_in = across_le ps w (foot ps root w k) (point_at ps k) (ahead-foot ps root w k)
-    (subst (λ z. Contains (lines_aside w ps) z) (sym (aside-foot ps root w k)) (Contains-lines_aside w ps root root_in)) (Contains-lines_aside w ps k k_in)
+drop_le ps root w k root_in k_in = grind (arith, apart_le (lines_aside w ps) (aside w (foot ps root w k)) (aside w (point_at ps k)) (subst (λ z. Contains (lines_aside w ps) z) (sym (aside-foot ps root w k)) (Contains-lines_aside w ps root root_in)) (Contains-lines_aside w ps k k_in) (IsRising-lines_aside w ps), ints, distance_seen w (foot ps root w k) (point_at ps k))
 
 -- the whole long leg
 reach_le : (ps : List Point) (root : ℕ) (w : Way) (tip : ℕ) → root < length ps → tip < length ps → distance_between (point_at ps root) (foot ps root w tip) ≤ width_of (lines_ahead w ps)
@@ -186,9 +180,6 @@ leg_line_sum ps root w (Some q) tip hangs =
 leg_or_none : (b : Bool) (xs : List Piece) → sum_of (if b then [] else xs) ≤ sum_of xs
 leg_or_none b xs = grind arith
 
-short_sum : (ps : List Point) (root : ℕ) (w : Way) (side : Option ℕ) (tip : ℕ) → IfSome side (IsOnShortLeg ps root w tip) → root < length ps → tip < length ps → sum_of (short_leg ps root w side tip) ≤ width_of (lines_aside w ps)
-short_sum ps root w side tip hangs root_in tip_in = omega (arith, leg_or_none, pos, leg_line_sum, drop_le)
-
 drops_sum : (ps : List Point) (root : ℕ) (w : Way) (drops : List ℕ) → root < length ps → All (λ k. k < length ps) drops → sum_of (drop_pieces ps root w drops) ≤ length drops * width_of (lines_aside w ps)
 drops_sum ps root w drops root_in drops_in =
     let to = λ (k : ℕ). piece_between (foot ps root w k) (point_at ps k) in
@@ -225,7 +216,7 @@ long_fits ps root w drops side tip form =
     (row_enough ps root w places.0)
     (columns_enough ps root w drops tip form.shape.forward places.1 places.3)
     (long_sum ps root w drops tip form.shape.forward places.0 places.3)
-    (short_sum ps root w side tip form.shape.hangs places.0 places.3)
+    (omega (arith, leg_or_none, pos, leg_line_sum, drop_le))
     (drops_sum ps root w drops places.0 places.1)
     (side_sum ps root w side tip form.shape.hangs places.0 places.3 places.2) in
     let a = sum_by-append length_of_piece (long ++ short ++ hung) last in

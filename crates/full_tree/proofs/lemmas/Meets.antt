@@ -104,9 +104,6 @@ lines_aside North ps = xs_of ps
 lines_aside West ps = ys_of ps
 lines_aside South ps = xs_of ps
 
-pub IsRising-lines_ahead : (w : Way) (ps : List Point) → IsRising (lines_ahead w ps)
-IsRising-lines_ahead w ps = grind (arith, IsRising-xs_of, IsRising-ys_of)
-
 pub IsRising-lines_aside : (w : Way) (ps : List Point) → IsRising (lines_aside w ps)
 IsRising-lines_aside w ps = grind (arith, IsRising-ys_of, IsRising-xs_of)
 

@@ -41,10 +41,6 @@ rises_not {P} A z ds ts i inside whole lower p = grind (arith, add-one, drop-con
 
 -- ---- turns
 
--- two numbers that compare with 0 in two ways, none of them as equal, are opposite
-opposite_from_turns : (c d : ℤ) → c ≢ pos 0 → int_cmp d (pos 0) ≢ Equal → int_cmp d (pos 0) ≢ int_cmp c (pos 0) → AreOpposite c d
-opposite_from_turns c d off turns apart = grind arith
-
 -- a number whose comparison with 0 doesn't answer equal isn't 0
 off_from_turns : (c : ℤ) → int_cmp c (pos 0) ≢ Equal → c ≢ pos 0
 off_from_turns c turns same = grind arith
@@ -77,13 +73,9 @@ sides_from_turns C e (d ∷ ds) t off turns =
     let rest = sides_from_turns C d ds t off' turns.2 in
     record {
       off = All-cons (λ d. C d ≢ pos 0) d ds off' rest.off;
-      in_turn = (opposite_from_turns (C e) (C d) off turns.0 turns.1, rest.in_turn);
+      in_turn = ((grind arith), rest.in_turn);
       last = rest.last;
     }
-
--- opposite numbers the other way round
-AreOpposite-sym : (c d : ℤ) → AreOpposite c d → AreOpposite d c
-AreOpposite-sym c d h = grind arith
 
 turns_from_sides : (C : ℕ → ℤ) (e : ℕ) (ds : List ℕ) (t : ℕ) → SidesAfter C e ds t → TurnsFrom C (int_cmp (C e) (pos 0)) ds t
 turns_from_sides C e [] t sides = elim (stand (C t) (pos 0)) [
@@ -93,7 +85,7 @@ turns_from_sides C e [] t sides = elim (stand (C t) (pos 0)) [
 ]
 turns_from_sides C e (d ∷ ds) t sides = (
   turns_from_off (C d) (All-head (λ d. C d ≢ pos 0) d ds sides.off),
-  apart_from_opposite (C d) (C e) (AreOpposite-sym (C e) (C d) sides.in_turn.0),
+  apart_from_opposite (C d) (C e) (grind arith),
   turns_from_sides C d ds t (record {
     off = All-tail (λ d. C d ≢ pos 0) d ds sides.off;
     in_turn = sides.in_turn.1;
@@ -133,10 +125,6 @@ pub turns_not : {P : Type 0} (C : ℕ → ℤ) (o o' : Ordering) (ds : List ℕ)
 turns_not {P} C o o' ds t i inside whole is stays p = grind (arith, add-one, drop-cons ds i 0)
 
 -- ---- the side
-
--- a number compares with 0 as d compares with it, and not as equal, where it lies between 0 and d
-pub between_from_turns : (d c : ℤ) (o : Ordering) → o ≡ int_cmp c (pos 0) → o ≢ Equal → int_cmp d c ≡ o → IsBetweenZeroAnd d c
-between_from_turns d c o is turns same = grind arith
 
 pub turns_from_between : (d c : ℤ) → IsBetweenZeroAnd d c → (int_cmp c (pos 0) ≢ Equal) × (int_cmp d c ≡ int_cmp c (pos 0))
 turns_from_between d c h = grind arith

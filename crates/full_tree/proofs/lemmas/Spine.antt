@@ -57,12 +57,8 @@ module _ (ps : List Point) (root : ℕ) (toward : Way) where
       let last = ap (last_foot ps root toward start) e ∙ last_foot-more ps root toward start (take i drops) d in
       (cc, cc)
 
--- the stations of the root and of drops are one more than the drops
-pub first_stations-length : (ps : List Point) (root : ℕ) (toward : Way) (ds : List ℕ) → length (first_stations ps root toward ds) ≡ 1 + length ds
-first_stations-length ps root toward ds = omega (arith, drop_stations-length ps root toward (point_at ps root) ds)
-
 -- there is room for the stations behind the drops
 pub end_stations-room : (ps : List Point) (root : ℕ) (toward : Way) (drops : List ℕ) (side : Option ℕ) (tip : ℕ) (none now : List Station)
     → NamesFew ps root drops side tip → none ≡ [] → now ≡ none ++ first_stations ps root toward drops
     → length now + length (option_to_list side) < 8
-end_stations-room ps root toward drops side tip none now few empty is = grind (arith, first_stations-length)
+end_stations-room ps root toward drops side tip none now few empty is = grind (arith, drop_stations-length)

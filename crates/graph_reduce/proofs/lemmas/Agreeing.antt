@@ -166,15 +166,12 @@ module _ (v : ℕ) (old new : State) (forces : ForcesEdge v old new) where
       (In-moved old.terminals v forces.other u (In-from_Contains old.terminals v forces.terminal)
       (In-from_Contains (moved old.terminals v forces.other) u is))
 
-  terminal_after : (u : ℕ) → IsApart forces.x u → IsTerminal old u → IsTerminal forced_state u
-  terminal_after u apart is = grind (arith, Contains-from_In, In-moved_from, In-from_Contains, both_apart)
-
   pub due_forced : (due : Due) → AreDue old due →
       ((n : ℕ) (x : Bundle) → EndsIn old v n → HasEdge old n x → AreBothDue due x) → AreDue new due
   due_forced due are told = subst (λ s. AreDue s due) (sym forces.becomes)
       (due_after forced_state old due are (λ u. ⊎_elim (λ (is : IsDue due u). inl is)
       (λ (apart : IsApart forces.x u). inr (agrees_dropped forced_state old v forces.place forces.x forces.edge.at u apart
-      (kept_node old.nodes v u) (terminal_before u apart) (terminal_after u apart) refl))
+      (kept_node old.nodes v u) (terminal_before u apart) (grind (arith, Contains-from_In, In-moved_from, In-from_Contains, both_apart)) refl))
       (due_or_apart due forces.x u (told forces.place forces.x
       (forces.x, forces.edge.at, first_end forces.x v forces.other forces.edge.ends) forces.edge.at))))
 

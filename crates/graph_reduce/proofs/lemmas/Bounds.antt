@@ -11,7 +11,6 @@ use Rattle.graph_reduce.specs.Clear.{LeadsTo, IsReached, HasSetsOfOneSize, GoesO
 use Rattle.graph_reduce.proofs.lemmas.Clearing.{one_step, then_steps}
 use Rattle.graph_reduce.proofs.lemmas.Fits.{Fits, Fits-start, all}
 use Rattle.graph_reduce.proofs.lemmas.Lengths.{length_in-set}
-use Rattle.graph_reduce.proofs.lemmas.Sizes.{size_of, steps_less}
 use Rattle.graph_reduce.proofs.lemmas.Soundness.{IsSound, IsSound-start}
 use Rattle.graph_reduce.proofs.lemmas.Steps.{steps_keep, steps_fit}
 use Rattle.graph_reduce.proofs.lemmas.Terminals.{In-from_Contains}
@@ -66,7 +65,3 @@ module _ (g : Graph) (graph : IsGraph g) (s : State) (leads : LeadsTo (start_of 
 
 pub leads_on : (old new : State) → GoesOn old new → LeadsTo old new
 leads_on old new more = then_steps old more.next new (one_step old more.next more.step) more.rest
-
-pub smaller_on : (old new : State) → GoesOn old new → size_of new < size_of old
-smaller_on old new more =
-    grind (arith, steps_less 1 old more.next (old, refl, more.step), steps_less more.rest.count more.next new more.rest.steps)

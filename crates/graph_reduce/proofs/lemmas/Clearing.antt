@@ -1,13 +1,13 @@
 -- Where no earlier rule applies, and what stays so where edges are dropped.
-use Rattle.std.specs.Prelude.{ℕ, zero, suc, ◌≡◌, ◌+◌, length, Some, None, if◌then◌else◌, nat_lt}
-use Rattle.std.proofs.Common.{refl, inl, inr, subst, arith, length-set}
+use Rattle.std.specs.Prelude.{ℕ, zero, suc, ◌≡◌, ◌+◌, length, Some, if◌then◌else◌, nat_lt}
+use Rattle.std.proofs.Common.{refl, inl, inr, subst, arith}
 use Rattle.std.proofs.lemmas.Bool.{cases_eq}
 use Rattle.std.proofs.lemmas.Option.{slice_get_within}
 use Rattle.graph_reduce.specs.State.{Bundle, State, HasEdge}
 use Rattle.graph_reduce.specs.Rules.{AreParallel, without_edge}
 use Rattle.graph_reduce.specs.Step.{Applies, IsStep, AreSteps}
 use Rattle.graph_reduce.specs.Step.Rule.{OneTerminal, Loop, Parallel, Leaf, Passed, TerminalLeaf}
-use Rattle.graph_reduce.specs.Clear.{LeadsTo, HasSomeEdge, IsClearTo, IsTidy, IsWithin}
+use Rattle.graph_reduce.specs.Clear.{LeadsTo, HasSomeEdge, IsClearTo, IsWithin}
 use Rattle.graph_reduce.proofs.lemmas.Keeping.{found_before}
 use Rattle.graph_reduce.proofs.lemmas.Steps.{NoneBefore}
 
@@ -32,9 +32,6 @@ then_steps one two three first rest = more_steps one two three first.count rest.
 
 pub within_then : (one two three : State) → IsWithin one two → IsWithin two three → IsWithin one three
 within_then one two three first rest = grind arith
-
-pub within_without : (s : State) (place : ℕ) → IsWithin (without_edge s place) s
-within_without s place = grind (arith, length-set s.edges place None, found_before)
 
 pub parallel_within : (new old : State) → IsWithin new old → (n m : ℕ) (x y : Bundle) → AreParallel new n m x y →
     AreParallel old n m x y
@@ -95,14 +92,7 @@ clear_later s end place later clear here = grind arith
 pub clear_next : (s : State) (end place : ℕ) → IsClearTo s end place (length s.edges) → IsClearTo s end (place + 1) 0
 clear_next s end place clear = grind (arith, cases_eq, slice_get_within)
 
--- before any later place than the next
-pub clear_start : (s : State) (end place : ℕ) → IsClearTo s end place 0 → IsClearTo s end place (place + 1)
-clear_start s end place clear = grind arith
-
 -- the next place, where this one holds no edge
 pub clear_gone : (s : State) (end place later : ℕ) → ((x : Bundle) → ¬ HasEdge s place x) →
     IsClearTo s end place later → IsClearTo s end (place + 1) 0
 clear_gone s end place later none clear = search arith
-
-pub tidy_from_clear : (s : State) → IsClearTo s (length s.edges) (length s.edges) 0 → IsTidy s
-tidy_from_clear s clear = grind (arith, slice_get_within)

@@ -1,4 +1,5 @@
 -- The longer of two parallel edges, on a tie the later.
+use Rattle.graph_reduce.proofs.lemmas.Keeping.{found_before}
 use Rattle.std.specs.Prelude.{ℕ, ◌≡◌, ◌+◌, ◌<◌, ◌≤◌, Bool, true, false, length, nat_lt, None, if◌then◌else◌}
 use Rattle.std.proofs.Common.{refl, sym, ap, subst, length-set, arith}
 use Rattle.std.proofs.lemmas.Bool.{lt-ltb, le-ltb}
@@ -7,7 +8,7 @@ use Rattle.net_graph.specs.Network.{HasEnds}
 use Rattle.graph_reduce.specs.State.{Bundle, State, HasEdge}
 use Rattle.graph_reduce.specs.Rules.{AreParallel, without_edge}
 use Rattle.graph_reduce.specs.Clear.{LeadsTo, IsClearTo}
-use Rattle.graph_reduce.proofs.lemmas.Clearing.{one_step, within_without, clear_within, none_at, drops_parallel, clear_later}
+use Rattle.graph_reduce.proofs.lemmas.Clearing.{one_step, clear_within, none_at, drops_parallel, clear_later}
 
 -- the place holds an edge with these ends and this length
 abbrev pub HoldsEdge : State → ℕ → Edge → Type 0
@@ -44,9 +45,5 @@ module _ (s : State) (place later : ℕ) (x y : Edge) where
       (subst (λ n. IsClearTo dropped n place later) (sym (length-set s.edges
       (if nat_lt y.length x.length then place else later) None))
       (clear_within dropped s (length s.edges) place later
-      (within_without s (if nat_lt y.length x.length then place else later)) refl clear))
+      (grind (arith, length-set s.edges (if nat_lt y.length x.length then place else later) None, found_before)) refl clear))
       (λ a b. gone (nat_lt y.length x.length) a b))
-
-  pub clear_apart : Pair s place later x y → IsClearTo s (length s.edges) place later → ¬ HasEnds y x.a x.b →
-      IsClearTo s (length s.edges) place (later + 1)
-  clear_apart pair clear apart = grind (arith, clear_later)

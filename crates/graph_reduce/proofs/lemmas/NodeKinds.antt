@@ -68,12 +68,8 @@ module _ (s : State) (v : ℕ) where
       let b = has.only joins.later (below_end joins.later ends') ends' in
       let order = joins.order in let bad : ⊥ = omega arith in bad
 
-  three_at_two : (has : HasThree s v) (earlier later : ℕ) → TwoPlaces earlier later → ⊥
-  three_at_two has earlier later only =
-      grind (arith, only has.one has.first, only has.two has.second, only has.three has.third)
-
   pub passed_not_more : HasThree s v → ¬ Applies s Passed v
-  passed_not_more has (new, joins) = three_at_two has joins.earlier joins.later joins.only
+  passed_not_more has (new, joins) = grind (arith, joins.only has.one has.first, joins.only has.two has.second, joins.only has.three has.third)
 
   -- ---- a terminal with one edge
 

@@ -2,7 +2,7 @@
 use Rattle.std.specs.Prelude.{ℕ, ◌≡◌, ◌==◌, ◌<◌, if◌then◌else◌}
 use Rattle.std.proofs.Common.{refl, sym, ap, ◌∙◌, inl, inr, arith}
 use Rattle.graph_reduce.specs.State.{Bundle, State, EndsIn, HasOneEdge}
-use Rattle.graph_reduce.specs.Rules.{DropsParallel, JoinsEdges, ForcesEdge}
+use Rattle.graph_reduce.specs.Rules.{DropsParallel, JoinsEdges}
 use Rattle.graph_reduce.specs.Step.{Rule, Takes, IsStep, order_of}
 use Rattle.graph_reduce.specs.Step.Rule.{OneTerminal, Loop, Parallel, Leaf, Passed, TerminalLeaf}
 use Rattle.graph_reduce.proofs.lemmas.Ends.{first_end, other_is, same_edge}
@@ -49,10 +49,6 @@ one_joined v old new new' j k =
       other_is,
     )
 
-one_forced : (v : ℕ) (old new new' : State) → ForcesEdge v old new → ForcesEdge v old new' → new ≡ new'
-one_forced v old new new' f g =
-    grind (arith, one_place old v f.place g.place f.x g.x f.other g.other f.edge g.edge, same_edge, other_is)
-
 one_taken : (rule : Rule) (at : ℕ) (old new new' : State) → Takes rule at old new → Takes rule at old new' →
     new ≡ new'
 one_taken OneTerminal at old new new' d d' = d.becomes ∙ sym d'.becomes
@@ -60,7 +56,7 @@ one_taken Loop at old new new' d d' = d.becomes ∙ sym d'.becomes
 one_taken Parallel at old new new' d d' = one_parallel at old new new' d d'
 one_taken Leaf at old new new' d d' = one_leaf at old new new' d d'
 one_taken Passed at old new new' d d' = one_joined at old new new' d d'
-one_taken TerminalLeaf at old new new' d d' = one_forced at old new new' d d'
+one_taken TerminalLeaf at old new new' d d' = grind (arith, one_place old at d.place d'.place d.x d'.x d.other d'.other d.edge d'.edge, same_edge, other_is)
 
 -- ---- the first rule, at its lowest place
 

@@ -22,7 +22,7 @@ use Rattle.graph_reduce.specs.Survey.{IsNumbered, IsSeenTo, IsListed, AreListedT
 use Rattle.graph_reduce.specs.Due.{StaysDue, HasAllAt, AreDue, AreEndsDue}
 use Rattle.graph_reduce.specs.UpToDate.{IsUpToDate}
 use Rattle.graph_reduce.specs.Clear.{IsWithin, AreAlike}
-use Rattle.graph_reduce.proofs.lemmas.Agreeing.{AreBothDue, due_leaf, due_joined, due_alike}
+use Rattle.graph_reduce.proofs.lemmas.Agreeing.{AreBothDue, due_leaf, due_alike}
 use Rattle.graph_reduce.proofs.lemmas.Ends.{same_edge, first_end, other_is}
 use Rattle.graph_reduce.proofs.lemmas.Longer.{HoldsEdge}
 use Rattle.graph_reduce.proofs.lemmas.JoinedPlaces.{one, after, found}
@@ -124,9 +124,6 @@ module _ (s : State) (marks : List Bool) (are : AreMarked s marks) (from to : �
   to_within : to < length without_from
   to_within = omega (arith, to_below, are.size, length-set marks from false)
 
-  mark_cases : (v : ℕ) → has moved_marks v ≡ true → (v ≡ to) ⊎ ((v ≢ from) × (has marks v ≡ true))
-  mark_cases v is = grind (arith, cases_eq, without_from, get_or-set_same, get_or-set_other)
-
   pub marked_moved : (new : State) → length new.nodes ≡ length s.nodes → new.terminals ≡ moved s.terminals from to →
       AreMarked new moved_marks
   marked_moved new nodes becomes = record {
@@ -135,7 +132,7 @@ module _ (s : State) (marks : List Bool) (are : AreMarked s marks) (from to : �
         (λ (here : v ≡ to). grind (arith, In-moved_to, In-from_Contains))
         (λ (p : (v ≢ from) × (has marks v ≡ true)).
         In-moved_from s.terminals from to v (In-from_Contains s.terminals v (are.marked v p.1)) p.0)
-        (mark_cases v is)));
+        (grind (arith, cases_eq, without_from, get_or-set_same, get_or-set_other))));
     terminals = λ v is. ⊎_elim
         (λ (here : v ≡ to). ap (has moved_marks) here ∙ get_or-set_same without_from to true false to_within)
         (λ (p : In s.terminals v × (v ≡ from → ⊥)). elim (cases_eq v to) [
@@ -167,14 +164,6 @@ pub renewed_leaf : (v : ℕ) (old new : State) (survey : Survey) (due : Due) →
     ((n : ℕ) (x : Bundle) → EndsIn old v n → HasEdge old n x → AreBothDue due x) → IsUpToDate new survey due
 renewed_leaf v old new survey due is are takes told =
     search (listed_within, nodes_leaf, within_leaf, marked_same, terminals_leaf, due_leaf)
-
--- two edges become one
-pub renewed_joined : (v : ℕ) (old new : State) (joins : JoinsEdges v old new) (survey : Survey) (due : Due) →
-    IsSurvey old survey.places.items survey.terminals → AreDue old due →
-    IsListed survey.places.items joins.w joins.earlier →
-    ((n : ℕ) (x : Bundle) → EndsIn old v n → HasEdge old n x → AreBothDue due x) → IsUpToDate new survey due
-renewed_joined v old new joins survey due is are more told =
-    grind (arith, listed_joined v old new joins survey.places.items is.places more, marked_same, length-set old.nodes v false, due_joined v old new due are joins told)
 
 -- an edge is forced
 pub renewed_forced : (v : ℕ) (old new : State) (forces : ForcesEdge v old new) (listed : List (BTreeSet ℕ))

@@ -4,7 +4,7 @@ use Rattle.std.proofs.Common.{refl, sym, ap, inl, inr, subst, arith}
 use Rattle.std.proofs.lemmas.Option.{same_Some}
 use Rattle.net_graph.specs.declared.edge.Edge.{Edge}
 use Rattle.graph_reduce.specs.State.{Bundle, State, HasEdge, bundles_from, start_of}
-use Rattle.graph_reduce.specs.Rules.{DropsParallel, without_edge, joined}
+use Rattle.graph_reduce.specs.Rules.{without_edge, joined}
 use Rattle.graph_reduce.specs.Step.{Rule, Takes, AreSteps}
 use Rattle.graph_reduce.specs.Step.Rule.{OneTerminal, Loop, Parallel, Leaf, Passed, TerminalLeaf}
 use Rattle.graph_reduce.specs.Ending.{ReductionsEnd}
@@ -46,9 +46,6 @@ no_edges : (size : ℕ) → edge_count (replicate size None) ≡ 0
 no_edges zero = refl
 no_edges (suc size) = no_edges size
 
-some_edges : (xs : List (Option Bundle)) (n : ℕ) (x : Bundle) → slice_get xs n ≡ Some (Some x) → 0 < edge_count xs
-some_edges xs n x at = omega (arith, fewer_edges xs n x at)
-
 fewer_nodes : (flags : List Bool) (v : ℕ) → slice_get flags v ≡ Some true →
     suc (node_count (slice_set flags v false)) ≡ node_count flags
 fewer_nodes [] v at = absurd cc
@@ -68,14 +65,11 @@ no_more_nodes (false ∷ flags) (suc v) = no_more_nodes flags v
 less_without : (s : State) (n : ℕ) (x : Bundle) → HasEdge s n x → size_of (without_edge s n) < size_of s
 less_without s n x at = omega (arith, fewer_edges s.edges n x at)
 
-less_parallel : (place : ℕ) (old new : State) → DropsParallel place old new → size_of new < size_of old
-less_parallel place old new drops = grind (arith, less_without)
-
 takes_less : (rule : Rule) (at : ℕ) (old new : State) → Takes rule at old new → size_of new < size_of old
 takes_less OneTerminal at old new drops = subst (λ s. size_of s < size_of old) (sym drops.becomes)
-    (let (n, x, x_at) = drops.some in omega (arith, some_edges old.edges n x x_at, no_edges (length old.edges)))
+    (let (n, x, x_at) = drops.some in omega (arith, fewer_edges old.edges n x x_at, no_edges (length old.edges)))
 takes_less Loop at old new drops = grind (arith, less_without)
-takes_less Parallel at old new drops = less_parallel at old new drops
+takes_less Parallel at old new drops = grind (arith, less_without)
 takes_less Leaf at old new (inl drops) = grind (arith, fewer_nodes)
 takes_less Leaf at old new (inr drops) = grind (arith, fewer_nodes, fewer_edges)
 takes_less Passed at old new joins = subst (λ s. size_of s < size_of old) (sym joins.becomes)

@@ -6,11 +6,11 @@ use Rattle.std.proofs.lemmas.List.{get_or-replicate, length-replicate}
 use Rattle.std.proofs.lemmas.List.Elements.{All-contains}
 use Rattle.std.proofs.lemmas.Option.{same_Some, slice_get-get_or, slice_get_within}
 use Rattle.net_graph.specs.declared.edge.Edge.{Edge}
-use Rattle.net_graph.specs.EntryLaws.{slice_get-set_other, slice_get-replicate}
+use Rattle.net_graph.specs.EntryLaws.{slice_get-set_other}
 use Rattle.net_graph.specs.Graph.{Graph, IsGraph, HasEndsBelow}
 use Rattle.net_graph.specs.Network.{HasEnds}
 use Rattle.graph_reduce.specs.State.{Bundle, State, HasEdge, HasNode, bundles_from, start_of}
-use Rattle.graph_reduce.specs.Rules.{DropsAllEdges, DropsLoop, DropsParallel, DropsLoneNode, DropsLeaf, JoinsEdges, ForcesEdge, without_edge}
+use Rattle.graph_reduce.specs.Rules.{DropsLoop, DropsParallel, DropsLoneNode, DropsLeaf, JoinsEdges, ForcesEdge, without_edge}
 use Rattle.graph_reduce.specs.Step.{Applies}
 use Rattle.graph_reduce.specs.Step.Rule.{Loop}
 use Rattle.graph_reduce.proofs.lemmas.JoinedPlaces.{one, found}
@@ -64,9 +64,6 @@ left_from : (nodes : List Bool) (v u : ℕ) → (u ≡ v → ⊥) → slice_get 
     slice_get (slice_set nodes v false) u ≡ Some true
 left_from nodes v u apart has = slice_get-set_other nodes v u false apart ∙ has
 
-pub IsSound-all_edges : (old new : State) → IsSound old → DropsAllEdges old new → IsSound new
-IsSound-all_edges old new sound drops = grind (arith, slice_get-replicate)
-
 -- the same nodes, without an edge
 less : (s : State) (place : ℕ) → IsSound s → IsSound (without_edge s place)
 less s place sound = record {
@@ -106,10 +103,6 @@ IsSound-leaf v old new sound drops = subst IsSound (sym drops.becomes) (record {
       );
 })
 
--- the other end of an edge is left
-other_left : (s : State) (n : ℕ) (x : Bundle) (v u : ℕ) → IsSound s → HasEdge s n x → HasEnds x.edge v u → HasNode s u
-other_left s n x v u sound at ends = grind (arith, sound.ends n x)
-
 pub IsSound-joined : (v : ℕ) (old new : State) → IsSound old → (joins : JoinsEdges v old new) → (joins.u ≡ v → ⊥) →
     (joins.w ≡ v → ⊥) → IsSound new
 IsSound-joined v old new sound joins u_apart w_apart = subst IsSound (sym joins.becomes) (record {
@@ -133,7 +126,7 @@ pub IsSound-forced : (v : ℕ) (old new : State) → IsSound old → (forces : F
     (forces.other ≡ v → ⊥) → IsSound new
 IsSound-forced v old new sound forces apart = subst IsSound (sym forces.becomes) (record {
   distinct = AreDistinct-moved old.terminals v forces.other sound.distinct;
-  terminals = grind (arith, left_from, other_left, In-moved, In-from_Contains);
+  terminals = grind (arith, left_from, In-moved, In-from_Contains);
   ends = λ n x at. let before = found_before old.edges forces.place n x at in
       let both = sound.ends n x before.1 in (
         left_from old.nodes v x.edge.a (λ is. before.0 (forces.edge.only n (x, before.1, inl is))) both.0,

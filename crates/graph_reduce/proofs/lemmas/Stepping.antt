@@ -95,9 +95,6 @@ pub within_forced : (v : ℕ) (old new : State) → ForcesEdge v old new → IsW
 within_forced v old new forces = grind (arith, length-set old.edges forces.place None, found_before)
 
 module _ (v : ℕ) (old new : State) (tidy : IsTidy old) (joins : JoinsEdges v old new) where
-  -- the other ends are two nodes
-  others_apart : joins.u ≢ joins.w
-  others_apart same = grind arith
 
   abbrev then : State
   then = after v old new joins
@@ -111,7 +108,7 @@ module _ (v : ℕ) (old new : State) (tidy : IsTidy old) (joins : JoinsEdges v o
     idle = λ alone some. tidy.idle alone (joins.earlier, joins.x, joins.earlier_at);
     loops = λ n x at same. ⊎_elim
         (λ (p : (n ≡ joins.earlier) × (one v old new joins ≡ x)).
-        others_apart (ap (λ b. b.edge.a) p.1 ∙ same ∙ sym (ap (λ b. b.edge.b) p.1)))
+        (grind arith))
         (λ (p : (n ≢ joins.earlier) × (n ≢ joins.later) × HasEdge old n x). tidy.loops n x p.2 same)
         (found v old new joins n x at);
     parallels = λ n m x y n_apart m_apart are. tidy.parallels n m x y (record {

@@ -1,4 +1,5 @@
 -- Each step of a reduction keeps what joins the terminals, and so do all of them.
+use Rattle.net_graph.specs.EntryLaws.{slice_get-replicate}
 use Rattle.std.specs.Prelude.{ℕ, zero, suc, ◌≡◌, length}
 use Rattle.std.proofs.Common.{refl, inl, inr, subst, arith}
 use Rattle.net_graph.specs.Graph.{Graph}
@@ -12,7 +13,7 @@ use Rattle.graph_reduce.proofs.lemmas.Forcing.{Keeps-forced}
 use Rattle.graph_reduce.proofs.lemmas.Joining.{Keeps-joined}
 use Rattle.graph_reduce.proofs.lemmas.Keeping.{Keeps, Keeps-same, Keeps-then}
 use Rattle.graph_reduce.proofs.lemmas.Parallels.{Keeps-parallel}
-use Rattle.graph_reduce.proofs.lemmas.Soundness.{IsSound, no_loop, IsSound-all_edges, IsSound-loop, IsSound-parallel, IsSound-lone_node, IsSound-leaf, IsSound-joined, IsSound-forced}
+use Rattle.graph_reduce.proofs.lemmas.Soundness.{IsSound, no_loop, IsSound-loop, IsSound-parallel, IsSound-lone_node, IsSound-leaf, IsSound-joined, IsSound-forced}
 
 -- no earlier rule applies
 abbrev pub NoneBefore : State → Rule → ℕ → Type 0
@@ -22,7 +23,7 @@ step_keeps : (old new : State) → IsSound old → IsStep old new → Keeps old 
 step_keeps old new sound step = by_rule step.rule step.at step.takes step.first
   where
     by_rule : (rule : Rule) (at : ℕ) → Takes rule at old new → NoneBefore old rule at → Keeps old new × IsSound new
-    by_rule OneTerminal at drops first = (Keeps-all_edges old new drops, IsSound-all_edges old new sound drops)
+    by_rule OneTerminal at drops first = (Keeps-all_edges old new drops, (grind (arith, slice_get-replicate)))
     by_rule Loop at drops first = (Keeps-loop at old new drops, IsSound-loop at old new sound drops)
     by_rule Parallel at drops first = (Keeps-parallel at old new drops, IsSound-parallel at old new sound drops)
     by_rule Leaf at (inl drops) first = (Keeps-lone_node at old new drops, IsSound-lone_node at old new sound drops)

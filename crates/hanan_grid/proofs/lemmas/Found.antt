@@ -76,11 +76,6 @@ beside_by_edge ps e p q inside below same = elim (edge_cases (xs_of ps) (ys_of p
   | inr (j, i, is) ↦ inr (above_by_edge ps e j i p q inside is (sym (name_of-vertical (xs_of ps) (ys_of ps) e j i is) ∙ same))
 ]
 
--- an edge between two crossings is no other's where neither stands beside the other
-pub no_edge_between : (ps : List Point) (p q : Place) → AreInside ps p q → (IsRightOf q p → ⊥) → (IsAbove q p → ⊥) → (e : ℕ) → e < length (hanan_grid_of ps).edges → name_of_edge ps e ≡ name_of_crossings ps p q → ⊥
-no_edge_between ps p q inside not_right not_above e below same =
-    grind (arith, beside_by_edge ps e p q inside below same)
-
 -- the points of an edge's name are crossings
 pub crossings_of_name : (ps : List Point) (e : ℕ) (p q : Point) → e < length (hanan_grid_of ps).edges → name_of_edge ps e ≡ name_between p q → IsCrossing (xs_of ps) (ys_of ps) p × IsCrossing (xs_of ps) (ys_of ps) q
 crossings_of_name ps e p q below same =

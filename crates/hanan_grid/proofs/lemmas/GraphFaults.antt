@@ -13,11 +13,6 @@ use Rattle.hanan_grid.specs.Grid.{xs_of, ys_of, vertex_of, hanan_grid_of}
 use Rattle.hanan_grid.specs.Fault.{IsTotalOrMemory}
 use Rattle.hanan_grid.specs.GridLaws.{edges_of_lines, ends_below, lengths_positive, terminals_below, IsRising-xs_of, IsRising-ys_of}
 
--- but for the total, the grid of a point is a graph
-HasSoundParts-hanan_grid_of : (ps : List Point) → 0 < length ps → HasSoundParts (hanan_grid_of ps)
-HasSoundParts-hanan_grid_of ps some =
-    grind (arith, ends_below (xs_of ps) (ys_of ps), lengths_positive (xs_of ps) (ys_of ps) (IsRising-xs_of ps) (IsRising-ys_of ps), length-map ps (vertex_of (xs_of ps) (ys_of ps)), terminals_below ps)
-
 -- what all items are none fails to be
 none_first : {X : Type 0} {R : Type 0} (P Q : X → Type 0) (xs : List X) (n : ℕ) → All P xs → ((x : X) → P x → Q x → ⊥) → IsFirst Q xs n → R
 none_first P Q xs n all apart first =
@@ -35,7 +30,7 @@ known_fault g (Memory e) sound first = tt
 -- the fault of a grid's graph is its total or want of memory
 pub known_fault_of_grid : (ps : List Point) (g : Graph) (fault : GraphFault) → 0 < length ps → g ≡ hanan_grid_of ps → IsFirstFault g fault → IsTotalOrMemory fault
 known_fault_of_grid ps g fault some is first =
-    known_fault (hanan_grid_of ps) fault (HasSoundParts-hanan_grid_of ps some) (subst (λ h. IsFirstFault h fault) is first)
+    known_fault (hanan_grid_of ps) fault (grind (arith, ends_below (xs_of ps) (ys_of ps), lengths_positive (xs_of ps) (ys_of ps) (IsRising-xs_of ps) (IsRising-ys_of ps), length-map ps (vertex_of (xs_of ps) (ys_of ps)), terminals_below ps)) (subst (λ h. IsFirstFault h fault) is first)
 
 -- the graph of the lines' edges and the points' vertices is the points' grid
 pub graph_from_parts : (ps : List Point) (xs ys : List ℤ) (edges : List Edge) (terminals : List ℕ) → xs ≡ xs_of ps → ys ≡ ys_of ps → edges ≡ edges_of_lines xs ys → terminals ≡ map (vertex_of xs ys) ps → graph_of (length xs * length ys) edges terminals ≡ hanan_grid_of ps

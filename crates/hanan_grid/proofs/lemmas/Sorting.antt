@@ -14,14 +14,10 @@ use Rattle.std.proofs.lemmas.List.Sorted.{Contains-permutation, IsPermutation-sy
 use Rattle.hanan_grid.specs.Lines.{ascending, line_at, place_of}
 use Rattle.hanan_grid.specs.LinesLaws.{IsRising, IsRising-ascending, Contains-ascending, Contains-from_ascending, same_from_members, line_at-rises}
 
--- what compares as less is lower
-lower_from_cmp : (x y : ℤ) → int_cmp x y ≡ Less → x <ℤ y
-lower_from_cmp x y less = grind (arith, ints)
-
 -- the same of all values of a list
 all_higher : (x : ℤ) (ys : List ℤ) → AllByRecursion (λ y. int_cmp x y ≡ Less) ys → AllByRecursion (λ y. x <ℤ y) ys
 all_higher x [] all = tt
-all_higher x (y ∷ ys) all = (lower_from_cmp x y all.0, all_higher x ys all.1)
+all_higher x (y ∷ ys) all = ((grind (arith, ints)), all_higher x ys all.1)
 
 -- a strictly sorted list rises
 IsRising-from_sorted : (xs : List ℤ) → IsStrictlySortedBy int_cmp xs → IsRising xs

@@ -1,6 +1,6 @@
 -- What the places of a stretch's ends say of it, and what a set of its edges says of its vertices.
 use Rattle.std.proofs.Common.{ℕ, ◌≡◌, Bool, true, false, List, [], ◌∷◌, replicate, slice_get, Some, subst, inl, inr, arith}
-use Rattle.std.specs.Prelude.{All, IsTrue, ◌↔◌}
+use Rattle.std.specs.Prelude.{IsTrue, ◌↔◌}
 use Rattle.std.proofs.lemmas.List.Elements.{All-nil, All-cons}
 use Rattle.points_in.specs.declared.point.Point.{Point}
 use Rattle.net_graph.specs.Adds.{Adds}
@@ -28,18 +28,12 @@ pub column_found : (ps : List Point) (p q : Point) (column a b : ℕ) → IsGrid
 column_found ps p q column a b is other at from to =
     rw (at, from, to) (IsColumnStretch-from_same ps p q is.from is.to (same_x ps p q is other))
 
--- both ends are on a stretch
-ends_on_stretch : (ps : List Point) (p q : Point) → IsGridStretch ps p q →
-    All (IsVertexOnStretch ps p q) (vertex_of (xs_of ps) (ys_of ps) p ∷ vertex_of (xs_of ps) (ys_of ps) q ∷ [])
-ends_on_stretch ps p q is =
-    grind (arith, IsVertexOnStretch-from ps p q is, All-cons (IsVertexOnStretch ps p q) (vertex_of (xs_of ps) (ys_of ps) q), IsVertexOnStretch-to ps p q is, All-nil (IsVertexOnStretch ps p q))
-
 -- .. so a set with the stretch's edges joins them
 pub joins_ends : (ps : List Point) (p q : Point) (set : List Bool) → IsGridStretch ps p q →
     ((e : ℕ) → IsOnStretch ps p q e → slice_get set e ≡ Some true) →
     Joins (hanan_grid_of ps) set (vertex_of (xs_of ps) (ys_of ps) p ∷ vertex_of (xs_of ps) (ys_of ps) q ∷ [])
 joins_ends ps p q set is holds =
-    Joins-stretch ps p q set (vertex_of (xs_of ps) (ys_of ps) p ∷ vertex_of (xs_of ps) (ys_of ps) q ∷ []) is holds (ends_on_stretch ps p q is)
+    Joins-stretch ps p q set (vertex_of (xs_of ps) (ys_of ps) p ∷ vertex_of (xs_of ps) (ys_of ps) q ∷ []) is holds (grind (arith, IsVertexOnStretch-from ps p q is, All-cons (IsVertexOnStretch ps p q) (vertex_of (xs_of ps) (ys_of ps) q), IsVertexOnStretch-to ps p q is, All-nil (IsVertexOnStretch ps p q)))
 
 -- a test that fails denies what it tests
 pub not_level : (p q : Point) (level : Bool) → (IsTrue level ↔ (p.y ≡ q.y)) → level ≡ false → p.y ≡ q.y → ⊥

@@ -79,10 +79,6 @@ AreArcsBelow-more edges n e arcs at below = record {
   count = let total : length arcs ≡ 2 * n = below.count in omega (arith, length-append {A = Arc});
 }
 
--- at the end they are the arcs of all edges
-pub AreArcsOf-from_below : (edges : List Edge) (n : ℕ) (arcs : List Arc) → length edges ≤ n → AreArcsBelow edges n arcs → AreArcsOf edges arcs
-AreArcsOf-from_below edges n arcs all below = grind (arith, slice_get_within)
-
 -- in another order they are still the arcs of the edges
 pub AreArcsOf-permutation : (edges : List Edge) (xs ys : List Arc) → IsPermutation xs ys → AreArcsOf edges xs → AreArcsOf edges ys
 AreArcsOf-permutation edges xs ys moved are = record {
@@ -103,11 +99,6 @@ AreArcsFrom-same P Q v arcs to back are = grind arith
 pub AreArcsFrom-of_graph : (edges : List Edge) (all : List Arc) (v : ℕ) (arcs : List Arc) → AreArcsOf edges all → AreArcsFrom (Contains all) v arcs → AreArcsFrom (IsArcOf edges) v arcs
 AreArcsFrom-of_graph edges all v arcs are from = AreArcsFrom-same (Contains all) (IsArcOf edges) v arcs (λ arc has. All-contains (IsArcOf edges) all arc are.each has) are.every from
 
--- an arc of a graph leads to a vertex, and its number is below twice the number of edges
-pub IsArcOf-bounds : (vertices : ℕ) (edges : List Edge) (arc : Arc) → All (HasEndsBelow vertices) edges → IsArcOf edges arc → (arc.to < vertices) × (arc.number < 2 * length edges)
-IsArcOf-bounds vertices edges arc ends (n, e, at, way) =
-    grind (arith, slice_get_within edges n e, get_or_from_slice_get edges n e e, ends n e (slice_get_within edges n e at))
-
 -- the same of each arc of a list
 pub AreArcsFrom-bounds : (vertices : ℕ) (edges : List Edge) (v : ℕ) (arcs : List Arc) → All (HasEndsBelow vertices) edges → AreArcsFrom (IsArcOf edges) v arcs → All (λ arc. (arc.to < vertices) × (arc.number < 2 * length edges)) arcs
-AreArcsFrom-bounds vertices edges v arcs ends are = λ k d lt. IsArcOf-bounds vertices edges (get_or arcs k d) ends (are.each k d lt).0
+AreArcsFrom-bounds vertices edges v arcs ends are = λ k d lt. (grind (arith, slice_get_within, get_or_from_slice_get))

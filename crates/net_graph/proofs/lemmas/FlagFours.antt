@@ -102,10 +102,3 @@ flags_after_four words flags size place value nibble word view enough inside sma
     rw (none, other) (get_or_past (flags_in_words (set words (place / 16) (bit_or word (nibble * 2 ^ (place % 16 * 4) % 2 ^ 64))) size) n false
     (let same : length (flags_in_words (set words (place / 16) (bit_or word (nibble * 2 ^ (place % 16 * 4) % 2 ^ 64))) size) ≡ size = length-flags_in_words (set words (place / 16) (bit_or word (nibble * 2 ^ (place % 16 * 4) % 2 ^ 64))) size in omega arith)))
     (cases_lt n size)
-
--- a bit of a word is the number's flag
-pub flag_of_word : (words : List ℕ) (flags : List Bool) (size place r word : ℕ) → flags_in_words words size ≡ flags →
-    length words ≡ (size + 63) / 64 → r < 64 → 64 * place + r < length flags → word ≡ get_or words place word →
-    has flags (64 * place + r) ≡ eqb (bit_at word r) 1
-flag_of_word words flags size place r word view enough low below read =
-    grind (arith, long_view words flags size view, get_or_read, flag_at)

@@ -24,13 +24,6 @@ bit_changed : (words : List ℕ) (n word : ℕ) (flag : Bool) → n / 64 < lengt
     bit_in_words (set words (n / 64) word) n ≡ flag
 bit_changed words n word flag within is = rw (get_or-set_same words (n / 64) word 0) is
 
--- .. and no other number's
-bit_kept : (words : List ℕ) (n word k : ℕ) → n / 64 < length words → k ≢ n →
-    ((i : ℕ) → i < 64 → i ≢ n % 64 → bit_at word i ≡ bit_at (get_or words (n / 64) 0) i) →
-    bit_in_words (set words (n / 64) word) k ≡ bit_in_words words k
-bit_kept words n word k within apart kept =
-    grind (arith, cases_eq (k / 64) (n / 64), get_or-set_same words (n / 64) word 0, get_or-set_other)
-
 -- a word with one bit changed changes that flag and no other
 pub flags-set : (words : List ℕ) (size n word : ℕ) (flag : Bool) → length words ≡ (size + 63) / 64 → n < size →
     eqb (bit_at word (n % 64)) 1 ≡ flag →
@@ -42,7 +35,7 @@ flags-set words size n word flag enough below is kept =
     let long : length changed ≡ size = length-set (flags_in_words words size) n flag ∙ length-flags_in_words words size in
     sym (fill_by_all (bit_in_words (set words (n / 64) word)) changed size false long (λ k k_below. elim (cases_eq k n) [
       | inl same ↦ rw same (get_or-set_same (flags_in_words words size) n flag false (rw (length-flags_in_words words size) below) ∙ sym (bit_changed words n word flag within is))
-      | inr apart ↦ get_or-set_other (flags_in_words words size) n k flag false apart ∙ flag_at words size k false k_below ∙ sym (bit_kept words n word k within apart kept)
+      | inr apart ↦ get_or-set_other (flags_in_words words size) n k flag false apart ∙ flag_at words size k false k_below ∙ sym (grind (arith, cases_eq (k / 64) (n / 64), get_or-set_same words (n / 64) word 0, get_or-set_other))
     ]))
 
 -- no bit of 0 is set

@@ -1,23 +1,18 @@
 -- The invariants of a search that goes on from found vertices.
 use Rattle.std.proofs.Common.{◌≡◌, ℕ, ◌+◌, ◌<◌, ◌≤◌, Bool, List, [], ◌∷◌, ◌++◌, length, get_or, slice_get, Some, Contains, ◌⊎◌, ◌↔◌, ⊎_elim, sym, refl, ap, ◌∙◌, subst, arith, length-append}
-use Rattle.std.proofs.lemmas.Bool.{cases_lt, both_ways}
-use Rattle.std.proofs.lemmas.List.{get_or_append_left, get_or_past}
+use Rattle.std.proofs.lemmas.Bool.{cases_lt}
+use Rattle.std.proofs.lemmas.List.{get_or_append_left}
 use Rattle.std.proofs.lemmas.List.Elements.{All-contains, Contains-get_or, Contains-append_left, Contains-append_cases, Contains-push}
 use Rattle.std.proofs.lemmas.Option.{same_Some, slice_get_within, slice_get-get_or, get_or_from_slice_get}
 use Rattle.net_graph.specs.declared.arcs.Arc.{Arc}
 use Rattle.net_graph.specs.declared.edge.Edge.{Edge}
 use Rattle.net_graph.specs.Arcs.{partner_of}
 use Rattle.net_graph.specs.Flags.{has}
-use Rattle.net_graph.specs.Found.{HasMembers}
 use Rattle.net_graph.specs.Growth.{LeadsToOne, LeadsFromOne, HasArc, IsClosedBut, IsGoneOver}
-use Rattle.net_graph.specs.Search.{OpenStep, Finds, Extends}
+use Rattle.net_graph.specs.Search.{OpenStep, Extends}
 use Rattle.net_graph.specs.SearchLaws.{Leads-start, Leads-more, Leads-trans, Leads-weaker}
 use Rattle.net_graph.specs.Turned.{OpenStep-turned, Leads-turned}
 use Rattle.net_graph.proofs.lemmas.SearchLemmas.{Extends-more, Extends-keeps}
-
--- found vertices are below the size
-pub found_below : (found : Finds) (members : List Bool) → HasMembers found members → (v : ℕ) → Contains found.order v → v < found.size
-found_below found members are v listed = grind (arith, are.flags v, both_ways, get_or_past, cases_lt v (length members))
 
 -- each of the vertices leads to itself
 pub LeadsToOne-start : (Step : ℕ → ℕ → Type 0) (ends : List ℕ) (v : ℕ) → Contains ends v → LeadsToOne Step ends v

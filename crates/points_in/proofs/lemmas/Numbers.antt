@@ -80,10 +80,6 @@ front_word-blank b bytes blank = rw blank refl
 abbrev pub sign_of : List ℕ → ℕ
 sign_of bytes = cond (starts_with_minus bytes) 1 (cond (slice_index bytes 0 == 43) 1 0)
 
--- bytes that begin with a minus, a plus, and neither
-signed_minus : (bytes : List ℕ) → IsSigned (45 ∷ bytes) 1
-signed_minus bytes = grind (arith, front_word-cons 45 bytes refl)
-
 signed_plus : (bytes : List ℕ) → IsSigned (43 ∷ bytes) 1
 signed_plus bytes = grind (arith, front_word-cons 43 bytes refl)
 
@@ -94,7 +90,7 @@ signed_none b bytes no_minus no_plus = grind (arith, cases_Bool (is_blank b), fr
 pub signed_front : (bytes : List ℕ) → IsSigned bytes (sign_of bytes)
 signed_front [] = record { digits = refl; len = refl; minus = refl }
 signed_front (b ∷ bytes) = elim (cases_Bool (b == 45)) [
-  | inl minus ↦ rw minus (subst (λ c. IsSigned (c ∷ bytes) 1) (sym (eqb-true b 45 minus)) (signed_minus bytes))
+  | inl minus ↦ rw minus (subst (λ c. IsSigned (c ∷ bytes) 1) (sym (eqb-true b 45 minus)) (grind (arith, front_word-cons 45 bytes refl)))
   | inr no_minus ↦ elim (cases_Bool (b == 43)) [
     | inl plus ↦ rw (no_minus, plus) (subst (λ c. IsSigned (c ∷ bytes) 1) (sym (eqb-true b 43 plus)) (signed_plus bytes))
     | inr no_plus ↦ rw (no_minus, no_plus) (signed_none b bytes no_minus no_plus)

@@ -4,7 +4,7 @@ use Rattle.std.specs.Bool.{Decides}
 use Rattle.std.specs.Int.{w64}
 use Rattle.std.specs.Result.{result_ok}
 use Rattle.std.specs.Str.{all_ascii_digits, IsAscii, IsUtf8}
-use Rattle.std.specs.Str.Parse.{IsNumeral, AllDigits, digits_value, starts_with_minus, without_leading_plus, without_leading_sign, signed_digits_value, ParsesSigned}
+use Rattle.std.specs.Str.Parse.{IsNumeral, digits_value, starts_with_minus, without_leading_plus, without_leading_sign, signed_digits_value, ParsesSigned}
 use Rattle.std.proofs.Common.{arith, refl, sym, ap, ◌∙◌, inl, inr}
 use Rattle.std.proofs.lemmas.Bool.{cases_Bool, cases_lt, le-ltb, eqb-true, ne_eqb}
 use Rattle.std.proofs.lemmas.Bool.Decides.{Decides-ltb, Decides-and, Decides-not, Decides-eqb, Decides-like}
@@ -43,14 +43,10 @@ signed_parsed word (Err e) h =
       | inr none ↦ rw none refl
     ]
 
--- a word that isn't text spells no number
-digits_ascii : (ds : List ℕ) → AllDigits 10 ds → IsAscii ds
-digits_ascii ds digits i = grind (arith, cases_lt i (length ds), digit_at, get_or_past)
-
 signed_ascii : (word : List ℕ) → IsNumeral 10 (without_leading_sign word) → IsAscii word
 signed_ascii [] numeral = IsAscii-nil
 signed_ascii (b ∷ word) numeral =
-    grind (arith, cases_Bool (b == 45), b == 45, IsAscii-cons, eqb-true, digits_ascii, cases_Bool (b == 43), b == 43)
+    grind (arith, cases_Bool (b == 45), b == 45, IsAscii-cons, eqb-true, cases_lt, digit_at, get_or_past, cases_Bool (b == 43), b == 43)
 
 pub no_text_no_number : (word : List ℕ) → ¬ IsUtf8 word → spelled_number word ≡ None
 no_text_no_number word other =

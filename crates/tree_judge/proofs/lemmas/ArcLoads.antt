@@ -31,16 +31,11 @@ listed_other listed n m apart =
 
 -- ---- what is written
 
--- an edge that isn't loaded isn't listed
-unlisted : (there back listed : List ℕ) (n : ℕ) → IsList there back listed → both_loads there back n ≡ 0 →
-    list_any (eqb n) listed ≡ false
-unlisted there back listed n list none = grind (arith, cases_Bool (list_any (eqb n) listed), list.loaded n)
-
 -- so it may be appended
 once_more : (there back listed : List ℕ) (n : ℕ) → IsList there back listed → both_loads there back n ≡ 0 →
     IsDistinct eqb (listed ++ n ∷ [])
 once_more there back listed n list none =
-    IsDistinct-push nat_eq_equiv listed n list.once (unlisted there back listed n list none)
+    IsDistinct-push nat_eq_equiv listed n list.once (grind (arith, cases_Bool (list_any (eqb n) listed), list.loaded n))
 
 -- a loaded edge is one of the graph's
 pub loaded_within : (there back : List ℕ) (n : ℕ) → length back ≡ length there → 0 < both_loads there back n →

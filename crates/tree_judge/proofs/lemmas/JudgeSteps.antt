@@ -1,8 +1,8 @@
 -- What a judge stands for behind one more line.
-use Rattle.std.proofs.Common.{ℕ, ◌≡◌, ◌-◌, ◌+◌, ◌^◌, ◌<◌, min, Bool, true, false, List, [], ◌∷◌, ◌++◌, get_or, Some, refl, sym, ◌∙◌, subst, arith}
+use Rattle.std.proofs.lemmas.List.Sums.{sum_by_push}
+use Rattle.std.proofs.Common.{ℕ, ◌≡◌, ◌-◌, ◌+◌, ◌^◌, ◌<◌, min, Bool, true, false, List, [], ◌∷◌, ◌++◌, Some, refl, sym, ◌∙◌, subst, arith}
 use Rattle.std.specs.Prelude.{Option, None, IfSome, IfNone, slice_set}
 use Rattle.net_graph.specs.declared.packing.Cut.{Cut}
-use Rattle.net_graph.specs.declared.state.EdgeState.TheVariants.{Outside}
 use Rattle.net_graph.specs.Graph.{Graph}
 use Rattle.net_graph.specs.Decision.{Decided}
 use Rattle.cert_tree.specs.declared.split.SplitOn.{SplitOn}
@@ -15,14 +15,12 @@ use Rattle.tree_judge.specs.Cuts.{PacksCut, cut_of}
 use Rattle.tree_judge.specs.declared.step.Step.TheVariants as step
 use Rattle.tree_judge.specs.Splits.{MaySplitOn}
 use Rattle.tree_judge.specs.Steps.{IsSplitIn}
-use Rattle.tree_judge.specs.ArcLoads.{ArcLoads}
 use Rattle.tree_judge.specs.Loads.{IsLeafOf, weight_kept}
 use Rattle.tree_judge.specs.Ways.{HasState, HasStates, StandsOnWay}
 use Rattle.tree_judge.specs.Judged.{SoFar, Passes, Fails, IsNetworkRight, IsNetworkWrong, decision_due, with_cuts_due, with_edge, with_split}
 use Rattle.tree_judge.specs.Standing.{StandsFor}
 use Rattle.tree_judge.proofs.lemmas.Loading.{passes_free}
 use Rattle.tree_judge.proofs.lemmas.Turns.{state_outside}
-use Rattle.tree_judge.proofs.lemmas.Values.{weight_kept-more}
 
 -- what follows where no fault was found, and where one was
 pub none_gives : (fault : Option Cause) (P Q : Type 0) → (P → Q) → IfNone fault P → IfNone fault Q
@@ -113,12 +111,6 @@ pub split_decided : (g : Graph) (s : SoFar) (judge : Judge) (on : SplitOn) → S
 split_decided g s judge on stands decided undecided =
     decided (subst (λ d. IsUndecidedSplit g d on) stands.decision undecided)
 
--- the loads of a leaf are kept in the outside part of a split
-leaf_outside : (g : Graph) (cuts : List Cut) (on : SplitOn) (d : Decided) (loads : ArcLoads) → IsUndecidedSplit g d on →
-    IsLeafOf g cuts d loads → IsLeafOf g cuts (outside_of d on) loads
-leaf_outside g cuts on d loads undecided leaf n e state at state_at =
-    grind (arith, state_outside g d on n state undecided state_at, passes_free Outside e cuts (get_or loads.there n 0) (get_or loads.back n 0) refl, leaf n e state)
-
 -- the judge behind one more split
 pub record IsBehindSplit (on : SplitOn) (old new : Judge) : Type 0 where
   pub claim : new.claim ≡ old.claim
@@ -136,7 +128,7 @@ pub split_passes : (g : Graph) (on : SplitOn) (old new : Judge) (s : SoFar) → 
     StandsOnWay g old.room.way → IsUndecidedSplit g old.room.way.decided on → old.splits < 255 →
     MaySplitOn g (decision_due g s) s.splits on × StandsFor g (with_split g s on) new
 split_passes g on old new s behind stands way undecided few =
-    grind (arith, split_due g s old on stands undecided, leaf_outside g s.cuts on old.room.way.decided old.room.loads undecided stands.leaf)
+    grind (arith, split_due g s old on stands undecided, state_outside, passes_free)
 
 pub has_state : (g : Graph) (d : Decided) (on : SplitOn) → HasStates g d → IsSplitIn g on → HasState d on
 has_state g d (split.Edge n) states on = omega (arith, on, states.edges)
@@ -159,7 +151,7 @@ pub record IsBehindCut (weight : ℕ) (old new : Judge) : Type 0 where
 pub stands_behind_cut : (g : Graph) (weight : ℕ) (set : List Bool) (old new : Judge) (s : SoFar) → IsBehindCut weight old new → StandsFor g s old →
     IsLeafOf g (s.cuts ++ cut_of weight set ∷ []) old.room.way.decided new.room.loads → StandsFor g (record s { cuts = s.cuts ++ cut_of weight set ∷ [] }) new
 stands_behind_cut g weight set old new s behind stands leaf =
-    grind (arith, weight_kept-more s.cuts (cut_of weight set) old.weight stands.weight)
+    grind (arith, sum_by_push (λ (x : Cut). x.weight) s.cuts (cut_of weight set))
 
 -- what may be said of a cut under the decision of the way may be said under the one that is due
 pub PacksCut-due : (g : Graph) (s : SoFar) (judge : Judge) (c : Cut) → StandsFor g s judge → PacksCut g judge.room.way.decided s.cuts c →

@@ -13,7 +13,7 @@ use Rattle.net_graph.specs.Feasible.{KeepsRoom}
 use Rattle.tree_judge.specs.declared.leaf.Excess.{Excess}
 use Rattle.tree_judge.specs.Cuts.{IsFirstOverload, PacksCut}
 use Rattle.tree_judge.specs.ArcLoads.{ArcLoads}
-use Rattle.tree_judge.specs.Loads.{HasLoads, IsLeafOf, IsOverload, KeepsEdge, KeepsLoads, LoadsBelow, LoadsOnly}
+use Rattle.tree_judge.specs.Loads.{IsLeafOf, IsOverload, KeepsEdge, KeepsLoads, LoadsBelow, LoadsOnly}
 use Rattle.tree_judge.specs.Borders.{IsWhole}
 use Rattle.tree_judge.proofs.lemmas.Loading.{within_room}
 
@@ -80,10 +80,6 @@ pub IsLeafOf-below : (g : Graph) (cuts : List Cut) (c : Cut) (n : ℕ) (d : Deci
     length g.edges ≤ n → LoadsBelow g cuts c n d loads → IsLeafOf g (cuts ++ c ∷ []) d loads
 IsLeafOf-below g cuts c n d loads all below k e state at state_at =
     below.passed k (omega (arith, slice_get_within g.edges k e at)) e state at state_at
-
--- the rows keep their lengths
-pub HasLoads-only : (g : Graph) (n : ℕ) (old new : ArcLoads) → LoadsOnly n old new → HasLoads g old → HasLoads g new
-HasLoads-only g n old new only rows = grind arith
 
 -- an edge whose loads are kept keeps its room
 KeepsRoom-kept : (g : Graph) (packing : List Cut) (d : Decided) (loads : ArcLoads) (n : ℕ) →

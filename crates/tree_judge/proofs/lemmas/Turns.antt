@@ -38,10 +38,6 @@ set-none (z ∷ xs) (suc n) x at = ap (λ ys. z ∷ ys) (set-none xs n x at)
 
 -- ---- there and back
 
--- an undecided edge is so by itself
-own_edge : (g : Graph) (d : Decided) (n : ℕ) → IsUndecided g d n → slice_get d.edges n ≡ Some Undecided
-own_edge g d n undecided = grind (arith, states_of-parts g d n Undecided undecided, state_at_ends-undecided)
-
 -- an undecided vertex stays as it is where it is undecided again
 own_vertex : (g : Graph) (d : Decided) (v : ℕ) → IsVertexUndecided g d v →
     set d.vertices v vertex.Undecided ≡ d.vertices
@@ -59,7 +55,7 @@ pub undecided_again : (g : Graph) (d : Decided) (on : SplitOn) → IsUndecidedSp
     undecided_of (inside_of d on) on ≡ d
 undecided_again g d (split.Edge n) undecided =
     ap (λ xs. decided_of xs d.vertices)
-    (set-set d.edges n Inside Undecided ∙ set-same d.edges n Undecided (own_edge g d n undecided))
+    (set-set d.edges n Inside Undecided ∙ set-same d.edges n Undecided (grind (arith, states_of-parts g d n Undecided undecided, state_at_ends-undecided)))
 undecided_again g d (split.Vertex v) undecided =
     ap (λ xs. decided_of d.edges xs)
     (set-set d.vertices v Met vertex.Undecided ∙ own_vertex g d v undecided)

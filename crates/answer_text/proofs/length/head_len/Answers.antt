@@ -1,6 +1,5 @@
-use Rattle.std.proofs.Common.{arith}
-use Rattle.answer_text.proofs.lemmas.Lengths.{length-head_lines}
+use Rattle.std.proofs.Common.{arith, length-append}
 use Rattle.answer_text.proofs.length.head_len.Goals as goal
 
 pub returns-clause-length : goal.returns-clause-length
-returns-clause-length c = grind (arith, length-head_lines (c.args.head.now))
+returns-clause-length c = grind (arith, length-append)

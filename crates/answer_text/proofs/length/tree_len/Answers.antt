@@ -1,10 +1,12 @@
+use Rattle.std.proofs.lemmas.List.Elements.{All-weaker}
+use Rattle.answer_text.specs.Answers.{IsPackingOn}
 use Rattle.std.proofs.Common.{◌+◌, ◌++◌, length, take, ◌∙◌, ap, arith}
 use Rattle.std.proofs.lemmas.List.{take_all}
 use Rattle.answer_text.specs.declared.version.Version.TheVariants as version
 use Rattle.answer_text.specs.Lines.{line_text, lines_text, leaf_lines, split_line}
 use Rattle.cert_tree.specs.Preorder.{packings_of}
 use Rattle.answer_text.proofs.lemmas.Lengths.{sum_more}
-use Rattle.answer_text.proofs.lemmas.PackingLemmas.{packing-few, packing-small}
+use Rattle.answer_text.proofs.lemmas.PackingLemmas.{packing-few, All-found}
 use Rattle.answer_text.proofs.lemmas.NodeLines.{nodes_lines, nodes_lines-tree, split_step, split_leaves, leaf_step, leaf_leaves, leaf_below, leaf_within, nodes_count}
 use Rattle.answer_text.proofs.length.tree_len.Goals as goal
 use Rattle.answer_text.proofs.length.tree_len.Goals.{in-Some, in-None}
@@ -27,7 +29,7 @@ leaf_len-sum-requires-clause-few g c =
 
 pub leaf_len-sum-requires-clause-small : goal.leaf_len-sum-requires-clause-small
 leaf_len-sum-requires-clause-small g c =
-    packing-small (g.L.Labelled.graph c.args.of.now) (packings_of c.args.tree.now) c.loop-node.leaf c.packing.result.now c.requires.sound c.requires.packings c.packing.ensures
+    grind (arith, All-found (IsPackingOn (g.L.Labelled.graph c.args.of.now)) (packings_of c.args.tree.now) c.loop-node.leaf c.packing.result.now c.requires.packings c.packing.ensures, All-weaker)
 
 pub overflow_add-sum-in-None : goal.overflow_add-sum-in-None
 overflow_add-sum-in-None g c =

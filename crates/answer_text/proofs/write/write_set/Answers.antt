@@ -3,7 +3,7 @@ use Rattle.std.proofs.lemmas.Grind.{div_ceil_times}
 use Rattle.std.proofs.lemmas.Option.{slice_get_within, get_or_from_slice_get}
 use Rattle.text_out.specs.GatherLaws.{gathers_two}
 use Rattle.answer_text.specs.SetLaws.{digit_at_place, digit_in_word, digit_count, take_set_text-all}
-use Rattle.answer_text.proofs.lemmas.SetDigits.{digit_in_set, take_set_text-word}
+use Rattle.answer_text.proofs.lemmas.SetDigits.{take_set_text-word}
 use Rattle.answer_text.proofs.write.write_set.Goals as goal
 
 pub loop-place-preserved : goal.loop-place-preserved
@@ -14,7 +14,7 @@ loop-place-preserved g c =
     omega (arith, c.loop-place-test.true, c.div_ceil-place-end.ensures, c.len-2.ensures, div_ceil_times c.len-2.result 64 (omega arith)) in
     let digits : (n : ℕ) → n < 16 → get_or c.digits_of-digits.result n 0 ≡ digit_at_place c.args.set.now (16 * c.loop-place.place + n) =
     (λ n few. get_or_from_slice_get c.digits_of-digits.result n (digit_in_word c.flags_at.result n) 0 (c.digits_of-digits.ensures n few)
-    ∙ digit_in_set c.args.set.now c.flags_at.result c.loop-place.place n few c.flags_at.ensures) in
+    ∙ (grind arith)) in
     let enough : 15 < length c.digits_of-digits.result =
     slice_get_within c.digits_of-digits.result 15 (digit_in_word c.flags_at.result 15) (c.digits_of-digits.ensures 15 (omega arith)) in
     let more = take_set_text-word c.args.set.now c.digits_of-digits.result c.loop-place.place c.min-count.result

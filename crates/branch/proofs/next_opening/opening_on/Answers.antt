@@ -1,9 +1,11 @@
 -- How a leaf is opened on a vertex.
+use Rattle.std.proofs.lemmas.Option.{slice_get_within}
+use Rattle.branch.proofs.lemmas.ListLemmas.{beside_left}
 use Rattle.std.proofs.Common.{◌<◌, ◌^◌, length, refl, rules, arith}
 use Rattle.cert_tree.specs.declared.split.SplitOn.TheVariants as split
 use Rattle.branch.proofs.lemmas.OpeningLemmas.{note_decided, place_within, place_small, parent_costs, parent_feasible}
 use Rattle.branch.proofs.lemmas.OpeningLemmas.{one_more_outside, one_more_inside}
-use Rattle.branch.proofs.lemmas.OpeningLemmas.{leaf_to_split, split_within, vertex_undecided, chosen_opening}
+use Rattle.branch.proofs.lemmas.OpeningLemmas.{leaf_to_split, vertex_undecided, chosen_opening}
 use Rattle.branch.proofs.next_opening.opening_on.Goals as goal
 
 pub overflow_cast-place : goal.overflow_cast-place
@@ -104,5 +106,5 @@ returns-clause-opening _ c =
 pub index-note-requires : goal.index-note-requires
 index-note-requires _ c =
     let within : c.args.place < length c.args.kept.now.notes.items =
-    split_within _ _ _ _ c.requires.search c.requires.can in
+    grind (arith, beside_left, slice_get_within) in
     search rules

@@ -1,11 +1,11 @@
 -- One more edge, which is a candidate or isn't.
-use Rattle.std.proofs.Common.{◌≡◌, true, false, refl, sym, ◌∙◌, rules, arith}
-use Rattle.branch.proofs.lemmas.CandidateLemmas.{gathered_first, gathered_more, gathered_kept, edge_candidate, no_edge, not_within, not_undecided}
+use Rattle.std.proofs.Common.{◌≡◌, true, false, sym, ◌∙◌, arith}
+use Rattle.branch.proofs.lemmas.CandidateLemmas.{gathered_more, gathered_kept, no_edge, not_within, not_undecided}
 use Rattle.branch.proofs.split_choice.undecided_edges.Goals as goal
 use Rattle.branch.proofs.split_choice.undecided_edges.Goals.{then-has+then-eq+in_ok-push, else-has, else-has-via-then-has+else-eq, else-has-via-else-has}
 
 pub loop-e-init : goal.loop-e-init
-loop-e-init c = gathered_first _ _ _ c.new-list.ensures.items
+loop-e-init c = grind arith
 
 pub loop-e-preserved : goal.loop-e-preserved
 loop-e-preserved c =
@@ -13,7 +13,7 @@ loop-e-preserved c =
       | then-has+then-eq+in_ok-push w ↦
           rw (w.list-is, w.in_ok-push.ensures.items)
           (gathered_more _ _ _ _ _ c.loop-e.invariant
-          (edge_candidate _ _ _ _ _ _ refl w.if-has.ensures.flag (search rules) w.edge.ensures.edge refl))
+          (grind arith))
       | else-has w ↦ rw w.list-is (gathered_kept _ _ _ _ c.loop-e.invariant (
           elim w.else-has.branch [
             | else-has-via-then-has+else-eq v ↦

@@ -1,7 +1,7 @@
 -- One more vertex, which is a candidate or isn't.
 use Rattle.std.proofs.Common.{◌≡◌, ◌<◌, true, false, length, sym, ◌∙◌, arith}
 use Rattle.branch.specs.Meeting.{edges_at}
-use Rattle.branch.proofs.lemmas.CandidateLemmas.{gathered_more, gathered_kept, no_vertex}
+use Rattle.branch.proofs.lemmas.CandidateLemmas.{gathered_more, gathered_kept}
 use Rattle.branch.proofs.lemmas.MeetingLemmas.{count_read}
 use Rattle.branch.proofs.split_choice.undecided_vertices.Goals as goal
 use Rattle.branch.proofs.split_choice.undecided_vertices.Goals.{then-size-gt0+then-vertex_undecided+in_ok-push, else-size-gt0, else-size-gt0-via-then-size-gt0+else-vertex_undecided, else-size-gt0-via-else-size-gt0}
@@ -34,4 +34,4 @@ loop-v-preserved c =
     ]
 
 pub returns-clause-every : goal.returns-clause-every
-returns-clause-every c = no_vertex _ _ _ _ _ c.loop-v.invariant (omega arith)
+returns-clause-every c = grind arith

@@ -6,12 +6,12 @@ use Rattle.net_graph.specs.Graph.{root_of}
 use Rattle.dual_ascent.specs.declared.active.ActiveVertex.{ActiveVertex}
 use Rattle.dual_ascent.specs.Active.{IsKept}
 use Rattle.dual_ascent.specs.Steps.{SaturatedLeads}
-use Rattle.dual_ascent.proofs.lemmas.ActiveLemmas.{AreActive-none, AreActive-skip, AreActive-push, below_next}
+use Rattle.dual_ascent.proofs.lemmas.ActiveLemmas.{AreActive-skip, AreActive-push, below_next}
 use Rattle.dual_ascent.proofs.active.active_vertices.Goals as goal
 use Rattle.dual_ascent.proofs.active.active_vertices.Goals.{then-not-has+in_ok-leading+in_ok-push, else-not-has}
 
 pub loop-v-init : goal.loop-v-init
-loop-v-init c = rw c.new-active.ensures.items (AreActive-none c.args.g.now c.args.costs.now)
+loop-v-init c = rw c.new-active.ensures.items (grind arith)
 
 pub loop-v-preserved : goal.loop-v-preserved
 loop-v-preserved c =

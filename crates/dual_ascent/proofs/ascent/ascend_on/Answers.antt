@@ -1,4 +1,6 @@
-use Rattle.std.proofs.Common.{◌≡◌, ◌∙◌, List, [], ◌∷◌, ◌++◌, ap, sym, subst, map, arith, append_assoc}
+use Rattle.net_graph.specs.DecisionLaws.{length-states_of}
+use Rattle.dual_ascent.specs.CostLaws.{length-costs_of}
+use Rattle.std.proofs.Common.{◌≡◌, ◌∙◌, List, [], ◌∷◌, ◌++◌, ap, sym, subst, map, arith, append_assoc, append-nil}
 use Rattle.std.proofs.lemmas.Result.{IfOk-weaker}
 use Rattle.dual_ascent.specs.declared.ascent.Ascent.{Ascent}
 use Rattle.dual_ascent.specs.declared.step.Step.TheVariants.{Done, Close}
@@ -7,12 +9,12 @@ use Rattle.dual_ascent.specs.Ascending.{AreLeftBehind, IsAscent, behind}
 use Rattle.dual_ascent.specs.Costs.{lowered_by}
 use Rattle.dual_ascent.specs.Steps.{IsNextStep, IsNextCut}
 use Rattle.dual_ascent.proofs.lemmas.EnteringLemmas.{edges_of-lowered}
-use Rattle.dual_ascent.proofs.lemmas.PackLemmas.{unsaturated-lowered_by}
-use Rattle.dual_ascent.proofs.lemmas.AscentLemmas.{IsUnderWay, IsUnderWay-none, IsUnderWay-pack, IsMaximal-iff, IsClosed, IsClosed-from_under_way, closed_with-behind}
+use Rattle.dual_ascent.proofs.lemmas.PackLemmas.{unsaturated-lowered_by, unsaturated-le}
+use Rattle.dual_ascent.proofs.lemmas.AscentLemmas.{IsUnderWay, IsUnderWay-pack, IsMaximal-iff, IsClosed, IsClosed-from_under_way}
 use Rattle.dual_ascent.proofs.ascent.ascend_on.Goals as goal
 
 pub loop-packing-init : goal.loop-packing-init
-loop-packing-init g c = grind (arith, IsUnderWay-none)
+loop-packing-init g c = grind (arith, append-nil, unsaturated-le, length-costs_of, length-states_of)
 
 pub next_step-requires : goal.next_step-requires
 next_step-requires g c = grind arith
@@ -69,7 +71,7 @@ returns-in-Close g c =
     let all : List Cut = first ++ c.loop-packing.packing in
     let ends = IsClosed-from_under_way gr d start all c.loop-packing.state.costs vertices members c.requires.decision c.requires.required (c.loop-packing.invariant.0 first left) next.0 next.1 in
     let closing : IsClosed gr d start (first ++ a.packing) =
-    subst (IsClosed gr d start) (sym (ap (λ cuts. first ++ cuts) is ∙ closed_with-behind gr members first c.loop-packing.packing)) ends in
+    subst (IsClosed gr d start) (sym (ap (λ cuts. first ++ cuts) is ∙ (grind (arith, append_assoc)))) ends in
     record {
       feasible = closing.feasible;
       begins = closing.begins;

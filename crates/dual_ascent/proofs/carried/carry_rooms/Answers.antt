@@ -8,7 +8,7 @@ use Rattle.dual_ascent.specs.Ascending.{AreLeftBehind}
 use Rattle.dual_ascent.specs.Carried.{carried, inside_edges, unentered}
 use Rattle.dual_ascent.specs.Costs.{costs_of, left_in}
 use Rattle.dual_ascent.proofs.lemmas.CarriedLemmas.{IsFeasible-unentered}
-use Rattle.dual_ascent.proofs.lemmas.CarriedRoomLemmas.{carried-all, left_under, unentered-le}
+use Rattle.dual_ascent.proofs.lemmas.CarriedRoomLemmas.{left_under, unentered-le}
 use Rattle.dual_ascent.proofs.carried.carry_rooms.Goals as goal
 
 pub returns : goal.returns
@@ -18,7 +18,7 @@ returns c =
     let now = c.args.now.now in
     let parent = c.args.parent.now in
     let kept : List Cut = unentered (inside_edges g.edges now.edges) parent in
-    let all : carried g now parent ≡ kept = carried-all g now parent c.requires.few in
+    let all : carried g now parent ≡ kept = grind (arith, unentered-le) in
     let inside = c.deref.ensures.value ∙ c.in_ok-inside.ensures in
     let left : c.in_ok-left.left.costs ≡ costs_of g.edges (states_of g before) kept =
     c.in_ok-left.ensures.costs

@@ -6,7 +6,7 @@ use Rattle.net_graph.specs.declared.state.EdgeState.{EdgeState}
 use Rattle.net_graph.specs.declared.state.EdgeState.TheVariants.{Inside}
 use Rattle.net_graph.specs.Decision.{states_of}
 use Rattle.dual_ascent.specs.Carried.{inside_edges}
-use Rattle.dual_ascent.proofs.lemmas.CarriedLemmas.{inside_one, inside_one-none, inside_edges-push, inside_edges-at_ends}
+use Rattle.dual_ascent.proofs.lemmas.CarriedLemmas.{inside_one, inside_edges-push, inside_edges-at_ends}
 use Rattle.dual_ascent.proofs.carried.list_inside.Goals as goal
 use Rattle.dual_ascent.proofs.carried.list_inside.Goals.{in-Inside+in_ok-push, in_default}
 
@@ -31,7 +31,7 @@ loop-n-preserved c =
           ∙ ap (λ s. inside_edges (take n edges) states ++ inside_one e s) (sym is) ∙ sym more
       | in_default w ↦
           ap (λ l. l.items) w.list-is ∙ c.loop-n.invariant ∙ sym (append-nil (inside_edges (take n edges) states))
-          ∙ ap (λ xs. inside_edges (take n edges) states ++ xs) (sym (inside_one-none e c.state.result w.in_default.not-Inside)) ∙ sym more
+          ∙ ap (λ xs. inside_edges (take n edges) states ++ xs) (sym (grind arith)) ∙ sym more
     ]
 
 pub returns : goal.returns

@@ -1,6 +1,6 @@
-use Rattle.std.proofs.Common.{◌≡◌, ◌∙◌, ◌+◌, Bool, true, false, not, cond, List, [], ◌∷◌, ◌++◌, filter, map, sum_by, take, drop, get_or, refl, ap, sym, subst, arith, rules, append-nil}
+use Rattle.std.proofs.Common.{◌≡◌, ◌∙◌, ◌+◌, Bool, true, false, not, cond, List, [], ◌∷◌, ◌++◌, filter, map, sum_by, take, drop, get_or, refl, ap, sym, subst, arith, rules, append-nil, append_assoc}
 use Rattle.std.specs.List.{list_any}
-use Rattle.std.proofs.lemmas.List.{take_all}
+use Rattle.std.proofs.lemmas.List.{take_all, drop_all}
 use Rattle.std.proofs.lemmas.List.Elements.{filter_more}
 use Rattle.std.proofs.lemmas.List.Sums.{sum_by_push}
 use Rattle.net_graph.specs.declared.packing.Cut.{Cut}
@@ -10,7 +10,7 @@ use Rattle.net_graph.specs.DecisionLaws.{length-states_of}
 use Rattle.dual_ascent.specs.Carried.{is_entered_along}
 use Rattle.dual_ascent.specs.Costs.{costs_of, raised_by}
 use Rattle.dual_ascent.specs.Entering.{EntersLeft, AreEntering}
-use Rattle.dual_ascent.proofs.lemmas.CarriedCostLemmas.{AreWithinRooms, those_left, those_left-at, those_left-kept, those_left-taken, those_left-all, those_left_within, map-raised_by, raise_fits}
+use Rattle.dual_ascent.proofs.lemmas.CarriedCostLemmas.{AreWithinRooms, those_left, those_left-at, those_left-taken, those_left_within, map-raised_by, raise_fits}
 use Rattle.dual_ascent.proofs.lemmas.LoadLemmas.{edges-costs_of}
 use Rattle.dual_ascent.proofs.carried.without_entered.Goals as goal
 use Rattle.dual_ascent.proofs.carried.without_entered.Goals.{then-is_entered+in_ok-list_entering, else-is_entered}
@@ -80,10 +80,10 @@ loop-cut-preserved c =
           let sum : sum_by (λ (x : Cut). x.weight) (filter test (take (i + 1) cuts)) ≡ sum_by (λ (x : Cut). x.weight) front + cut.weight =
           ap (sum_by (λ (x : Cut). x.weight)) all ∙ sum_by_push (λ (x : Cut). x.weight) front cut in (
             w.left-is ∙ c.loop-cut.invariant.0
-                ∙ ap (costs_of edges states) (sym (those_left-kept test cuts i cut c.loop-cut-test.true (sym c.cut-item.is) passes)),
+                ∙ ap (costs_of edges states) (sym (grind (arith, filter_more test cuts i cut c.loop-cut-test.true, append_assoc (filter test (take i cuts)) (cut ∷ []) (drop (i + 1) cuts), those_left-at test cuts i cut c.loop-cut-test.true (sym c.cut-item.is)))),
             (omega (arith, w.weight-is, c.loop-cut.invariant.1.0, sum), search rules),
           )
     ]
 
 pub returns : goal.returns
-returns c = grind (arith, those_left-all, take_all)
+returns c = grind (arith, take_all, drop_all, append-nil, take_all)

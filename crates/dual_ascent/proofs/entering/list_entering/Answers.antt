@@ -1,9 +1,9 @@
 use Rattle.std.proofs.Common.{◌*◌, arith}
-use Rattle.dual_ascent.proofs.lemmas.EnteringLemmas.{AreEnteringBelow-none, AreEntering-all}
+use Rattle.dual_ascent.proofs.lemmas.EnteringLemmas.{AreEntering-all}
 use Rattle.dual_ascent.proofs.entering.list_entering.Goals as goal
 
 pub loop-place-init : goal.loop-place-init
-loop-place-init c = rw c.clear.ensures.items (AreEnteringBelow-none c.args.costs.now c.args.members.now)
+loop-place-init c = rw c.clear.ensures.items (grind arith)
 
 pub returns : goal.returns
 returns c =

@@ -1,6 +1,7 @@
-use Rattle.std.specs.Prelude.{OnOk}
+use Rattle.graph_reduce.proofs.lemmas.Agreeing.{due_joined}
+use Rattle.std.specs.Prelude.{OnOk, false}
 use Rattle.std.specs.Prelude.{Result}
-use Rattle.std.proofs.Common.{sym, subst, arith, Ok, Err}
+use Rattle.std.proofs.Common.{sym, subst, arith, Ok, Err, length-set}
 use Rattle.graph_reduce.specs.declared.node_rules.NodeRule.TheVariants.{Passed}
 use Rattle.graph_reduce.specs.State.{HasEdge}
 use Rattle.graph_reduce.specs.Survey.{IsListed}
@@ -9,7 +10,7 @@ use Rattle.graph_reduce.proofs.lemmas.Bounds.{reached_numbered, reached_then}
 use Rattle.graph_reduce.proofs.lemmas.Clearing.{one_step}
 use Rattle.graph_reduce.proofs.lemmas.JoinedPlaces.{one}
 use Rattle.graph_reduce.proofs.lemmas.NodeRuleLaws.{passed_seen}
-use Rattle.graph_reduce.proofs.lemmas.Renewing.{all_told, due_more, joined_other, renewed_joined, survey_more}
+use Rattle.graph_reduce.proofs.lemmas.Renewing.{all_told, due_more, joined_other, survey_more, listed_joined, marked_same}
 use Rattle.graph_reduce.proofs.lemmas.Stepping.{passed_step, tidy_joined, joined_at}
 use Rattle.graph_reduce.proofs.steps.join_at.Goals as goal
 
@@ -43,11 +44,7 @@ drop_alike-requires-clause-index c = let (joins, is, later) = c.in_ok-join_edges
     c.requires.lowest.applies c.edges_of-edges.ensures.seen c.in_ok-add_ends_of.ensures.due in
     let survey = survey_more c.args.work.now c.edges_of-edges.new.self c.list.new.self c.list.ensures.size
     c.list.ensures.kept c.list.ensures.terminals c.edges_of-edges.ensures.survey in
-    renewed_joined c.args.v c.args.work.now c.join_edges.new.work joins c.list.new.self c.add_ends_of.new.self survey
-    (due_more c.args.work.now c.args.due.now c.add_ends_of.new.self c.requires.index.all c.add_ends_of.ensures.stays)
-    (subst (λ n. IsListed c.list.new.self.places.items n joins.earlier) (sym other)
-    (subst (IsListed c.list.new.self.places.items c.other_end.result) (sym is) c.in_ok-list-in-TwoEdges.ensures.listed))
-    told
+    grind (arith, listed_joined c.args.v c.args.work.now c.join_edges.new.work joins c.list.new.self.places.items survey.places (subst (λ n. IsListed c.list.new.self.places.items n joins.earlier) (sym other) (subst (IsListed c.list.new.self.places.items c.other_end.result) (sym is) c.in_ok-list-in-TwoEdges.ensures.listed)), marked_same, length-set c.args.work.now.nodes c.args.v false, due_joined c.args.v c.args.work.now c.join_edges.new.work c.add_ends_of.new.self (due_more c.args.work.now c.args.due.now c.add_ends_of.new.self c.requires.index.all c.add_ends_of.ensures.stays) joins told)
 
 pub unreachable-requires : goal.unreachable-requires
 unreachable-requires c = passed_seen c.args.work.now c.args.v c.edges_of-edges.result c.edges_of-edges.ensures.seen

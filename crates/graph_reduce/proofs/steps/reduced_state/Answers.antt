@@ -1,7 +1,8 @@
-use Rattle.std.proofs.Common.{arith}
+use Rattle.graph_reduce.proofs.lemmas.Sizes.{steps_less}
+use Rattle.std.proofs.Common.{arith, refl}
 use Rattle.std.proofs.lemmas.Bool.{OnTrue_at}
 use Rattle.graph_reduce.specs.State.{start_of}
-use Rattle.graph_reduce.proofs.lemmas.Bounds.{reached_from, reached_numbered, leads_on, smaller_on}
+use Rattle.graph_reduce.proofs.lemmas.Bounds.{reached_from, reached_numbered, leads_on}
 use Rattle.graph_reduce.proofs.lemmas.Clearing.{then_steps}
 use Rattle.graph_reduce.proofs.lemmas.NodeRuleLaws.{kind_from, kind_below}
 use Rattle.graph_reduce.proofs.steps.reduced_state.Goals as goal
@@ -33,8 +34,7 @@ loop-due-init c =
     }
 
 pub loop-due-smaller : goal.loop-due-smaller
-loop-due-smaller c = smaller_on c.loop-due.work c.goes_on.new.work
-    (OnTrue_at c.if-branch.true c.in_ok-goes_on.ensures.more)
+loop-due-smaller c = grind (arith, steps_less 1 c.loop-due.work (OnTrue_at c.if-branch.true c.in_ok-goes_on.ensures.more).next (c.loop-due.work, refl, (OnTrue_at c.if-branch.true c.in_ok-goes_on.ensures.more).step), steps_less (OnTrue_at c.if-branch.true c.in_ok-goes_on.ensures.more).rest.count (OnTrue_at c.if-branch.true c.in_ok-goes_on.ensures.more).next c.goes_on.new.work (OnTrue_at c.if-branch.true c.in_ok-goes_on.ensures.more).rest.steps)
 
 pub loop-due-preserved : goal.loop-due-preserved
 loop-due-preserved c =

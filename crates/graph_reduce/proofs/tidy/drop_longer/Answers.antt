@@ -1,7 +1,8 @@
+use Rattle.graph_reduce.proofs.lemmas.Clearing.{clear_later}
 use Rattle.std.specs.Prelude.{◌≡◌, nat_lt, if◌then◌else◌}
-use Rattle.std.proofs.Common.{◌∙◌, ap}
+use Rattle.std.proofs.Common.{◌∙◌, ap, arith}
 use Rattle.graph_reduce.specs.Rules.{without_edge}
-use Rattle.graph_reduce.proofs.lemmas.Longer.{Pair, longer_chosen, later_chosen, leads_dropped, clear_dropped, clear_apart}
+use Rattle.graph_reduce.proofs.lemmas.Longer.{Pair, longer_chosen, later_chosen, leads_dropped, clear_dropped}
 use Rattle.graph_reduce.proofs.tidy.drop_longer.Goals as goal
 use Rattle.graph_reduce.proofs.tidy.drop_longer.Goals.{After-drop_edge, then-y-x, else-y-x}
 
@@ -30,6 +31,4 @@ returns-after-y-x-clause-clear c = clear_dropped c.args.work.now c.args.place c.
     (c.drop_edge.ensures ∙ ap (without_edge c.args.work.now) (chosen c))
 
 pub returns-else-have_same_ends-clause-clear : goal.returns-else-have_same_ends-clause-clear
-returns-else-have_same_ends-clause-clear c = clear_apart c.args.work.now c.args.place c.args.later c.in-Some-Some.x
-    c.in-Some-Some.y (record { first = c.in-Some-Some.ensures; second = c.in-Some-Some.ensures' }) c.requires.clear
-    c.if-have_same_ends.ensures.apart
+returns-else-have_same_ends-clause-clear c = grind (arith, clear_later)

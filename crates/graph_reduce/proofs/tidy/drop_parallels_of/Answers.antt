@@ -2,7 +2,7 @@ use Rattle.std.specs.Prelude.{length}
 use Rattle.std.proofs.Common.{◌∙◌, arith}
 use Rattle.std.proofs.lemmas.Option.{same_Some}
 use Rattle.graph_reduce.proofs.lemmas.Alike.{clear_past}
-use Rattle.graph_reduce.proofs.lemmas.Clearing.{no_steps, then_steps, within_then, clear_start, clear_gone, clear_next}
+use Rattle.graph_reduce.proofs.lemmas.Clearing.{no_steps, then_steps, within_then, clear_gone, clear_next}
 use Rattle.graph_reduce.proofs.lemmas.Ends.{same_edge}
 use Rattle.graph_reduce.proofs.lemmas.NodeKinds.{below_end}
 use Rattle.graph_reduce.proofs.tidy.drop_parallels_of.Goals as goal
@@ -12,7 +12,7 @@ overflow_add-later c = omega (arith, c.requires.few)
 
 pub loop-n-init : goal.loop-n-init
 loop-n-init c =
-    grind (arith, no_steps c.args.work.now, same_edge, clear_start c.args.work.now (length c.args.work.now.edges) c.args.place c.requires.clear)
+    grind (arith, no_steps c.args.work.now, same_edge)
 
 pub drop_longer-requires-clause-later : goal.drop_longer-requires-clause-later
 drop_longer-requires-clause-later c = below_end c.loop-n.work c.args.node c.in-Some.n c.in-Some.ensures.next.ends

@@ -1,5 +1,6 @@
+use Rattle.hanan_grid.specs.Grid.{xs_of, ys_of}
 use Rattle.std.proofs.Common.{arith}
-use Rattle.hanan_grid.specs.GridLaws.{length-xs_of-le, length-ys_of-le, length-xs_of-positive, length-ys_of-positive, IsRising-xs_of, IsRising-ys_of, few_crossings_of, few_edges_of}
+use Rattle.hanan_grid.specs.GridLaws.{length-xs_of-le, length-ys_of-le, length-xs_of-positive, length-ys_of-positive, IsRising-xs_of, IsRising-ys_of, few_crossings_of, few_edges, length-edges_of_lines}
 use Rattle.hanan_grid.proofs.lemmas.GraphFaults.{known_fault_of_grid, graph_from_parts}
 use Rattle.hanan_grid.proofs.grid.lines_graph.Goals as goal
 
@@ -41,7 +42,7 @@ new-requires-clause-few_vertices c = rw (c.requires.columns, c.requires.rows) (f
 
 pub new-requires-clause-few_edges : goal.new-requires-clause-few_edges
 new-requires-clause-few_edges c =
-    rw (c.from_vec-edges.ensures, c.in_ok-edges.ensures, c.requires.columns, c.requires.rows) (few_edges_of c.args.points.now c.requires.few)
+    rw (c.from_vec-edges.ensures, c.in_ok-edges.ensures, c.requires.columns, c.requires.rows) (grind (arith, length-edges_of_lines (xs_of c.args.points.now) (ys_of c.args.points.now), few_edges, length-xs_of-le c.args.points.now, length-ys_of-le c.args.points.now))
 
 pub grid_fault-requires : goal.grid_fault-requires
 grid_fault-requires c = grind (arith, graph_from_parts, known_fault_of_grid)

@@ -1,6 +1,6 @@
 use Rattle.std.proofs.Common.{get_or, arith}
-use Rattle.std.proofs.lemmas.Option.{slice_get-get_or}
-use Rattle.net_graph.proofs.lemmas.ArcLemmas.{AreArcsBelow-more, AreArcsOf-from_below}
+use Rattle.std.proofs.lemmas.Option.{slice_get-get_or, slice_get_within}
+use Rattle.net_graph.proofs.lemmas.ArcLemmas.{AreArcsBelow-more}
 use Rattle.net_graph.proofs.arcs.both_ways.Goals as goal
 
 pub loop-n-preserved : goal.loop-n-preserved
@@ -12,4 +12,4 @@ loop-n-preserved c =
     )
 
 pub returns-clause-arcs : goal.returns-clause-arcs
-returns-clause-arcs c = AreArcsOf-from_below _ _ _ (omega arith) c.loop-n.invariant.0
+returns-clause-arcs c = grind (arith, slice_get_within)

@@ -1,8 +1,8 @@
 -- A sign and the digits after it are the first word.
-use Rattle.std.specs.Prelude.{ℕ, Bool, ◌≡◌, List, FitsSigned, min, ◌^◌, ◌-◌, ℤ, length, take, drop}
+use Rattle.std.specs.Prelude.{ℕ, Bool, ◌≡◌, List, min, ◌^◌, ◌-◌, ℤ, length, take, drop}
 use Rattle.std.specs.Int.{w64}
 use Rattle.std.specs.Str.Parse.{IsNumeral, digits_value, starts_with_minus}
-use Rattle.std.proofs.Common.{ap, subst, ◌∙◌}
+use Rattle.std.proofs.Common.{ap, subst, ◌∙◌, arith}
 use Rattle.std.proofs.lemmas.Int.{to_z-of_z}
 use Rattle.points_in.specs.Words.{front_word}
 use Rattle.points_in.proofs.lemmas.Words.{slice_from}
@@ -26,17 +26,8 @@ signed_so bytes negative magnitude z is value = value ∙ ap (λ b. with_sign b 
 
 pub returns-in-Some-signed-clause-number : goal.returns-in-Some-signed-clause-number
 returns-in-Some-signed-clause-number c =
-    let has = digits_after c.args.bytes.now c.sign_len-sign.result c.in-Some.digits.magnitude c.sign_len-sign.ensures
-    c.in-Some.ensures.digits c.in-Some.ensures.value in
-    let is = signed_so c.args.bytes.now c.begins_with-negative.result c.in-Some.digits.magnitude c.in-Some-signed.value
-    c.begins_with-negative.ensures c.in-Some-signed.ensures.found in
-    number_found c.args.bytes.now c.in-Some.digits.magnitude has (subst (FitsSigned w64) is c.in-Some-signed.ensures.fits)
+    grind (arith, digits_after c.args.bytes.now c.sign_len-sign.result c.in-Some.digits.magnitude c.sign_len-sign.ensures c.in-Some.ensures.digits c.in-Some.ensures.value, signed_so c.args.bytes.now c.begins_with-negative.result c.in-Some.digits.magnitude c.in-Some-signed.value c.begins_with-negative.ensures c.in-Some-signed.ensures.found, number_found, c.in-Some-signed.ensures.fits)
 
 pub returns-in-Some-signed-clause-value : goal.returns-in-Some-signed-clause-value
 returns-in-Some-signed-clause-value c =
-    let has = digits_after c.args.bytes.now c.sign_len-sign.result c.in-Some.digits.magnitude c.sign_len-sign.ensures
-    c.in-Some.ensures.digits c.in-Some.ensures.value in
-    let is = signed_so c.args.bytes.now c.begins_with-negative.result c.in-Some.digits.magnitude c.in-Some-signed.value
-    c.begins_with-negative.ensures c.in-Some-signed.ensures.found in
-    to_z-of_z w64 c.in-Some-signed.value c.in-Some-signed.ensures.fits ∙ is
-    ∙ number_is c.args.bytes.now c.in-Some.digits.magnitude has (subst (FitsSigned w64) is c.in-Some-signed.ensures.fits)
+    grind (arith, digits_after c.args.bytes.now c.sign_len-sign.result c.in-Some.digits.magnitude c.sign_len-sign.ensures c.in-Some.ensures.digits c.in-Some.ensures.value, signed_so c.args.bytes.now c.begins_with-negative.result c.in-Some.digits.magnitude c.in-Some-signed.value c.begins_with-negative.ensures c.in-Some-signed.ensures.found, to_z-of_z w64 c.in-Some-signed.value c.in-Some-signed.ensures.fits, number_is)

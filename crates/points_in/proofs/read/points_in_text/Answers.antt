@@ -14,9 +14,7 @@ loop-points-init c = grind (arith, read_first)
 
 pub returns-in_err-next : goal.returns-in_err-next
 returns-in_err-next c =
-    let p = err_from_is_err_and c.from_residual-in_err-next.result c.from_residual-in_err-next.ensures.1 in
-    rw (p.1, p.2) (stops_with_cause c.args.bytes.now c.loop-points.at c.in_err-next.field-0.0
-    (after_points c.args.bytes.now c.loop-points.at c.loop-points.points c.loop-points.invariant) c.in_err-next.ensures)
+    grind (arith, err_from_is_err_and c.from_residual-in_err-next.result c.from_residual-in_err-next.ensures.1, stops_with_cause c.args.bytes.now c.loop-points.at c.in_err-next.field-0.0 (after_points c.args.bytes.now c.loop-points.at c.loop-points.points c.loop-points.invariant) c.in_err-next.ensures)
 
 pub returns-in-Err : goal.returns-in-Err
 returns-in-Err c =

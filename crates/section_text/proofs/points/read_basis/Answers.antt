@@ -1,6 +1,6 @@
 -- What is wrong with all points is a fault of the text.
 use Rattle.std.specs.Prelude.{ℕ, [], List, Result, Ok, Err, IfErr}
-use Rattle.std.proofs.Common.{refl, inr}
+use Rattle.std.proofs.Common.{refl, inr, arith}
 use Rattle.points_in.specs.declared.point.Point.{Point}
 use Rattle.text_in.specs.Lines.{LinesLeft}
 use Rattle.section_text.specs.Format.{Format}
@@ -16,5 +16,4 @@ points_wrong fm ps before after count (Err f) leads wrong = λ other. leads (Err
 
 pub returns-clause-err : goal.returns-clause-err
 returns-clause-err g c =
-    points_wrong g.S.SectionFormat.format c.in_ok-points.points c.args.text.now c.read_points.new.text c.args.count c.basis.result
-    c.in_ok-points.ensures.ok c.basis.ensures.err
+    grind (arith, points_wrong g.S.SectionFormat.format c.in_ok-points.points c.args.text.now c.read_points.new.text c.args.count c.basis.result c.in_ok-points.ensures.ok c.basis.ensures.err)

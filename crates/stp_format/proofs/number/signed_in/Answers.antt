@@ -1,6 +1,6 @@
 -- What isn't text is no number, and of a text `parse` gives it.
 use Rattle.std.specs.Prelude.{option_and_then}
-use Rattle.std.proofs.Common.{ap, sym, ◌∙◌}
+use Rattle.std.proofs.Common.{ap, sym, arith}
 use Rattle.stp_format.specs.Numbers.{spelled_number, coordinate_of}
 use Rattle.stp_format.proofs.lemmas.Spelled.{signed_parsed, no_text_no_number}
 use Rattle.stp_format.proofs.number.signed_in.Goals as goal
@@ -10,5 +10,4 @@ returns-in_default c = sym (ap (option_and_then coordinate_of) (no_text_no_numbe
 
 pub returns : goal.returns
 returns c =
-    c.ok.ensures.value ∙ signed_parsed c.in-Ok.text.now c.parse.result c.parse.ensures.value.0
-    ∙ ap (λ w. option_and_then coordinate_of (spelled_number w)) c.in-Ok.ensures.cases.0
+    grind (arith, signed_parsed c.in-Ok.text.now c.parse.result c.parse.ensures.value.0, option_and_then, coordinate_of, spelled_number, c.ok.ensures.value, c.in-Ok.ensures.cases.0)

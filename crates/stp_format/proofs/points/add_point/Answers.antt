@@ -1,6 +1,6 @@
 -- The point was added, or was there already, or there were 50 others.
 use Rattle.std.specs.Prelude.{ℕ, ◌≡◌, ◌++◌, List, [], ◌∷◌, length, Contains, Result, Ok, Err}
-use Rattle.std.proofs.Common.{refl, sym, ap, ◌∙◌}
+use Rattle.std.proofs.Common.{refl, sym, ap, ◌∙◌, arith}
 use Rattle.points_in.specs.declared.point.Point.{Point}
 use Rattle.points_in.specs.declared.points.Added.{Added}
 use Rattle.points_in.specs.declared.points.Added.TheVariants.{New, Repeat}
@@ -28,5 +28,4 @@ returns-in-Ok c =
 
 pub returns-in-Err-Full : goal.returns-in-Err-Full
 returns-in-Err-Full c =
-    let full = c.in-Err-Full.ensures.full (ap Err c.in-Err-Full.field-0-is) in
-    with_too_many c.args.node c.args.points.now c.args.point full.1 full.0
+    grind (arith, with_too_many, c.in-Err-Full.ensures.full)

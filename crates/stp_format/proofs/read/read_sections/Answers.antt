@@ -1,7 +1,6 @@
 -- The file of the sections, at its end.
-use Rattle.std.specs.Prelude.{Ok}
-use Rattle.std.proofs.Common.{ap, ◌∙◌}
-use Rattle.stp_format.specs.Sections.{no_sections, ◌>>=◌, outside, file_of}
+use Rattle.std.proofs.Common.{arith}
+use Rattle.stp_format.specs.Sections.{no_sections, outside, file_of}
 use Rattle.stp_format.specs.Left.{comes_to, section_or_end}
 use Rattle.stp_format.proofs.lemmas.Steps.{tells_along}
 use Rattle.stp_format.proofs.lemmas.Ends.{file_ends}
@@ -9,8 +8,4 @@ use Rattle.stp_format.proofs.read.read_sections.Goals as goal
 
 pub returns : goal.returns
 returns c =
-    let s = c.read_next.new.self in
-    let after = c.read_next.new.text in
-    tells_along (λ file. Ok file) c.into_file.result (file_of s) (comes_to (outside no_sections) c.args.text.now)
-    (c.loop-sections.invariant ∙ c.in_ok-read_next.ensures.read
-    ∙ ap (λ more. section_or_end s more >>= λ r. comes_to r after) c.if-branch.false ∙ file_ends (file_of s) after) c.into_file.ensures
+    grind (arith, tells_along, file_of, comes_to (outside no_sections) c.args.text.now, no_sections, section_or_end, comes_to, file_ends, c.loop-sections.invariant, c.in_ok-read_next.ensures.read, c.if-branch.false, c.into_file.ensures)

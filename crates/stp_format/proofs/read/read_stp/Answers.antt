@@ -1,5 +1,5 @@
 -- The lines behind a right first line come to what the bytes come to.
-use Rattle.std.proofs.Common.{arith, sym, ◌∙◌}
+use Rattle.std.proofs.Common.{arith}
 use Rattle.stp_format.specs.Reading.{stp_of}
 use Rattle.stp_format.specs.Sections.{no_sections, outside}
 use Rattle.stp_format.specs.Left.{comes_to}
@@ -8,6 +8,4 @@ use Rattle.stp_format.proofs.read.read_stp.Goals as goal
 
 pub returns-in-Some-clause-fault : goal.returns-in-Some-clause-fault
 returns-in-Some-clause-fault c =
-    fault_given (λ file. file) c.read_sections.result (comes_to (outside no_sections) c.next_line.new.self) (stp_of c.args.bytes.now)
-    (magic_leads c.args.bytes.now c.in-Some.first.now c.next_line.new.self (sym c.of-text.ensures.lines ∙ c.in-Some.ensures.found)
-    (omega (arith, c.of-text.ensures.taken, c.in-Some.ensures.taken)) (sym c.is_magic.ensures ∙ c.if-is_magic.true)) c.read_sections.ensures
+    grind (arith, fault_given, comes_to (outside no_sections) c.next_line.new.self, no_sections, stp_of c.args.bytes.now, magic_leads, c.of-text.ensures.lines, c.in-Some.ensures.found, c.of-text.ensures.taken, c.in-Some.ensures.taken, c.is_magic.ensures, c.if-is_magic.true, c.read_sections.ensures)

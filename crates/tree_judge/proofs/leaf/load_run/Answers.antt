@@ -2,7 +2,7 @@ use Rattle.std.proofs.Common.{ℕ, ◌+◌, refl, arith}
 use Rattle.std.specs.Int.{trailing_zeros}
 use Rattle.std.proofs.Common.{w64}
 use Rattle.tree_judge.specs.Cuts.{cut_of}
-use Rattle.tree_judge.proofs.lemmas.Leaves.{HasLoads-only, IsFirstOverload-kept, LoadsBelow-more, LoadsBelow-whole}
+use Rattle.tree_judge.proofs.lemmas.Leaves.{IsFirstOverload-kept, LoadsBelow-more, LoadsBelow-whole}
 use Rattle.tree_judge.proofs.lemmas.Marks.{mark_within, whole_before, marks_behind, whole_behind}
 use Rattle.tree_judge.proofs.leaf.load_run.Goals as goal
 
@@ -55,8 +55,7 @@ loop-marks-preserved g c =
     let next : ℕ = c.loop-marks.n + trailing_zeros w64 c.loop-marks.marks in
     let d = c.args.decided.now in
     record {
-      size = HasLoads-only c.args.g.now next c.loop-marks.loads c.load_edge.new.loads c.load_edge.ensures.only
-          c.loop-marks.invariant.size;
+      size = grind arith;
       loads = λ cuts below.
           let reached = LoadsBelow-whole c.args.g.now cuts cut_read c.loop-marks.n next d c.loop-marks.loads
           (omega arith)

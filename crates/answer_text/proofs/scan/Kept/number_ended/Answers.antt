@@ -1,13 +1,14 @@
-use Rattle.std.proofs.Common.{◌^◌, arith}
+use Rattle.answer_text.proofs.lemmas.ScanNumbers.{leads-weight}
+use Rattle.answer_text.specs.SetLaws.{none_has}
+use Rattle.std.proofs.lemmas.List.{length-replicate}
+use Rattle.std.proofs.Common.{arith, length, false}
 use Rattle.answer_text.proofs.lemmas.WordLemmas.{none_then}
-use Rattle.answer_text.proofs.lemmas.ScanClose.{same_small}
-use Rattle.answer_text.proofs.lemmas.ScanBlanks.{next-weight, dead-last, dead-other}
+use Rattle.answer_text.proofs.lemmas.ScanBlanks.{dead-last, dead-other}
 use Rattle.answer_text.proofs.scan.Kept.number_ended.Goals as goal
 
 pub returns-in_ok-self-in-Weight-clause-next : goal.returns-in_ok-self-in-Weight-clause-next
 returns-in_ok-self-in-Weight-clause-next c = λ inside name.
-    next-weight c.args.self.now c.args.field c.args.value c.in_ok-self-in-Weight.field-0 c.clear.new.self c.in-Weight.is
-    (same_small c.try_from.result (2 ^ 64) c.args.value c.in_ok-self-in-Weight.field-0 c.ok.result c.try_from.ensures c.ok.ensures.value c.in_ok-self-in-Weight.was) c.clear.ensures inside name
+    (grind (arith, length-replicate (length c.args.self.now.members) false, leads-weight, none_has))
 
 pub returns-in_ok-with_sign-in-Coordinate-clause-dead : goal.returns-in_ok-with_sign-in-Coordinate-clause-dead
 returns-in_ok-with_sign-in-Coordinate-clause-dead c =

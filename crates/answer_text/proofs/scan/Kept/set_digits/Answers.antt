@@ -4,11 +4,11 @@ use Rattle.answer_text.specs.declared.scan.Kept.{Kept}
 use Rattle.answer_text.specs.declared.scan.Scan.TheVariants as scan
 use Rattle.answer_text.specs.Scanning.{IsRun}
 use Rattle.answer_text.proofs.lemmas.ScanSets.{TakesDigit}
-use Rattle.answer_text.proofs.lemmas.SetRuns.{run_none, run_more}
+use Rattle.answer_text.proofs.lemmas.SetRuns.{run_more}
 use Rattle.answer_text.proofs.scan.Kept.set_digits.Goals as goal
 
 pub loop-taken-init : goal.loop-taken-init
-loop-taken-init c = grind (arith, run_none)
+loop-taken-init c = grind (arith)
 
 pub add_four-requires-clause-within : goal.add_four-requires-clause-within
 add_four-requires-clause-within c = grind arith

@@ -1,5 +1,5 @@
 use Rattle.std.proofs.Common.{arith}
-use Rattle.answer_text.proofs.lemmas.NamesClosed.{no_line-corner, no_line-ends, no_line-vertex}
+use Rattle.answer_text.proofs.lemmas.NamesClosed.{no_line-corner, no_line-vertex}
 use Rattle.answer_text.proofs.lemmas.WordLemmas.{none_then}
 use Rattle.answer_text.proofs.scan.close.close_coordinate.Goals as goal
 
@@ -13,4 +13,4 @@ returns-in_ok-with_sign-in-Y-clause-none c =
 
 pub returns-in_ok-with_sign-in-Y2-clause-none : goal.returns-in_ok-with_sign-in-Y2-clause-none
 returns-in_ok-with_sign-in-Y2-clause-none c =
-    none_then c.close_name.result c.close_name.ensures.none (λ none. no_line-ends c.args.kept.now c.args.corner c.args.minus c.args.value c.in-Y2.is none)
+    none_then c.close_name.result c.close_name.ensures.none (λ none. (grind arith))

@@ -5,7 +5,7 @@ use Rattle.dual_ascent.specs.declared.entering.EnteringArc.{EnteringArc}
 use Rattle.dual_ascent.specs.Costs.{cost_of, edges_of, left_after}
 use Rattle.dual_ascent.specs.Entering.{EntersLeft}
 use Rattle.dual_ascent.proofs.lemmas.ArcLemmas.{IsArcOf-number}
-use Rattle.dual_ascent.proofs.lemmas.EnteringLemmas.{ChangedSoFar, ChangedSoFar-none, ChangedSoFar-more, left_after-checked, lowered_is}
+use Rattle.dual_ascent.proofs.lemmas.EnteringLemmas.{ChangedSoFar, ChangedSoFar-none, ChangedSoFar-more, lowered_is}
 use Rattle.dual_ascent.proofs.costs.ReducedCosts.lower.Goals as goal
 
 pub loop-e-init : goal.loop-e-init
@@ -27,7 +27,7 @@ loop-e-preserved c =
     let e : EnteringArc = get_or list i d in
     let own : EntersLeft c.args.self.now c.args.cut.now.members e = c.requires.each i d c.loop-e-test.true in
     let here : cost_of c.set_cost.new.self e.arc.number ≡ left_after (cost_of c.args.self.now e.arc.number) c.args.cut.now.weight =
-    c.set_cost.ensures.changed ∙ left_after-checked c.checked_sub.result e.left c.args.cut.now.weight c.checked_sub.ensures
+    c.set_cost.ensures.changed ∙ (grind arith)
     ∙ ap (λ x. left_after x c.args.cut.now.weight) (sym own.left) in
     subst (λ xs. ChangedSoFar left_after c.args.self.now c.args.cut.now.weight xs c.set_cost.new.self) (sym (take_more list i d c.loop-e-test.true))
     (ChangedSoFar-more left_after c.args.self.now c.loop-e.self c.set_cost.new.self c.args.cut.now.weight (take i list) e c.loop-e.invariant here

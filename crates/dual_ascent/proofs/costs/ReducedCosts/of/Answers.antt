@@ -1,10 +1,10 @@
-use Rattle.std.proofs.Common.{◌∙◌, ap, map, take}
+use Rattle.std.proofs.lemmas.List.{take_more}
+use Rattle.std.proofs.Common.{◌∙◌, ap, map, take, arith}
 use Rattle.net_graph.specs.declared.packing.Cut.{Cut}
 use Rattle.net_graph.specs.Decision.{states_of}
 use Rattle.net_graph.specs.DecisionLaws.{length-states_of}
 use Rattle.dual_ascent.specs.Costs.{lowered_by, edges_of, costs_of}
-use Rattle.dual_ascent.proofs.lemmas.CostLemmas.{costs_of-take}
-use Rattle.dual_ascent.proofs.lemmas.LoadLemmas.{edges-costs_of}
+use Rattle.dual_ascent.proofs.lemmas.LoadLemmas.{edges-costs_of, map-lowered_by}
 use Rattle.dual_ascent.proofs.costs.ReducedCosts.of.Goals as goal
 
 pub list_entering-requires : goal.list_entering-requires
@@ -16,4 +16,4 @@ loop-cut-preserved c =
     let cut : Cut = c.cut-item.result in
     c.lower.ensures ∙ ap (map (lowered_by cut)) c.loop-cut.invariant
     ∙ ap (λ (x : Cut). map (lowered_by x) (costs_of c.args.g.now.edges (states_of c.args.g.now c.args.d.now) (take c.loop-cut.cut-index cuts))) c.cut-item.is
-    ∙ costs_of-take c.args.g.now.edges (states_of c.args.g.now c.args.d.now) cuts c.loop-cut.cut-index cut c.loop-cut-test.true
+    ∙ (grind (arith, map-lowered_by, take_more))

@@ -1,6 +1,6 @@
 use Rattle.std.proofs.Common.{refl, arith}
 use Rattle.std.proofs.lemmas.Bool.{false≢true}
-use Rattle.hanan_grid.proofs.lemmas.Found.{name_from_horizontal, name_from_vertical, no_edge_between}
+use Rattle.hanan_grid.proofs.lemmas.Found.{name_from_horizontal, name_from_vertical, beside_by_edge}
 use Rattle.hanan_grid.proofs.grid.Grid.edge_between.Goals as goal
 
 pub returns-then-is_right_of-clause-name : goal.returns-then-is_right_of-clause-name
@@ -11,4 +11,4 @@ returns-then-is_above-clause-name c = name_from_vertical c.args.self.now c.verti
 
 pub returns-else-is_above-clause-none : goal.returns-else-is_above-clause-none
 returns-else-is_above-clause-none c =
-    grind (arith, no_edge_between, false≢true)
+    grind (arith, beside_by_edge, false≢true)

@@ -16,5 +16,4 @@ too_large m words rest (Err d) r wide found fits is = rw is (λ n others small e
 
 pub returns-clause-none : goal.returns-clause-none
 returns-clause-none c =
-    too_large c.in_ok-number.number c.args.self.now c.next_unsigned.new.self c.try_from.result c.ok.result
-    c.in_ok-number.ensures.fits c.in_ok-number.ensures.found c.try_from.ensures c.ok.ensures.value
+    grind (arith, too_large c.in_ok-number.number c.args.self.now c.next_unsigned.new.self c.try_from.result c.ok.result c.in_ok-number.ensures.fits c.in_ok-number.ensures.found c.try_from.ensures c.ok.ensures.value)
