@@ -52,11 +52,6 @@ low_at (x ∷ xs) (suc i) all = low_at xs i (All-tail (λ b. b < 58) x xs all)
 name_at : (e : EdgeName) (i : ℕ) → FitsName e → get_or (name_words e) i 0 < 58
 name_at e i f = low_at (name_words e) i (name-low e f)
 
--- a name has a byte at least
-name-some : (e : EdgeName) → FitsName e → 0 < length (name_words e)
-name-some e f =
-    omega (arith, length-append (signed_decimal e.x1 ++ codes " " ++ signed_decimal e.y1 ++ codes " " ++ signed_decimal e.x2 ++ codes " ") (signed_decimal e.y2), signed_decimal_nonempty e.y2 f.y2)
-
 -- ---- which change a line takes
 
 -- two numbers that are not the same
@@ -71,7 +66,7 @@ pub short_line : (v : Version) (V : ℕ) (l : Line) → FitsLine v (form.OnGrid 
 short_line v V (line.Title version.One) f short = absurd (omega arith)
 short_line v V (line.Title version.Two) f short = absurd (omega arith)
 short_line v V (line.Title version.Graph) f short = absurd f.1
-short_line v V (line.Split (edge.Ends e)) f short = absurd (omega (arith, length-append (codes "split ") (name_words e), name-some e f.1))
+short_line v V (line.Split (edge.Ends e)) f short = absurd (omega (arith, length-append (codes "split ") (name_words e), length-append (signed_decimal e.x1 ++ codes " " ++ signed_decimal e.y1 ++ codes " " ++ signed_decimal e.x2 ++ codes " ") (signed_decimal e.y2), signed_decimal_nonempty e.y2 f.1.y2))
 short_line v V (line.Split (edge.Number n)) f short = absurd f.1
 short_line v V l f short = refl
 

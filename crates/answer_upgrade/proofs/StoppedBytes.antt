@@ -1,7 +1,6 @@
 -- What a reader stands for and where bytes stop, said of the same bytes.
-use Rattle.std.proofs.Common.{ℕ, ◌≡◌, ◌-◌, ◌<◌, ◌≤◌, List, [], ◌∷◌, ◌++◌, length, take, drop, get_or, refl, sym, ap, subst, ◌∙◌, arith, append_assoc}
-use Rattle.std.proofs.Math.Seq.{drop-cons}
-use Rattle.std.proofs.lemmas.List.{append-nil, take_more, take-append-drop, take_rest}
+use Rattle.std.proofs.Common.{ℕ, ◌≡◌, ◌-◌, List, [], ◌∷◌, ◌++◌, length, take, drop, refl, sym, ap, subst, ◌∙◌, arith, append_assoc}
+use Rattle.std.proofs.lemmas.List.{take-append-drop, take_rest}
 use Rattle.answer_text.specs.declared.event.AnswerEvent.{AnswerEvent}
 use Rattle.answer_text.specs.declared.form.Form.TheVariants as form
 use Rattle.answer_text.specs.declared.reader.EventReader.{EventReader}
@@ -19,14 +18,6 @@ stops_in V xs ys m n events same line stops = (events, subst (λ x. StopsAt (for
 pub moved_on : (front rest : List ℕ) (n : ℕ) → front ++ rest ≡ (front ++ take n rest) ++ take (length rest - n) (drop n rest)
 moved_on front rest n =
     rw take_rest (ap (λ x. front ++ x) (sym (take-append-drop n rest)) ∙ sym (append_assoc front (take n rest) (drop n rest)))
-
--- no digit and one byte are one byte
-pub one_byte : (bytes piece : List ℕ) (n : ℕ) → n ≤ 0 → 0 < length piece → (bytes ++ take n piece) ++ get_or piece 0 0 ∷ [] ≡ bytes ++ take 1 piece
-one_byte bytes piece n none some = grind (arith, append-nil bytes, take_more piece 0 0 some)
-
--- no digit, the first byte and the others are all
-pub all_bytes : (bytes piece : List ℕ) (n : ℕ) → n ≤ 0 → 0 < length piece → (bytes ++ take n piece) ++ get_or piece 0 0 ∷ drop 1 piece ≡ bytes ++ piece
-all_bytes bytes piece n none some = grind (arith, append-nil bytes, drop-cons piece 0 0 some)
 
 -- a list without length is empty
 pub empty_of : (xs : List ℕ) → length xs ≡ 0 → xs ≡ []

@@ -1,5 +1,4 @@
 pub mod WordBits
-pub mod Layouts
 pub mod Names
 pub mod GridNames
 pub mod SubjectNames

@@ -1,7 +1,6 @@
 //! Certificate trees: packings of cuts that bound every network from below, each under what is decided on its way.
 #![tactic(auto)]
 
-mod decision;
 mod laws;
 mod split;
 mod tree;

@@ -1,5 +1,5 @@
 -- A packing of nothing decided is carried to the decision that takes one edge in.
-use Rattle.std.proofs.Common.{ℕ, zero, suc, ◌≡◌, ◌+◌, ◌<◌, ◌≤◌, List, [], ◌∷◌, ◌++◌, length, replicate, slice_get, slice_set, Some, sum_by, inl, refl, sym, ap, subst, ◌∙◌, arith}
+use Rattle.std.proofs.Common.{ℕ, zero, suc, ◌≡◌, ◌+◌, ◌<◌, ◌≤◌, List, [], ◌∷◌, ◌++◌, length, replicate, slice_get, slice_set, Some, sum_by, inl, refl, sym, ap, subst, ◌∙◌, append-nil, arith}
 use Rattle.std.proofs.lemmas.List.Sums.{sum_by-append}
 use Rattle.std.proofs.lemmas.Option.{same_Some, slice_get_within}
 use Rattle.net_graph.specs.declared.packing.Cut.{Cut}
@@ -10,7 +10,8 @@ use Rattle.net_graph.specs.Graph.{Graph, total_of}
 use Rattle.net_graph.specs.Decision.{Decided, IsLowerBoundUnder, IsUndecided, nothing_decided, with_edge}
 use Rattle.net_graph.specs.Packing.{IsFeasible, inside_length, packing_value}
 use Rattle.dual_ascent.specs.declared.ascent.Ascent.{Ascent}
-use Rattle.dual_ascent.specs.Ascending.{IsAscent, behind}
+use Rattle.dual_ascent.specs.declared.costs.EdgeCosts.{EdgeCosts}
+use Rattle.dual_ascent.specs.Ascending.{AreLeftBehind, IsAscent, behind}
 use Rattle.dual_ascent.specs.Carried.{DecidesOneMore}
 use Rattle.dual_ascent.specs.Costs.{costs_of, edges_of}
 use Rattle.edge_slack.specs.EdgeBound.{edge_taken_in, IsEdgeBound, IsInSomeNetwork, IsLowerBoundWith}
@@ -79,3 +80,9 @@ Bounds-behind g e x now start first a weight more some at is weighs adds ascent 
       least = IsLowerBoundWith-under g e bound under;
       within = bound-le-total g e bound some under;
     }
+
+-- what an ascent leaves where it begins behind some cuts alone
+pub AreLeftBehind-alone : (g : Graph) (now : Decided) (first none : List Cut) (costs : List EdgeCosts) → none ≡ [] →
+    AreLeftBehind g now first costs → AreLeftBehind g now (first ++ none) costs
+AreLeftBehind-alone g now first none costs is left =
+    subst (λ cuts. AreLeftBehind g now cuts costs) (sym (ap (λ cuts. first ++ cuts) is ∙ append-nil first)) left

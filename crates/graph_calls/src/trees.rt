@@ -2,19 +2,17 @@
 
 ghost use Rattle.std.specs.Prelude.{◌<◌, length, IfOk};
 ghost use Rattle.net_graph.specs.Decision.{nothing_decided};
-ghost use Rattle.cert_tree.specs.Preorder.{packings_of};
 ghost use Rattle.cert_tree.specs.Decisions.{HasUndecidedSplits};
 
 use crate::described::{graph, only, packing};
 use crate::told::tell_cuts;
 use cert_tree::{CertTree, SplitOn};
-use net_graph::{EdgeState, NetGraph, Packing};
+use net_graph::{NetGraph, Packing};
 use row_tables::{Call, Fault, Told};
-use std::alloc::{AllocError, Global};
+use std::alloc::Global;
 
 /// A certificate tree of one split, on the edge under `split`, whose children have the packings under `outside` and
-/// `inside`: how many splits and leaves it has, its nodes, its value, and of each leaf its cuts and the state of the
-/// edge.
+/// `inside`: how many splits and leaves it has, its nodes, its value, and the cuts of each leaf.
 pub fn tree(alloc: Global, call: &Call, told: &mut Told) -> Result<(), Fault> {
     let g = graph(alloc, call)?;
     tree_on(alloc, call, &g, told)
@@ -26,7 +24,8 @@ fn tree_on(alloc: Global, call: &Call, g: &NetGraph, told: &mut Told) -> Result<
     if e >= g.edge_count() {
         return Err(Fault::NotAllowed);
     }
-    tell_tree(alloc, g, e, &given_tree(alloc, call, g, e)?, told)
+    tell_tree(g, &given_tree(alloc, call, g, e)?, told);
+    Ok(())
 }
 
 // The tree with the packings that a row gives.
@@ -40,19 +39,12 @@ fn given_tree(alloc: Global, call: &Call, g: &NetGraph, e: u32) -> Result<CertTr
 }
 
 // What is told of the tree.
-fn tell_tree(
-    alloc: Global,
-    g: &NetGraph,
-    e: u32,
-    tree: &CertTree,
-    told: &mut Told,
-) -> Result<(), Fault>
-    requires edge { e < length g.now.edges }
-    requires splits { HasUndecidedSplits g.now (nothing_decided g.now) tree.now }
+fn tell_tree(g: &NetGraph, tree: &CertTree, told: &mut Told)
+    requires { HasUndecidedSplits g.now (nothing_decided g.now) tree.now }
 {
     tell_shape(told, tree);
     told.line("value ", &tree.value(g));
-    tell_leaves(alloc, g, e, tree, told)
+    tell_leaves(told, tree);
 }
 
 // Tells of the nodes.
@@ -64,40 +56,12 @@ fn tell_shape(told: &mut Told, tree: &CertTree) {
     }
 }
 
-// Tells of each leaf the state of the edge, and the cuts.
-fn tell_leaves(
-    alloc: Global,
-    g: &NetGraph,
-    e: u32,
-    tree: &CertTree,
-    told: &mut Told,
-) -> Result<(), Fault>
-    requires edge { e < length g.now.edges }
-    requires splits { HasUndecidedSplits g.now (nothing_decided g.now) tree.now }
-{
+// Tells of the leaves.
+fn tell_leaves(told: &mut Told, tree: &CertTree) {
     for leaf in 0..tree.leaves() {
-        let state = state_at(alloc, g, e, tree, leaf)?;
-        told.value("leaf ", &leaf);
-        told.debug_line(" ", &state);
+        told.line("leaf ", &leaf);
         tell_cuts(told, tree.packing(leaf), ":");
     }
-    Ok(())
-}
-
-// The state of the edge at a leaf.
-fn state_at(
-    alloc: Global,
-    g: &NetGraph,
-    e: u32,
-    tree: &CertTree,
-    leaf: u32,
-) -> Result<EdgeState, AllocError>
-    requires edge { e < length g.now.edges }
-    requires leaf { leaf < length (packings_of tree.now) }
-    requires splits { HasUndecidedSplits g.now (nothing_decided g.now) tree.now }
-{
-    let d = tree.decision_of(alloc, g, leaf)?;
-    Ok(d.state(g, e))
 }
 
 // A leaf without cuts that is then split on the edge.

@@ -115,19 +115,6 @@ impl Grid {
         }
     }
 
-    /// The column and the row of the terminal at a place of the list, counted from 0. No tool asks for it.
-    pub fn terminal_place(&self, terminal: usize) -> Place
-        requires { terminal < length self.now }
-        ensures column { result.column < length (xs_of self.now) }
-        ensures row { result.row < length (ys_of self.now) }
-        ensures point { slice_get self.now terminal
-            ≡ Some (crossing (xs_of self.now) (ys_of self.now) result.column result.row) }
-        ensures vertex { slice_get (hanan_grid_of self.now).terminals terminal
-            ≡ Some (vertex_number (length (xs_of self.now)) result.column result.row) }
-    {
-        self.place(self.graph.terminal(terminal))
-    }
-
     /// The vertex of a column and a row.
     pub fn vertex(&self, place: Place) -> u32
         requires column { place.column < length (xs_of self.now) }

@@ -134,7 +134,7 @@ states_of-from_free g d n decision within free =
     (λ (missed : (x : Edge) × (slice_get g.edges n ≡ Some x) × (IsMissed d x.a ⊎ IsMissed d x.b)).
     states_of-at g d n missed.0 state missed.1 decided
     ∙ ap Some (state_at_missed d.vertices missed.0 state ((has_missed_end-iff d missed.0).1 missed.2)
-    (λ inside. (grind arith))))
+    (λ inside. grind arith)))
     free
 
 -- an edge that is undecided by itself is free where one of its ends is missed

@@ -12,7 +12,7 @@ use Rattle.answer_text.proofs.lemmas.ScanNumbers.{dead-blank}
 pub dead-last : (k : Kept) (f : Field) (c : Corner) (minus : Bool) (v : ℕ) → f ≡ field.Coordinate c minus → IsLast c → IsInField f v → IsDead k (scan.Number f v) 32
 dead-last k f c minus v is last inside =
     let there : IsInField (field.Coordinate c minus) v = subst (λ g. IsInField g v) is inside in
-    subst (λ g. IsDead k (scan.Number g v) 32) (sym is) (dead-blank k (field.Coordinate c minus) v there (λ rest l h. (grind arith)))
+    subst (λ g. IsDead k (scan.Number g v) 32) (sym is) (dead-blank k (field.Coordinate c minus) v there (λ rest l h. grind arith))
 
 -- nor behind the last number of another line
 pub dead-other : (k : Kept) (f : Field) (v : ℕ) → (f ≡ field.Weight → ⊥) → ((c : Corner) (minus : Bool) → f ≡ field.Coordinate c minus → ⊥) → IsInField f v → IsDead k (scan.Number f v) 32

@@ -43,21 +43,21 @@ pub closes-length : (k : Kept) (h : AnswerHead) (f : Field) (v x : ℕ) → f �
 closes-length k h f v x is same inside name =
     let C : Field → Type 0 = λ g. Closes k (scan.Number g v) h (record k { stage = stage.Bound }) (record h { length = x }) None in
     let there : IsInField field.Length v = subst (λ g. IsInField g v) is inside in
-    subst C (sym is) (closes_number k (record k { stage = stage.Bound }) field.Length v h (record h { length = x }) None (line.Length v) there (refl, refl) (λ s' e. (grind arith)) refl (λ i. record h { length = same i }) (λ n. refl) refl name)
+    subst C (sym is) (closes_number k (record k { stage = stage.Bound }) field.Length v h (record h { length = x }) None (line.Length v) there (refl, refl) (λ s' e. grind arith) refl (λ i. record h { length = same i }) (λ n. refl) refl name)
 
 pub closes-bound : (k : Kept) (h : AnswerHead) (f : Field) (v x : ℕ) → f ≡ field.Bound → x ≡ v → IsInField f v → FitsName k.name
     → Closes k (scan.Number f v) h (record k { stage = stage.Status }) (record h { bound = x }) None
 closes-bound k h f v x is same inside name =
     let C : Field → Type 0 = λ g. Closes k (scan.Number g v) h (record k { stage = stage.Status }) (record h { bound = x }) None in
     let there : IsInField field.Bound v = subst (λ g. IsInField g v) is inside in
-    subst C (sym is) (closes_number k (record k { stage = stage.Status }) field.Bound v h (record h { bound = x }) None (line.Bound v) there (refl, refl) (λ s' e. (grind arith)) refl (λ i. record h { bound = same i }) (λ n. refl) refl name)
+    subst C (sym is) (closes_number k (record k { stage = stage.Status }) field.Bound v h (record h { bound = x }) None (line.Bound v) there (refl, refl) (λ s' e. grind arith) refl (λ i. record h { bound = same i }) (λ n. refl) refl name)
 
 pub closes-openings : (k : Kept) (h : AnswerHead) (f : Field) (v x : ℕ) → f ≡ field.Openings → x ≡ v → IsInField f v → FitsName k.name
     → Closes k (scan.Number f v) h (record k { stage = stage.Concat }) (record h { openings = x }) None
 closes-openings k h f v x is same inside name =
     let C : Field → Type 0 = λ g. Closes k (scan.Number g v) h (record k { stage = stage.Concat }) (record h { openings = x }) None in
     let there : IsInField field.Openings v = subst (λ g. IsInField g v) is inside in
-    subst C (sym is) (closes_number k (record k { stage = stage.Concat }) field.Openings v h (record h { openings = x }) None (line.Openings v) there (refl, refl) (λ s' e. (grind arith)) refl (λ i. record h { openings = same i }) (λ n. refl) refl name)
+    subst C (sym is) (closes_number k (record k { stage = stage.Concat }) field.Openings v h (record h { openings = x }) None (line.Openings v) there (refl, refl) (λ s' e. grind arith) refl (λ i. record h { openings = same i }) (λ n. refl) refl name)
 
 pub closes-last_openings : (k : Kept) (h : AnswerHead) (f : Field) (v x : ℕ) → f ≡ field.LastOpenings → x ≡ v → IsInField f v → FitsName k.name
     → Closes k (scan.Number f v) h (record k { stage = stage.Count }) (record h { openings = x }) (Some (event.Head (record h { openings = x })))
@@ -66,7 +66,7 @@ closes-last_openings k h f v x is same inside name =
     let C : Field → Type 0 = λ g. Closes k (scan.Number g v) h (record k { stage = stage.Count }) h' (Some (event.Head h')) in
     let there : IsInField field.LastOpenings v = subst (λ g. IsInField g v) is inside in
     subst C (sym is) (closes_number k (record k { stage = stage.Count }) field.LastOpenings v h h' (Some (event.Head h')) (line.LastOpenings v) there (refl, refl)
-    (λ s' e. (grind arith)) refl (λ i. record h { openings = same i }) (λ n. refl) refl name)
+    (λ s' e. grind arith) refl (λ i. record h { openings = same i }) (λ n. refl) refl name)
 
 pub closes-total : (k : Kept) (h : AnswerHead) (f : Field) (v : ℕ) (least : Bool) → f ≡ field.Total least → IsInField f v → FitsName k.name
     → Closes k (scan.Number f v) h (record k { stage = stage.Count }) (record h { concat = record { least = least; total = v } }) (Some (event.Head (record h { concat = record { least = least; total = v } })))
@@ -75,7 +75,7 @@ closes-total k h f v least is inside name =
     let C : Field → Type 0 = λ g. Closes k (scan.Number g v) h (record k { stage = stage.Count }) h' (Some (event.Head h')) in
     let there : IsInField (field.Total least) v = subst (λ g. IsInField g v) is inside in
     subst C (sym is) (closes_number k (record k { stage = stage.Count }) (field.Total least) v h h' (Some (event.Head h')) (line.Concat (record { least = least; total = v })) there (refl, refl)
-    (λ s' e. (grind arith)) refl refl (λ n. refl) refl name)
+    (λ s' e. grind arith) refl refl (λ n. refl) refl name)
 
 pub closes-count : (k : Kept) (h : AnswerHead) (f : Field) (most v x : ℕ) → f ≡ field.Count most → x ≡ v → IsInField f v → FitsName k.name
     → Closes k (scan.Number f v) h (record k { stage = stage.Edges x }) h (Some (event.EdgeCount x))
@@ -83,7 +83,7 @@ closes-count k h f most v x is same inside name =
     let C : Field → ℕ → Type 0 = λ g y. Closes k (scan.Number g v) h (record k { stage = stage.Edges y }) h (Some (event.EdgeCount y)) in
     let there : IsInField (field.Count most) v = subst (λ g. IsInField g v) is inside in
     subst (λ g. C g x) (sym is) (subst (λ y. C (field.Count most) y) (sym same) (closes_number k (record k { stage = stage.Edges v }) (field.Count most) v h h (Some (event.EdgeCount v)) (line.Count v) there (refl, refl)
-    (λ s' e. (grind arith)) refl refl (λ n. refl) refl name))
+    (λ s' e. grind arith) refl refl (λ n. refl) refl name))
 
 pub closes-leaf : (k : Kept) (h : AnswerHead) (cuts c nodes left : ℕ) → k.stage ≡ stage.Body c nodes → left ≡ nodes - 1 → cuts < 2 ^ 32 → FitsName k.name
     → Closes k (scan.Number field.Leaf cuts) h (record k { stage = stage.Body cuts left }) h (Some (event.Leaf cuts))

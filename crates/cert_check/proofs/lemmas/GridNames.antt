@@ -1,9 +1,9 @@
 -- The labels of a grid's edges and vertices: by its ends, and by its point, each is told from the others.
-use Rattle.std.proofs.Common.{ℕ, ◌≡◌, ◌<◌, List, arith}
+use Rattle.std.proofs.Common.{ℕ, ◌≡◌, List, arith}
 use Rattle.std.specs.Prelude.{IfNone, None, Option, Some}
 use Rattle.points_in.specs.declared.point.Point.{Point}
 use Rattle.hanan_grid.specs.declared.name.EdgeName.{EdgeName}
-use Rattle.hanan_grid.specs.Grid.{xs_of, ys_of, hanan_grid_of}
+use Rattle.hanan_grid.specs.Grid.{xs_of, ys_of}
 use Rattle.hanan_grid.specs.GridLaws.{IsRising-xs_of, IsRising-ys_of}
 use Rattle.hanan_grid.specs.Names.{IsCrossing, NamesNoEdge, name_of_edge, point_of_vertex}
 use Rattle.hanan_grid.specs.NamesLaws.{IsCrossing-point_of_vertex, same_edge, vertex_of-point_of_vertex}
@@ -18,19 +18,12 @@ same_ends name name' same = cc
 same_point : (p p' : Point) → vertex.At p ≡ vertex.At p' → p ≡ p'
 same_point p p' same = cc
 
--- a vertex is that of its point
-vertex_named : (ps : List Point) (v v' : ℕ) → v < (hanan_grid_of ps).vertices → v' < (hanan_grid_of ps).vertices →
-    point_of_vertex (xs_of ps) (ys_of ps) v ≡ point_of_vertex (xs_of ps) (ys_of ps) v' → v ≡ v'
-vertex_named ps v v' inside inside' same =
-    grind (arith, vertex_of-point_of_vertex (xs_of ps) (ys_of ps) v (IsRising-xs_of ps) (IsRising-ys_of ps) inside, vertex_of-point_of_vertex (xs_of ps) (ys_of ps) v' (IsRising-xs_of ps) (IsRising-ys_of ps) inside')
-
 pub IsNamed-on_grid : (ps : List Point) → IsNamed (on_grid ps)
 IsNamed-on_grid ps = record {
   edge = λ e e' inside inside' same.
       same_edge ps e e' inside inside' (same_ends (name_of_edge ps e) (name_of_edge ps e') same);
   vertex = λ v v' inside inside' same.
-      vertex_named ps v v' inside inside'
-      (same_point (point_of_vertex (xs_of ps) (ys_of ps) v) (point_of_vertex (xs_of ps) (ys_of ps) v') same);
+      (grind (arith, vertex_of-point_of_vertex (xs_of ps) (ys_of ps) v (IsRising-xs_of ps) (IsRising-ys_of ps) inside, vertex_of-point_of_vertex (xs_of ps) (ys_of ps) v' (IsRising-xs_of ps) (IsRising-ys_of ps) inside'));
 }
 
 -- what no edge's name or no crossing is, is no label

@@ -63,18 +63,6 @@ tree_lines-2 v (Split on outside inside) =
       tree_lines-2 v inside,
     )
 
-proof_lines-2 : (v : Version) (t : Tree SplitName) →
-    bytes_in (proof_lines version.Two t) ≤ 6 * bytes_in (proof_lines v t)
-proof_lines-2 v t =
-    grind (
-      arith,
-      bytes_in-cons line.Tree (tree_lines version.Two t ++ line.End ∷ []),
-      bytes_in-append (tree_lines version.Two t) (line.End ∷ []),
-      bytes_in-cons line.Tree (tree_lines v t ++ line.End ∷ []),
-      bytes_in-append (tree_lines v t) (line.End ∷ []),
-      tree_lines-2 v t,
-    )
-
 -- a title has as many bytes in each version of the texts on a grid
 head_lines-2 : (v : Version) (a : WrittenAnswer) (V : ℕ) → IsVersionOf (form.OnGrid V) v →
     bytes_in (head_lines version.Two a.head) ≡ bytes_in (head_lines v a.head)
@@ -93,7 +81,7 @@ few_bytes-2 a V is =
       bytes_in-append (head_lines a.version a.head) (body_lines a),
       bytes_in-append (network_lines a.edges) (proof_lines a.version a.tree),
       head_lines-2 a.version a V is,
-      proof_lines-2 a.version a.tree,
+      bytes_in-cons line.Tree (tree_lines version.Two a.tree ++ line.End ∷ []), bytes_in-append (tree_lines version.Two a.tree) (line.End ∷ []), bytes_in-cons line.Tree (tree_lines a.version a.tree ++ line.End ∷ []), bytes_in-append (tree_lines a.version a.tree) (line.End ∷ []), tree_lines-2 a.version a.tree,
     )
 
 pub answer_text-2 : (a : WrittenAnswer) (V : ℕ) → IsVersionOf (form.OnGrid V) a.version →

@@ -3,7 +3,6 @@ use Rattle.std.proofs.Common.{ℕ, suc, ◌≡◌, ◌+◌, ◌-◌, ◌<◌, �
 use Rattle.std.proofs.lemmas.Bool.{cases_lt}
 use Rattle.std.proofs.lemmas.List.{reverse-append, take_more}
 use Rattle.net_graph.specs.declared.packing.Cut.{Cut}
-use Rattle.net_graph.specs.Graph.{Graph}
 use Rattle.net_graph.specs.Decision.{Decided}
 use Rattle.cert_tree.specs.declared.split.SplitOn.{SplitOn}
 use Rattle.cert_tree.specs.declared.way.Turn.{Turn}
@@ -12,10 +11,10 @@ use Rattle.cert_tree.specs.Tree.Tree.{Leaf, Split}
 use Rattle.cert_tree.specs.Preorder.{nodes_of, packings_of, leaves_in}
 use Rattle.cert_tree.specs.PreorderLaws.{leaves_in-append, leaves_in-nodes_of}
 use Rattle.cert_tree.specs.ReplacedLaws.{IsInFirst, IsInSecond, place_in_append}
-use Rattle.cert_tree.specs.Decisions.{IsLeafAt, IsUndecidedSplit, HasUndecidedSplits, outside_of, inside_of}
+use Rattle.cert_tree.specs.Decisions.{IsLeafAt, outside_of, inside_of}
 use Rattle.cert_tree.specs.LeafLaws.{IsLeafAt-outside, IsLeafAt-inside, IsLeafAt-leaf}
 use Rattle.cert_tree.proofs.lemmas.Places.{around}
-use Rattle.cert_tree.specs.Way.{after_turn, turn_of, way_to, after_turns, turns_up}
+use Rattle.cert_tree.specs.Way.{turn_of, way_to, after_turns, turns_up}
 
 -- the way to a leaf of the outside child, and of the inside child
 pub way_to-outside : (on : SplitOn) (o i : Tree SplitOn) (leaf : ℕ) → leaf < length (packings_of o) →
@@ -128,20 +127,3 @@ pub turns_up-place : (t : Tree SplitOn) (leaf place : ℕ) → slice_get (nodes_
     turns_up (reverse (take place (nodes_of t))) 0 ≡ reverse (way_to t leaf)
 turns_up-place t leaf place at count =
     grind (arith, turns_up-leaf t leaf (take place (nodes_of t)) (drop (place + 1) (nodes_of t)) (around (nodes_of t) place None at) count, around (nodes_of t) place None)
-
--- what each turn is on is undecided where it is taken
-abbrev pub AreUndecidedTurns : Graph → Decided → List Turn → Type 0
-AreUndecidedTurns g d [] = Unit {0}
-AreUndecidedTurns g d (turn ∷ turns) = IsUndecidedSplit g d turn.on × AreUndecidedTurns g (after_turn d turn) turns
-
--- .. as on each way in a tree whose splits are on what is undecided
-pub AreUndecidedTurns-way : (g : Graph) (d : Decided) (t : Tree SplitOn) (leaf : ℕ) → HasUndecidedSplits g d t →
-    AreUndecidedTurns g d (way_to t leaf)
-AreUndecidedTurns-way g d (Leaf cuts) leaf splits = tt
-AreUndecidedTurns-way g d (Split on o i) leaf (undecided, first, second) =
-    grind (arith, way_to-outside, AreUndecidedTurns-way g (outside_of d on) o leaf first, way_to-inside, AreUndecidedTurns-way g (inside_of d on) i (leaf - length (packings_of o)) second, cases_lt leaf (length (packings_of o)))
-
--- the turns that are left when the last of some, told from the last to the first, is taken
-pub reverse-last : (turns rest : List Turn) (turn : Turn) → turns ≡ rest ++ turn ∷ [] →
-    reverse turns ≡ turn ∷ reverse rest
-reverse-last turns rest turn same = ap reverse same ∙ reverse-append rest (turn ∷ [])

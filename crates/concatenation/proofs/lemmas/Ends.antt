@@ -8,7 +8,7 @@ use Rattle.full_tree.specs.declared.code.Tree.{Tree}
 use Rattle.concatenation.specs.declared.choice.Choice.{Choice}
 use Rattle.concatenation.specs.declared.choice.Choice.TheVariants.{Open, Taken, LeftOut}
 use Rattle.concatenation.specs.Concatenation.{total_of}
-use Rattle.concatenation.specs.Choices.{is_taken, is_left, taken_of, remaining_of, Respects, IsLeastUnder}
+use Rattle.concatenation.specs.Choices.{is_left, taken_of, remaining_of, Respects, IsLeastUnder}
 use Rattle.concatenation.specs.SetLaws.{IsWithin}
 use Rattle.concatenation.specs.Trails.{Trail, End, Split, no_choices, AllEnds, SomeEnd, AllSplits, IsOpenPlace, IsOpenEnd, IsNoBetter}
 use Rattle.concatenation.specs.TrailLaws.{BoundedTrailIsLeast, ClosedTrailIsLeast}
@@ -75,11 +75,6 @@ bounded_trail_lem n trees total trail bounded flags joined =
 
 -- ---- an end that isn't open is bounded
 
--- the trees that are taken are in each set that respects the choices
-taken_of-within : (choices : List Choice) (flags : List Bool) → Respects choices flags → IsWithin (taken_of choices) flags
-taken_of-within choices flags respects k at =
-    grind (arith, slice_get_within (taken_of choices) k true, slice_get-map is_taken choices k, slice_get_some, length-map choices is_taken)
-
 -- each set that respects the choices is within the trees that are not left out
 remaining_of-holds : (choices : List Choice) (flags : List Bool) → length flags ≡ length choices → Respects choices flags →
     IsWithin flags (remaining_of choices)
@@ -97,7 +92,7 @@ remaining_of-holds choices flags size respects k in_set =
 IsLeastUnder-from_closed : (n : ℕ) (trees : List Tree) (total : ℕ) (choices : List Choice) → length choices ≡ length trees →
     IsNoBetter n trees total choices → (IsOpenEnd n trees total choices → ⊥) → IsLeastUnder n trees choices total
 IsLeastUnder-from_closed n trees total choices size no_better closed flags joined respects =
-    let rises = totals_rise_lem trees (taken_of choices) flags (taken_of-within choices flags respects) in
+    let rises = totals_rise_lem trees (taken_of choices) flags (grind (arith, slice_get_within, slice_get-map, slice_get_some, length-map)) in
     elim (cases_lt (total_of trees (taken_of choices)) total) [
       | inl below ↦ absurd (closed record {
         can_go_on = record {

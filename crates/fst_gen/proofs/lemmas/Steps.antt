@@ -15,7 +15,6 @@ use Rattle.full_tree.specs.declared.code.TreeCode.{TreeCode}
 use Rattle.full_tree.specs.declared.code.TreeCode.TheVariants.{Long, Cross}
 use Rattle.full_tree.specs.MembersLaws.{length-ascending_places}
 use Rattle.full_tree.specs.Geometry.{point_at}
-use Rattle.full_tree.specs.Form.{IsOnShortLeg}
 use Rattle.full_tree.specs.LongLaws.{NamesFew, long_names_few, All-second}
 use Rattle.full_tree.specs.Pieces.{foot}
 use Rattle.full_tree.specs.Passing.{IsWithinBottleneck}
@@ -43,18 +42,10 @@ wanted_count ps k root toward drops side tip code is wanted = grind (arith, long
 module _ (ps : List Point) (k : ℕ) (root : ℕ) (toward : Way) (drops : List ℕ) where
   -- ---- sides
 
-  HangsBelow-more : (tip n : ℕ) (code : TreeCode) → HangsBelow root toward drops tip (n + 1) code
-      → HangsBelow root toward drops tip n code ⊎ IsHung root toward drops n tip code
-  HangsBelow-more tip n code (side, below, is) = grind arith
-
   pub HangsBelow-step : (tip n : ℕ) (old mid new : BTreeMap ℕ Tree) → Stores ps k (HangsBelow root toward drops tip n) old mid
       → Stores ps k (IsHung root toward drops n tip) mid new → Stores ps k (HangsBelow root toward drops tip (n + 1)) old new
   HangsBelow-step tip n old mid new a b = Stores-then ps k (HangsBelow root toward drops tip n) (IsHung root toward drops n tip)
-      (HangsBelow root toward drops tip (n + 1)) old mid new a b (λ code kind wanted. HangsBelow-more tip n code kind)
-
-  pub IsHung-none : (qs : List Point) (side tip : ℕ) (trees : BTreeMap ℕ Tree) → qs ≡ ps → IsStore ps k trees
-      → (IsOnShortLeg qs root toward tip side → ⊥) → Stores ps k (IsHung root toward drops side tip) trees trees
-  IsHung-none qs side tip trees same store off = grind arith
+      (HangsBelow root toward drops tip (n + 1)) old mid new a b (λ code kind wanted. grind arith)
 
   -- ---- tips
 
@@ -225,12 +216,10 @@ module _ (ps : List Point) (k : ℕ) where
 -- ---- crosses: one terminal after another
 
 module _ (ps : List Point) (k : ℕ) (Of : ℕ → TreeCode → Type 0) where
-  Below-more : (n : ℕ) (code : TreeCode) → Below Of (n + 1) code → Below Of n code ⊎ Of n code
-  Below-more n code (i, below, is) = grind arith
 
   pub Below-step : (n : ℕ) (old mid new : BTreeMap ℕ Tree) → Stores ps k (Below Of n) old mid → Stores ps k (Of n) mid new
       → Stores ps k (Below Of (n + 1)) old new
-  Below-step n old mid new a b = Stores-then ps k (Below Of n) (Of n) (Below Of (n + 1)) old mid new a b (λ code kind wanted. Below-more n code kind)
+  Below-step n old mid new a b = Stores-then ps k (Below Of n) (Of n) (Below Of (n + 1)) old mid new a b (λ code kind wanted. grind arith)
 
   pub Below-all : (n : ℕ) (old new : BTreeMap ℕ Tree) → n ≡ length ps
       → ((i : ℕ) (code : TreeCode) → Of i code → IsWanted ps k code → i < length ps)

@@ -2,7 +2,7 @@
 use Rattle.std.proofs.Common.{ℕ, ◌≡◌, ◌+◌, ◌<◌, List, length, ap, sym, subst, ◌∙◌, arith, ⊎_elim, Option, None, Some}
 use Rattle.std.specs.Prelude.{slice_get}
 use Rattle.std.specs.Ordering.{nat_cmp}
-use Rattle.std.specs.BTreeMap.{BTreeMap, get, Updates, IsEmpty}
+use Rattle.std.specs.BTreeMap.{BTreeMap, get, Updates}
 use Rattle.std.proofs.lemmas.Bool.{cases_eq, cases_order}
 use Rattle.std.proofs.lemmas.Bool.Decides.{nat_tests}
 use Rattle.std.proofs.lemmas.Option.{same_Some}
@@ -28,10 +28,6 @@ module _ (trees : List Tree) where
   pub same_first : (j k : ℕ) (a b : Tree) → slice_get trees j ≡ Some a → slice_get trees k ≡ Some b
       → members_of a.code ≡ members_of b.code → ¬ IsRepeat trees j → ¬ IsRepeat trees k → j ≡ k
   same_first j k a b at_a at_b same first first' = grind (arith, later_repeats, cases_order j k)
-
-  -- nothing is found before the first tree
-  pub firsts_none : (firsts : BTreeMap ℕ ℕ) → IsEmpty firsts → AreFirsts trees 0 firsts
-  firsts_none firsts empty = grind arith
 
   -- a tree whose word is there is passed over
   pub firsts_passed : (m word first : ℕ) (tree : Tree) (firsts : BTreeMap ℕ ℕ) → AreFirsts trees m firsts

@@ -1,10 +1,9 @@
 -- Pruning keeps the totals of concatenations: each tree that is dropped is replaced by kept trees that join its members at
 -- no greater length.
-use Rattle.std.proofs.Common.{ℕ, zero, suc, ◌≡◌, ◌<◌, ◌≤◌, Bool, true, false, List, length, get_or, sym, subst, ◌∙◌, arith, ⊎_elim, ◌⊎◌, Some}
+use Rattle.std.proofs.Common.{ℕ, zero, suc, ◌≡◌, ◌<◌, ◌≤◌, Bool, true, false, List, length, get_or, sym, subst, ◌∙◌, arith, ⊎_elim, Some}
 use Rattle.std.specs.Prelude.{Contains, slice_get, slice_index_or}
-use Rattle.std.specs.declared.cmp.Ordering.{Ordering}
 use Rattle.std.specs.declared.cmp.Ordering.TheVariants.{Less, Equal, Greater}
-use Rattle.std.specs.Ordering.{nat_cmp, ordering_then}
+use Rattle.std.specs.Ordering.{nat_cmp}
 use Rattle.std.specs.Cmp.{nat_cmp_is}
 use Rattle.std.proofs.lemmas.Bool.{cases_lt}
 use Rattle.std.proofs.lemmas.List.{length-map}
@@ -14,23 +13,19 @@ use Rattle.net_graph.specs.SearchLaws.{Leads-start, Leads-more, Leads-keeps, Lea
 use Rattle.full_tree.specs.declared.code.Tree.{Tree}
 use Rattle.full_tree.specs.Order.{tree_cmp, IsInFileOrder}
 use Rattle.concatenation.specs.Concatenation.{IsMember, SharesTree, IsConcatenation, total_of}
-use Rattle.fst_prune.specs.Kept.{IsRepeat, IsKeptPair, IsReplaced, trees_of, IsKeptSet}
+use Rattle.fst_prune.specs.Kept.{IsRepeat, IsReplaced, trees_of, IsKeptSet}
 use Rattle.fst_prune.specs.LeastTotal.{HasConcatenation, IsNoWorse, IsMatched, HaveOneLeastTotal, PruningKeepsTotals}
 use Rattle.fst_prune.proofs.lemmas.Sums.{weights_of, sum_of_trees, single, length-single, single_has, single_only, sum_of-single, Part, Holds, ComesFrom, Gathered, gather}
 use Rattle.fst_prune.proofs.lemmas.Sublists.{restrict, expand, IsWithin, total_of-restrict, total_of-expand, IsConcatenation-restrict, IsConcatenation-expand}
 use Rattle.fst_prune.proofs.lemmas.Replaced.{weight_at}
 use Rattle.fst_prune.proofs.lemmas.KeptPairs.{flag_cases}
 
--- an earlier tree in file order is no longer
-then_less : (o p : Ordering) → ordering_then o p ≡ Less → (o ≡ Less) ⊎ (o ≡ Equal)
-then_less o p less = grind arith
-
 no_longer : (a b : Tree) → tree_cmp a b ≡ Less → a.length ≤ b.length
 no_longer a b less = ⊎_elim
     (λ (few : b.length < a.length).
     let o = nat_cmp a.length b.length in
     let above : Greater ≡ o = nat_cmp_is a.length b.length Greater few in
-    absurd (⊎_elim (λ (low : o ≡ Less). let e = above ∙ low in cc) (λ (tied : o ≡ Equal). let e = above ∙ tied in cc) (then_less o _ less)))
+    absurd (⊎_elim (λ (low : o ≡ Less). let e = above ∙ low in cc) (λ (tied : o ≡ Equal). let e = above ∙ tied in cc) (grind arith)))
     (λ (most : a.length ≤ b.length). most)
     (cases_lt b.length a.length)
 
@@ -43,10 +38,6 @@ module _ (trees : List Tree) (flags : List Bool) (is : IsKeptSet trees flags) (o
   -- what stands in for a tree
   abbrev StandIn : ℕ → Type 0
   StandIn k = Part (StandsIn trees flags) (weights_of trees) (length trees) k (get_or (weights_of trees) k 0)
-
-  -- a kept pair is kept
-  kept_pair : (k : ℕ) → IsKeptPair trees k → slice_get flags k ≡ Some true
-  kept_pair k pair = grind (arith, same_Some, flag_cases, slice_get_within trees k pair.tree pair.at)
 
   -- a kept tree stands in for itself
   kept_stands : (k : ℕ) → k < length trees → slice_get flags k ≡ Some true → StandIn k
@@ -63,7 +54,7 @@ module _ (trees : List Tree) (flags : List Bool) (is : IsKeptSet trees flags) (o
 
   -- the kept pairs stand in for a tree that they replace
   replaced_stands : (k : ℕ) → IsReplaced trees k → StandIn k
-  replaced_stands k replaced = grind (arith, kept_pair, same_Some, sum_of_trees trees replaced.set, weight_at)
+  replaced_stands k replaced = grind (arith, same_Some, flag_cases, slice_get_within, same_Some, sum_of_trees trees replaced.set, weight_at)
 
   -- what stands in for the earlier tree stands in for its repeat
   repeat_stands : (k : ℕ) (again : IsRepeat trees k) → StandIn again.place → StandIn k

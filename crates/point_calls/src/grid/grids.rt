@@ -42,8 +42,7 @@ fn vertices(grid: &Grid, told: &mut Told) {
 // The vertex of each terminal.
 fn terminals(grid: &Grid, told: &mut Told) {
     for terminal in 0..grid.points().len() {
-        let vertex = grid.vertex(grid.terminal_place(terminal));
-        told.line("terminal ", &vertex);
+        told.line("terminal ", &grid.graph().terminal(terminal));
     }
 }
 

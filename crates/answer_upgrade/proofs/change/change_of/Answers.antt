@@ -19,6 +19,5 @@ returns-then-line-le57-clause-change c = λ v V l fits told.
     bare_line v V l fits (subst (λ x. get_or x 3 0 ≡ 105) told c.if-line-ne105.false) (subst (λ x. get_or x 6 0 ≤ 57) told c.if-line-le57.true)
 
 pub returns-else-line-le57-clause-change : goal.returns-else-line-le57-clause-change
-returns-else-line-le57-clause-change c = λ v V l fits told.
-    named_line v V l fits (λ e. c.if-line-eq114.false (subst (λ x. get_or x 0 0 ≡ 114) (sym told) e))
-    (λ small. let low = subst (λ x. get_or x 6 0 ≤ 57) (sym told) small in omega (arith, c.if-line-le57.false))
+returns-else-line-le57-clause-change c =
+    grind (arith, named_line, c.if-line-eq114.false, c.if-line-le57.false)

@@ -1,7 +1,9 @@
+use Rattle.std.proofs.Math.Seq.{drop-cons}
+use Rattle.std.proofs.lemmas.List.{append-nil, take_more}
 use Rattle.std.proofs.Common.{◌≤◌, ◌++◌, take, drop, refl, arith}
 use Rattle.std.proofs.lemmas.Result.{err_from_is_err_and}
 use Rattle.answer_text.specs.declared.form.Form.TheVariants as form
-use Rattle.answer_upgrade.proofs.StoppedBytes.{stands_for, stops_in, one_byte, all_bytes}
+use Rattle.answer_upgrade.proofs.StoppedBytes.{stands_for, stops_in}
 use Rattle.answer_upgrade.proofs.spelling.feed_some.Goals as goal
 
 pub returns-in_err-_event-clause-stops : goal.returns-in_err-_event-clause-stops
@@ -14,7 +16,7 @@ returns-in_err-_event-clause-stops c =
     let none : n ≤ 0 = omega (arith, c.if-digits-gt0.false) in
     let before = c.feed_digits-digits.ensures.reads (form.OnGrid V) bytes events reads in
     let stops = (c.in_err-_event.ensures.ceases (form.OnGrid V) (bytes ++ take n piece) events before).stops (drop 1 piece) in
-    stops_in V _ _ _ _ _ (all_bytes bytes piece n none c.requires.some) refl stops)
+    stops_in V _ _ _ _ _ (grind (arith, append-nil bytes, drop-cons piece 0 0 c.requires.some)) refl stops)
 
 pub returns-clause-reads : goal.returns-clause-reads
 returns-clause-reads c = λ V bytes reading.
@@ -24,4 +26,4 @@ returns-clause-reads c = λ V bytes reading.
     let none : n ≤ 0 = omega (arith, c.if-digits-gt0.false) in
     let before = c.feed_digits-digits.ensures.reads (form.OnGrid V) bytes events reads in
     let more = c.in_ok-_event.ensures.reads (form.OnGrid V) (bytes ++ take n piece) events before in
-    stands_for V _ _ _ _ (one_byte bytes piece n none c.requires.some) more
+    stands_for V _ _ _ _ (grind (arith, append-nil bytes, take_more piece 0 0 c.requires.some)) more

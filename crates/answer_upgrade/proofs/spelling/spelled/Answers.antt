@@ -49,10 +49,4 @@ returns-then-ended c =
 
 pub returns : goal.returns
 returns c =
-    let (front, parts, reading) = c.loop-rest.invariant.reads in
-    let rest = c.loop-rest.rest.now in
-    let test : (length rest == 0) ≡ true = sym c.is_empty.ensures ∙ c.loop-rest-test.false in
-    let none : length rest ≡ 0 = grind (arith, nat_tests) in
-    let all : front ≡ c.args.bytes.now = sym (parts ∙ ap (λ x. front ++ x) (empty_of rest none) ∙ append-nil front) in
-    let stops = c.if-ended.ensures.reads (form.OnGrid c.args.vertices) front reading.0 reading.1 in
-    stops_in c.args.vertices _ _ _ _ _ all (sym c.line-line.ensures.line) stops
+    grind (arith, nat_tests, empty_of, append-nil, stops_in, c.loop-rest.invariant.reads, c.loop-rest.rest.now, c.is_empty.ensures, c.loop-rest-test.false, c.if-ended.ensures.reads, c.line-line.ensures.line)

@@ -1,7 +1,7 @@
 use Rattle.std.proofs.Common.{arith}
 use Rattle.std.proofs.lemmas.Result.{on_ok_weaker}
 use Rattle.fst_prune.proofs.lemmas.Firsts.{firsts_passed, firsts_added}
-use Rattle.fst_prune.proofs.lemmas.Told.{none_of, some_of}
+use Rattle.fst_prune.proofs.lemmas.Told.{none_of}
 use Rattle.fst_prune.proofs.firsts.add_first.Goals as goal
 
 pub returns : goal.returns
@@ -10,4 +10,4 @@ returns c =
 
 pub returns-then-is_some : goal.returns-then-is_some
 returns-then-is_some c =
-    grind (arith, some_of c.get-2.result c.is_some.result c.is_some.ensures c.if-is_some.true, firsts_passed)
+    grind (arith, firsts_passed)

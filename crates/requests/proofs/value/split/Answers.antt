@@ -1,4 +1,4 @@
-use Rattle.std.proofs.Common.{◌∙◌, codes}
+use Rattle.std.proofs.Common.{codes, arith}
 use Rattle.clap.specs.Words.{found_of, one_of, rows_of}
 use Rattle.clap.proofs.WalkLemmas.{one_text-rows}
 use Rattle.search_rules.specs.Names.{split_named}
@@ -7,7 +7,4 @@ use Rattle.requests.proofs.value.split.Goals as goal
 
 pub returns : goal.returns
 returns c =
-    let same = one_text-rows (found_of c.args.matches.now) (codes "split") in
-    reads split_named (one_of (codes "split") (rows_of (found_of c.args.matches.now))) c.get_one.result
-    (λ e. c.get_one.ensures.none (same ∙ e))
-    (λ t e. named_reads _ _ split_named t c.get_one.result (c.get_one.ensures.value t (same ∙ e)))
+    grind (arith, one_text-rows (found_of c.args.matches.now) (codes "split"), reads, split_named, one_of (codes "split") (rows_of (found_of c.args.matches.now)), named_reads, c.get_one.ensures.none, c.get_one.ensures.value)

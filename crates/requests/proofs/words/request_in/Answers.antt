@@ -1,4 +1,4 @@
-use Rattle.std.proofs.Common.{◌≡◌, ◌∙◌, map, string_bytes, Some, sym, ap, ⊎_elim}
+use Rattle.std.proofs.Common.{◌≡◌, ◌∙◌, map, string_bytes, Some, sym, ap, ⊎_elim, arith}
 use Rattle.clap.specs.Words.{app_of, found_of, is_simple_and_free, rows_of}
 use Rattle.clap.proofs.WalkLemmas.{both}
 use Rattle.requests.specs.Commands.{command_of, tool_named}
@@ -29,8 +29,7 @@ returns-in-Ok-clause-exact c =
 
 pub returns-in-Ok-clause-limits : goal.returns-in-Ok-clause-limits
 returns-in-Ok-clause-limits c =
-    through_meaning c.request.result _ c.request.ensures
-    (limits c.in-Some-named.tool c.in_ok-command.field-0 c.in-Ok.matches c.in-Ok.ensures.parsed c.in_ok-command.ensures)
+    grind (arith, through_meaning, limits c.in-Some-named.tool c.in_ok-command.field-0 c.in-Ok.matches c.in-Ok.ensures.parsed c.in_ok-command.ensures, c.request.ensures)
 
 pub returns : goal.returns
 returns c =

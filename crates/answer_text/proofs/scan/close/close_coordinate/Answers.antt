@@ -13,4 +13,4 @@ returns-in_ok-with_sign-in-Y-clause-none c =
 
 pub returns-in_ok-with_sign-in-Y2-clause-none : goal.returns-in_ok-with_sign-in-Y2-clause-none
 returns-in_ok-with_sign-in-Y2-clause-none c =
-    none_then c.close_name.result c.close_name.ensures.none (λ none. (grind arith))
+    none_then c.close_name.result c.close_name.ensures.none (λ none. grind arith)
