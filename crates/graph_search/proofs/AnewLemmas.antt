@@ -69,8 +69,6 @@ step_ahead old new step.Split opens = record {
 }
 
 module _ (g : Graph) (first later : ℕ) (longer : first ≤ later) where
-  solved_longer : (s : Solved) → IsSolved g first s → IsSolved g later s
-  solved_longer s holds = grind (arith, EndsRunOfOpenings-longer g first later s.network s.tree longer holds.run)
 
   by_kind_longer : (asked : SplitKind) (network : List Bool) (tree : Tree SplitOn) →
       EndsByKind g asked first network tree → EndsByKind g asked later network tree
@@ -87,7 +85,7 @@ anew_told g asked openings first_length stopped found edges was is whole =
     (let no_longer = was.no_longer in let same = was.length in omega (arith, no_longer, same)) in
     let ends = by_kind_longer g (length_of g stopped.network) first_length short kind.Edges found.network found.tree is.by_kind in
     told g asked openings first_length found
-    (solved_longer g (length_of g stopped.network) first_length short found is.solved) is.few whole
+    (grind (arith, EndsRunOfOpenings-longer)) is.few whole
     (subst (λ (k : SplitKind). EndsByKind g k first_length found.network found.tree) (sym edges) ends)
 
 -- so it is where it closes

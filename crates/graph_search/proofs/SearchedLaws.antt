@@ -1,11 +1,10 @@
 -- What a search found, as the record of its end tells it.
-use Rattle.std.proofs.Common.{ℕ, ◌≡◌, ◌<◌, ◌≤◌, Bool, false, Result, Ok, Err, IfOk, min, eqb, IsTrue, ◌↔◌}
+use Rattle.std.proofs.Common.{ℕ, ◌≡◌, ◌≤◌, Bool, false, Result, Ok, Err, IfOk, min, eqb, IsTrue, ◌↔◌}
 use Rattle.std.proofs.Common.{ap, ◌∙◌, subst, arith}
 use Rattle.std.proofs.Math.Nat.{min-le_left}
 use Rattle.std.proofs.lemmas.Bool.{cases_Bool}
 use Rattle.std.proofs.lemmas.Bool.Decides.{eqb_tells}
 use Rattle.net_graph.specs.Graph.{Graph}
-use Rattle.net_graph.specs.Network.{length_of}
 use Rattle.cert_tree.specs.Preorder.{split_count}
 use Rattle.branch.specs.declared.solved.Solved.{Solved}
 use Rattle.branch.specs.declared.split_kind.SplitKind.{SplitKind}
@@ -24,14 +23,10 @@ module _ (g : Graph) (asked : SplitKind) (openings first_length : ℕ) (s : Solv
   bound_is : s.bound ≡ bound_of g s.network s.tree
   bound_is = holds.bound ∙ ap (λ (n : ℕ). min (value_on g s.tree) n) holds.length_is
 
-  -- where the tree's value is below the length it isn't optimal
-  not_optimal : value_on g s.tree < length_of g s.network → s.optimal ≡ false
-  not_optimal below = grind (arith, min-le_left (value_on g s.tree) s.length, cases_Bool s.optimal)
-
   -- What a search found is told as it is.
   pub told : split_count s.tree ≤ openings → (s.optimal ≡ false → split_count s.tree ≡ openings) →
       EndsByKind g asked first_length s.network s.tree → IsTold g asked openings first_length s
-  told few stopped by_kind = grind (arith, bound_is, not_optimal, compared s.optimal s.bound s.length holds.optimal)
+  told few stopped by_kind = grind (arith, bound_is, min-le_left, cases_Bool, compared s.optimal s.bound s.length holds.optimal)
 
 -- The same where memory may be wanting, of a search that made its plain openings from a state on.
 pub told_or_not : {E : Type 0} (g : Graph) (asked : SplitKind) (openings first_length : ℕ) (from : SearchState)

@@ -1,4 +1,5 @@
 -- What a search ended with, and the status of its bound and its length, are true.
+use Rattle.std.proofs.lemmas.Bool.Decides.{eqb_tells}
 use Rattle.std.specs.Prelude.{ℕ, ◌≡◌, Bool, List, ◌↔◌}
 use Rattle.std.proofs.Common.{subst, arith}
 use Rattle.net_graph.specs.Graph.{Graph}
@@ -11,7 +12,7 @@ use Rattle.branch.specs.Runs.{EndsOpenings}
 use Rattle.tool_frame.specs.Statuses.{answer_code}
 use Rattle.graph_search.specs.Searched.{IsSearched, bound_of, value_on}
 use Rattle.graph_search.specs.Status.{status_of_bound}
-use Rattle.graph_search.specs.StatusLaws.{zero_where_equal, value_below}
+use Rattle.graph_search.specs.StatusLaws.{value_below}
 use Rattle.graph_search.specs.Truth.{EndsTruly}
 
 pub ends_truly : (g : Graph) (asked : SplitKind) (openings first_length : ℕ) (network : List Bool)
@@ -21,7 +22,7 @@ pub ends_truly : (g : Graph) (asked : SplitKind) (openings first_length : ℕ) (
     EndsTruly g openings first_length network tree status
 ends_truly g asked openings first_length network tree status searched ends =
     let exact : (status ≡ 0) ↔ (bound_of g network tree ≡ length_of g network) =
-    zero_where_equal (bound_of g network tree) (length_of g network) status ends in record {
+    grind (arith, eqb_tells (bound_of g network tree) (length_of g network)) in record {
       bound = searched.bounds;
       agrees = exact;
       shortest = λ zero. (

@@ -157,8 +157,8 @@ edges_pass g claim front [] k s network is fresh =
     }
 edges_pass g claim front (false ∷ rest) k s network is fresh =
     let behind = edges_pass g claim (front ++ false ∷ []) rest (k + 1) s
-    (network_later g claim.length front false rest network) (grind
-        (arith, length-append front (false ∷ []), later front false (replicate (length rest) false))) fresh in
+    (network_later g claim.length front false rest network)
+    (grind (arith, length-append front (false ∷ []), later front false (replicate (length rest) false))) fresh in
     record {
       last = behind.last;
       runs = behind.runs;

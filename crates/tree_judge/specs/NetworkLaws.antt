@@ -47,8 +47,8 @@ pub same_network_fault : (g : Graph) (printed : ℕ) (network : List Bool) (caus
 same_network_fault g printed network cause cause' fault fault' =
     elim (network_causes g printed network cause fault) [
       | inl (place, is, first) ↦ elim (network_causes g printed network cause' fault') [
-        | inl (place', is', first') ↦ is ∙ ap NotJoined (grind
-            (arith, cases_lt place place', apart_no_sooner, cases_lt place' place)) ∙ sym is'
+        | inl (place', is', first') ↦ is
+            ∙ ap NotJoined (grind (arith, cases_lt place place', apart_no_sooner, cases_lt place' place)) ∙ sym is'
         | inr (said', found', _, wrong') ↦ apart_from_network g network place wrong'.joins first
       ]
       | inr (said, found, is, wrong) ↦ elim (network_causes g printed network cause' fault') [

@@ -18,7 +18,7 @@ use Rattle.full_tree.specs.Code.{named_places}
 use Rattle.full_tree.specs.Form.{across_of, IsOnShortLeg, IsInForm}
 use Rattle.full_tree.specs.Pieces.{piece_between, line_over, foot, side_foot, long_leg, short_leg, drop_pieces, side_piece, crossing_of, pieces_of}
 use Rattle.full_tree.specs.Joined.{IsStraight, GrowsFrom, HangsTogether, ends_of, IsOnGrid, JoinsMembers}
-use Rattle.full_tree.proofs.lemmas.Meets.{ahead, aside, ahead-meet, aside-meet, point_seen-meet, point_seen-foot, straight_ahead, straight_across, same_seen, aside-across, IsCrossing-point_at, IsCrossing-meet}
+use Rattle.full_tree.proofs.lemmas.Meets.{ahead, aside, point_seen-meet, point_seen-foot, straight_ahead, straight_across, same_seen, aside-across, IsCrossing-point_at, IsCrossing-meet}
 use Rattle.hanan_grid.specs.ContainsLaws.{Contains-first}
 use Rattle.full_tree.proofs.lemmas.Grown.{All-first, All-second, line_grows, hung_grow, GrowsFrom-append, tos_of_line, All-places, Contains-ends_to, Contains-line_to, hung_ends}
 
@@ -33,16 +33,16 @@ pub side_foot-meet : (ps : List Point) (root : ℕ) (w : Way) (tip k : ℕ) → 
 side_foot-meet ps root w tip k = point_seen-meet (point_at ps root) w (point_at ps tip) (point_at ps k)
 
 pub aside-foot : (ps : List Point) (root : ℕ) (w : Way) (k : ℕ) → aside w (foot ps root w k) ≡ aside w (point_at ps root)
-aside-foot ps root w k = ap (aside w) (foot-meet ps root w k) ∙ aside-meet w (point_at ps k) (point_at ps root)
+aside-foot ps root w k = ap (aside w) (foot-meet ps root w k) ∙ (grind arith)
 
 pub ahead-foot : (ps : List Point) (root : ℕ) (w : Way) (k : ℕ) → ahead w (foot ps root w k) ≡ ahead w (point_at ps k)
-ahead-foot ps root w k = ap (ahead w) (foot-meet ps root w k) ∙ ahead-meet w (point_at ps k) (point_at ps root)
+ahead-foot ps root w k = ap (ahead w) (foot-meet ps root w k) ∙ (grind arith)
 
 pub ahead-side_foot : (ps : List Point) (root : ℕ) (w : Way) (tip k : ℕ) → ahead w (side_foot ps root w tip k) ≡ ahead w (point_at ps tip)
-ahead-side_foot ps root w tip k = ap (ahead w) (side_foot-meet ps root w tip k) ∙ ahead-meet w (point_at ps tip) (point_at ps k)
+ahead-side_foot ps root w tip k = ap (ahead w) (side_foot-meet ps root w tip k) ∙ (grind arith)
 
 pub aside-side_foot : (ps : List Point) (root : ℕ) (w : Way) (tip k : ℕ) → aside w (side_foot ps root w tip k) ≡ aside w (point_at ps k)
-aside-side_foot ps root w tip k = ap (aside w) (side_foot-meet ps root w tip k) ∙ aside-meet w (point_at ps tip) (point_at ps k)
+aside-side_foot ps root w tip k = ap (aside w) (side_foot-meet ps root w tip k) ∙ (grind arith)
 
 -- where the tip lies straight ahead, it is the corner
 pub corner_is_tip : (ps : List Point) (root : ℕ) (w : Way) (tip : ℕ) → across_of ps root w tip ≡ pos 0 → foot ps root w tip ≡ point_at ps tip

@@ -26,7 +26,7 @@ use Rattle.full_tree.specs.Geometry.{point_at, along, across, RisesFrom, IsBetwe
 use Rattle.full_tree.specs.Form.{along_of, across_of, IsOnShortLeg, IsCrossShape, IsInForm}
 use Rattle.full_tree.specs.Pieces.{piece_between, line_over, foot, side_foot, long_leg, short_leg, drop_pieces, side_piece, crossing_of, length_of_piece, code_length}
 use Rattle.full_tree.proofs.lemmas.Signs.{along-itself, across-itself}
-use Rattle.full_tree.proofs.lemmas.Meets.{ahead, aside, distance_seen, distance_ahead, distance_across, along-same, across-same, lines_ahead, lines_aside, IsRising-lines_aside, Contains-lines_ahead, Contains-lines_aside, IsCrossing-point_at, total_seen}
+use Rattle.full_tree.proofs.lemmas.Meets.{ahead, aside, distance_ahead, distance_across, along-same, across-same, lines_ahead, lines_aside, IsRising-lines_aside, Contains-lines_ahead, Contains-lines_aside, IsCrossing-point_at, total_seen}
 use Rattle.full_tree.proofs.lemmas.Joins.{aside-foot, ahead-foot, ahead-side_foot, aside-side_foot, long_places}
 
 -- ---- counting lines
@@ -95,11 +95,11 @@ rows_enough ps root w tip q leg root_in q_in =
 -- a piece ahead is at most as long as the lines across lie apart
 ahead_le : (ps : List Point) (w : Way) (p q : Point) → aside w p ≡ aside w q → Contains (lines_ahead w ps) (ahead w p) → Contains (lines_ahead w ps) (ahead w q) → distance_between p q ≤ width_of (lines_ahead w ps)
 ahead_le ps w p q level held held' =
-    grind (arith, apart_le (lines_ahead w ps) (ahead w p) (ahead w q) held held' (grind (arith, IsRising-xs_of, IsRising-ys_of)), ints, distance_seen w p q)
+    grind (arith, apart_le (lines_ahead w ps) (ahead w p) (ahead w q) held held' (grind (arith, IsRising-xs_of, IsRising-ys_of)), ints)
 
 -- a drop, from its foot
 drop_le : (ps : List Point) (root : ℕ) (w : Way) (k : ℕ) → root < length ps → k < length ps → distance_between (foot ps root w k) (point_at ps k) ≤ width_of (lines_aside w ps)
-drop_le ps root w k root_in k_in = grind (arith, apart_le (lines_aside w ps) (aside w (foot ps root w k)) (aside w (point_at ps k)) (subst (λ z. Contains (lines_aside w ps) z) (sym (aside-foot ps root w k)) (Contains-lines_aside w ps root root_in)) (Contains-lines_aside w ps k k_in) (IsRising-lines_aside w ps), ints, distance_seen w (foot ps root w k) (point_at ps k))
+drop_le ps root w k root_in k_in = grind (arith, apart_le (lines_aside w ps) (aside w (foot ps root w k)) (aside w (point_at ps k)) (subst (λ z. Contains (lines_aside w ps) z) (sym (aside-foot ps root w k)) (Contains-lines_aside w ps root root_in)) (Contains-lines_aside w ps k k_in) (IsRising-lines_aside w ps), ints)
 
 -- the whole long leg
 reach_le : (ps : List Point) (root : ℕ) (w : Way) (tip : ℕ) → root < length ps → tip < length ps → distance_between (point_at ps root) (foot ps root w tip) ≤ width_of (lines_ahead w ps)

@@ -30,12 +30,6 @@ aside North p = p.x
 aside West p = p.y
 aside South p = p.x
 
-pub ahead-meet : (w : Way) (p q : Point) → ahead w (meet w p q) ≡ ahead w p
-ahead-meet w p q = grind arith
-
-pub aside-meet : (w : Way) (p q : Point) → aside w (meet w p q) ≡ aside w q
-aside-meet w p q = grind arith
-
 -- a point is known by its two coordinates
 pub same_seen : (w : Way) (p q : Point) → ahead w p ≡ ahead w q → aside w p ≡ aside w q → p ≡ q
 same_seen w p q a b = grind arith
@@ -63,10 +57,6 @@ pub straight_across : (w : Way) (p q : Point) → ahead w p ≡ ahead w q → Is
 straight_across w p q same = grind arith
 
 -- ---- distances
-
--- a distance is that ahead and that across
-pub distance_seen : (w : Way) (p q : Point) → distance_between p q ≡ unsigned_abs (ahead w p -ℤ ahead w q) + unsigned_abs (aside w p -ℤ aside w q)
-distance_seen w p q = grind arith
 
 -- a line ahead to a point further ahead is as long as that is further
 pub distance_ahead : (r : Point) (w : Way) (p q : Point) → aside w p ≡ aside w q → along r w p ≤ℤ along r w q → along r w p +ℤ pos (distance_between p q) ≡ along r w q

@@ -1,8 +1,7 @@
 -- Which piece stands at which number.
 use Rattle.std.proofs.Common.{ℕ, zero, suc, ◌+◌, ◌≡◌, ◌<◌, false, List, [], ◌∷◌, ◌++◌, length, get_or, map, refl, ap, subst, ◌∙◌, arith, length-append}
-use Rattle.std.specs.Prelude.{pos, All, Option, Some, is_some, option_map, option_to_list, slice_get}
+use Rattle.std.specs.Prelude.{pos, All, Option, Some, option_map, option_to_list, slice_get}
 use Rattle.std.specs.Ordering.{int_eq}
-use mir.Val.{bool_byte}
 use Rattle.std.proofs.lemmas.List.{length-map}
 use Rattle.std.proofs.lemmas.Option.{slice_get-map, slice_get-get_or, slice_get_within, get_or_from_slice_get}
 use Rattle.points_in.specs.declared.point.Point.{Point}
@@ -29,10 +28,6 @@ slice_get-append_right (y ∷ xs) ys (suc n) k x is at = slice_get-append_right 
 pub All-slice_get : {X : Type 0} (P : X → Type 0) (xs : List X) (n : ℕ) (x : X) → All P xs → slice_get xs n ≡ Some x → P x
 All-slice_get P xs n x all at = subst P (get_or_from_slice_get xs n x x at) (all n x (slice_get_within xs n x at))
 
--- a piece is known by its ends
-pub same_piece : (x : Piece) (p q : Point) → x.from ≡ p → x.to ≡ q → piece_between p q ≡ x
-same_piece x p q from to = grind arith
-
 -- a line's pieces lead from each of its points to the next one
 pub slice_get-line_over : (p : Point) (qs : List Point) (n : ℕ) (d : Point) → n < length qs → slice_get (line_over p qs) n ≡ Some (piece_between (get_or (p ∷ qs) n d) (get_or (p ∷ qs) (n + 1) d))
 slice_get-line_over p [] n d inside = absurd (omega arith)
@@ -47,10 +42,6 @@ length-line_over p (q ∷ qs) = omega (arith, length-line_over q qs)
 pub length-long_leg : (ps : List Point) (root : ℕ) (w : Way) (drops : List ℕ) (tip : ℕ) → length (long_leg ps root w drops tip) ≡ length drops + 1
 length-long_leg ps root w drops tip =
     grind (arith, length-line_over (point_at ps root) (map (foot ps root w) drops ++ foot ps root w tip ∷ []), length-append (map (foot ps root w) drops) (foot ps root w tip ∷ []), length-map drops (foot ps root w))
-
--- a side counts as one, and none as nothing
-pub side_counts : (side : Option ℕ) → bool_byte (is_some side) ≡ length (option_to_list side)
-side_counts side = grind arith
 
 -- a short leg has a piece, and one more where there is a side
 pub length-short_leg : (ps : List Point) (root : ℕ) (w : Way) (side : Option ℕ) (tip : ℕ) → int_eq (across_of ps root w tip) (pos 0) ≡ false → length (short_leg ps root w side tip) ≡ 1 + length (option_to_list side)
@@ -87,7 +78,7 @@ module _ (ps : List Point) (root : ℕ) (w : Way) (drops : List ℕ) (side : Opt
       let hung = drop_pieces ps root w drops in
       let last = side_piece ps root w side tip in
       let piece_to = λ (j : ℕ). piece_between (foot ps root w j) (point_at ps j) in
-      let at = slice_get-map piece_to drops k ∙ ap (option_map piece_to) (slice_get-get_or drops k 0 inside) ∙ ap Some (same_piece x (foot ps root w (get_or drops k 0)) (point_at ps (get_or drops k 0)) from to) in
+      let at = slice_get-map piece_to drops k ∙ ap (option_map piece_to) (slice_get-get_or drops k 0 inside) ∙ ap Some (grind arith) in
       slice_get-append_left (long ++ short ++ hung) last n x
       (slice_get-append_right (long ++ short) hung n k x (omega (arith, length-append long short, length-long_leg ps root w drops tip)) at)
 
@@ -100,4 +91,4 @@ nth_of_side ps root w drops q tip n x is from to =
     let hung = drop_pieces ps root w drops in
     slice_get-append_right (long ++ short ++ hung) (side_piece ps root w (Some q) tip) n 0 x
     (omega (arith, length-append (long ++ short) hung, length-append long short, length-long_leg ps root w drops tip, length-map drops (λ k. piece_between (foot ps root w k) (point_at ps k))))
-    (ap Some (same_piece x (side_foot ps root w tip q) (point_at ps q) from to))
+    (ap Some (grind arith))

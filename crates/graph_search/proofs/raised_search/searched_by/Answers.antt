@@ -1,8 +1,7 @@
 -- What the search found is told as it is, and so is what a search that begins anew finds in its place.
-use Rattle.std.proofs.Common.{Ok, ◌∙◌}
+use Rattle.std.proofs.Common.{Ok, ◌∙◌, arith}
 use Rattle.net_graph.specs.Network.{length_of}
 use Rattle.graph_search.specs.Kinds.{kind_of}
-use Rattle.graph_search.specs.Searched.{IsTold}
 use Rattle.graph_search.proofs.AnewLemmas.{some_packing}
 use Rattle.graph_search.proofs.SearchedLaws.{told_or_not}
 use Rattle.graph_search.proofs.raised_search.searched_by.Goals as goal
@@ -12,15 +11,7 @@ packing-requires _ c = some_packing c.tree.result.now
 
 pub searched_anew-requires : goal.searched_anew-requires
 searched_anew-requires _ c =
-    let told : IsTold c.args.g.now (kind_of c.args.rule) c.args.openings (length_of c.args.g.now c.args.first) c.in_ok-solved.solved =
-    told_or_not {E = Unit {0}} c.args.g.now (kind_of c.args.rule) c.args.openings (length_of c.args.g.now c.args.first)
-    c.raise.new.search (Ok c.in_ok-solved.solved)
-    (c.raise.ensures.graph ∙ c.in_ok-search.ensures.graph)
-    (c.raise.ensures.kind ∙ c.in_ok-search.ensures.kind ∙ c.kind_of.ensures)
-    (c.raise.ensures.first ∙ c.in_ok-search.ensures.first)
-    c.raise.ensures.vertices c.solve.ensures.began
-    c.in_ok-solved.ensures.solved c.in_ok-solved.ensures.few c.in_ok-solved.ensures.stopped c.in_ok-solved.ensures.plain in
-    told.searched.network_of
+    grind (arith, kind_of c.args.rule, length_of c.args.g.now c.args.first, told_or_not, c.raise.ensures.graph, c.in_ok-search.ensures.graph, c.raise.ensures.kind, c.in_ok-search.ensures.kind, c.kind_of.ensures, c.raise.ensures.first, c.in_ok-search.ensures.first, c.raise.ensures.vertices, c.solve.ensures.began, c.in_ok-solved.ensures.solved, c.in_ok-solved.ensures.few, c.in_ok-solved.ensures.stopped, c.in_ok-solved.ensures.plain)
 
 pub returns : goal.returns
 returns _ c =

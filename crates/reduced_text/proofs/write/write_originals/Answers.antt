@@ -1,4 +1,4 @@
-use Rattle.std.specs.Prelude.{◌≡◌, ◌+◌, ◌<◌, length, take, flat_map}
+use Rattle.std.specs.Prelude.{◌+◌, ◌<◌, length, take, flat_map}
 use Rattle.std.proofs.Common.{sym, subst, ◌∙◌, arith}
 use Rattle.std.proofs.lemmas.List.{take_all}
 use Rattle.text_out.specs.GatherLaws.{gathers_two}
@@ -39,11 +39,4 @@ loop-e-preserved g c =
 
 pub returns : goal.returns
 returns g c =
-    let set = c.args.originals.now in
-    let all : take c.loop-e.e set ≡ set = take_all c.loop-e.e set (omega (
-      arith,
-      c.loop-e-test.false,
-      c.len-e-end.ensures,
-    )) in
-    subst (λ s. Gathers (g.S.Sink.state c.args.sink.now) c.args.block.now (flat_map next_number (members_of s))
-    (g.S.Sink.state c.loop-e.sink) c.loop-e.block) all c.loop-e.invariant
+    grind (arith, take_all, next_number, members_of, c.loop-e.e, c.loop-e-test.false, c.len-e-end.ensures, c.loop-e.sink, c.loop-e.block, c.loop-e.invariant)

@@ -1,10 +1,9 @@
 -- The plans of a leaf's children are of the graph, as those of all leaves were.
-use Rattle.std.proofs.Common.{◌+◌, List, All, slice_set, subst, sym}
+use Rattle.std.proofs.Common.{◌+◌, List, All, slice_set, subst, sym, arith, ◌∷◌, drop, take}
 use Rattle.std.specs.Option.{IfSome}
-use Rattle.std.proofs.lemmas.List.Elements.{All-set}
+use Rattle.std.proofs.lemmas.List.Elements.{All-set, All-take, All-append, All-cons, All-drop}
 use Rattle.graph_search.specs.declared.children.Plan.{Plan}
 use Rattle.graph_search.specs.Plans.{IsPlanIn, IsTrialOf}
-use Rattle.graph_search.proofs.SplitLemmas.{All-insert}
 use Rattle.graph_search.proofs.splitting.Splitting.split_next.Goals as goal
 
 pub returns-clause-plans : goal.returns-clause-plans
@@ -15,6 +14,4 @@ returns-clause-plans g c =
     let is : IsTrialOf c.args.search.now leaf trial =
     subst (λ best. IfSome best (IsTrialOf c.args.search.now leaf)) c.in-Some-best.is c.in_ok-trials.ensures in
     subst (λ (plans : List Plan). All P plans) (sym c.in_ok-put_plans.ensures)
-    (All-insert P (slice_set c.args.plans.now.items leaf trial.outside.plan) (leaf + 1) trial.inside.plan
-    (All-set P c.args.plans.now.items leaf trial.outside.plan is.outside.plan c.requires.plans)
-    is.inside.plan)
+    (grind (arith, All-append P (take (leaf + 1) (slice_set c.args.plans.now.items leaf trial.outside.plan)) (trial.inside.plan ∷ drop (leaf + 1) (slice_set c.args.plans.now.items leaf trial.outside.plan)) (All-take P (leaf + 1) (slice_set c.args.plans.now.items leaf trial.outside.plan) (All-set P c.args.plans.now.items leaf trial.outside.plan is.outside.plan c.requires.plans)) (All-cons P trial.inside.plan (drop (leaf + 1) (slice_set c.args.plans.now.items leaf trial.outside.plan)) is.inside.plan (All-drop P (leaf + 1) (slice_set c.args.plans.now.items leaf trial.outside.plan) (All-set P c.args.plans.now.items leaf trial.outside.plan is.outside.plan c.requires.plans)))))
