@@ -11,7 +11,6 @@ pub mod SaturatedLemmas
 pub mod ScanLemmas
 pub mod SearchLemmas
 pub mod SettledLemmas
-pub mod ShorterLemmas
 pub mod LeadsLemmas
 pub mod SolvingLemmas
 pub mod TreeLemmas

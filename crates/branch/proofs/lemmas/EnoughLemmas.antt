@@ -126,7 +126,7 @@ one_at_ends : (fewer more : List VertexState) (e : Edge) (state : EdgeState) →
     one_undecided (state_at_ends more e state) ≤ one_undecided (state_at_ends fewer e state)
 one_at_ends fewer more e Inside misses = omega arith
 one_at_ends fewer more e Outside misses = omega arith
-one_at_ends fewer more e Undecided misses = grind (arith)
+one_at_ends fewer more e Undecided misses = grind arith
 
 left-missing : (es : List Edge) (ss : List EdgeState) (fewer more : List VertexState) → MissesNoFewer fewer more →
     undecided_count (states_at_ends es ss more) ≤ undecided_count (states_at_ends es ss fewer)

@@ -36,12 +36,6 @@ leads_more asked g network tree old new kind graph (n, leads) opens =
     (subst (λ (h : Graph). IsPlainOpening old.kind h old.network new.network old.tree new.tree) graph opens.opening) in
     (suc n, (old.network, old.tree, leads, plain))
 
--- what is told is what the search has
-pub leads_told : (asked : SplitKind) (g : Graph) (network : List Bool) (tree : Tree SplitOn) (s : SearchState) (solved : Solved) →
-    solved.network ≡ s.network → solved.tree ≡ s.tree → LeadsByOpenings asked g network tree s.network s.tree →
-    LeadsByOpenings asked g network tree solved.network solved.tree
-leads_told asked g network tree s solved network_is tree_is leads = grind arith
-
 -- a search that began with one leaf
 pub ends_plain : {E : Type 0} (asked : SplitKind) (g : Graph) (first : List Bool) (start : SearchState) (found : Result Solved E) →
     start.graph ≡ g → start.kind ≡ asked → split_count start.tree ≡ 0 → start.network ≡ shorter_of g first start.shown →

@@ -17,7 +17,6 @@ use Rattle.branch.specs.States.{IsState}
 use Rattle.branch.proofs.lemmas.ListLemmas.{AllZip-weaker}
 use Rattle.branch.proofs.lemmas.VariantLemmas.{variant_state}
 use Rattle.branch.proofs.lemmas.SearchLemmas.{state_of}
-use Rattle.branch.proofs.lemmas.ShorterLemmas.{shorter_own}
 
 -- a run ends with a shorter network, too
 shorter_run : (g : Graph) (first_length n : ℕ) (network less : List Bool) (tree : Tree SplitOn) → EndsOpenings g first_length n network tree →
@@ -30,7 +29,7 @@ pub offered_search : (g : Graph) (old new : Frontier) (best : Best) → IsSearch
 offered_search g old new best search is_best less is =
     let are : AreNotesOf g best.length (leaves_of (nothing_decided g) old.tree) old.notes.items =
     AllZip-weaker (IsKeptNote g old.best.length) (IsKeptNote g best.length)
-    (λ leaf note kept. (kept.0, shorter_own g old.best.length best.length note.network (omega arith) kept.1))
+    (λ leaf note kept. (kept.0, grind arith))
     (leaves_of (nothing_decided g) old.tree) old.notes.items search.notes in
     let was = search.best.length in
     let now = is_best.length in

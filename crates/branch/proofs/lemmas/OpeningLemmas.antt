@@ -62,10 +62,6 @@ pub saturated_inside : (g : Graph) (d : Decided) (packing : List Cut) (n : ℕ) 
     slice_get d.edges n ≡ Some Inside
 saturated_inside g d packing n arc other = grind (arith, saturated_cases g d packing n arc)
 
--- what is chosen is undecided
-pub choice_undecided : (g : Graph) (note : LeafNote) (asked : SplitKind) (on : SplitOn) → IsChoice g note asked on → IsUndecidedSplit g note.decision on
-choice_undecided g note asked on choice = grind arith
-
 -- a decision and what a split adds to it
 pub one_more_outside : (g : Graph) (d now : Decided) (on : SplitOn) → IsUndecidedSplit g d on → now ≡ outside_of d on → DecidesOneMore g d now
 one_more_outside g d now on undecided is = grind arith

@@ -36,7 +36,6 @@ use Rattle.branch.proofs.lemmas.ListLemmas.{two_at, insert-set, AllZip-two_at, A
 use Rattle.branch.proofs.lemmas.VariantLemmas.{IsLike-may_be, like_value, like_split, variant_same, variant_splits, variant_state, variant_split}
 use Rattle.branch.proofs.lemmas.VariantLemmas.{flags_same_before, flags_same_behind, flag_of_outside, flag_of_inside}
 use Rattle.branch.proofs.lemmas.TreeLemmas.{leaves_of-replaced, IsValidTree-replaced, split_count-replaced}
-use Rattle.branch.proofs.lemmas.ShorterLemmas.{shorter_own}
 
 -- a best network and a valid tree with notes are a state
 pub state_of : (g : Graph) (best : Best) (tree : Tree SplitOn) (notes : List LeafNote) → IsBest g best →
@@ -104,7 +103,7 @@ module _ (g : Graph) (old : Frontier) (opening : Opening) (search : IsSearch g o
       let notes = insert-set old.notes.items opening.leaf opening.outside.note opening.inside.note (omega arith) in
       let all : AllZip (IsKeptNote g opening.best.length) first_leaves old.notes.items =
       AllZip-weaker (IsKeptNote g old.best.length) (IsKeptNote g opening.best.length)
-      (λ leaf note kept. (kept.0, shorter_own g old.best.length opening.best.length note.network opened_less kept.1))
+      (λ leaf note kept. (kept.0, grind arith))
       first_leaves old.notes.items search.notes in
       subst (λ (xs : List DecidedLeaf). AllZip (IsKeptNote g opening.best.length) xs
       (insert (slice_set old.notes.items opening.leaf opening.outside.note) (opening.leaf + 1) opening.inside.note)) (sym leaves)

@@ -12,11 +12,8 @@ use Rattle.cert_tree.specs.Tree.Tree.{Leaf, Split}
 use Rattle.cert_tree.specs.Preorder.{split_count}
 use Rattle.branch.specs.declared.split_kind.SplitKind.{SplitKind}
 use Rattle.branch.specs.Kinds.{AreOfKind}
-use Rattle.branch.specs.Searching.{SearchState, IsSettled, OpensTo, TakesStep}
+use Rattle.branch.specs.Searching.{SearchState, OpensTo, TakesStep}
 use Rattle.branch.specs.Solving.{IsSolved}
-
-pub took_settled : (old new : SearchState) (taken : Step) → TakesStep old new taken → taken ≡ step.Settled → IsSettled new
-took_settled old new taken takes is = grind arith
 
 pub took_none : (old new : SearchState) (taken : Step) → TakesStep old new taken → taken ≡ step.Settled → new ≡ old
 took_none old new taken takes is = (subst (λ (s : Step). TakesStep old new s) is takes).1

@@ -1,14 +1,14 @@
 -- What choices say of the sets that respect them, and of searches that go on or end there.
 use Rattle.std.specs.Prelude.{slice_get}
-use Rattle.std.proofs.Common.{ℕ, zero, suc, ◌≡◌, ◌<◌, ◌≤◌, ◌⊎◌, Bool, true, false, Option, Some, None, List, [], ◌∷◌, length, refl, ap, sym, subst, ◌∙◌, inl, inr, ⊎_elim, arith}
+use Rattle.std.proofs.Common.{ℕ, zero, suc, ◌≡◌, ◌<◌, ◌⊎◌, Bool, true, false, Option, Some, None, List, [], ◌∷◌, length, refl, ap, sym, subst, ◌∙◌, inl, inr, ⊎_elim, arith}
 use Rattle.std.specs.Option.{option_map}
 use Rattle.std.proofs.lemmas.Option.{slice_get-map, slice_get_within}
 use Rattle.std.proofs.lemmas.List.{length-map}
 use Rattle.full_tree.specs.declared.code.Tree.{Tree}
 use Rattle.concatenation.specs.declared.choice.Choice.{Choice}
 use Rattle.concatenation.specs.declared.choice.Choice.TheVariants.{Open, Taken, LeftOut}
-use Rattle.concatenation.specs.Concatenation.{IsConcatenation, total_of}
-use Rattle.concatenation.specs.SetLaws.{IsWithin, MoreTreesJoin, TotalsRise}
+use Rattle.concatenation.specs.Concatenation.{IsConcatenation}
+use Rattle.concatenation.specs.SetLaws.{IsWithin, MoreTreesJoin}
 use Rattle.concatenation.specs.Choices.{is_taken, is_left, taken_of, remaining_of, Respects, IsLeastUnder, AreRemainingJoining}
 use Rattle.concatenation.specs.Trails.{CanGoOn, IsNoBetter, IsOpenPlace}
 
@@ -51,24 +51,15 @@ within_remaining choices set size respects = λ k inside.
     (λ left. slice_get-map is_left choices k ∙ ap (option_map is_left) at ∙ ap Some left)
     (left_cases choice)
 
--- the taken trees are among the remaining ones
-pub taken_remain : (choices : List Choice) → IsWithin (taken_of choices) (remaining_of choices)
-taken_remain choices = grind (arith, choice_of, slice_get-map, taken_only)
-
 -- no set respects choices whose remaining trees don't join
 pub none_respects : (n : ℕ) (trees : List Tree) (choices : List Choice) (total : ℕ) → MoreTreesJoin → length choices ≡ length trees
     → ¬ AreRemainingJoining n trees choices → IsNoBetter n trees total choices × IsLeastUnder n trees choices total
 none_respects n trees choices total more size apart =
     let length_is : length (remaining_of choices) ≡ length trees = length-map choices is_left ∙ size in (
-      λ joins. absurd (apart (more n trees (taken_of choices) (remaining_of choices) (taken_remain choices) length_is joins)),
+      λ joins. absurd (apart (more n trees (taken_of choices) (remaining_of choices) (grind (arith, choice_of, slice_get-map, taken_only)) length_is joins)),
       λ set joins respects. absurd (apart (more n trees set (remaining_of choices)
           (within_remaining choices set (joins.size ∙ sym size) respects) length_is joins)),
     )
-
--- a set that respects choices has at least the taken total
-pub taken_least : (n : ℕ) (trees : List Tree) (choices : List Choice) (total : ℕ) → TotalsRise
-    → total ≤ total_of trees (taken_of choices) → IsNoBetter n trees total choices × IsLeastUnder n trees choices total
-taken_least n trees choices total rise below = grind (arith, taken_within)
 
 -- where a search can go on, some place is open
 none_open : (choices : List Choice) → ((k : ℕ) → ¬ IsOpenPlace choices k) → remaining_of choices ≡ taken_of choices

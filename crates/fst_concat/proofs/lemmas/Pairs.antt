@@ -16,7 +16,7 @@ use Rattle.spanning.specs.Leaving.{HasNumbersBelow}
 use Rattle.full_tree.specs.declared.code.Tree.{Tree}
 use Rattle.full_tree.specs.Code.{members_of}
 use Rattle.concatenation.specs.Concatenation.{IsMember, SharesTree, IsConcatenation, total_of}
-use Rattle.fst_concat.specs.Chosen.{HasMembersBelow, HasPairsAlone, IsChosen, IsUpToPairs}
+use Rattle.fst_concat.specs.Chosen.{HasMembersBelow, HasPairsAlone, IsUpToPairs}
 use Rattle.fst_concat.specs.Pairs.{pair_of}
 use Rattle.fst_concat.proofs.lemmas.Levels.{all_cons}
 use Rattle.fst_concat.proofs.lemmas.Totals.{usable_at}
@@ -146,12 +146,6 @@ total-of_pairs (tree ∷ trees) (false ∷ set) = ap (λ rest. 0 + rest) (total-
 pub joined_of : (n : ℕ) (pairs same : List Pair) (answer : Option Joined) (joined : Joined)
     → IfSome answer (IsLeastJoining n pairs) → answer ≡ Some joined → pairs ≡ same → IsLeastJoining n same joined
 joined_of n pairs same answer joined least is equal = grind arith
-
--- it is a concatenation
-pub chosen_of_joined : (n : ℕ) (trees : List Tree) (joined : Joined) → All (HasMembersBelow n) trees
-    → IsLeastJoining n (map pair_of trees) joined → IsChosen n trees joined.places joined.total
-chosen_of_joined n trees joined usable least =
-    grind (arith, concatenation_of_pairs n trees least.set usable least.joins, total-of_pairs trees least.set)
 
 -- .. and no joining by trees of two members is shorter
 pub up_to_joined : (n : ℕ) (trees : List Tree) (joined : Joined) → IsLeastJoining n (map pair_of trees) joined

@@ -1,6 +1,5 @@
 -- Labels as parts: what a merge of labels keeps, and what labels say once all trees are gone through.
 use Rattle.std.specs.Prelude.{slice_get, slice_index, slice_index_or, Contains}
-use Rattle.std.proofs.lemmas.Grind.{same_number_lists}
 use Rattle.std.specs.Option.{option_map, is_some}
 use Rattle.fst_concat.specs.Listed.{tree_members, IsListed}
 use Rattle.std.proofs.lemmas.Bool.{eqb-true}
@@ -66,19 +65,6 @@ below_after first member rest labels from to below = λ i d inside.
     let here : slice_index_or rest i d < length labels = below (suc i) d (omega arith) in
     omega (arith, size, here)
 
--- a member has the label of the first one after its merge
-merged-meets : (labels : List ℕ) (member first : ℕ) → member < length labels → first < length labels
-    → slice_index (merged (slice_index labels member) (slice_index labels first) labels) member
-    ≡ slice_index (merged (slice_index labels member) (slice_index labels first) labels) first
-merged-meets labels member first in_member in_first =
-    grind (
-      arith,
-      merged-at (slice_index labels member) (slice_index labels first) labels member in_member,
-      merge_label-from (slice_index labels member) (slice_index labels first),
-      merged-at (slice_index labels member) (slice_index labels first) labels first in_first,
-      merge_label-to (slice_index labels member) (slice_index labels first),
-    )
-
 -- .. and keeps it
 joined_with-meets : (first : ℕ) (rest labels : List ℕ) (k d : ℕ) → first < length labels → All (λ i. i < length labels) rest
     → k < length rest
@@ -90,7 +76,7 @@ joined_with-meets first (member ∷ rest) labels zero d in_first below within =
     let size : length (merged from to labels) ≡ length labels = length-merged from to labels in
     let in_member : member < length labels = below 0 0 (omega arith) in
     joined_with-keeps first rest (merged from to labels) member first (omega (arith, size)) (omega (arith, size))
-    (merged-meets labels member first in_member in_first)
+    (grind (arith, merged-at (slice_index labels member) (slice_index labels first) labels member in_member, merge_label-from (slice_index labels member) (slice_index labels first), merged-at (slice_index labels member) (slice_index labels first) labels first in_first, merge_label-to (slice_index labels member) (slice_index labels first)))
 joined_with-meets first (member ∷ rest) labels (suc k) d in_first below within =
     let from : ℕ = slice_index labels member in
     let to : ℕ = slice_index labels first in
@@ -108,11 +94,6 @@ joined-meets first rest labels i in_first below (suc k, inside, is) =
 -- a label is the one and becomes the other, or stays
 label_of : (from to x : ℕ) → ((x ≡ from) × (merge_label from to x ≡ to)) ⊎ (merge_label from to x ≡ x)
 label_of from to x = grind (arith, x == from, eqb-true)
-
--- labels that are equal after a merge were equal, or were those of the two
-label_cases : (from to x y : ℕ) → merge_label from to x ≡ merge_label from to y
-    → (x ≡ y) ⊎ (((x ≡ from) × (y ≡ to)) ⊎ ((x ≡ to) × (y ≡ from)))
-label_cases from to x y same = grind (arith, label_of from to y, label_of from to x)
 
 -- Where terminals of one label are related, and the merged ones are, those of one label are related after the merge.
 merged-related : (R : ℕ → ℕ → Type 0) → ((i j : ℕ) → R i j → R j i) → ((i j k : ℕ) → R i j → R j k → R i k)
@@ -133,7 +114,7 @@ merged-related R back onward labels member first in_member in_first related same
     (λ (is_to, is_from). onward i first j (same_related i first in_i in_first is_to)
     (onward first member j (back member first related) (same_related member j in_member in_j (sym is_from))))
     two)
-    (label_cases from to (slice_index labels i) (slice_index labels j) same_label)
+    (grind (arith, label_of from to (slice_index labels j), label_of from to (slice_index labels i)))
 
 -- .. and where all members are related to the first one, after all merges
 joined_with-related : (R : ℕ → ℕ → Type 0) → ((i j : ℕ) → R i j → R j i) → ((i j k : ℕ) → R i j → R j k → R i k)
@@ -263,12 +244,6 @@ pub apart_fails : (n : ℕ) (trees : List Tree) (set : List Bool) (place : ℕ) 
     → IsConcatenation n trees set → ⊥
 apart_fails n trees set place apart joins = apart.apart (joins.joins place apart.within)
 
--- labels that are each merged are the merged ones
-pub merged-from_each : (from to : ℕ) (before after : List ℕ) → length after ≡ length before
-    → ((k : ℕ) → k < length after → slice_index after k ≡ merge_label from to (slice_index before k)) → after ≡ merged from to before
-merged-from_each from to before after size each =
-    grind (arith, same_number_lists, length-merged from to before, merged-at)
-
 -- a tree in an option
 pub tree_of : (found : Option Tree) (members : List ℕ) → option_map tree_members found ≡ Some members
     → (tree : Tree) × (found ≡ Some tree) × (members_of tree.code ≡ members)
@@ -279,17 +254,12 @@ tree_of (Some tree) members at = (tree, refl, some_same at)
 pub listed_below : (n : ℕ) (trees : List Tree) (listed : List (List ℕ)) → IsListed n trees listed → AreBelow n trees
 listed_below n trees listed is = λ k tree at. is.below k (members_of tree.code) (ap (λ xs. slice_get xs k) is.same ∙ slice_get-map tree_members trees k ∙ ap (option_map tree_members) at)
 
--- the tree whose members stand at a place of the list
-pub listed_tree : (n : ℕ) (trees : List Tree) (listed : List (List ℕ)) (k : ℕ) (members : List ℕ) → IsListed n trees listed
-    → slice_get listed k ≡ Some members → (tree : Tree) × (slice_get trees k ≡ Some tree) × (members_of tree.code ≡ members)
-listed_tree n trees listed k members is at = grind (arith, slice_get-map tree_members trees k, tree_of)
-
 -- a listed tree of the set joins its members
 pub ArePartsUpTo-join_listed : (n : ℕ) (trees : List Tree) (listed : List (List ℕ)) (set : List Bool) (place : ℕ) (members labels : List ℕ)
     → IsListed n trees listed → ArePartsUpTo n trees set place labels → slice_get set place ≡ Some true
     → slice_get listed place ≡ Some members → ArePartsUpTo n trees set (place + 1) (joined members labels)
 ArePartsUpTo-join_listed n trees listed set place members labels is parts inside at =
-    grind (arith, listed_tree n trees listed place members is, ArePartsUpTo-join, listed_below n trees listed is)
+    grind (arith, slice_get-map, tree_of, ArePartsUpTo-join, listed_below n trees listed is)
 
 -- what the first terminal of another label says of the set
 pub apart_answer : (n : ℕ) (trees : List Tree) (set : List Bool) (labels : List ℕ) (answer : Option ℕ) → length set ≡ length trees

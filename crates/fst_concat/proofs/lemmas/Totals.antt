@@ -1,7 +1,6 @@
 -- Totals of sets of trees, from a place on; and lists made from trees.
 use Rattle.std.specs.Prelude.{slice_get}
-use Rattle.std.proofs.Common.{ℕ, zero, suc, ◌≡◌, ◌+◌, ◌*◌, ◌<◌, ◌≤◌, Bool, true, false, Some, List, [], ◌∷◌, All, length, map, drop, refl, ap, sym, subst, ◌∙◌, add-one, arith}
-use Rattle.std.specs.Int.{div_ceil}
+use Rattle.std.proofs.Common.{ℕ, zero, suc, ◌≡◌, ◌+◌, ◌<◌, Bool, true, false, Some, List, [], ◌∷◌, All, length, map, drop, refl, ap, sym, subst, ◌∙◌, add-one, arith}
 use Rattle.std.proofs.lemmas.Option.{slice_get_within, slice_get-map, get_or_from_slice_get}
 use Rattle.full_tree.specs.declared.code.Tree.{Tree}
 use Rattle.full_tree.specs.Code.{named_places}
@@ -10,10 +9,6 @@ use Rattle.concatenation.specs.Concatenation.{total_of}
 use Rattle.fst_concat.specs.Chosen.{HasMembersBelow}
 use Rattle.fst_concat.specs.Listed.{tree_members, IsListed}
 use Rattle.fst_concat.proofs.lemmas.Parts.{tree_of}
-
--- a bound in twelfths, rounded up
-pub ceil_within : (taken bound total : ℕ) → 12 * taken + bound ≤ 12 * total → taken + div_ceil bound 12 ≤ total
-ceil_within taken bound total within = omega arith
 
 total-here : (trees : List Tree) (set : List Bool) (k : ℕ) (tree : Tree) → slice_get trees k ≡ Some tree → slice_get set k ≡ Some true
     → total_of (drop k trees) (drop k set) ≡ tree.length + total_of (drop (suc k) trees) (drop (suc k) set)

@@ -2,13 +2,13 @@
 use Rattle.std.specs.Prelude.{slice_set}
 use Rattle.std.proofs.Common.{ℕ, suc, ◌≡◌, ◌+◌, ◌<◌, ◌≤◌, ◌⊎◌, List, [], ◌∷◌, ◌++◌, All, length, min, reverse, ap, sym, subst, ◌∙◌, inl, inr, ⊎_elim, length-set, Result, Ok, Err, OnOk, arith}
 use Rattle.std.proofs.lemmas.Bool.{cases_order}
-use Rattle.std.proofs.lemmas.List.{reverse-append, length-replicate}
+use Rattle.std.proofs.lemmas.List.{reverse-append}
 use Rattle.full_tree.specs.declared.code.Tree.{Tree}
 use Rattle.concatenation.specs.declared.choice.Choice.{Choice}
-use Rattle.concatenation.specs.declared.choice.Choice.TheVariants.{Open, Taken, LeftOut}
+use Rattle.concatenation.specs.declared.choice.Choice.TheVariants.{Taken, LeftOut}
 use Rattle.concatenation.specs.Concatenation.{total_of}
 use Rattle.concatenation.specs.Choices.{taken_of, IsLeastUnder}
-use Rattle.concatenation.specs.Trails.{no_choices, IsOpenPlace, CanGoOn, IsNoBetter}
+use Rattle.concatenation.specs.Trails.{IsOpenPlace, CanGoOn, IsNoBetter}
 use Rattle.fst_concat.specs.declared.trail.Step.TheVariants.{Close, Fork}
 use Rattle.fst_concat.specs.declared.trail_search.Way.{Way}
 use Rattle.fst_concat.specs.declared.judge.Verdict.{Verdict}
@@ -16,7 +16,7 @@ use Rattle.fst_concat.specs.declared.judge.Verdict.TheVariants.{Done, Undecided}
 use Rattle.fst_concat.specs.Verdict.{VerdictHolds}
 use Rattle.fst_concat.specs.UnderWay.{EndsWell, IsOpenUpTo, CompletesAll, IsUnderWay}
 use Rattle.fst_concat.proofs.lemmas.Levels.{all_cons}
-use Rattle.fst_concat.proofs.lemmas.Steps.{CompletesAll-close, CompletesAll-fork, CompletesAll-start}
+use Rattle.fst_concat.proofs.lemmas.Steps.{CompletesAll-close, CompletesAll-fork}
 
 -- all but the first one
 all_rest : {X : Type 0} (P : X → Type 0) (x : X) (xs : List X) → All P (x ∷ xs) → All P xs
@@ -25,13 +25,6 @@ all_rest P x xs all = λ k d within. all (suc k) d (omega arith)
 -- the list of pending choices from its end, with two more
 reverse_two : {X : Type 0} (xs : List X) (a b : X) → reverse (xs ++ a ∷ b ∷ []) ≡ b ∷ a ∷ reverse xs
 reverse_two xs a b = reverse-append xs (a ∷ b ∷ [])
-
--- a search begins
-pub IsUnderWay-start : (n : ℕ) (trees : List Tree) (allowed total : ℕ) (way : Way) → way.steps.items ≡ []
-    → way.pending.items ≡ no_choices trees ∷ [] → way.used ≡ 0 → way.low ≡ 340282366920938463463374607431768211455
-    → IsUnderWay n trees allowed total way (reverse way.pending.items)
-IsUnderWay-start n trees allowed total way steps pending used low =
-    grind (arith, CompletesAll-start, all_cons, length-replicate (length trees) Open)
 
 -- the choices to be judged next are taken from the list
 pub IsUnderWay-pop : (n : ℕ) (trees : List Tree) (allowed total : ℕ) (way after : Way) (choices : List Choice)

@@ -11,11 +11,6 @@ use Rattle.obstacles_in.specs.Format.{obstacles_format}
 abbrev pub HasNoNumber : List (List ℕ) → Type 0
 HasNoNumber words = (z : ℤ) (rest : List (List ℕ)) → FitsSigned w64 z → words ≡ signed_decimal z ∷ rest → ⊥
 
--- behind two words
-pub no_right : (words w1 w2 : List (List ℕ)) (a b : List ℕ) → words ≡ a ∷ w1 → w1 ≡ b ∷ w2 → HasNoNumber w2
-    → (r : Rectangle) → SpellsItem obstacles_format words r → ⊥
-no_right words w1 w2 a b e1 e2 none r spells = grind arith
-
 -- behind three words
 pub no_upper : (words w1 w2 w3 : List (List ℕ)) (a b d : List ℕ) → words ≡ a ∷ w1 → w1 ≡ b ∷ w2 → w2 ≡ d ∷ w3
     → HasNoNumber w3

@@ -21,8 +21,5 @@ box_line b is = (
 pub boxes_word : IsWord (codes "boxes")
 boxes_word = plain (codes "boxes") (omega arith) (omega arith, (omega arith, (omega arith, (omega arith, (omega arith, tt)))))
 
-obstacles_word : IsWord (codes "obstacles")
-obstacles_word = grind (arith, plain)
-
 pub title : IsLineOfWords title_words
-title = grind (arith, plain, obstacles_word)
+title = grind (arith, plain, plain)

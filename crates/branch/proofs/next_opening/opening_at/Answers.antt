@@ -1,6 +1,6 @@
 -- How an open leaf is opened.
 use Rattle.std.proofs.Common.{◌<◌, ◌^◌, arith}
-use Rattle.branch.proofs.lemmas.OpeningLemmas.{note_decided, note_can_split, place_within, place_small, parent_costs, parent_feasible, choice_undecided, one_more_outside, one_more_inside, next_leaf, plain_opening, is_opening}
+use Rattle.branch.proofs.lemmas.OpeningLemmas.{note_decided, note_can_split, place_within, place_small, parent_costs, parent_feasible, one_more_outside, one_more_inside, next_leaf, plain_opening, is_opening}
 use Rattle.branch.proofs.next_opening.opening_at.Goals as goal
 
 pub split_choice-requires-clause-decision : goal.split_choice-requires-clause-decision
@@ -45,18 +45,18 @@ overflow_cast-result _ c =
     let small : c.args.place < 2 ^ 31 = place_small _ _ _ _ c.requires.search _ (next_leaf _ _ _ _ c.requires.search c.requires.next c.index-note.ensures).1 c.requires.few in omega arith
 
 pub decided_outside-requires-clause-undecided : goal.decided_outside-requires-clause-undecided
-decided_outside-requires-clause-undecided _ c = choice_undecided _ _ _ _ c.in_ok-on.ensures
+decided_outside-requires-clause-undecided _ c = grind arith
 
 pub decided_inside-requires-clause-undecided : goal.decided_inside-requires-clause-undecided
-decided_inside-requires-clause-undecided _ c = choice_undecided _ _ _ _ c.in_ok-on.ensures
+decided_inside-requires-clause-undecided _ c = grind arith
 
 pub child_of-requires-clause-one_more : goal.child_of-requires-clause-one_more
 child_of-requires-clause-one_more _ c =
-    one_more_outside _ _ _ _ (choice_undecided _ _ _ _ c.in_ok-on.ensures) c.in_ok-decided_outside.ensures.value
+    one_more_outside _ _ _ _ (grind arith) c.in_ok-decided_outside.ensures.value
 
 pub child_of-requires-2-clause-one_more : goal.child_of-requires-2-clause-one_more
 child_of-requires-2-clause-one_more _ c =
-    one_more_inside _ _ _ _ (choice_undecided _ _ _ _ c.in_ok-on.ensures) c.in_ok-decided_inside.ensures.value
+    one_more_inside _ _ _ _ (grind arith) c.in_ok-decided_inside.ensures.value
 
 pub returns-clause-opening : goal.returns-clause-opening
 returns-clause-opening _ c =

@@ -1,10 +1,10 @@
 -- One more vertex, which is a candidate or isn't.
-use Rattle.std.proofs.Common.{◌≡◌, ◌<◌, true, false, length, sym, ◌∙◌, arith}
+use Rattle.std.proofs.Common.{◌≡◌, ◌<◌, true, length, ◌∙◌, arith}
 use Rattle.branch.specs.Meeting.{edges_at}
-use Rattle.branch.proofs.lemmas.CandidateLemmas.{gathered_more, gathered_kept}
+use Rattle.branch.proofs.lemmas.CandidateLemmas.{gathered_more}
 use Rattle.branch.proofs.lemmas.MeetingLemmas.{count_read}
 use Rattle.branch.proofs.split_choice.undecided_vertices.Goals as goal
-use Rattle.branch.proofs.split_choice.undecided_vertices.Goals.{then-size-gt0+then-vertex_undecided+in_ok-push, else-size-gt0, else-size-gt0-via-then-size-gt0+else-vertex_undecided, else-size-gt0-via-else-size-gt0}
+use Rattle.branch.proofs.split_choice.undecided_vertices.Goals.{then-size-gt0+then-vertex_undecided+in_ok-push, else-size-gt0}
 
 pub loop-v-preserved : goal.loop-v-preserved
 loop-v-preserved c =
@@ -24,13 +24,7 @@ loop-v-preserved c =
             };
             size = let from = w.from.ensures in omega arith;
           }))
-      | else-size-gt0 w ↦ rw w.list-is (gathered_kept _ _ _ _ c.loop-v.invariant (
-          elim w.else-size-gt0.branch [
-            | else-size-gt0-via-then-size-gt0+else-vertex_undecided v ↦ λ sought.
-                let yes = v.vertex_undecided.ensures.1 sought.undecided in
-                let no : true ≡ false = sym yes ∙ v.if-vertex_undecided.false in absurd cc
-            | else-size-gt0-via-else-size-gt0 v ↦ λ sought. let some = sought.some in let none = v.if-size-gt0 in absurd (omega arith)
-          ]))
+      | else-size-gt0 w ↦ rw w.list-is (grind arith)
     ]
 
 pub returns-clause-every : goal.returns-clause-every

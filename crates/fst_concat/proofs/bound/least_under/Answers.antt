@@ -1,7 +1,5 @@
 use Rattle.std.proofs.Common.{arith}
 use Rattle.fst_concat.specs.Levels.{layers_of}
-use Rattle.concatenation.specs.Concatenation.{total_of}
-use Rattle.fst_concat.proofs.lemmas.Totals.{ceil_within}
 use Rattle.fst_concat.proofs.bound.least_under.Goals as goal
 
 pub returns-clause-least : goal.returns-clause-least
@@ -9,4 +7,4 @@ returns-clause-least c = λ set joins respects.
     let bounded = c.partition_bound.ensures c.args.points 12 c.args.trees.now c.args.choices.now (layers_of c.args.points c.args.levels.now) set
     c.requires.size (c.packs.ensures c.if-not-packs.false) joins respects in
     rw (c.div_ceil.ensures, c.from.ensures)
-    (ceil_within c.args.taken c.bound.result (total_of c.args.trees.now set) (omega (arith, bounded, c.bound.ensures.value, c.requires.taken)))
+    (omega arith)

@@ -1,20 +1,15 @@
 -- A least joining by pairs is one by trees of two members.
-use Rattle.std.proofs.Common.{All, ◌∙◌, List, map, sym, subst}
-use Rattle.spanning.specs.declared.pair.Pair.{Pair}
-use Rattle.spanning.specs.Leaving.{HasNumbersBelow}
+use Rattle.std.proofs.Common.{◌∙◌, map, arith}
 use Rattle.fst_concat.specs.Pairs.{pair_of}
-use Rattle.fst_concat.proofs.lemmas.Pairs.{pairs_below, joined_of, chosen_of_joined, up_to_joined, up_to_none, if_ok}
+use Rattle.fst_concat.proofs.lemmas.Pairs.{pairs_below, joined_of, up_to_joined, up_to_none, if_ok, total-of_pairs, concatenation_of_pairs}
 use Rattle.fst_concat.proofs.start.first_best.Goals as goal
 
 pub least_joining-requires-clause-ends : goal.least_joining-requires-clause-ends
 least_joining-requires-clause-ends c =
-    subst (λ (pairs : List Pair). All (HasNumbersBelow c.args.points) pairs) (sym (c.deref.ensures.value ∙ c.in_ok-pairs.ensures))
-    (pairs_below c.args.points c.args.trees.now c.requires.trees)
+    grind (arith, pairs_below c.args.points c.args.trees.now c.requires.trees, c.deref.ensures.value, c.in_ok-pairs.ensures)
 
 pub returns-in-Some-clause-chosen : goal.returns-in-Some-clause-chosen
-returns-in-Some-clause-chosen c = chosen_of_joined c.args.points c.args.trees.now c.in-Some.joined c.requires.trees
-    (joined_of c.args.points c.deref.result.now (map pair_of c.args.trees.now) c.in_ok-joined.field-0 c.in-Some.joined
-    c.in_ok-joined.ensures.least c.in-Some.is (c.deref.ensures.value ∙ c.in_ok-pairs.ensures))
+returns-in-Some-clause-chosen c = grind (arith, concatenation_of_pairs c.args.points c.args.trees.now (joined_of c.args.points c.deref.result.now (map pair_of c.args.trees.now) c.in_ok-joined.field-0 c.in-Some.joined c.in_ok-joined.ensures.least c.in-Some.is (c.deref.ensures.value ∙ c.in_ok-pairs.ensures)).set c.requires.trees (joined_of c.args.points c.deref.result.now (map pair_of c.args.trees.now) c.in_ok-joined.field-0 c.in-Some.joined c.in_ok-joined.ensures.least c.in-Some.is (c.deref.ensures.value ∙ c.in_ok-pairs.ensures)).joins, total-of_pairs c.args.trees.now (joined_of c.args.points c.deref.result.now (map pair_of c.args.trees.now) c.in_ok-joined.field-0 c.in-Some.joined c.in_ok-joined.ensures.least c.in-Some.is (c.deref.ensures.value ∙ c.in_ok-pairs.ensures)).set)
 
 pub returns-in-Some-clause-pairs : goal.returns-in-Some-clause-pairs
 returns-in-Some-clause-pairs c = up_to_joined c.args.points c.args.trees.now c.in-Some.joined

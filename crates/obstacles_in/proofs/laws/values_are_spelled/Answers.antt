@@ -1,3 +1,4 @@
+use Rattle.std.proofs.Common.{arith}
 use Rattle.obstacles_in.proofs.lemmas.Lawful.{obstacles_lawful}
 use Rattle.obstacles_in.proofs.lemmas.Sections.{spelled_obstacles, obstacles_spelled}
 use Rattle.obstacles_in.proofs.laws.values_are_spelled.Goals as goal
@@ -6,6 +7,5 @@ pub values_are_spelled-requires : goal.values_are_spelled-requires
 values_are_spelled-requires c = obstacles_lawful
 
 pub returns : goal.returns
-returns c = λ bytes v.
-    let law = c.values_are_spelled.ensures bytes v in
-    (λ is. spelled_obstacles bytes v (law.0 is), λ is. law.1 (obstacles_spelled bytes v is))
+returns c =
+    grind (arith, spelled_obstacles, obstacles_spelled, c.values_are_spelled.ensures)

@@ -8,7 +8,7 @@ use Rattle.answer_text.proofs.lemmas.SetRuns.{run_more}
 use Rattle.answer_text.proofs.scan.Kept.set_digits.Goals as goal
 
 pub loop-taken-init : goal.loop-taken-init
-loop-taken-init c = grind (arith)
+loop-taken-init c = grind arith
 
 pub add_four-requires-clause-within : goal.add_four-requires-clause-within
 add_four-requires-clause-within c = grind arith

@@ -4,8 +4,8 @@ use Rattle.cert_tree.specs.Preorder.{split_count}
 use Rattle.cert_tree.specs.declared.split.SplitOn.{SplitOn}
 use Rattle.cert_tree.specs.Tree.{Tree}
 use Rattle.branch.specs.Kinds.{AreOfKind}
-use Rattle.branch.proofs.lemmas.SolvingLemmas.{took_settled, took_none, took_split, solved_of, below_length}
-use Rattle.branch.proofs.lemmas.LeadsLemmas.{leads_more, leads_of_kind, leads_told}
+use Rattle.branch.proofs.lemmas.SolvingLemmas.{took_none, took_split, solved_of, below_length}
+use Rattle.branch.proofs.lemmas.LeadsLemmas.{leads_more, leads_of_kind}
 use Rattle.branch.proofs.lemmas.EnoughLemmas.{enough_optimal}
 use Rattle.branch.proofs.branch_and_bound.Search.solve.Goals as goal
 
@@ -34,15 +34,15 @@ returns-in-Settled-clause-few _ c =
 
 pub returns-in-Settled-clause-stopped : goal.returns-in-Settled-clause-stopped
 returns-in-Settled-clause-stopped _ c =
-    grind (arith, took_settled c.loop-made.self c.split_one.new.self c.in_ok-split_one.field-0 c.in_ok-split_one.ensures.step c.in-Settled.is)
+    grind arith
 
 pub returns-in-Settled-clause-below : goal.returns-in-Settled-clause-below
 returns-in-Settled-clause-below _ c =
-    grind (arith, took_settled c.loop-made.self c.split_one.new.self c.in_ok-split_one.field-0 c.in_ok-split_one.ensures.step c.in-Settled.is)
+    grind arith
 
 pub returns-in-Settled-clause-enough : goal.returns-in-Settled-clause-enough
 returns-in-Settled-clause-enough _ c =
-    grind (arith, took_settled c.loop-made.self c.split_one.new.self c.in_ok-split_one.field-0 c.in_ok-split_one.ensures.step c.in-Settled.is)
+    grind arith
 
 pub returns-clause-solved : goal.returns-clause-solved
 returns-clause-solved _ c = grind (arith, solved_of)
@@ -66,7 +66,7 @@ returns-clause-enough _ c = λ of_kind enough.
 
 pub returns-in-Settled-clause-plain : goal.returns-in-Settled-clause-plain
 returns-in-Settled-clause-plain _ c =
-    grind (arith, took_none c.loop-made.self c.split_one.new.self c.in_ok-split_one.field-0 c.in_ok-split_one.ensures.step c.in-Settled.is, leads_told)
+    grind (arith, took_none c.loop-made.self c.split_one.new.self c.in_ok-split_one.field-0 c.in_ok-split_one.ensures.step c.in-Settled.is)
 
 pub returns-clause-plain : goal.returns-clause-plain
-returns-clause-plain _ c = grind (arith, leads_told)
+returns-clause-plain _ c = grind arith
