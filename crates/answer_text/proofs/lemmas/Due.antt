@@ -185,11 +185,8 @@ count_end_fits v F = All-cons (FitsLine v F) (line.Count 0) (edges_end F 0) (ome
 concat_end_fits : (v : Version) (F : Form) → All (FitsLine v F) (concat_end F)
 concat_end_fits v F = All-cons (FitsLine v F) (line.Concat no_note) (end_of v F stage.Count) (omega arith) (count_end_fits v F)
 
-openings_end_fits : (v : Version) (F : Form) → All (FitsLine v F) (end_of v F stage.Openings)
-openings_end_fits v F = grind arith
-
 status_end_fits : (v : Version) (F : Form) → All (FitsLine v F) (end_of v F stage.Status)
-status_end_fits v F = All-cons (FitsLine v F) (line.Status false) (end_of v F stage.Openings) tt (openings_end_fits v F)
+status_end_fits v F = All-cons (FitsLine v F) (line.Status false) (end_of v F stage.Openings) tt (grind arith)
 
 bound_end_fits : (v : Version) (F : Form) → All (FitsLine v F) (end_of v F stage.Bound)
 bound_end_fits v F = All-cons (FitsLine v F) (line.Bound 0) (end_of v F stage.Status) (omega arith) (status_end_fits v F)
@@ -202,7 +199,7 @@ version_end_fits v F stage.Title of room = All-cons (FitsLine v F) (line.Title v
 version_end_fits v F stage.Length of room = length_end_fits v F
 version_end_fits v F stage.Bound of room = bound_end_fits v F
 version_end_fits v F stage.Status of room = status_end_fits v F
-version_end_fits v F stage.Openings of room = openings_end_fits v F
+version_end_fits v F stage.Openings of room = grind arith
 version_end_fits v F stage.Concat of room = concat_end_fits v F
 version_end_fits v F stage.Count of room = count_end_fits v F
 version_end_fits v F (stage.Edges edges) of room = edges_end_fits v F edges room

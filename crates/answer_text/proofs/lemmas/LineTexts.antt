@@ -23,7 +23,7 @@ use Rattle.answer_text.specs.declared.line.Stage.TheVariants as stage
 use Rattle.answer_text.specs.declared.version.Version.{Version}
 use Rattle.answer_text.specs.declared.version.Version.TheVariants as version
 use Rattle.answer_text.specs.Words.{four_value, four_digit, set_text, status_word, concat_word, name_words, point_words, edge_words, vertex_words}
-use Rattle.answer_text.specs.Forms.{HasNote, HasNoNote, SaysKind, set_size}
+use Rattle.answer_text.specs.Forms.{set_size}
 use Rattle.answer_text.specs.Spelling.{FitsName, FitsPoint, FitsEdge, FitsVertex, FitsCut}
 use Rattle.answer_text.specs.Lines.{line_bytes, line_text, lines_text, step}
 use Rattle.answer_text.specs.LineFits.{FitsLine, FitsLines, version_with}
@@ -173,14 +173,6 @@ same_cut_words V c d f g same = (cut_front V c d [] [] f g (ap (λ x. (x ++ code
 same_status : (a b : Bool) → codes "status " ++ status_word a ≡ codes "status " ++ status_word b → a ≡ b
 same_status a b same = (status_front a b [] [] (ap (λ x. x ++ []) (append_cancel_left (codes "status ") (status_word a) (status_word b) same))).0
 
--- version 1 doesn't say what a split is on
-bare_says : (v : Version) → v ≡ version.One → SaysKind v → ⊥
-bare_says v one says = grind arith
-
--- no form has both heads
-two_heads : (F : Form) → HasNote F → HasNoNote F → ⊥
-two_heads F note none = grind arith
-
 -- two lines that are due at one stage of a text and have the same bytes are the same
 pub same_line : (v : Version) (F : Form) (s : Stage) (l m : Line) (s' s'' : Stage) → step s l ≡ Some s' → step s m ≡ Some s'' → FitsLine (version_with v l) F l
     → FitsLine (version_with v m) F m → line_bytes l ≡ line_bytes m → l ≡ m
@@ -190,8 +182,8 @@ same_line v F stage.Bound (line.Bound m) (line.Bound n) s' s'' d e f g same = ap
 same_line v F stage.Status (line.Status a) (line.Status b) s' s'' d e f g same = ap line.Status (same_status a b same)
 same_line v F stage.Openings (line.Openings m) (line.Openings n) s' s'' d e f g same = let few = f.1 in let few_too = g.1 in ap line.Openings (same_number (codes "openings ") m n (omega arith) (omega arith) same)
 same_line v F stage.Openings (line.LastOpenings m) (line.LastOpenings n) s' s'' d e f g same = let few = f.1 in let few_too = g.1 in ap line.LastOpenings (same_number (codes "openings ") m n (omega arith) (omega arith) same)
-same_line v F stage.Openings (line.Openings m) (line.LastOpenings n) s' s'' d e f g same = absurd (two_heads F f.0 g.0)
-same_line v F stage.Openings (line.LastOpenings m) (line.Openings n) s' s'' d e f g same = absurd (two_heads F g.0 f.0)
+same_line v F stage.Openings (line.Openings m) (line.LastOpenings n) s' s'' d e f g same = absurd (grind arith)
+same_line v F stage.Openings (line.LastOpenings m) (line.Openings n) s' s'' d e f g same = absurd (grind arith)
 same_line v F stage.Concat (line.Concat c) (line.Concat k) s' s'' d e f g same = ap line.Concat (grind (arith, number_one))
 same_line v F stage.Count (line.Count m) (line.Count n) s' s'' d e f g same = ap line.Count (same_number (codes "edges ") m n (omega (arith, most_edges-few F)) (omega (arith, most_edges-few F)) same)
 same_line v F (stage.Edges zero) line.Tree line.Tree s' s'' d e f g same = refl
@@ -205,10 +197,10 @@ same_line v F (stage.Body zero (suc p)) (line.Split a) (line.Leaf n) s' s'' d e 
 same_line v F (stage.Body zero (suc p)) (line.SplitEdge a) (line.Leaf n) s' s'' d e f g same = absurd (first_apart 115 108 (omega arith) same)
 same_line v F (stage.Body zero (suc p)) (line.SplitVertex a) (line.Leaf n) s' s'' d e f g same = absurd (first_apart 115 108 (omega arith) same)
 same_line v F (stage.Body zero (suc p)) (line.Split a) (line.Split b) s' s'' d e f g same = ap line.Split (same_edge F (codes "split ") a b f.1 g.1 same)
-same_line v F (stage.Body zero (suc p)) (line.Split a) (line.SplitEdge b) s' s'' d e f g same = absurd (bare_says v f.0 g.0)
-same_line v F (stage.Body zero (suc p)) (line.Split a) (line.SplitVertex b) s' s'' d e f g same = absurd (bare_says v f.0 g.0)
-same_line v F (stage.Body zero (suc p)) (line.SplitEdge a) (line.Split b) s' s'' d e f g same = absurd (bare_says v g.0 f.0)
-same_line v F (stage.Body zero (suc p)) (line.SplitVertex a) (line.Split b) s' s'' d e f g same = absurd (bare_says v g.0 f.0)
+same_line v F (stage.Body zero (suc p)) (line.Split a) (line.SplitEdge b) s' s'' d e f g same = absurd (grind arith)
+same_line v F (stage.Body zero (suc p)) (line.Split a) (line.SplitVertex b) s' s'' d e f g same = absurd (grind arith)
+same_line v F (stage.Body zero (suc p)) (line.SplitEdge a) (line.Split b) s' s'' d e f g same = absurd (grind arith)
+same_line v F (stage.Body zero (suc p)) (line.SplitVertex a) (line.Split b) s' s'' d e f g same = absurd (grind arith)
 same_line v F (stage.Body zero (suc p)) (line.SplitEdge a) (line.SplitEdge b) s' s'' d e f g same = ap line.SplitEdge (same_edge F (codes "split edge ") a b f.1 g.1 same)
 same_line v F (stage.Body zero (suc p)) (line.SplitEdge a) (line.SplitVertex b) s' s'' d e f g same = absurd (splits_apart a b same)
 same_line v F (stage.Body zero (suc p)) (line.SplitVertex a) (line.SplitEdge b) s' s'' d e f g same = absurd (splits_apart b a (sym same))

@@ -37,7 +37,7 @@ use Rattle.answer_text.proofs.lemmas.Steps.{step-done}
 use Rattle.answer_text.specs.declared.scan.Kept.{Kept}
 use Rattle.answer_text.proofs.lemmas.FormLemmas.{first_of, room_behind, version_behind}
 use Rattle.answer_text.proofs.lemmas.Machine.{run-append, answer_value}
-use Rattle.answer_text.proofs.lemmas.ScanLines.{start_due, start_left, start_ended}
+use Rattle.answer_text.proofs.lemmas.ScanLines.{start_due, start_left}
 use Rattle.answer_text.proofs.lemmas.ScanMore.{some_left, underway, underway-open}
 
 -- ---- the first byte is due
@@ -65,7 +65,7 @@ reads_none F reader some form_is title version_is begins head name first none si
       left = λ rest l s' read. subst (λ c. Left reader.kept c rest l) (sym scan_is) (start_left F reader.kept reader.kept.version reader.kept.stage s' rest l size refl refl read);
       sound = subst (IsSound reader.kept) (sym scan_is) (kept_sound F [] [] reader.kept.stage reader.kept.version reader.head reader.line [] reader.kept so_far some);
       name = name;
-      at_end = λ e. (start_ended F reader.kept.version reader.kept.stage (sym scan_is ∙ e), refl);
+      at_end = λ e. ((grind arith), refl);
       count = none;
       form = form_is;
       some = some;
@@ -181,7 +181,7 @@ reads_line F bytes events old new told r ends fed =
       left = λ rest l s' read'. subst (λ c. Left new.kept c rest l) (sym next) (start_left F new.kept new.kept.version new.kept.stage s' rest l size refl refl read');
       sound = subst (IsSound new.kept) (sym next) (kept_sound F (bytes ++ 10 ∷ []) [] new.kept.stage new.kept.version new.head new.line (events ++ told_now) new.kept lines r.some);
       name = closes.name;
-      at_end = λ e. (start_ended F new.kept.version new.kept.stage (sym next ∙ e), refl);
+      at_end = λ e. ((grind arith), refl);
       count = fed ∙ ap (λ n. n + 1) r.count ∙ sym (length-append bytes (10 ∷ []));
       form = ends.form ∙ r.form;
       some = r.some;

@@ -217,7 +217,3 @@ line_start F k v s s' rest l size version_is is told fits due = absurd cc
 
 pub start_left : (F : Form) (k : Kept) (v : Version) (s s' : Stage) (rest : List ℕ) (l : Line) → length k.members ≡ set_size F → k.version ≡ v → k.stage ≡ s → IsLineRead v F s rest l s' → Left k (first_scan F v s) rest l
 start_left F k v s s' rest l size version_is is read = line_start F k v s s' rest l size version_is is read.told read.fits read.due
-
--- only behind the end nothing is due
-pub start_ended : (F : Form) (v : Version) (s : Stage) → first_scan F v s ≡ scan.Ended → s ≡ stage.Done
-start_ended F v s e = grind arith

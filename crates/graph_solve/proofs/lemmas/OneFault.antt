@@ -20,10 +20,6 @@ one_without_length : (file : StpValue) (n m : ℕ) → IsFirstWithoutLength file
 one_without_length file n m (place, is, first) (place', is', first') =
     is ∙ ap (λ k. k + 1) (one_first (λ e. e.length ≡ 0) file.edges place place' first first') ∙ sym is'
 
-one_node : (g : Graph) (n m : ℕ) → IsFirstApartNode g n → IsFirstApartNode g m → n ≡ m
-one_node g n m first other =
-    grind (arith, one_apart g (all_edges g) first.place other.place first.first other.first, same_Some)
-
 -- ---- the faults, one condition after another
 
 -- a fault of the first kind, or the condition that rules that kind out, and a later fault
@@ -88,7 +84,7 @@ module _ (file : StpValue) where
   -- each stage has one fault
   one_at_apart : One apart_stage
   one_at_apart f g (n, first, is) (m, other, is') =
-      is ∙ ap Apart (one_node (graph_of_stp file) n m first other) ∙ sym is'
+      is ∙ ap Apart (grind (arith, one_apart (graph_of_stp file) (all_edges (graph_of_stp file)) first.place other.place first.first other.first, same_Some)) ∙ sym is'
 
   one_at_total : One total_stage
   one_at_total = one_stage _ _ _ (one_where _ _) (λ f here past. (let many = here.0 in omega arith)) one_at_apart

@@ -1,9 +1,9 @@
 -- What is said of the edges of a file is said of those of its graph, and back.
-use Rattle.std.specs.Prelude.{ℕ, ◌≡◌, ◌+◌, ◌<◌, ◌≤◌, List, [], ◌∷◌, ◌++◌, length, get_or, take, map, sum_by, slice_get, Some, All, option_map}
+use Rattle.std.specs.Prelude.{ℕ, ◌≡◌, ◌+◌, ◌<◌, List, [], ◌∷◌, length, get_or, map, sum_by, slice_get, Some, All, option_map}
 use Rattle.std.proofs.Common.{ap, sym, ◌∙◌, subst, refl, arith}
-use Rattle.std.proofs.lemmas.List.{length-map, get_or-map, map_more}
+use Rattle.std.proofs.lemmas.List.{length-map, get_or-map}
 use Rattle.std.proofs.lemmas.List.Sums.{sum_by-cons}
-use Rattle.std.proofs.lemmas.Option.{slice_get-map, slice_get_within, slice_get-get_or, get_or_from_slice_get, same_Some}
+use Rattle.std.proofs.lemmas.Option.{slice_get-map, slice_get_within, slice_get-get_or, same_Some}
 use Rattle.stp_format.specs.declared.edge.StpEdge.{StpEdge}
 use Rattle.stp_format.specs.Value.{StpValue}
 use Rattle.net_graph.specs.declared.edge.Edge.{Edge}
@@ -55,12 +55,6 @@ pub terminals-left : (terminals : List ℕ) → 0 < length terminals → without
 terminals-left [] some none = omega arith
 terminals-left (t ∷ terminals) some none = cc
 
--- no number is the first of what none of them is
-pub IsFirst-none : (bound : ℕ) (ns : List ℕ) (place : ℕ) → All (λ n. n < bound) ns →
-    IsFirst (λ n. bound ≤ n) ns place → ⊥
-IsFirst-none bound ns place each first =
-    grind (arith, each place 0 (slice_get_within ns place first.here.0 first.here.1), get_or_from_slice_get ns place first.here.0 0 first.here.1)
-
 -- the lengths of a file whose graph's edges have lengths
 pub HasLengths-from_edges : (file : StpValue) (edges : List Edge) → HasTerminal file → edges ≡ map edge_of file.edges →
     All (λ e. 0 < e.length) edges → HasLengths file
@@ -76,10 +70,3 @@ pub IsFirstWithoutLength-from_edges : (file : StpValue) (edges : List Edge) (pla
     edges ≡ map edge_of file.edges → IsFirst (λ e. e.length ≡ 0) edges place → IsFirstWithoutLength file (place + 1)
 IsFirstWithoutLength-from_edges file edges place same first =
     (place, refl, IsFirst-edges file.edges place (subst (λ es. IsFirst (λ (e : Edge). e.length ≡ 0) es place) same first))
-
--- one more edge of a file
-pub edges_more : (edges : List StpEdge) (done : List Edge) (n : ℕ) (e : StpEdge) (next : Edge) →
-    slice_get edges n ≡ Some e → done ≡ map edge_of (take n edges) → next ≡ edge_of e →
-    done ++ next ∷ [] ≡ map edge_of (take (n + 1) edges)
-edges_more edges done n e next at so_far is =
-    grind (arith, get_or_from_slice_get edges n e e, slice_get_within edges n e, map_more edge_of edges n e (slice_get_within edges n e at))

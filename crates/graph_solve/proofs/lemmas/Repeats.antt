@@ -33,11 +33,6 @@ pub record AreListed (numbers : List ℕ) (marks : List Bool) (list : List ℕ) 
   pub once : list ≡ without_repeats numbers
   pub marked : (v : ℕ) → has marks v ≡ holds v list
 
--- a number that is marked stands in the list
-pub AreListed-repeat : (numbers : List ℕ) (marks : List Bool) (list : List ℕ) (v : ℕ) → AreListed numbers marks list →
-    has marks v ≡ true → AreListed (numbers ++ v ∷ []) marks list
-AreListed-repeat numbers marks list v are marked = grind (arith, are.marked v, without_repeats-push numbers v)
-
 -- a disjunction with a single test
 or_held : (b : Bool) → true ≡ (b || (true || false))
 or_held true = refl
@@ -53,11 +48,6 @@ holds-push : (marks : List Bool) (list : List ℕ) (v w : ℕ) → v < length ma
 holds-push marks list v w within before =
     grind (arith, list_any-append, get_or-set_same marks v true false within, eq-eqb v v refl, or_held (holds v list), get_or-set_other, ne_eqb, or_missing (holds w list), cases_eq w v)
 
-pub AreListed-new : (numbers : List ℕ) (marks : List Bool) (list : List ℕ) (v : ℕ) → AreListed numbers marks list →
-    has marks v ≡ false → v < length marks → AreListed (numbers ++ v ∷ []) (slice_set marks v true) (list ++ v ∷ [])
-AreListed-new numbers marks list v are unmarked within =
-    grind (arith, are.marked v, without_repeats-push numbers v, holds-push)
-
 -- the vertices of the terminals up to one more
 vertices_more : (terminals : List ℕ) (n node : ℕ) → slice_get terminals n ≡ Some node →
     map vertex_of (take (n + 1) terminals) ≡ map vertex_of (take n terminals) ++ vertex_of node ∷ []
@@ -70,14 +60,14 @@ pub listed_new : (terminals : List ℕ) (n node : ℕ) (marks : List Bool) (list
     has marks (vertex_of node) ≡ false → vertex_of node < length marks →
     AreListed (map vertex_of (take (n + 1) terminals)) (slice_set marks (vertex_of node) true) (list ++ vertex_of node ∷ [])
 listed_new terminals n node marks list at are unmarked within =
-    grind (arith, vertices_more terminals n node, AreListed-new (map vertex_of (take n terminals)) marks list (vertex_of node) are unmarked within)
+    grind (arith, vertices_more terminals n node, are.marked (vertex_of node), without_repeats-push (map vertex_of (take n terminals)) (vertex_of node), holds-push)
 
 -- .. or a repeat
 pub listed_repeat : (terminals : List ℕ) (n node : ℕ) (marks : List Bool) (list : List ℕ) →
     slice_get terminals n ≡ Some node → AreListed (map vertex_of (take n terminals)) marks list →
     has marks (vertex_of node) ≡ true → AreListed (map vertex_of (take (n + 1) terminals)) marks list
 listed_repeat terminals n node marks list at are marked =
-    grind (arith, vertices_more terminals n node, AreListed-repeat (map vertex_of (take n terminals)) marks list (vertex_of node) are marked)
+    grind (arith, vertices_more terminals n node, are.marked (vertex_of node), without_repeats-push (map vertex_of (take n terminals)) (vertex_of node))
 
 -- the vertex of a node
 pub vertex_of-below : (nodes node : ℕ) → IsTrue (is_node nodes node) → vertex_of node < nodes

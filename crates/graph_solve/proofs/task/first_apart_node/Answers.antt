@@ -1,4 +1,4 @@
-use Rattle.std.proofs.Common.{◌+◌, ap, ◌∙◌, arith, length, slice_index_or}
+use Rattle.std.proofs.Common.{◌+◌, ap, ◌∙◌, arith, slice_index_or}
 use Rattle.std.proofs.lemmas.Option.{slice_get_within, get_or_from_slice_get}
 use Rattle.net_graph.specs.Network.{IsFirstApart}
 use Rattle.graph_solve.specs.Task.{all_edges}
@@ -7,18 +7,11 @@ use Rattle.graph_solve.proofs.task.first_apart_node.Goals as goal
 
 pub returns-in-None-clause-none : goal.returns-in-None-clause-none
 returns-in-None-clause-none c =
-    joined_by_all c.args.g.now c.in_ok-all.all c.in_ok-first_apart.field-0
-    (whole_set c.args.g.now c.in_ok-all.all c.edge_count.result c.in_ok-all.ensures c.edge_count.ensures.count)
-    c.in-None.is c.in_ok-first_apart.ensures.none
+    grind (arith, joined_by_all c.args.g.now c.in_ok-all.all c.in_ok-first_apart.field-0 (whole_set c.args.g.now c.in_ok-all.all c.edge_count.result c.in_ok-all.ensures c.edge_count.ensures.count) c.in-None.is c.in_ok-first_apart.ensures.none)
 
 pub bounds-terminals-place : goal.bounds-terminals-place
 bounds-terminals-place c =
-    let apart : IsFirstApart c.args.g.now (all_edges c.args.g.now) c.in-Some.place =
-    apart_by_all c.args.g.now c.in_ok-all.all c.in_ok-first_apart.field-0 c.in-Some.place
-    (whole_set c.args.g.now c.in_ok-all.all c.edge_count.result c.in_ok-all.ensures c.edge_count.ensures.count)
-    c.in-Some.is c.in_ok-first_apart.ensures.first in
-    let within = slice_get_within c.args.g.now.terminals c.in-Some.place apart.terminal apart.at in
-    omega (arith, within, ap length c.terminals-terminals.ensures.terminals)
+    grind (arith, all_edges c.args.g.now, apart_by_all c.args.g.now c.in_ok-all.all c.in_ok-first_apart.field-0 c.in-Some.place (whole_set c.args.g.now c.in_ok-all.all c.edge_count.result c.in_ok-all.ensures c.edge_count.ensures.count) c.in-Some.is c.in_ok-first_apart.ensures.first, slice_get_within, c.terminals-terminals.ensures.terminals)
 
 pub returns-clause-first : goal.returns-clause-first
 returns-clause-first c =
