@@ -69,7 +69,6 @@ step_ahead old new step.Split opens = record {
 }
 
 module _ (g : Graph) (first later : ℕ) (longer : first ≤ later) where
-
   by_kind_longer : (asked : SplitKind) (network : List Bool) (tree : Tree SplitOn) →
       EndsByKind g asked first network tree → EndsByKind g asked later network tree
   by_kind_longer asked network tree ends =

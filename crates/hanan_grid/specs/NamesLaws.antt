@@ -97,11 +97,15 @@ pub edge_cases : (xs ys : List ℤ) (e : ℕ) → e < length (edges_of_lines xs 
 edge_cases xs ys e inside =
     let across = length ys * (length xs - 1) in
     elim (cases_lt e across) [
-      | inl before ↦ inl (e / (length xs - 1), e % (length xs - 1), (grind (
-        arith,
-        column_of-below,
-        row_of-below,
-        vertex_number-parts (length xs - 1) e)),
+      | inl before ↦ inl (
+        e / (length xs - 1),
+        e % (length xs - 1),
+        (grind (
+          arith,
+          column_of-below,
+          row_of-below,
+          vertex_number-parts (length xs - 1) e,
+        )),
       )
       | inr behind ↦ let k = e - across in
           inr (

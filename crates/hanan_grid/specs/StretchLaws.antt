@@ -618,7 +618,7 @@ Leads-stretch ps p q set v is holds on =
           (IsBetween-same p.x q.x (line_at xs (place_of p.x xs)) (line_at xs (place_of q.x xs))
           (line_at xs i) x x' on.between.x)
           (λ e inside. holds e
-              (grind (arith, IsOnStretch-in_row ps r (place_of p.x xs) (place_of q.x xs) e at.a_in at.b_in inside))) in
+          (grind (arith, IsOnStretch-in_row ps r (place_of p.x xs) (place_of q.x xs) e at.a_in at.b_in inside))) in
           subst (λ w. Leads Step (vertex_of xs ys p) w) (ap (λ k. vertex_number nx i k) (sym row) ∙ parts) led
     ]
 

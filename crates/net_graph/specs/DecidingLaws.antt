@@ -24,7 +24,7 @@ IsRequired-with_edge g d n v state undecided required =
       | inl here ↦
           let same : Undecided ≡ Inside =
           same_Some _ _ (sym (grind (arith, states_of-parts g d n Undecided undecided, state_at_ends-undecided))
-              ∙ ap (slice_get d.edges) (sym here) ∙ is) in cc
+          ∙ ap (slice_get d.edges) (sym here) ∙ is) in cc
       | inr apart ↦ slice_get-set_other d.edges n k state apart ∙ is
     ]
 

@@ -14,7 +14,6 @@ pub record IsGathered (IsCandidate : Candidate → Type 0) (IsSought : ℕ → T
   pub every : list ≡ [] → (n : ℕ) → n < seen → IsSought n → ⊥
 
 module _ (IsCandidate : Candidate → Type 0) (IsSought : ℕ → Type 0) where
-
   pub gathered_more : (seen : ℕ) (list : List Candidate) (c : Candidate) → IsGathered IsCandidate IsSought seen list → IsCandidate c →
       IsGathered IsCandidate IsSought (seen + 1) (list ++ c ∷ [])
   gathered_more seen list c so_far candidate =

@@ -81,7 +81,11 @@ few_bytes-2 a V is =
       bytes_in-append (head_lines a.version a.head) (body_lines a),
       bytes_in-append (network_lines a.edges) (proof_lines a.version a.tree),
       head_lines-2 a.version a V is,
-      bytes_in-cons line.Tree (tree_lines version.Two a.tree ++ line.End ∷ []), bytes_in-append (tree_lines version.Two a.tree) (line.End ∷ []), bytes_in-cons line.Tree (tree_lines a.version a.tree ++ line.End ∷ []), bytes_in-append (tree_lines a.version a.tree) (line.End ∷ []), tree_lines-2 a.version a.tree,
+      bytes_in-cons line.Tree (tree_lines version.Two a.tree ++ line.End ∷ []),
+      bytes_in-append (tree_lines version.Two a.tree) (line.End ∷ []),
+      bytes_in-cons line.Tree (tree_lines a.version a.tree ++ line.End ∷ []),
+      bytes_in-append (tree_lines a.version a.tree) (line.End ∷ []),
+      tree_lines-2 a.version a.tree,
     )
 
 pub answer_text-2 : (a : WrittenAnswer) (V : ℕ) → IsVersionOf (form.OnGrid V) a.version →

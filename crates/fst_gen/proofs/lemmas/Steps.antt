@@ -216,7 +216,6 @@ module _ (ps : List Point) (k : ℕ) where
 -- ---- crosses: one terminal after another
 
 module _ (ps : List Point) (k : ℕ) (Of : ℕ → TreeCode → Type 0) where
-
   pub Below-step : (n : ℕ) (old mid new : BTreeMap ℕ Tree) → Stores ps k (Below Of n) old mid → Stores ps k (Of n) mid new
       → Stores ps k (Below Of (n + 1)) old new
   Below-step n old mid new a b = Stores-then ps k (Below Of n) (Of n) (Below Of (n + 1)) old mid new a b (λ code kind wanted. grind arith)

@@ -14,7 +14,6 @@ use Rattle.fst_prune.proofs.lemmas.Firsts.{same_first, found_first, found_some}
 use Rattle.fst_prune.proofs.lemmas.Places.{slice_get_push_old, slice_get_push_last, slice_get_push_cases, climbs_at, climbs_two}
 
 module _ (trees : List Tree) (places : List ℕ) where
-
   -- behind the last pair of a place the next place begins
   pub pairs_next : (upper : ℕ) (pairs : List Pair) → upper < length places → length places ≤ 8 → ArePairsWithin trees places upper upper pairs
       → ArePairsWithin trees places (upper + 1) 0 pairs

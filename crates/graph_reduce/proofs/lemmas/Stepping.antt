@@ -95,7 +95,6 @@ pub within_forced : (v : ℕ) (old new : State) → ForcesEdge v old new → IsW
 within_forced v old new forces = grind (arith, length-set old.edges forces.place None, found_before)
 
 module _ (v : ℕ) (old new : State) (tidy : IsTidy old) (joins : JoinsEdges v old new) where
-
   abbrev then : State
   then = after v old new joins
 

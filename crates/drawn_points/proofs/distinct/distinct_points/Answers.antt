@@ -10,4 +10,4 @@ unreachable-requires c =
 
 pub loop-point-preserved : goal.loop-point-preserved
 loop-point-preserved c =
-    grind (arith, added_next c.as_slice-drawn.result.now c.args.drawn.now c.loop-point.points c.add.new.self c.loop-point.point-index (record {x = pos 0 ; y = pos 0}) c.in-Ok.field-0 c.add.result c.as_slice-drawn.ensures.points c.loop-point.invariant c.loop-point-test.true c.in-Ok.is (record {new = c.add.ensures.new ; new_point = c.add.ensures.new_point ; repeat = c.add.ensures.repeat ; repeat_kept = c.add.ensures.repeat_kept ;}))
+    grind (arith, added_next c.as_slice-drawn.result.now c.args.drawn.now c.loop-point.points c.add.new.self c.loop-point.point-index (record { x = pos 0; y = pos 0 }) c.in-Ok.field-0 c.add.result c.as_slice-drawn.ensures.points c.loop-point.invariant c.loop-point-test.true c.in-Ok.is (record { new = c.add.ensures.new; new_point = c.add.ensures.new_point; repeat = c.add.ensures.repeat; repeat_kept = c.add.ensures.repeat_kept }))
