@@ -60,7 +60,7 @@ meeting (e ∷ es) (true ∷ set) v some =
     (λ (none : end_count v e ≡ 0). meeting_later e true es set v (meeting es set v (omega arith)))
     (grind arith)
 
--- .. as a loop writes the next number
+-- the edges at a vertex with a further one, as a loop writes its number
 pub counted_more : (es : List Edge) (set : List Bool) (n v count : ℕ) (e : Edge) → slice_get es n ≡ Some e → slice_get set n ≡ Some true →
     count ≡ edges_at (take n es) set v → count + end_count v e ≡ edges_at (take (n + 1) es) set v
 counted_more es set n v count e at within is = rw add-one (omega (arith, edges_at-more es set n v e at within))

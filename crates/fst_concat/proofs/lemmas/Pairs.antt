@@ -147,7 +147,7 @@ pub joined_of : (n : ℕ) (pairs same : List Pair) (answer : Option Joined) (joi
     → IfSome answer (IsLeastJoining n pairs) → answer ≡ Some joined → pairs ≡ same → IsLeastJoining n same joined
 joined_of n pairs same answer joined least is equal = grind arith
 
--- .. and no joining by trees of two members is shorter
+-- no joining by trees of two members is shorter than a least one
 pub up_to_joined : (n : ℕ) (trees : List Tree) (joined : Joined) → IsLeastJoining n (map pair_of trees) joined
     → IsUpToPairs n trees joined.total
 up_to_joined n trees joined least = λ set joins alone.

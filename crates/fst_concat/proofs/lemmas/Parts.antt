@@ -65,7 +65,7 @@ below_after first member rest labels from to below = λ i d inside.
     let here : slice_index_or rest i d < length labels = below (suc i) d (omega arith) in
     omega (arith, size, here)
 
--- .. and keeps it
+-- a further member has the label of the first one, from its merge on
 joined_with-meets : (first : ℕ) (rest labels : List ℕ) (k d : ℕ) → first < length labels → All (λ i. i < length labels) rest
     → k < length rest
     → slice_index (joined_with first rest labels) (slice_index_or rest k d) ≡ slice_index (joined_with first rest labels) first

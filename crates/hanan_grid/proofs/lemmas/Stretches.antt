@@ -28,7 +28,7 @@ pub column_found : (ps : List Point) (p q : Point) (column a b : ℕ) → IsGrid
 column_found ps p q column a b is other at from to =
     rw (at, from, to) (IsColumnStretch-from_same ps p q is.from is.to (same_x ps p q is other))
 
--- .. so a set with the stretch's edges joins them
+-- a set with a stretch's edges joins its ends
 pub joins_ends : (ps : List Point) (p q : Point) (set : List Bool) → IsGridStretch ps p q →
     ((e : ℕ) → IsOnStretch ps p q e → slice_get set e ≡ Some true) →
     Joins (hanan_grid_of ps) set (vertex_of (xs_of ps) (ys_of ps) p ∷ vertex_of (xs_of ps) (ys_of ps) q ∷ [])
