@@ -6,7 +6,7 @@ use crate::split::SplitName;
 use net_graph::VertexSet;
 
 /// What a line of an answer tells. The lines of the head are told together.
-#[derive(Clone, Copy, Debug, PartialEq, Eq)]
+#[derive(Clone, Copy, Debug)]
 pub enum Event {
     /// The lines of the head: the first six on a grid, and the first five in a graph.
     Head(AnswerHead),

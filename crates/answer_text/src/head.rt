@@ -1,7 +1,7 @@
 //! What the first lines of an answer tell.
 
 /// What is told of the concatenation: the full Steiner trees that were chosen to join all terminals together.
-#[derive(Clone, Copy, Debug, PartialEq, Eq)]
+#[derive(Clone, Copy, Debug)]
 pub struct ConcatNote {
     /// Whether no concatenation has a smaller total. Else the search for one was stopped, its allowance spent.
     pub least: bool,
@@ -10,7 +10,7 @@ pub struct ConcatNote {
 }
 
 /// What an answer says of itself before its network and its tree.
-#[derive(Clone, Copy, Debug, PartialEq, Eq)]
+#[derive(Clone, Copy, Debug)]
 pub struct AnswerHead {
     /// The length of the network.
     pub length: u64,

@@ -4,7 +4,7 @@ use hanan_grid::EdgeName;
 use points_in::Point;
 
 /// The name of an edge in an answer's text.
-#[derive(Clone, Copy, Debug, PartialEq, Eq)]
+#[derive(Clone, Copy, Debug)]
 pub enum EdgeLabel {
     /// Its two ends: on a grid.
     Ends(EdgeName),
@@ -13,7 +13,7 @@ pub enum EdgeLabel {
 }
 
 /// The name of a vertex in an answer's text.
-#[derive(Clone, Copy, Debug, PartialEq, Eq)]
+#[derive(Clone, Copy, Debug)]
 pub enum VertexLabel {
     /// Its point: on a grid.
     At(Point),

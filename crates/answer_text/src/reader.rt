@@ -16,7 +16,7 @@ use hanan_grid::EdgeName;
 use net_graph::VertexSet;
 
 /// The text ceased to begin an answer's.
-#[derive(Clone, Copy, Debug, PartialEq, Eq)]
+#[derive(Clone, Copy, Debug)]
 pub struct Spelling {
     /// The line in which it ceased, counted from 1.
     pub line: u64,

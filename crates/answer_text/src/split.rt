@@ -3,7 +3,7 @@
 use crate::label::{EdgeLabel, VertexLabel};
 
 /// What a split is on, as the text names it.
-#[derive(Clone, Copy, Debug, PartialEq, Eq)]
+#[derive(Clone, Copy, Debug)]
 pub enum SplitName {
     /// An edge: whether a network has it.
     Edge(EdgeLabel),

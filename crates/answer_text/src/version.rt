@@ -1,7 +1,7 @@
 //! The versions of an answer's text.
 
 /// A version of an answer's text, which its first line tells (this project's own format).
-#[derive(Clone, Copy, PartialEq, Eq)]
+#[derive(Clone, Copy)]
 pub enum Version {
     /// The first one on a grid: every split is on an edge, and its line is the name of the edge behind `split`.
     One,

@@ -1,7 +1,7 @@
 //! What is told of bytes that may be an answer's text.
 
 /// What bytes are that may be an answer's text.
-#[derive(Clone, Copy, PartialEq, Eq)]
+#[derive(Clone, Copy)]
 pub enum Spelled {
     /// The text of an answer, in this version.
     Whole {

@@ -1,7 +1,7 @@
 //! What a search splits its leaves on.
 
 /// What a search splits its leaves on: what it asks of the networks below a leaf.
-#[derive(Clone, Copy, PartialEq, Eq)]
+#[derive(Clone, Copy)]
 pub enum SplitKind {
     /// Edges alone: is the edge in the network's root part?
     Edges,

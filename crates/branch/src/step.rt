@@ -1,7 +1,7 @@
 //! What a step of a search came to.
 
 /// What a step of a search came to.
-#[derive(Clone, Copy, PartialEq, Eq)]
+#[derive(Clone, Copy)]
 pub enum Step {
     /// One leaf was replaced by a split with two leaves.
     Split,

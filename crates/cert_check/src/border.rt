@@ -12,7 +12,7 @@ use net_graph::{NetGraph, VertexSet};
 use tree_judge::{Border, Run};
 
 /// How many columns and rows a grid has, which tells how its vertices and edges are numbered.
-#[derive(Clone, Copy, PartialEq, Eq)]
+#[derive(Clone, Copy)]
 pub(crate) struct Layout {
     pub columns: u32,
     pub rows: u32,
@@ -44,7 +44,7 @@ impl Border for Layout {
 }
 
 /// Edges of successive numbers, which join successive vertices to those that are a step further on.
-#[derive(Clone, Copy, PartialEq, Eq)]
+#[derive(Clone, Copy)]
 pub(crate) struct Strip {
     /// The number of the first edge.
     pub edge: u32,

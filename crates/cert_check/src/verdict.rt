@@ -7,7 +7,7 @@ use net_graph::EdgeSet;
 use tree_judge::Cause;
 
 /// The verdict on an answer that isn't too long.
-#[derive(Clone, Copy, Debug, PartialEq, Eq)]
+#[derive(Clone, Copy, Debug)]
 pub enum Ruling {
     /// It is accepted, and says this length, this bound and whether it is optimal.
     Accepted {
@@ -20,7 +20,7 @@ pub enum Ruling {
 }
 
 /// The verdict on an answer.
-#[derive(Clone, Copy, Debug, PartialEq, Eq)]
+#[derive(Clone, Copy, Debug)]
 pub enum Verdict {
     /// It is accepted, and says this length, this bound and whether it is optimal.
     Accepted {

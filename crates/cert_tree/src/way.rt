@@ -7,7 +7,7 @@ ghost use Rattle.cert_tree.specs.Way.{turns_up};
 use crate::split::SplitOn;
 
 /// A split on the way to a leaf, and whether the leaf is in its inside child.
-#[derive(Clone, Copy, PartialEq, Eq)]
+#[derive(Clone, Copy)]
 pub struct Turn {
     pub on: SplitOn,
     pub inside: bool,

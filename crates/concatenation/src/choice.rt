@@ -1,7 +1,7 @@
 //! What a search has decided of a tree of its list.
 
 /// What a search has decided of a tree of its list.
-#[derive(Clone, Copy, PartialEq, Eq)]
+#[derive(Clone, Copy)]
 pub enum Choice {
     /// Nothing is decided yet.
     Open,

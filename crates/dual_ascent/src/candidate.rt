@@ -1,7 +1,7 @@
 //! What a rule chooses from.
 
 /// One of those that a rule chooses from.
-#[derive(Clone, Copy, PartialEq, Eq)]
+#[derive(Clone, Copy)]
 pub struct Candidate {
     /// The number of the vertex or the edge that it stands for.
     pub number: u32,

@@ -13,7 +13,7 @@ use std::marker::Model;
 
 /// What is left of the room of an edge's two arcs, which are their reduced costs. `None` is left of an arc that can't
 /// be saturated: its edge is outside, or it is loaded above its room.
-#[derive(Clone, Copy, PartialEq, Eq)]
+#[derive(Clone, Copy)]
 pub(crate) struct EdgeCosts {
     pub edge: Edge,
     /// What is left of the arc from the edge's end a to its end b.

@@ -12,7 +12,7 @@ use net_graph::{Arc, NetGraph, VertexSet, partner};
 use std::alloc::AllocError;
 
 /// An arc that enters a set and can be saturated, with what is left of its room.
-#[derive(Clone, Copy, PartialEq, Eq)]
+#[derive(Clone, Copy)]
 pub(crate) struct EnteringArc {
     pub arc: Arc,
     pub left: u64,

@@ -11,7 +11,7 @@ use text_out::{Block, literal, number};
 /// Why bytes are no file between the phases: the first fault of their lines, and of one line the first in
 /// this order, but for `TooLong`, which comes after the last point and before the next line. Lines are
 /// counted from 1.
-#[derive(Clone, Copy, PartialEq, Eq)]
+#[derive(Clone, Copy)]
 pub enum FstFault {
     /// The line is not in the format. A text that ends too soon fails in the line counted as one more than
     /// its line feeds, and one that goes on after its end in the line after it.

@@ -3,7 +3,7 @@
 use points_in::Point;
 
 /// A straight line between two points of one x or of one y.
-#[derive(Clone, Copy, PartialEq, Eq)]
+#[derive(Clone, Copy)]
 pub struct Piece {
     /// Where the piece begins.
     pub from: Point,

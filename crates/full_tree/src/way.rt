@@ -1,7 +1,7 @@
 //! The four directions.
 
 /// A direction along one of the axes.
-#[derive(Clone, Copy, PartialEq, Eq)]
+#[derive(Clone, Copy)]
 pub enum Way {
     /// Towards greater x.
     East,

@@ -28,7 +28,7 @@ pub(crate) struct Plan {
 }
 
 /// How the exchange for a child of a split ended.
-#[derive(Clone, Copy, PartialEq, Eq)]
+#[derive(Clone, Copy)]
 pub(crate) enum ChildEnd {
     /// With a packing of the wanted value.
     Closed,

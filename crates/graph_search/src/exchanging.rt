@@ -64,7 +64,7 @@ impl Raising for Exchanges<'_> {
 }
 
 // How a turn of exchanging ended.
-#[derive(Clone, Copy, PartialEq, Eq)]
+#[derive(Clone, Copy)]
 enum TurnEnd {
     // It led to a shorter network, for which no cuts were exchanged yet.
     Shorter,

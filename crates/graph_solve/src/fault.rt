@@ -10,7 +10,7 @@ use text_out::{Block, literal, number};
 
 /// Why an STP file is no Steiner problem of the suite: the first of its faults in this order; or want of memory. Nodes
 /// and edges are counted from 1.
-#[derive(Clone, Copy, PartialEq, Eq)]
+#[derive(Clone, Copy)]
 pub enum TaskFault {
     /// There are more than 2,500 nodes.
     TooManyNodes,

@@ -27,7 +27,7 @@ use verdict_line::{Counting, VerdictLine, judge_input};
 pub const GRAPH_ANSWER_LIMIT: u64 = 1 << 28;
 
 /// Why an answer in a graph isn't judged.
-#[derive(Clone, Copy, PartialEq, Eq)]
+#[derive(Clone, Copy)]
 pub enum CheckgraphFault {
     /// The STP file isn't taken whole.
     File(FileFault),

@@ -9,7 +9,7 @@ use text_out::Block;
 use tool_frame::{Fault, FaultStatus};
 
 /// Why a text gives no Steiner problem in a graph.
-#[derive(Clone, Copy, PartialEq, Eq)]
+#[derive(Clone, Copy)]
 pub enum GraphTextFault {
     /// It is no STP file.
     InFile(StpFault),

@@ -6,7 +6,7 @@ ghost use Rattle.hanan_grid.specs.Names.{name_between};
 use points_in::Point;
 
 /// An edge of a grid, named by its ends: first the one whose vertex has the lower number.
-#[derive(Clone, Copy, Debug, PartialEq, Eq)]
+#[derive(Clone, Copy, Debug)]
 pub struct EdgeName {
     pub x1: i64,
     pub y1: i64,

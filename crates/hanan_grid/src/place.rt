@@ -8,7 +8,7 @@ use crate::lines::line;
 use points_in::Point;
 
 /// A crossing of a grid, by its column and its row.
-#[derive(Clone, Copy, PartialEq, Eq)]
+#[derive(Clone, Copy)]
 pub struct Place {
     /// The place of its x among the distinct x of the terminals, from the left and counted from 0.
     pub column: u32,

@@ -22,7 +22,7 @@ use verdict_line::{Judged, judge_input};
 pub const ANSWER_LIMIT: u64 = (1 << 32) - 1;
 
 /// Why an answer isn't judged.
-#[derive(Clone, Copy, PartialEq, Eq)]
+#[derive(Clone, Copy)]
 pub enum CheckFault {
     /// The points' file gives no grid.
     Points(PointsFault),

@@ -20,7 +20,7 @@ use tool_frame::{Fault, FaultStatus, Stop, end_found, within};
 use verdict_line::write_refusal;
 
 /// Why `plot` refuses.
-#[derive(Clone, Copy, PartialEq, Eq)]
+#[derive(Clone, Copy)]
 pub enum PlotFault {
     /// The answer isn't judged.
     Unjudged(CheckFault),

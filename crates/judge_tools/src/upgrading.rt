@@ -20,7 +20,7 @@ use verdict_line::write_refusal;
 pub const UPGRADE_LIMIT: u64 = 1 << 28;
 
 /// Why `upgrade` refuses.
-#[derive(Clone, Copy, PartialEq, Eq)]
+#[derive(Clone, Copy)]
 pub enum UpgradeFault {
     /// The points' file gives no grid.
     Points(PointsFault),

@@ -10,7 +10,7 @@ use std::marker::Model;
 
 /// A way along an edge from one of its ends to the other. Edge n has the arcs 2n, from its end a to its end b, and
 /// 2n + 1, from b to a.
-#[derive(Clone, Copy, PartialEq, Eq)]
+#[derive(Clone, Copy)]
 pub struct Arc {
     /// Its number among the arcs, below twice the number of edges.
     pub number: u32,

@@ -3,7 +3,7 @@
 use lists::ItemList;
 
 /// An edge between two vertices, which are given by their numbers, with its length.
-#[derive(Clone, Copy, PartialEq, Eq)]
+#[derive(Clone, Copy)]
 pub struct Edge {
     pub a: u32,
     pub b: u32,

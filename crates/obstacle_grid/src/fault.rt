@@ -10,7 +10,7 @@ use text_out::{Block, literal, number};
 
 /// Why points and boxes are no Steiner problem of the suite: the first of their faults in this order; or want of
 /// memory.
-#[derive(Clone, Copy, PartialEq, Eq)]
+#[derive(Clone, Copy)]
 pub enum ObstacleTaskFault {
     /// The lengths of the allowed edges sum to more than 2^63 - 1.
     TooLong {

@@ -9,7 +9,7 @@ use text_out::Block;
 use tool_frame::{Fault, FaultStatus};
 
 /// Why a text gives no Steiner problem around boxes.
-#[derive(Clone, Copy, PartialEq, Eq)]
+#[derive(Clone, Copy)]
 pub enum ObstacleTextFault {
     /// It is no text of points and boxes.
     InText(ObstacleFault),

@@ -9,7 +9,7 @@ use text_out::{Block, literal};
 
 /// Why bytes are no points and boxes: the first fault of their lines, and of one line the first in this order; or,
 /// where no line has one, `TooLarge`. Lines are counted from 1.
-#[derive(Clone, Copy, PartialEq, Eq)]
+#[derive(Clone, Copy)]
 pub enum ObstacleFault {
     /// The line is not in the format. A text that ends too soon fails in the line counted as one more than its line
     /// feeds, and one that goes on after its end in the line after it.

@@ -1,7 +1,7 @@
 //! A rectangle of the plane.
 
 /// A rectangle with whole coordinates and sides along the axes. Its interior is what lies strictly between its sides.
-#[derive(Clone, Copy, PartialEq, Eq)]
+#[derive(Clone, Copy)]
 pub struct Rectangle {
     /// Its left side.
     pub x1: i64,

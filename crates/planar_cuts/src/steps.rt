@@ -19,7 +19,7 @@ pub struct Step {
 }
 
 /// Along or against a curve, which has the cut on its left hand.
-#[derive(Clone, Copy, PartialEq, Eq)]
+#[derive(Clone, Copy)]
 pub enum Direction {
     Along,
     Against,

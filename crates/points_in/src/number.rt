@@ -16,7 +16,7 @@ pub fn separates(byte: u8) -> bool
 }
 
 /// The number that a text begins with.
-#[derive(Clone, Copy, PartialEq, Eq)]
+#[derive(Clone, Copy)]
 pub struct FrontNumber {
     /// The number.
     pub value: i64,
@@ -25,7 +25,7 @@ pub struct FrontNumber {
 }
 
 /// Why a text doesn't begin with a number of 64 bits.
-#[derive(Clone, Copy, PartialEq, Eq)]
+#[derive(Clone, Copy)]
 pub enum NumberFault {
     /// Its bytes up to the first blank are not a sign or none and then digits.
     NotNumber,

@@ -33,7 +33,7 @@ impl Model for Points {
 }
 
 /// What became of a point that was added.
-#[derive(Clone, Copy, PartialEq, Eq)]
+#[derive(Clone, Copy)]
 pub enum Added {
     /// It is the last of the list now.
     New,

@@ -7,7 +7,7 @@ ghost use Rattle.rst_outside.specs.Sink.{SinkState, Appended, Writes};
 use crate::source::Failed;
 
 /// A text was cut short, because the sink failed.
-#[derive(Clone, Copy, Debug, PartialEq, Eq)]
+#[derive(Clone, Copy, Debug)]
 pub struct PutFault;
 
 /// A sink of bytes, as standard output or a buffer in memory.

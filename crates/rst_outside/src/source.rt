@@ -5,7 +5,7 @@ ghost use Rattle.rst_outside.specs.Counts.{Rose};
 ghost use Rattle.rst_outside.specs.Source.{SourceState, Came, IsAtEnd};
 
 /// A read or a write failed, and nothing was moved.
-#[derive(Clone, Copy, PartialEq, Eq)]
+#[derive(Clone, Copy)]
 pub struct Failed;
 
 /// A source of bytes, as standard input or bytes in memory.

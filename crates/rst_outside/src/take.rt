@@ -13,7 +13,7 @@ use std::alloc::AllocError;
 const BLOCK: usize = 4096;
 
 /// Why a source or a file was not taken whole.
-#[derive(Clone, Copy, Debug, PartialEq, Eq)]
+#[derive(Clone, Copy, Debug)]
 pub enum TakeFault {
     /// A read failed.
     Failed,

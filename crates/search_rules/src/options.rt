@@ -6,7 +6,7 @@ ghost use Rattle.search_rules.specs.Options.{in_graph};
 use crate::rules::{AscentRule, SplitRule};
 
 /// What a caller may choose of a search.
-#[derive(Clone, Copy, PartialEq, Eq)]
+#[derive(Clone, Copy)]
 pub struct SearchOptions {
     /// How many splits the tree of an answer has at most.
     pub openings: u8,
@@ -40,7 +40,7 @@ impl SearchOptions {
 }
 
 /// What a caller may choose of a search in a graph.
-#[derive(Clone, Copy, PartialEq, Eq)]
+#[derive(Clone, Copy)]
 pub struct GraphOptions {
     /// How many splits the tree of an answer has at most.
     pub openings: u8,

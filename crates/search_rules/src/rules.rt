@@ -5,7 +5,7 @@ ghost use Rattle.search_rules.specs.Names.{IsNamed, ascent_named, split_named};
 use std::str::FromStr;
 
 /// Which candidate an ascent takes: a required vertex, with the number of the vertices of its cut as its size.
-#[derive(Clone, Copy, PartialEq, Eq)]
+#[derive(Clone, Copy)]
 pub enum AscentRule {
     /// `least`: the one of the smallest size, and of these the lowest vertex.
     Least,
@@ -14,7 +14,7 @@ pub enum AscentRule {
 }
 
 /// What a leaf is split on.
-#[derive(Clone, Copy, PartialEq, Eq)]
+#[derive(Clone, Copy)]
 pub enum SplitRule {
     /// `longest`: the longest edge, and of these the one of the lowest number.
     Longest,
@@ -26,7 +26,7 @@ pub enum SplitRule {
 }
 
 /// A word that names no rule.
-#[derive(Clone, Copy, PartialEq, Eq)]
+#[derive(Clone, Copy)]
 pub struct UnknownRule;
 
 impl FromStr for AscentRule {

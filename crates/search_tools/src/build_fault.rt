@@ -9,7 +9,7 @@ use text_out::{Block, literal, number};
 use tool_frame::{Fault, FaultStatus};
 
 /// Why a text gives no network for the trees of a file.
-#[derive(Clone, Copy, PartialEq, Eq)]
+#[derive(Clone, Copy)]
 pub enum BuildFault {
     /// It is no file of full trees.
     InFile(FstFault),

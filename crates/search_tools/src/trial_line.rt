@@ -13,7 +13,7 @@ use text_out::{Block, finish, literal, number};
 use tool_frame::{Answer, AnswerStatus};
 
 /// What `trial` tells of the answer for drawn points, which was accepted.
-#[derive(Clone, Copy, PartialEq, Eq)]
+#[derive(Clone, Copy)]
 pub struct TrialLine {
     /// How many points were drawn, 1 to 50.
     pub count: u8,

@@ -3,7 +3,7 @@
 use lists::ItemList;
 
 /// A pair of numbers that a hop may lead between, either way, with its length.
-#[derive(Clone, Copy, PartialEq, Eq)]
+#[derive(Clone, Copy)]
 pub struct Pair {
     pub a: u8,
     pub b: u8,

@@ -1,7 +1,7 @@
 //! An edge of a file.
 
 /// An edge between two nodes, which are counted from 1, and its length.
-#[derive(Clone, Copy, PartialEq, Eq)]
+#[derive(Clone, Copy)]
 pub struct StpEdge {
     /// One end.
     pub i: u32,

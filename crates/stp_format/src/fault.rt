@@ -10,7 +10,7 @@ use text_in::{FormatFault, write_line};
 use text_out::{Block, literal, number};
 
 /// A section of which a fault can speak.
-#[derive(Clone, Copy, PartialEq, Eq)]
+#[derive(Clone, Copy)]
 pub enum StpSection {
     /// The nodes and the edges.
     Graph,
@@ -22,7 +22,7 @@ pub enum StpSection {
 
 /// The first fault of the lines of an STP file, or the first reason why its terminals give no points, or want of
 /// memory. Lines and nodes are counted from 1.
-#[derive(Clone, Copy, PartialEq, Eq)]
+#[derive(Clone, Copy)]
 pub enum StpFault {
     /// The first line doesn't begin with the format's number.
     NoMagic,

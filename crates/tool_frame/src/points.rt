@@ -20,7 +20,7 @@ use text_in::write_total;
 use text_out::{Block, literal, number};
 
 /// Why a text gives no grid of points. Bytes count from 0.
-#[derive(Clone, Copy, PartialEq, Eq)]
+#[derive(Clone, Copy)]
 pub enum ListFault {
     /// The word that begins at this byte is no number.
     BadNumber(u64),
@@ -37,7 +37,7 @@ pub enum ListFault {
 }
 
 /// Why a file gives no grid of points.
-#[derive(Clone, Copy, PartialEq, Eq)]
+#[derive(Clone, Copy)]
 pub enum PointsFault {
     /// It isn't taken whole.
     File(FileFault),

@@ -13,7 +13,7 @@ pub const UNWRITTEN: u8 = 6;
 pub const NO_MEMORY: u8 = 7;
 
 /// How a tool ends that printed its whole text.
-#[derive(Clone, Copy, PartialEq, Eq)]
+#[derive(Clone, Copy)]
 pub enum AnswerStatus {
     /// It is done: of a search, the answer is optimal, and of a check, the answer is accepted.
     Done,
@@ -48,7 +48,7 @@ impl AnswerStatus {
 }
 
 /// How a tool ends that found a fault in what it read.
-#[derive(Clone, Copy, PartialEq, Eq)]
+#[derive(Clone, Copy)]
 pub enum FaultStatus {
     /// What was read isn't what the tool reads.
     Malformed,

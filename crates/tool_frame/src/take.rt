@@ -19,7 +19,7 @@ use text_out::{Block, literal, number};
 pub const TEXT_LIMIT: u64 = 1 << 26;
 
 /// Why an input is not taken whole.
-#[derive(Clone, Copy, PartialEq, Eq)]
+#[derive(Clone, Copy)]
 pub enum InputFault {
     /// A read failed.
     Unread,
@@ -28,7 +28,7 @@ pub enum InputFault {
 }
 
 /// Why a file is not taken whole.
-#[derive(Clone, Copy, PartialEq, Eq)]
+#[derive(Clone, Copy)]
 pub enum FileFault {
     /// A read failed.
     Unread,

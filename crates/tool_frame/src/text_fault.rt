@@ -9,7 +9,7 @@ use rst_outside::Sink;
 use text_out::Block;
 
 /// Why a tool refuses that reads the input as a text whose faults are `F`.
-#[derive(Clone, Copy, PartialEq, Eq)]
+#[derive(Clone, Copy)]
 pub enum TextFault<F> {
     /// The input isn't taken whole.
     Input(InputFault),

@@ -8,7 +8,7 @@ use text_out::{Block, literal};
 use tool_frame::{Fault, FaultStatus, ListFault};
 
 /// Why a text gives no file of full trees of its points.
-#[derive(Clone, Copy, PartialEq, Eq)]
+#[derive(Clone, Copy)]
 pub enum GenerationFault {
     /// It lists no points, or points whose grid is too long.
     List(ListFault),

@@ -8,7 +8,7 @@ use crate::border::{Border, Run};
 use net_graph::{Edge, NetGraph, VertexSet, enters};
 
 /// The edges of any graph, in runs of 64. Each edge of a run is looked at.
-#[derive(Clone, Copy, PartialEq, Eq)]
+#[derive(Clone, Copy)]
 pub struct AnyBorder;
 
 impl Border for AnyBorder {

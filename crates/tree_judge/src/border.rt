@@ -7,7 +7,7 @@ ghost use Rattle.tree_judge.specs.Borders.{MarksParted};
 use net_graph::{NetGraph, VertexSet};
 
 /// Edges of successive numbers, some of which a set of vertices parts.
-#[derive(Clone, Copy, PartialEq, Eq)]
+#[derive(Clone, Copy)]
 pub struct Run {
     /// The number of the first edge.
     pub edge: u32,

@@ -1,7 +1,7 @@
 //! Why an answer is refused.
 
 /// Why an answer is refused. Lines count from 1; edges, vertices and terminals from 0.
-#[derive(Clone, Copy, Debug, PartialEq, Eq)]
+#[derive(Clone, Copy, Debug)]
 pub enum Cause {
     /// The line in which the text ceases to begin an answer's text.
     NotAnswer(u64),

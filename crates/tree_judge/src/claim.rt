@@ -1,7 +1,7 @@
 //! What an answer claims.
 
 /// What an answer claims of its network and its tree.
-#[derive(Clone, Copy, PartialEq, Eq)]
+#[derive(Clone, Copy)]
 pub struct Claim {
     /// The length of the network.
     pub length: u64,

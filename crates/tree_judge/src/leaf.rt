@@ -21,7 +21,7 @@ use cert_tree::SplitOn;
 use net_graph::{Edge, EdgeState, NetGraph, VertexSet, enters, holds_terminal};
 
 /// A load that is above its room.
-#[derive(Clone, Copy, PartialEq, Eq)]
+#[derive(Clone, Copy)]
 pub(crate) struct Excess {
     pub load: u128,
     pub room: u64,

@@ -4,7 +4,7 @@ use crate::claim::Claim;
 use cert_tree::SplitOn;
 
 /// A step of an answer, whose edges and vertices are known by their numbers, counted from 0.
-#[derive(Clone, Copy, PartialEq, Eq)]
+#[derive(Clone, Copy)]
 pub enum Step {
     /// What the answer claims.
     Claims(Claim),

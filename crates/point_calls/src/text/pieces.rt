@@ -2,7 +2,7 @@
 
 use crate::text::given::sink as given_sink;
 use row_tables::{Call, Fault, Told, number as number_of, shown, signed as signed_of};
-use rst_outside::{MemSink, PutFault};
+use rst_outside::MemSink;
 use std::alloc::Global;
 use text_out::{Block, finish, literal, number, signed};
 
@@ -20,7 +20,7 @@ pub(crate) fn pieces(alloc: Global, call: &Call, told: &mut Told) -> Result<(), 
     }
     let written = finish(block, &mut sink);
     told.word(shown(sink.bytes())?);
-    if written == Err(PutFault) {
+    if written.is_err() {
         told.word(" is cut short\n");
     }
     Ok(())

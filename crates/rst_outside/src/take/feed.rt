@@ -9,7 +9,7 @@ use crate::consumer::Consumer;
 use crate::source::Source;
 
 /// Why a source was not fed whole.
-#[derive(Clone, Copy, Debug, PartialEq, Eq)]
+#[derive(Clone, Copy, Debug)]
 pub enum FeedFault {
     /// A read failed.
     Failed,

@@ -7,7 +7,7 @@ use Rattle.net_graph.specs.declared.state.EdgeState.TheVariants.{Undecided}
 use Rattle.net_graph.specs.Decision.{IsUndecided}
 use Rattle.branch.specs.SaturatedArcs.{IsUsedUpEdge}
 use Rattle.branch.proofs.saturation.ends_used_up_edge.Goals as goal
-use Rattle.branch.proofs.saturation.ends_used_up_edge.Goals.{else-edge-vertex-2-via-then-edge-vertex-2+then-is_used_up_edge+else-eq, else-edge-vertex-2-via-then-edge-vertex-2+else-is_used_up_edge, else-edge-vertex-2-via-else-edge-vertex-2}
+use Rattle.branch.proofs.saturation.ends_used_up_edge.Goals.{else-edge-vertex-2-via-then-edge-vertex-2+then-is_used_up_edge+else-state-eq0, else-edge-vertex-2-via-then-edge-vertex-2+else-is_used_up_edge, else-edge-vertex-2-via-else-edge-vertex-2}
 
 pub loop-n-preserved : goal.loop-n-preserved
 loop-n-preserved c = λ has.
@@ -17,10 +17,10 @@ loop-n-preserved c = λ has.
     let same : has.edge ≡ c.edge-edge.result =
     same_Some has.edge c.edge-edge.result (sym has.at ∙ ap (λ k. slice_get c.args.g.now.edges k) is ∙ c.edge-edge.ensures.edge) in
     elim c.else-edge-vertex-2.branch [
-      | else-edge-vertex-2-via-then-edge-vertex-2+then-is_used_up_edge+else-eq w ↦
+      | else-edge-vertex-2-via-then-edge-vertex-2+then-is_used_up_edge+else-state-eq0 w ↦
           let undecided : w.state.result ≡ Undecided = same_Some w.state.result Undecided (sym w.state.ensures
           ∙ subst (λ k. IsUndecided c.args.g.now c.args.decision.now k) is has.undecided) in
-          let yes = rw undecided at w.eq.ensures in both_ways w.eq.result w.if-eq.false yes
+          let no = rw undecided at w.if-state-eq0.false in absurd cc
       | else-edge-vertex-2-via-then-edge-vertex-2+else-is_used_up_edge w ↦
           both_ways w.is_used_up_edge.result w.if-is_used_up_edge.false
           (w.is_used_up_edge.ensures.1 (subst (λ k. IsUsedUpEdge c.args.costs.now k) is has.used_up))

@@ -2,7 +2,7 @@
 use Rattle.std.proofs.Common.{arith}
 use Rattle.branch.proofs.lemmas.CandidateLemmas.{gathered_more, no_edge}
 use Rattle.branch.proofs.split_choice.undecided_edges.Goals as goal
-use Rattle.branch.proofs.split_choice.undecided_edges.Goals.{then-has+then-eq+in_ok-push, else-has}
+use Rattle.branch.proofs.split_choice.undecided_edges.Goals.{then-has+then-state-eq0+in_ok-push, else-has}
 
 pub loop-e-init : goal.loop-e-init
 loop-e-init c = grind arith
@@ -10,7 +10,7 @@ loop-e-init c = grind arith
 pub loop-e-preserved : goal.loop-e-preserved
 loop-e-preserved c =
     elim c.if-has.branch [
-      | then-has+then-eq+in_ok-push w ↦
+      | then-has+then-state-eq0+in_ok-push w ↦
           rw (w.list-is, w.in_ok-push.ensures.items)
           (gathered_more _ _ _ _ _ c.loop-e.invariant
           (grind arith))
