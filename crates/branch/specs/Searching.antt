@@ -24,7 +24,7 @@ use Rattle.branch.specs.declared.step.Step.TheVariants as step
 use Rattle.branch.specs.Leaves.{DecidedLeaf, leaf_under, leaves_of}
 use Rattle.branch.specs.Candidates.{IsCandidate}
 use Rattle.branch.specs.States.{IsOpenLeaf, IsSameOrShorter, IsShownBy}
-use Rattle.branch.specs.Openings.{IsSplitOf, IsSplitVertex, BeginsAt}
+use Rattle.branch.specs.Openings.{IsSplitOf, BeginsAt}
 use Rattle.branch.specs.PlainOpenings.{IsOpenNext, IsPlainOpening}
 use Rattle.branch.specs.Runs.{EndsRunOfOpenings}
 use Rattle.branch.specs.Variants.{IsVariant, MayBe, MayBegin}
@@ -97,16 +97,19 @@ pub record IsOpeningOf (g : Graph) (kept : Frontier) (opening : Opening) : Type 
   pub outside_own : IsUpToOwn g opening.best.length opening.outside.note.network
   pub inside_own : IsUpToOwn g opening.best.length opening.inside.note.network
 
--- The split is on what the kind asks of a network that the leaf shows, and both new leaves begin with what the leaf's
--- own packing carries to them.
-pub record IsPlain (g : Graph) (kept : Frontier) (opening : Opening) : Type 0 where
+-- both new leaves begin with what the leaf's own packing carries to them
+pub record IsCarried (g : Graph) (kept : Frontier) (opening : Opening) : Type 0 where
   pub leaf : DecidedLeaf
   pub at : slice_get (leaves_of (nothing_decided g) kept.tree) opening.leaf ≡ Some leaf
-  pub set : List Bool
-  pub shown : IsShownBy g leaf set
-  pub candidate : IsCandidate kept.kind g leaf.decision set opening.on
   pub outside : BeginsAt g leaf (outside_of leaf.decision opening.on) opening.outside.packing
   pub inside : BeginsAt g leaf (inside_of leaf.decision opening.on) opening.inside.packing
+
+-- .. and the split is on what the kind asks of a network that the leaf shows
+pub record IsPlain (g : Graph) (kept : Frontier) (opening : Opening) : Type 0 where
+  pub carried : IsCarried g kept opening
+  pub set : List Bool
+  pub shown : IsShownBy g carried.leaf set
+  pub candidate : IsCandidate kept.kind g carried.leaf.decision set opening.on
 
 -- the opening is made: its split stands in place of its leaf, and its best network is kept
 pub record IsOpened (opening : Opening) (old new : Frontier) : Type 0 where
@@ -177,16 +180,25 @@ IsDecidedAt s place d =
     × ((leaf : DecidedLeaf) × (slice_get (leaves_of (nothing_decided s.graph) s.tree) place ≡ Some leaf)
     × (leaf.decision ≡ d))
 
--- the leaf at the place is open, and the vertex is one that it may be split on
-abbrev pub CanSplitAt : SearchState → ℕ → ℕ → Type 0
-CanSplitAt s place vertex =
+-- the leaf at the place is open, and it may be split on this
+abbrev pub CanSplitOn : SearchState → ℕ → SplitOn → Type 0
+CanSplitOn s place on =
     (leaf : DecidedLeaf) × (slice_get (leaves_of (nothing_decided s.graph) s.tree) place ≡ Some leaf)
-    × IsOpenLeaf s.graph (length_of s.graph s.network) leaf × IsSplitVertex s.graph leaf vertex
+    × IsOpenLeaf s.graph (length_of s.graph s.network) leaf × IsSplitOf s.graph leaf on
+
+-- .. on the vertex
+abbrev pub CanSplitAt : SearchState → ℕ → ℕ → Type 0
+CanSplitAt s place vertex = CanSplitOn s place (split.Vertex vertex)
 
 -- the cuts of both packings are sets of so many vertices
 pub record AreOfSize (vertices : ℕ) (offered : Offered) : Type 0 where
   pub outside : All (λ c. length c.members ≡ vertices) offered.outside
   pub inside : All (λ c. length c.members ≡ vertices) offered.inside
+
+-- packings are offered for the children of a split on a vertex alone
+abbrev pub MayBeOffered : ℕ → SplitOn → Offered → Type 0
+MayBeOffered vertices (split.Edge e) offered = ⊥
+MayBeOffered vertices (split.Vertex v) offered = AreOfSize vertices offered
 
 -- The leaf at the place is split on the vertex, the other leaves stay, and the network is the same or a shorter one.
 -- Both end a run of openings whose first network is no longer than the one that the search began with.

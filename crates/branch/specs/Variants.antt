@@ -1,6 +1,6 @@
 -- Packings with the same loads that a leaf may have as well.
 use Rattle.std.specs.Prelude.{ℕ, ◌≡◌, ◌+◌, ◌*◌, ◌<◌, Bool, true, false, List, [], ◌∷◌, ◌++◌}
-use Rattle.std.specs.Prelude.{length, sum_by, replicate, ◌⊎◌}
+use Rattle.std.specs.Prelude.{length, sum_by, replicate, Option, Some, None, ◌⊎◌}
 use Rattle.net_graph.specs.declared.packing.Cut.{Cut}
 use Rattle.net_graph.specs.Graph.{Graph}
 use Rattle.net_graph.specs.Decision.{Decided}
@@ -38,6 +38,11 @@ IsVariant anew tree other = IsVariantFrom anew 0 tree other
 -- and would in units be more than two for each edge.
 abbrev pub MayBeNone : Graph → Bool → List Cut → Type 0
 MayBeNone g anew cuts = (cuts ≡ []) ⊎ ((anew ≡ true) × (2 * length g.edges < sum_by (λ c. c.weight) cuts))
+
+-- Cuts that are carried to a leaf may be left for what is offered there: they may as well be none, and something is.
+abbrev pub MayBeginAnew : Graph → Bool → Option (List Cut) → List Cut → Type 0
+MayBeginAnew g anew None cuts = ⊥
+MayBeginAnew g anew (Some offered) cuts = MayBeNone g anew cuts
 
 -- A new leaf of a decision begins as it may, where the leaf that it comes from has this packing: with what is carried
 -- there; or, told so, with no cut, which may be where nothing is carried.

@@ -19,7 +19,7 @@ use crate::saturation::has_saturated_end;
 use crate::solved::Solved;
 use crate::split_kind::SplitKind;
 use crate::step::Step;
-use cert_tree::{CertTree, tree_bounds_every_network};
+use cert_tree::{CertTree, SplitOn, tree_bounds_every_network};
 use dual_ascent::{Chooser, Rule};
 use net_graph::{Decision, EdgeSet, NetGraph, Packing};
 use std::alloc::{AllocError, Global};
@@ -194,8 +194,8 @@ impl<'a, F: Rule, G: Rule> Search<'a, F, G> {
             self.graph,
             &self.kept,
             leaf as usize,
-            vertex,
-            offered,
+            SplitOn::Vertex(vertex),
+            Some(offered),
             &self.ascent,
         )?;
         self.kept.open(opening)?;

@@ -1,6 +1,6 @@
 //! What is made of a leaf that is split.
 
-ghost use Rattle.std.specs.Prelude.{◌≡◌, ◌*◌, ◌≤◌, ◌↔◌, false, true, length, All, IfOk, IsTrue};
+ghost use Rattle.std.specs.Prelude.{◌≡◌, ◌*◌, ◌≤◌, ◌↔◌, false, true, length, All, IfOk, IfSome, IsTrue};
 ghost use Rattle.net_graph.specs.Decision.{IsDecisionFor, states_of};
 ghost use Rattle.net_graph.specs.Packing.{IsFeasible};
 ghost use Rattle.dual_ascent.specs.Ascending.{BeginsWith};
@@ -9,7 +9,7 @@ ghost use Rattle.dual_ascent.specs.Costs.{costs_of};
 ghost use Rattle.cert_tree.specs.Decisions.{IsUndecidedSplit, outside_of, inside_of};
 ghost use Rattle.branch.specs.Leaves.{leaf_under};
 ghost use Rattle.branch.specs.Notes.{IsNoteOf};
-ghost use Rattle.branch.specs.Variants.{MayBeNone};
+ghost use Rattle.branch.specs.Variants.{MayBeNone, MayBeginAnew};
 
 use crate::best::Best;
 use crate::leaf::{NewLeaf, leaf_from};
@@ -64,14 +64,16 @@ pub(crate) fn decided_inside(
     }
 }
 
-/// The leaf of the ascent that begins with what a leaf's packing carries to a further decision. An `Err` is want of
-/// memory.
+/// The leaf of a further decision: that of the ascent which begins with what a leaf's packing carries there. Where a
+/// packing is offered and this one may begin with no cut, it is the better one of this leaf and of that of the ascent
+/// which begins with the offered packing, if that is feasible and has few cuts. An `Err` is want of memory.
 pub(crate) fn child_of<F: Rule>(
     alloc: Global,
     g: &NetGraph,
     note: &LeafNote,
     parent: &Packing,
     now: Decision,
+    offered: Option<Packing>,
     rule: &Chooser<F>,
 ) -> Result<NewLeaf, AllocError>
     requires before { IsDecisionFor g.now note.now.decision }
@@ -79,49 +81,22 @@ pub(crate) fn child_of<F: Rule>(
     requires one_more { DecidesOneMore g.now note.now.decision now }
     requires feasible { IsFeasible g.now note.now.decision parent.now }
     requires costs { note.now.costs ≡ costs_of g.now.edges (states_of g.now note.now.decision) parent.now }
-    ensures begins { IfOk result (λ leaf. BeginsWith leaf.packing (carried g.now now parent.now)) }
-    ensures anew { IfOk result (λ leaf. leaf.note.is_anew ≡ false) }
-    ensures note { IfOk result (λ leaf. IsNoteOf g.now (leaf_under now leaf.packing) leaf.note) }
-{
-    let before = &note.decision;
-    let start = carry(alloc, g, before, &now, parent)?;
-    let costs = carry_costs(alloc, g, before, &now, parent, &note.costs, &start)?;
-    leaf_from(alloc, g, now, start, costs, rule, false)
-}
-
-/// The leaf of a further decision for which a packing is offered: the ascent that begins with what a leaf's packing
-/// carries there; or, where the packing may begin with no cut, the better one of this ascent and of the one that begins
-/// with the offered packing, if that is feasible and has few cuts. An `Err` is want of memory.
-pub(crate) fn child_with<F: Rule>(
-    alloc: Global,
-    g: &NetGraph,
-    note: &LeafNote,
-    parent: &Packing,
-    now: Decision,
-    offered: Packing,
-    rule: &Chooser<F>,
-) -> Result<NewLeaf, AllocError>
-    requires before { IsDecisionFor g.now note.now.decision }
-    requires now { IsDecisionFor g.now now }
-    requires one_more { DecidesOneMore g.now note.now.decision now }
-    requires feasible { IsFeasible g.now note.now.decision parent.now }
-    requires costs { note.now.costs ≡ costs_of g.now.edges (states_of g.now note.now.decision) parent.now }
-    requires sizes { All (λ c. length c.members ≡ g.now.vertices) offered }
+    requires sizes { IfSome offered (All (λ c. length c.members ≡ g.now.vertices)) }
     ensures begins { IfOk result
         (λ leaf. leaf.note.is_anew ≡ false → BeginsWith leaf.packing (carried g.now now parent.now)) }
-    ensures anew { IfOk result
-        (λ leaf. IsTrue leaf.note.is_anew ↔ MayBeNone g.now note.now.is_anew (carried g.now now parent.now)) }
+    ensures anew { IfOk result (λ leaf.
+        IsTrue leaf.note.is_anew ↔ MayBeginAnew g.now note.now.is_anew offered (carried g.now now parent.now)) }
     ensures note { IfOk result (λ leaf. IsNoteOf g.now (leaf_under now leaf.packing) leaf.note) }
 {
     let before = &note.decision;
     let start = carry(alloc, g, before, &now, parent)?;
-    let is_anew = may_begin_anew(g, note, &start);
     let costs = carry_costs(alloc, g, before, &now, parent, &note.costs, &start)?;
-    let carried = leaf_from(alloc, g, now.copy()?, start, costs, rule, is_anew)?;
-    if is_anew {
-        better_of(alloc, g, carried, now, offered, rule)
-    } else {
-        Ok(carried)
+    match offered {
+        Some(offered) if may_begin_anew(g, note, &start) => {
+            let carried = leaf_from(alloc, g, now.copy()?, start, costs, rule, true)?;
+            better_of(alloc, g, carried, now, offered, rule)
+        }
+        _ => leaf_from(alloc, g, now, start, costs, rule, false),
     }
 }
 

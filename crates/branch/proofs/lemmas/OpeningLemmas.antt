@@ -1,5 +1,5 @@
 -- How the next open leaf can be opened.
-use Rattle.std.proofs.Common.{ℕ, ◌≡◌, ◌<◌, ◌≤◌, ◌^◌, ◌↔◌, ◌⊎◌, ⊎_elim, inl, inr, Bool, true, false, List, length, slice_get, IsTrue, Option, Some, None, refl, ap, sym, ◌∙◌, subst, arith, get_or}
+use Rattle.std.proofs.Common.{ℕ, ◌≡◌, ◌*◌, ◌<◌, ◌≤◌, ◌^◌, ◌↔◌, ◌⊎◌, ⊎_elim, inl, inr, Bool, true, false, List, [], length, sum_by, slice_get, IsTrue, IfSome, IfNone, IfOk, Option, option_map, Result, Ok, Err, Some, None, refl, ap, sym, ◌∙◌, subst, arith, get_or}
 use Rattle.std.proofs.lemmas.Option.{same_Some, slice_get_within, slice_get_read}
 use Rattle.net_graph.specs.declared.state.EdgeState.TheVariants.{Inside}
 use Rattle.net_graph.specs.declared.packing.Cut.{Cut}
@@ -30,8 +30,9 @@ use Rattle.branch.specs.Openings.{IsSplitVertex, IsSplitOf}
 use Rattle.dual_ascent.specs.Costs.{costs_of}
 use Rattle.branch.specs.Notes.{IsBest, ShowsOwn, IsNoteOf, IsUpToOwn, IsKeptNote, IsNextNote, CanSplit, IsChoice}
 use Rattle.branch.specs.declared.opening.Opening.{Opening}
-use Rattle.branch.specs.Variants.{in_units, MayBe, MayBeNone, MayBegin}
-use Rattle.branch.specs.Searching.{search_state, is_anew_at, IsSearch, IsOpeningOf, IsPlain, CanSplitAt}
+use Rattle.branch.specs.Variants.{in_units, MayBe, MayBeNone, MayBeginAnew, MayBegin}
+use Rattle.branch.specs.declared.offered.Offered.{Offered}
+use Rattle.branch.specs.Searching.{search_state, is_anew_at, IsSearch, IsOpeningOf, IsCarried, IsPlain, CanSplitOn, MayBeOffered}
 use Rattle.branch.proofs.lemmas.ListLemmas.{beside_left, beside_right}
 use Rattle.branch.proofs.lemmas.TreeLemmas.{length-leaves_of, packing_at}
 use Rattle.branch.proofs.lemmas.UnitLemmas.{length-in_units, unentered-in_units}
@@ -69,11 +70,11 @@ one_more_outside g d now on undecided is = grind arith
 pub one_more_inside : (g : Graph) (d now : Decided) (on : SplitOn) → IsUndecidedSplit g d on → now ≡ inside_of d on → DecidesOneMore g d now
 one_more_inside g d now on undecided is = grind arith
 
--- the leaf that a caller may split on a vertex
-pub leaf_to_split : (g : Graph) (kept : Frontier) (place v : ℕ) (note : LeafNote) → IsSearch g kept →
-    CanSplitAt (search_state g kept) place v → note ≡ get_or kept.notes.items place note →
-    (leaf : DecidedLeaf) × IsNextLeaf g kept place note leaf × IsSplitVertex g leaf v
-leaf_to_split g kept place v note search (leaf, leaf_at, below, splits) is =
+-- the leaf that may be split on this
+pub leaf_to_split : (g : Graph) (kept : Frontier) (place : ℕ) (on : SplitOn) (note : LeafNote) → IsSearch g kept →
+    CanSplitOn (search_state g kept) place on → note ≡ get_or kept.notes.items place note →
+    (leaf : DecidedLeaf) × IsNextLeaf g kept place note leaf × IsSplitOf g leaf on
+leaf_to_split g kept place on note search (leaf, leaf_at, below, splits) is =
     grind (
       arith,
       beside_left (IsKeptNote g kept.best.length) (leaves_of (nothing_decided g) kept.tree) kept.notes.items place leaf search.notes leaf_at,
@@ -83,26 +84,46 @@ leaf_to_split g kept place v note search (leaf, leaf_at, below, splits) is =
       flag_at,
     )
 
--- Two children of the same carried cuts, each of which begins with them or with no cut: there is one packing that the
--- leaf may have with which both begin as they may.
-as_if_both : (g : Graph) (anew : Bool) (parent : List Cut) (d_out d_in : Decided) (outside inside : NewLeaf) →
-    ((cuts : List Cut) → carried g d_in cuts ≡ carried g d_out cuts) →
-    (outside.note.is_anew ≡ false → BeginsWith outside.packing (carried g d_out parent)) →
-    (inside.note.is_anew ≡ false → BeginsWith inside.packing (carried g d_in parent)) →
-    (IsTrue outside.note.is_anew ↔ MayBeNone g anew (carried g d_out parent)) →
-    (IsTrue inside.note.is_anew ↔ MayBeNone g anew (carried g d_in parent)) →
-    (as_if : List Cut) × MayBe anew parent as_if × MayBegin g as_if d_out outside × MayBegin g as_if d_in inside
-as_if_both g anew parent d_out d_in outside inside both out_begins in_begins out_flag in_flag =
-    grind (arith, both parent, unentered-in_units, length-in_units, both (in_units parent), cases_Bool outside.note.is_anew)
+split_undecided : (g : Graph) (d : Decided) (leaf : DecidedLeaf) (on : SplitOn) → d ≡ leaf.decision → IsSplitOf g leaf on → IsUndecidedSplit g d on
+split_undecided g d leaf (split.Edge e) same splits = subst (λ (d : Decided). IsUndecided g d e) (sym same) splits.undecided
+split_undecided g d leaf (split.Vertex v) same splits = subst (λ (d : Decided). IsVertexUndecided g d v) (sym same) splits.undecided
+
+-- A child begins anew only where packings are offered for both: it may, and the same is carried to both.
+may_be_none : (g : Graph) (anew : Bool) (offered : Option (List Cut)) (cuts : List Cut) → MayBeginAnew g anew offered cuts → MayBeNone g anew cuts
+may_be_none g anew None cuts may = absurd may
+may_be_none g anew (Some packing) cuts may = may
+
+same_carried : (g : Graph) (on : SplitOn) (d : Decided) (offered : Option Offered) (of_child : Offered → List Cut) (anew : Bool) (cuts : List Cut) →
+    IfSome offered (MayBeOffered g.vertices on) → MayBeginAnew g anew (option_map of_child offered) cuts →
+    (other : List Cut) → carried g (inside_of d on) other ≡ carried g (outside_of d on) other
+same_carried g on d None of_child anew cuts may begins other = absurd begins
+same_carried g (split.Edge e) d (Some packings) of_child anew cuts may begins other = absurd may
+same_carried g (split.Vertex v) d (Some packings) of_child anew cuts may begins other = refl
+
+-- a packing that the leaf may have, of which nothing is carried
+as_if_none : (g : Graph) (anew : Bool) (parent : List Cut) (d : Decided) → MayBeNone g anew (carried g d parent) →
+    (as_if : List Cut) × MayBe anew parent as_if × (carried g d as_if ≡ [])
+as_if_none g anew parent d may =
+    ⊎_elim
+    (λ (none : carried g d parent ≡ []). (parent, inl refl, none))
+    (λ (units : (anew ≡ true) × (2 * length g.edges < sum_by (λ c. c.weight) (carried g d parent))).
+    (in_units parent, inr (units.0, refl), grind (arith, unentered-in_units, length-in_units)))
+    may
+
+begins_none : (g : Graph) (as_if : List Cut) (d : Decided) (leaf : NewLeaf) → carried g d as_if ≡ [] → MayBegin g as_if d leaf
+begins_none g as_if d leaf none = record {
+  begins = λ _. subst (λ (cuts : List Cut). BeginsWith leaf.packing cuts) (sym none) (leaf.packing, refl);
+  none = λ _. none;
+}
+
+begins_own : (g : Graph) (parent : List Cut) (d : Decided) (leaf : NewLeaf) → leaf.note.is_anew ≡ false →
+    BeginsWith leaf.packing (carried g d parent) → MayBegin g parent d leaf
+begins_own g parent d leaf own begins = record { begins = λ _. begins; none = λ anew. let never : true ≡ false = sym anew ∙ own in absurd cc }
 
 module _ (g : Graph) (kept : Frontier) (place : ℕ) (note : LeafNote) (search : IsSearch g kept) (leaf : DecidedLeaf)
     (is_next : IsNextLeaf g kept place note leaf) where
   pub note_decided : IsDecisionFor g note.decision
   note_decided = subst (λ (d : Decided). IsDecisionFor g d) (sym is_next.of_note.decision) is_next.of_note.decided
-
-  -- what the leaf may be split on is undecided beside it
-  pub vertex_undecided : (v : ℕ) → IsSplitVertex g leaf v → IsUndecidedSplit g note.decision (split.Vertex v)
-  vertex_undecided v splits = subst (λ (d : Decided). IsVertexUndecided g d v) (sym is_next.of_note.decision) splits.undecided
 
   -- were no edge of its network undecided, the leaf would not be below the best network's length
   pub note_can_split : CanSplit g note
@@ -128,27 +149,6 @@ module _ (g : Graph) (kept : Frontier) (place : ℕ) (note : LeafNote) (search :
             let length_is = search.best.length in
             omega arith;
       }
-
-  pub place_within : place < length (packings_of kept.tree)
-  place_within =
-      grind (arith, slice_get_within (leaves_of (nothing_decided g) kept.tree) place leaf is_next.at, length-leaves_of (nothing_decided g) kept.tree)
-
-  pub place_small : split_count kept.tree < 255 → place < 2 ^ 31
-  place_small few = omega (arith, place_within, length-packings_of kept.tree)
-
-  pub parent_is : (parent : List Cut) → slice_get (packings_of kept.tree) place ≡ Some parent → leaf.packing ≡ parent
-  parent_is parent at = same_Some leaf.packing parent (sym (packing_at (nothing_decided g) kept.tree place leaf is_next.at) ∙ at)
-
-  pub parent_feasible : (parent : List Cut) → slice_get (packings_of kept.tree) place ≡ Some parent → IsFeasible g note.decision parent
-  parent_feasible parent at = grind (arith, parent_is)
-
-  -- what is kept of the rooms
-  pub parent_costs : (parent : List Cut) → slice_get (packings_of kept.tree) place ≡ Some parent →
-      note.costs ≡ costs_of g.edges (states_of g note.decision) parent
-  parent_costs parent at =
-      is_next.of_note.costs note_can_split.set note_can_split.own
-      ∙ ap (λ (p : List Cut). costs_of g.edges (states_of g leaf.decision) p) (parent_is parent at)
-      ∙ ap (λ (d : Decided). costs_of g.edges (states_of g d) parent) (sym is_next.of_note.decision)
 
   -- the leaf shows the network from which a split is chosen
   pub choice_shown : (asked : SplitKind) (on : SplitOn) (choice : IsChoice g note asked on) → IsShownBy g leaf choice.set
@@ -184,86 +184,147 @@ module _ (g : Graph) (kept : Frontier) (place : ℕ) (note : LeafNote) (search :
   choice_splits asked (split.Edge e) choice = grind arith
   choice_splits asked (split.Vertex v) choice = grind (arith, shown_vertex)
 
-  -- a child, once its decision is known to be one more on the leaf's
-  child_note : (next : Decided → Decided) (now : Decided) (child : NewLeaf) → now ≡ next note.decision →
-      IsNoteOf g (leaf_under now child.packing) child.note → IsNoteOf g (leaf_under (next leaf.decision) child.packing) child.note
-  child_note next now child same of_note = grind arith
+  pub choice_can : (asked : SplitKind) (on : SplitOn) → IsChoice g note asked on → CanSplitOn (search_state g kept) place on
+  choice_can asked on choice = (leaf, is_next.at, is_next.below, choice_splits asked on choice)
 
-  -- .. and what is carried to it
-  child_carried : (next : Decided → Decided) (now : Decided) (parent : List Cut) → now ≡ next note.decision →
-      slice_get (packings_of kept.tree) place ≡ Some parent → carried g now parent ≡ carried g (next leaf.decision) leaf.packing
-  child_carried next now parent same at = grind (arith, parent_is)
+  -- .. and an opening on it of which both children begin with what is carried is plain
+  pub plain_opening : {E : Type 0} (on : SplitOn) (result : Result Opening E) → IsChoice g note kept.kind on →
+      IfOk result (λ opening. opening.leaf ≡ place) → IfOk result (λ opening. opening.on ≡ on) →
+      IfOk result (IsCarried g kept) → IfOk result (IsPlain g kept)
+  plain_opening on (Err e) choice leaf_is on_is carries = tt
+  plain_opening on (Ok opening) choice leaf_is on_is carries =
+      let at = subst (λ (n : ℕ). slice_get (leaves_of (nothing_decided g) kept.tree) n ≡ Some carries.leaf) leaf_is carries.at in
+      let same : leaf ≡ carries.leaf = same_Some leaf carries.leaf (sym is_next.at ∙ at) in
+      record {
+        carried = carries;
+        set = choice.set;
+        shown = subst (λ (l : DecidedLeaf). IsShownBy g l choice.set) same (choice_shown kept.kind on choice);
+        candidate = subst (λ (l : DecidedLeaf). IsCandidate kept.kind g l.decision choice.set opening.on) same
+            (subst (λ (u : SplitOn). IsCandidate kept.kind g leaf.decision choice.set u) (sym on_is) (choice_candidate kept.kind on choice));
+      }
 
-  child_begins : (next : Decided → Decided) (now : Decided) (parent packing : List Cut) → now ≡ next note.decision →
-      slice_get (packings_of kept.tree) place ≡ Some parent → BeginsWith packing (carried g now parent) →
-      BeginsWith packing (carried g (next leaf.decision) leaf.packing)
-  child_begins next now parent packing same at begins = grind (arith, child_carried)
+module _ (g : Graph) (kept : Frontier) (place : ℕ) (on : SplitOn) (note : LeafNote) (search : IsSearch g kept)
+    (can : CanSplitOn (search_state g kept) place on) (is : note ≡ get_or kept.notes.items place note) where
+  ready : (leaf : DecidedLeaf) × IsNextLeaf g kept place note leaf × IsSplitOf g leaf on
+  ready = leaf_to_split g kept place on note search can is
+
+  abbrev leaf : DecidedLeaf
+  leaf = ready.0
+
+  abbrev is_next : IsNextLeaf g kept place note leaf
+  is_next = ready.1
+
+  pub decided : IsDecisionFor g note.decision
+  decided = note_decided g kept place note search leaf is_next
+
+  -- what the leaf may be split on is undecided beside it
+  pub undecided : IsUndecidedSplit g note.decision on
+  undecided = split_undecided g note.decision leaf on is_next.of_note.decision ready.2
+
+  pub place_within : place < length (packings_of kept.tree)
+  place_within =
+      grind (arith, slice_get_within (leaves_of (nothing_decided g) kept.tree) place leaf is_next.at, length-leaves_of (nothing_decided g) kept.tree)
+
+  pub place_small : split_count kept.tree < 255 → place < 2 ^ 31
+  place_small few = omega (arith, place_within, length-packings_of kept.tree)
+
+  parent_is : (parent : List Cut) → slice_get (packings_of kept.tree) place ≡ Some parent → leaf.packing ≡ parent
+  parent_is parent at = same_Some leaf.packing parent (sym (packing_at (nothing_decided g) kept.tree place leaf is_next.at) ∙ at)
+
+  pub parent_feasible : (parent : List Cut) → slice_get (packings_of kept.tree) place ≡ Some parent → IsFeasible g note.decision parent
+  parent_feasible parent at = grind (arith, parent_is)
+
+  -- what is kept of the rooms
+  pub parent_costs : (parent : List Cut) → slice_get (packings_of kept.tree) place ≡ Some parent →
+      note.costs ≡ costs_of g.edges (states_of g note.decision) parent
+  parent_costs parent at =
+      is_next.of_note.costs (note_can_split g kept place note search leaf is_next).set (note_can_split g kept place note search leaf is_next).own
+      ∙ ap (λ (p : List Cut). costs_of g.edges (states_of g leaf.decision) p) (parent_is parent at)
+      ∙ ap (λ (d : Decided). costs_of g.edges (states_of g d) parent) (sym is_next.of_note.decision)
+
+  -- the decision of a child, by the leaf's
+  child_decided : (next : Decided → Decided) (now : Decided) → now ≡ next note.decision → now ≡ next leaf.decision
+  child_decided next now is = is ∙ ap next is_next.of_note.decision
 
   -- all together
-  module _ (on : SplitOn) (d_out d_in : Decided) (parent : List Cut) (outside inside : NewLeaf) (best : Best)
-      (out_is : d_out ≡ outside_of note.decision on) (in_is : d_in ≡ inside_of note.decision on)
+  module _ (d_out d_in : Decided) (parent : List Cut) (outside inside : NewLeaf) (best : Best)
+      (out_decided : d_out ≡ outside_of note.decision on) (in_decided : d_in ≡ inside_of note.decision on)
       (parent_at : slice_get (packings_of kept.tree) place ≡ Some parent)
-      (out_note : IsNoteOf g (leaf_under d_out outside.packing) outside.note)
-      (in_note : IsNoteOf g (leaf_under d_in inside.packing) inside.note)
-      (is_best : IsBest g best) (which : IsSameOrShorter g kept.best.network best.network)
-      (out_own : IsUpToOwn g best.length outside.note.network) (in_own : IsUpToOwn g best.length inside.note.network) where
+      (out_begins : outside.note.is_anew ≡ false → BeginsWith outside.packing (carried g d_out parent))
+      (in_begins : inside.note.is_anew ≡ false → BeginsWith inside.packing (carried g d_in parent)) where
     abbrev made : Opening
     made = record { leaf = place; on = on; outside = outside; inside = inside; best = best }
 
-    -- whichever packing that the leaf may have the children begin with
-    opening_as : (as_if : List Cut) → MayBe (is_anew_at kept.notes.items place) leaf.packing as_if → IsSplitOf g leaf on →
-        MayBegin g as_if (outside_of leaf.decision on) outside → MayBegin g as_if (inside_of leaf.decision on) inside →
-        IsOpeningOf g kept made
-    opening_as as_if may_be splits outside_begins inside_begins = record {
+    out_is : d_out ≡ outside_of leaf.decision on
+    out_is = child_decided (λ d. outside_of d on) d_out out_decided
+
+    in_is : d_in ≡ inside_of leaf.decision on
+    in_is = child_decided (λ d. inside_of d on) d_in in_decided
+
+    both_carried : outside.note.is_anew ≡ false → inside.note.is_anew ≡ false → IsCarried g kept made
+    both_carried out_own in_own = record {
       leaf = leaf;
       at = is_next.at;
-      below = is_next.below;
-      splits = splits;
-      outside = child_note (λ d. outside_of d on) d_out outside out_is out_note;
-      inside = child_note (λ d. inside_of d on) d_in inside in_is in_note;
-      as_if = as_if;
-      may_be = may_be;
-      outside_begins = outside_begins;
-      inside_begins = inside_begins;
-      best = is_best;
-      network_is = which;
-      outside_own = out_own;
-      inside_own = in_own;
+      outside = grind (arith, out_is, parent_is parent parent_at, out_begins out_own);
+      inside = grind (arith, in_is, parent_is parent parent_at, in_begins in_own);
     }
 
-    module _ (out_begins : BeginsWith outside.packing (carried g d_out parent))
-        (in_begins : BeginsWith inside.packing (carried g d_in parent)) where
-      -- both begin with what is carried to them
-      pub plain_opening : IsChoice g note kept.kind on → IsPlain g kept made
-      plain_opening choice = record {
-        leaf = leaf;
-        at = is_next.at;
-        set = choice.set;
-        shown = choice_shown kept.kind on choice;
-        candidate = choice_candidate kept.kind on choice;
-        outside = child_begins (λ d. outside_of d on) d_out parent outside.packing out_is parent_at out_begins;
-        inside = child_begins (λ d. inside_of d on) d_in parent inside.packing in_is parent_at in_begins;
-      }
+    module _ (offered : Option Offered) (for_outside for_inside : Option (List Cut)) (may_be : IfSome offered (MayBeOffered g.vertices on))
+        (outside_is : for_outside ≡ option_map (λ o. o.outside) offered) (inside_is : for_inside ≡ option_map (λ o. o.inside) offered)
+        (out_anew : IsTrue outside.note.is_anew ↔ MayBeginAnew g note.is_anew for_outside (carried g d_out parent))
+        (in_anew : IsTrue inside.note.is_anew ↔ MayBeginAnew g note.is_anew for_inside (carried g d_in parent)) where
+      out_flag : outside.note.is_anew ≡ true → MayBeginAnew g note.is_anew (option_map (λ o. o.outside) offered) (carried g d_out parent)
+      out_flag anew = subst (λ (o : Option (List Cut)). MayBeginAnew g note.is_anew o (carried g d_out parent)) outside_is (out_anew.0 anew)
 
-      pub is_opening : IsChoice g note kept.kind on → outside.note.is_anew ≡ false → inside.note.is_anew ≡ false → IsOpeningOf g kept made
-      is_opening choice out_flag in_flag = opening_as leaf.packing (inl refl) (choice_splits kept.kind on choice)
-          (record { begins = λ _. child_begins (λ d. outside_of d on) d_out parent outside.packing out_is parent_at out_begins; none = λ yes. let never : true ≡ false = sym yes ∙ out_flag in absurd cc })
-          (record { begins = λ _. child_begins (λ d. inside_of d on) d_in parent inside.packing in_is parent_at in_begins; none = λ yes. let never : true ≡ false = sym yes ∙ in_flag in absurd cc })
+      in_flag : inside.note.is_anew ≡ true → MayBeginAnew g note.is_anew (option_map (λ o. o.inside) offered) (carried g d_in parent)
+      in_flag anew = subst (λ (o : Option (List Cut)). MayBeginAnew g note.is_anew o (carried g d_in parent)) inside_is (in_anew.0 anew)
 
-    -- both have the same carried cuts, and each begins with them or with no cut
-    pub chosen_opening : IsSplitOf g leaf on →
-        ((cuts : List Cut) → carried g (inside_of leaf.decision on) cuts ≡ carried g (outside_of leaf.decision on) cuts) →
-        (outside.note.is_anew ≡ false → BeginsWith outside.packing (carried g d_out parent)) →
-        (inside.note.is_anew ≡ false → BeginsWith inside.packing (carried g d_in parent)) →
-        (IsTrue outside.note.is_anew ↔ MayBeNone g note.is_anew (carried g d_out parent)) →
-        (IsTrue inside.note.is_anew ↔ MayBeNone g note.is_anew (carried g d_in parent)) → IsOpeningOf g kept made
-    chosen_opening splits both out_begins in_begins out_flag in_flag =
-        let out_same = child_carried (λ d. outside_of d on) d_out parent out_is parent_at in
-        let in_same = child_carried (λ d. inside_of d on) d_in parent in_is parent_at in
-        let (as_if, may_be, first, second) = as_if_both g note.is_anew leaf.packing (outside_of leaf.decision on) (inside_of leaf.decision on)
-        outside inside both
-        (λ no. subst (λ (cuts : List Cut). BeginsWith outside.packing cuts) out_same (out_begins no))
-        (λ no. subst (λ (cuts : List Cut). BeginsWith inside.packing cuts) in_same (in_begins no))
-        (subst (λ (cuts : List Cut). IsTrue outside.note.is_anew ↔ MayBeNone g note.is_anew cuts) out_same out_flag)
-        (subst (λ (cuts : List Cut). IsTrue inside.note.is_anew ↔ MayBeNone g note.is_anew cuts) in_same in_flag) in
-        opening_as as_if (subst (λ (b : Bool). MayBe b leaf.packing as_if) (sym is_next.flag) may_be) splits first second
+      -- where nothing is offered, both begin with what is carried
+      pub carried_where_none : IfNone offered (IsCarried g kept made)
+      carried_where_none = grind (arith, both_carried, out_flag, in_flag, cases_Bool outside.note.is_anew, cases_Bool inside.note.is_anew)
+
+      same_both : (of_child : Offered → List Cut) (cuts : List Cut) → MayBeginAnew g note.is_anew (option_map of_child offered) cuts →
+          (other : List Cut) → carried g d_in other ≡ carried g d_out other
+      same_both of_child cuts begins other = grind (arith, out_decided, in_decided, same_carried g on note.decision offered of_child note.is_anew cuts may_be begins other)
+
+      -- there is one packing that the leaf may have with which both begin as they may
+      as_if_both : (as_if : List Cut) × MayBe note.is_anew parent as_if × MayBegin g as_if d_out outside × MayBegin g as_if d_in inside
+      as_if_both =
+          let same = same_both in
+          ⊎_elim
+          (λ (anew : outside.note.is_anew ≡ true).
+          let begins = out_flag anew in
+          let (as_if, may, none) = as_if_none g note.is_anew parent d_out (may_be_none g note.is_anew _ _ begins) in
+          (as_if, may, begins_none g as_if d_out outside none, begins_none g as_if d_in inside (same (λ o. o.outside) _ begins as_if ∙ none)))
+          (λ (out_own : outside.note.is_anew ≡ false).
+          ⊎_elim
+          (λ (anew : inside.note.is_anew ≡ true).
+          let begins = in_flag anew in
+          let (as_if, may, none) = as_if_none g note.is_anew parent d_in (may_be_none g note.is_anew _ _ begins) in
+          (as_if, may, begins_none g as_if d_out outside (sym (same (λ o. o.inside) _ begins as_if) ∙ none), begins_none g as_if d_in inside none))
+          (λ (in_own : inside.note.is_anew ≡ false).
+          (parent, inl refl, begins_own g parent d_out outside out_own (out_begins out_own), begins_own g parent d_in inside in_own (in_begins in_own)))
+          (cases_Bool inside.note.is_anew))
+          (cases_Bool outside.note.is_anew)
+
+      pub is_opening : IsNoteOf g (leaf_under d_out outside.packing) outside.note →
+          IsNoteOf g (leaf_under d_in inside.packing) inside.note → IsBest g best → IsSameOrShorter g kept.best.network best.network →
+          IsUpToOwn g best.length outside.note.network → IsUpToOwn g best.length inside.note.network → IsOpeningOf g kept made
+      is_opening out_note in_note is_best which out_own in_own =
+          let (as_if, may_be, out_may, in_may) = as_if_both in
+          record {
+            leaf = leaf;
+            at = is_next.at;
+            below = is_next.below;
+            splits = ready.2;
+            outside = subst (λ (d : Decided). IsNoteOf g (leaf_under d outside.packing) outside.note) out_is out_note;
+            inside = subst (λ (d : Decided). IsNoteOf g (leaf_under d inside.packing) inside.note) in_is in_note;
+            as_if = as_if;
+            may_be = grind (arith, is_next.flag, parent_is parent parent_at);
+            outside_begins = subst (λ (d : Decided). MayBegin g as_if d outside) out_is out_may;
+            inside_begins = subst (λ (d : Decided). MayBegin g as_if d inside) in_is in_may;
+            best = is_best;
+            network_is = which;
+            outside_own = out_own;
+            inside_own = in_own;
+          }

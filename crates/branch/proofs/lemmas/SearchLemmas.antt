@@ -117,7 +117,7 @@ module _ (g : Graph) (old : Frontier) (opening : Opening) (search : IsSearch g o
   opened_plain : IsPlain g old opening → IsOpenNext g old.best.network old.tree opening.leaf →
       IsPlainOpening old.kind g old.best.network opening.best.network old.tree opened_tree
   opened_plain plain next =
-      let same : plain.leaf ≡ op.leaf = same_Some plain.leaf op.leaf (sym plain.at ∙ op.at) in
+      let same : plain.carried.leaf ≡ op.leaf = same_Some plain.carried.leaf op.leaf (sym plain.carried.at ∙ op.at) in
       record {
         opening = record {
           place = opening.leaf;
@@ -129,8 +129,8 @@ module _ (g : Graph) (old : Frontier) (opening : Opening) (search : IsSearch g o
           below = op.below;
           splits = op.splits;
           tree_is = refl;
-          outside_begins = subst (λ (l : DecidedLeaf). BeginsAt g l (outside_of l.decision opening.on) opening.outside.packing) same plain.outside;
-          inside_begins = subst (λ (l : DecidedLeaf). BeginsAt g l (inside_of l.decision opening.on) opening.inside.packing) same plain.inside;
+          outside_begins = subst (λ (l : DecidedLeaf). BeginsAt g l (outside_of l.decision opening.on) opening.outside.packing) same plain.carried.outside;
+          inside_begins = subst (λ (l : DecidedLeaf). BeginsAt g l (inside_of l.decision opening.on) opening.inside.packing) same plain.carried.inside;
           no_longer = opened_shorter;
         };
         next = next;
