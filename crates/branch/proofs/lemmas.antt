@@ -1,5 +1,4 @@
 pub mod CandidateLemmas
-pub mod CarriedLemmas
 pub mod EnoughLemmas
 pub mod InsideLemmas
 pub mod ListLemmas

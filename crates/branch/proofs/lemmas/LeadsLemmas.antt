@@ -7,7 +7,6 @@ use Rattle.cert_tree.specs.Tree.{Tree}
 use Rattle.cert_tree.specs.Preorder.{split_count}
 use Rattle.branch.specs.declared.solved.Solved.{Solved}
 use Rattle.branch.specs.declared.split_kind.SplitKind.{SplitKind}
-use Rattle.branch.specs.declared.split_kind.SplitKind.TheVariants as kind
 use Rattle.branch.specs.KindLaws.{SplitsEdges-replaced}
 use Rattle.branch.specs.Kinds.{AreOfKind}
 use Rattle.branch.specs.Notes.{shorter_of}

@@ -24,7 +24,6 @@ use Rattle.branch.specs.declared.frontier.Frontier.{Frontier}
 use Rattle.branch.specs.Leaves.{DecidedLeaf, leaf_under, leaves_of}
 use Rattle.branch.specs.States.{IsOpenLeaf, IsSameOrShorter, IsShownBy, leaf_value}
 use Rattle.branch.specs.declared.split_kind.SplitKind.{SplitKind}
-use Rattle.branch.specs.declared.split_kind.SplitKind.TheVariants as kind
 use Rattle.branch.specs.Candidates.{IsCandidate, IsVertexToSplit}
 use Rattle.branch.specs.Openings.{IsSplitVertex, IsSplitOf}
 use Rattle.dual_ascent.specs.Costs.{costs_of}
@@ -70,35 +69,17 @@ one_more_outside g d now on undecided is = grind arith
 pub one_more_inside : (g : Graph) (d now : Decided) (on : SplitOn) → IsUndecidedSplit g d on → now ≡ inside_of d on → DecidesOneMore g d now
 one_more_inside g d now on undecided is = grind arith
 
--- the leaf that may be split on this
-pub leaf_to_split : (g : Graph) (kept : Frontier) (place : ℕ) (on : SplitOn) (note : LeafNote) → IsSearch g kept →
-    CanSplitOn (search_state g kept) place on → note ≡ get_or kept.notes.items place note →
-    (leaf : DecidedLeaf) × IsNextLeaf g kept place note leaf × IsSplitOf g leaf on
-leaf_to_split g kept place on note search (leaf, leaf_at, below, splits) is =
-    grind (
-      arith,
-      beside_left (IsKeptNote g kept.best.length) (leaves_of (nothing_decided g) kept.tree) kept.notes.items place leaf search.notes leaf_at,
-      slice_get_within,
-      same_Some,
-      slice_get_read,
-      flag_at,
-    )
-
 split_undecided : (g : Graph) (d : Decided) (leaf : DecidedLeaf) (on : SplitOn) → d ≡ leaf.decision → IsSplitOf g leaf on → IsUndecidedSplit g d on
 split_undecided g d leaf (split.Edge e) same splits = subst (λ (d : Decided). IsUndecided g d e) (sym same) splits.undecided
 split_undecided g d leaf (split.Vertex v) same splits = subst (λ (d : Decided). IsVertexUndecided g d v) (sym same) splits.undecided
 
--- A child begins anew only where packings are offered for both: it may, and the same is carried to both.
-may_be_none : (g : Graph) (anew : Bool) (offered : Option (List Cut)) (cuts : List Cut) → MayBeginAnew g anew offered cuts → MayBeNone g anew cuts
-may_be_none g anew None cuts may = absurd may
-may_be_none g anew (Some packing) cuts may = may
-
-same_carried : (g : Graph) (on : SplitOn) (d : Decided) (offered : Option Offered) (of_child : Offered → List Cut) (anew : Bool) (cuts : List Cut) →
+-- A child may begin anew only where packings are offered for both, and there the same is carried to both.
+anew_child : (g : Graph) (on : SplitOn) (d : Decided) (offered : Option Offered) (of_child : Offered → List Cut) (anew : Bool) (cuts : List Cut) →
     IfSome offered (MayBeOffered g.vertices on) → MayBeginAnew g anew (option_map of_child offered) cuts →
-    (other : List Cut) → carried g (inside_of d on) other ≡ carried g (outside_of d on) other
-same_carried g on d None of_child anew cuts may begins other = absurd begins
-same_carried g (split.Edge e) d (Some packings) of_child anew cuts may begins other = absurd may
-same_carried g (split.Vertex v) d (Some packings) of_child anew cuts may begins other = refl
+    MayBeNone g anew cuts × ((other : List Cut) → carried g (inside_of d on) other ≡ carried g (outside_of d on) other)
+anew_child g on d None of_child anew cuts may begins = absurd begins
+anew_child g (split.Edge e) d (Some packings) of_child anew cuts may begins = absurd may
+anew_child g (split.Vertex v) d (Some packings) of_child anew cuts may begins = (begins, λ _. refl)
 
 -- a packing that the leaf may have, of which nothing is carried
 as_if_none : (g : Graph) (anew : Bool) (parent : List Cut) (d : Decided) → MayBeNone g anew (carried g d parent) →
@@ -117,8 +98,8 @@ begins_none g as_if d leaf none = record {
 }
 
 begins_own : (g : Graph) (parent : List Cut) (d : Decided) (leaf : NewLeaf) → leaf.note.is_anew ≡ false →
-    BeginsWith leaf.packing (carried g d parent) → MayBegin g parent d leaf
-begins_own g parent d leaf own begins = record { begins = λ _. begins; none = λ anew. let never : true ≡ false = sym anew ∙ own in absurd cc }
+    (leaf.note.is_anew ≡ false → BeginsWith leaf.packing (carried g d parent)) → MayBegin g parent d leaf
+begins_own g parent d leaf own begins = record { begins = begins; none = λ anew. let never : true ≡ false = sym anew ∙ own in absurd cc }
 
 module _ (g : Graph) (kept : Frontier) (place : ℕ) (note : LeafNote) (search : IsSearch g kept) (leaf : DecidedLeaf)
     (is_next : IsNextLeaf g kept place note leaf) where
@@ -206,7 +187,16 @@ module _ (g : Graph) (kept : Frontier) (place : ℕ) (note : LeafNote) (search :
 module _ (g : Graph) (kept : Frontier) (place : ℕ) (on : SplitOn) (note : LeafNote) (search : IsSearch g kept)
     (can : CanSplitOn (search_state g kept) place on) (is : note ≡ get_or kept.notes.items place note) where
   ready : (leaf : DecidedLeaf) × IsNextLeaf g kept place note leaf × IsSplitOf g leaf on
-  ready = leaf_to_split g kept place on note search can is
+  ready =
+      let (leaf, leaf_at, below, splits) = can in
+      grind (
+        arith,
+        beside_left (IsKeptNote g kept.best.length) (leaves_of (nothing_decided g) kept.tree) kept.notes.items place leaf search.notes leaf_at,
+        slice_get_within,
+        same_Some,
+        slice_get_read,
+        flag_at,
+      )
 
   abbrev leaf : DecidedLeaf
   leaf = ready.0
@@ -242,10 +232,6 @@ module _ (g : Graph) (kept : Frontier) (place : ℕ) (on : SplitOn) (note : Leaf
       ∙ ap (λ (p : List Cut). costs_of g.edges (states_of g leaf.decision) p) (parent_is parent at)
       ∙ ap (λ (d : Decided). costs_of g.edges (states_of g d) parent) (sym is_next.of_note.decision)
 
-  -- the decision of a child, by the leaf's
-  child_decided : (next : Decided → Decided) (now : Decided) → now ≡ next note.decision → now ≡ next leaf.decision
-  child_decided next now is = is ∙ ap next is_next.of_note.decision
-
   -- all together
   module _ (d_out d_in : Decided) (parent : List Cut) (outside inside : NewLeaf) (best : Best)
       (out_decided : d_out ≡ outside_of note.decision on) (in_decided : d_in ≡ inside_of note.decision on)
@@ -256,10 +242,10 @@ module _ (g : Graph) (kept : Frontier) (place : ℕ) (on : SplitOn) (note : Leaf
     made = record { leaf = place; on = on; outside = outside; inside = inside; best = best }
 
     out_is : d_out ≡ outside_of leaf.decision on
-    out_is = child_decided (λ d. outside_of d on) d_out out_decided
+    out_is = out_decided ∙ ap (λ d. outside_of d on) is_next.of_note.decision
 
     in_is : d_in ≡ inside_of leaf.decision on
-    in_is = child_decided (λ d. inside_of d on) d_in in_decided
+    in_is = in_decided ∙ ap (λ d. inside_of d on) is_next.of_note.decision
 
     both_carried : outside.note.is_anew ≡ false → inside.note.is_anew ≡ false → IsCarried g kept made
     both_carried out_own in_own = record {
@@ -273,46 +259,44 @@ module _ (g : Graph) (kept : Frontier) (place : ℕ) (on : SplitOn) (note : Leaf
         (outside_is : for_outside ≡ option_map (λ o. o.outside) offered) (inside_is : for_inside ≡ option_map (λ o. o.inside) offered)
         (out_anew : IsTrue outside.note.is_anew ↔ MayBeginAnew g note.is_anew for_outside (carried g d_out parent))
         (in_anew : IsTrue inside.note.is_anew ↔ MayBeginAnew g note.is_anew for_inside (carried g d_in parent)) where
-      out_flag : outside.note.is_anew ≡ true → MayBeginAnew g note.is_anew (option_map (λ o. o.outside) offered) (carried g d_out parent)
-      out_flag anew = subst (λ (o : Option (List Cut)). MayBeginAnew g note.is_anew o (carried g d_out parent)) outside_is (out_anew.0 anew)
-
-      in_flag : inside.note.is_anew ≡ true → MayBeginAnew g note.is_anew (option_map (λ o. o.inside) offered) (carried g d_in parent)
-      in_flag anew = subst (λ (o : Option (List Cut)). MayBeginAnew g note.is_anew o (carried g d_in parent)) inside_is (in_anew.0 anew)
-
       -- where nothing is offered, both begin with what is carried
-      pub carried_where_none : IfNone offered (IsCarried g kept made)
-      carried_where_none = grind (arith, both_carried, out_flag, in_flag, cases_Bool outside.note.is_anew, cases_Bool inside.note.is_anew)
+      carried_where_none : IfNone offered (IsCarried g kept made)
+      carried_where_none = grind (arith, both_carried, cases_Bool outside.note.is_anew, cases_Bool inside.note.is_anew)
 
-      same_both : (of_child : Offered → List Cut) (cuts : List Cut) → MayBeginAnew g note.is_anew (option_map of_child offered) cuts →
-          (other : List Cut) → carried g d_in other ≡ carried g d_out other
-      same_both of_child cuts begins other = grind (arith, out_decided, in_decided, same_carried g on note.decision offered of_child note.is_anew cuts may_be begins other)
+      -- a child that begins anew has a packing that the leaf may have, of which nothing is carried to either
+      as_if_anew : (of_child : Offered → List Cut) (for_child : Option (List Cut)) (d : Decided) → for_child ≡ option_map of_child offered →
+          MayBeginAnew g note.is_anew for_child (carried g d parent) →
+          (as_if : List Cut) × MayBe note.is_anew parent as_if × (carried g d as_if ≡ []) × (carried g d_in as_if ≡ carried g d_out as_if)
+      as_if_anew of_child for_child d is begins =
+          let (may, same) = anew_child g on note.decision offered of_child note.is_anew (carried g d parent) may_be
+          (subst (λ (o : Option (List Cut)). MayBeginAnew g note.is_anew o (carried g d parent)) is begins) in
+          let (as_if, may_have, none) = as_if_none g note.is_anew parent d may in
+          (as_if, may_have, none, grind (arith, out_decided, in_decided, same as_if))
 
       -- there is one packing that the leaf may have with which both begin as they may
       as_if_both : (as_if : List Cut) × MayBe note.is_anew parent as_if × MayBegin g as_if d_out outside × MayBegin g as_if d_in inside
       as_if_both =
-          let same = same_both in
           ⊎_elim
           (λ (anew : outside.note.is_anew ≡ true).
-          let begins = out_flag anew in
-          let (as_if, may, none) = as_if_none g note.is_anew parent d_out (may_be_none g note.is_anew _ _ begins) in
-          (as_if, may, begins_none g as_if d_out outside none, begins_none g as_if d_in inside (same (λ o. o.outside) _ begins as_if ∙ none)))
+          let (as_if, may, none, same) = as_if_anew (λ o. o.outside) for_outside d_out outside_is (out_anew.0 anew) in
+          (as_if, may, begins_none g as_if d_out outside none, begins_none g as_if d_in inside (same ∙ none)))
           (λ (out_own : outside.note.is_anew ≡ false).
           ⊎_elim
           (λ (anew : inside.note.is_anew ≡ true).
-          let begins = in_flag anew in
-          let (as_if, may, none) = as_if_none g note.is_anew parent d_in (may_be_none g note.is_anew _ _ begins) in
-          (as_if, may, begins_none g as_if d_out outside (sym (same (λ o. o.inside) _ begins as_if) ∙ none), begins_none g as_if d_in inside none))
+          let (as_if, may, none, same) = as_if_anew (λ o. o.inside) for_inside d_in inside_is (in_anew.0 anew) in
+          (as_if, may, begins_none g as_if d_out outside (sym same ∙ none), begins_none g as_if d_in inside none))
           (λ (in_own : inside.note.is_anew ≡ false).
-          (parent, inl refl, begins_own g parent d_out outside out_own (out_begins out_own), begins_own g parent d_in inside in_own (in_begins in_own)))
+          (parent, inl refl, begins_own g parent d_out outside out_own out_begins, begins_own g parent d_in inside in_own in_begins))
           (cases_Bool inside.note.is_anew))
           (cases_Bool outside.note.is_anew)
 
-      pub is_opening : IsNoteOf g (leaf_under d_out outside.packing) outside.note →
-          IsNoteOf g (leaf_under d_in inside.packing) inside.note → IsBest g best → IsSameOrShorter g kept.best.network best.network →
-          IsUpToOwn g best.length outside.note.network → IsUpToOwn g best.length inside.note.network → IsOpeningOf g kept made
-      is_opening out_note in_note is_best which out_own in_own =
-          let (as_if, may_be, out_may, in_may) = as_if_both in
-          record {
+      pub opened : IsNoteOf g (leaf_under d_out outside.packing) outside.note → IsNoteOf g (leaf_under d_in inside.packing) inside.note →
+          IsBest g best → IsSameOrShorter g kept.best.network best.network →
+          IsUpToOwn g best.length outside.note.network → IsUpToOwn g best.length inside.note.network →
+          IsOpeningOf g kept made × IfNone offered (IsCarried g kept made)
+      opened out_note in_note is_best which out_own in_own =
+          let (as_if, may_have, out_may, in_may) = as_if_both in
+          let opening : IsOpeningOf g kept made = record {
             leaf = leaf;
             at = is_next.at;
             below = is_next.below;
@@ -327,4 +311,5 @@ module _ (g : Graph) (kept : Frontier) (place : ℕ) (on : SplitOn) (note : Leaf
             network_is = which;
             outside_own = out_own;
             inside_own = in_own;
-          }
+          } in
+          (opening, carried_where_none)

@@ -1,9 +1,9 @@
 -- How a leaf is opened on what it may be split on.
-use Rattle.std.proofs.Common.{◌<◌, ◌^◌, length, rules, arith}
+use Rattle.std.proofs.Common.{◌<◌, ◌^◌, length, refl, rules, arith}
 use Rattle.std.proofs.lemmas.Option.{slice_get_within}
 use Rattle.branch.proofs.lemmas.ListLemmas.{beside_left}
 use Rattle.branch.proofs.lemmas.OpeningLemmas.{decided, undecided, place_within, place_small, parent_costs, parent_feasible}
-use Rattle.branch.proofs.lemmas.OpeningLemmas.{one_more_outside, one_more_inside, is_opening, carried_where_none}
+use Rattle.branch.proofs.lemmas.OpeningLemmas.{one_more_outside, one_more_inside, opened}
 use Rattle.branch.proofs.next_opening.opening_on.Goals as goal
 
 pub index-note-requires : goal.index-note-requires
@@ -77,19 +77,12 @@ child_of-requires-clause-sizes _ c = rw c.for_each-for_outside.ensures.outside (
 pub child_of-requires-2-clause-sizes : goal.child_of-requires-2-clause-sizes
 child_of-requires-2-clause-sizes _ c = rw c.for_each-for_outside.ensures.inside (grind arith)
 
-pub returns-clause-opening : goal.returns-clause-opening
-returns-clause-opening _ c =
-    is_opening _ _ _ _ _ c.requires.search c.requires.can c.index-note.ensures _ _ _ _ _ _
+pub returns : goal.returns
+returns _ c =
+    let (opening, carried) = opened _ _ _ _ _ c.requires.search c.requires.can c.index-note.ensures _ _ _ _ _ _
     c.in_ok-decided_outside.ensures.value c.in_ok-decided_inside.ensures.value c.packing-parent.ensures
     c.in_ok-outside.ensures.begins c.in_ok-inside.ensures.begins c.args.offered _ _ c.requires.offered
     c.for_each-for_outside.ensures.outside c.for_each-for_outside.ensures.inside
     c.in_ok-outside.ensures.anew c.in_ok-inside.ensures.anew c.in_ok-outside.ensures.note c.in_ok-inside.ensures.note
-    c.in_ok-best.ensures.best c.in_ok-best.ensures.which c.in_ok-best.ensures.outside c.in_ok-best.ensures.inside
-
-pub returns-clause-carried : goal.returns-clause-carried
-returns-clause-carried _ c =
-    carried_where_none _ _ _ _ _ c.requires.search c.requires.can c.index-note.ensures _ _ _ _ _ _
-    c.in_ok-decided_outside.ensures.value c.in_ok-decided_inside.ensures.value c.packing-parent.ensures
-    c.in_ok-outside.ensures.begins c.in_ok-inside.ensures.begins c.args.offered _ _ c.requires.offered
-    c.for_each-for_outside.ensures.outside c.for_each-for_outside.ensures.inside
-    c.in_ok-outside.ensures.anew c.in_ok-inside.ensures.anew
+    c.in_ok-best.ensures.best c.in_ok-best.ensures.which c.in_ok-best.ensures.outside c.in_ok-best.ensures.inside in
+    record { opening = opening; carried = carried; leaf = refl; on = refl }

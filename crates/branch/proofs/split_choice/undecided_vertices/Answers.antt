@@ -1,5 +1,5 @@
 -- One more vertex, which is a candidate or isn't.
-use Rattle.std.proofs.Common.{◌≡◌, ◌<◌, true, length, ◌∙◌, arith}
+use Rattle.std.proofs.Common.{◌≡◌, ◌<◌, length, ◌∙◌, arith}
 use Rattle.branch.specs.Meeting.{edges_at}
 use Rattle.branch.proofs.lemmas.CandidateLemmas.{gathered_more}
 use Rattle.branch.proofs.lemmas.MeetingLemmas.{count_read}

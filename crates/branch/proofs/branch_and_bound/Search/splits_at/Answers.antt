@@ -1,5 +1,5 @@
 -- A leaf can be split exactly where its value is below the length and it has a saturated end.
-use Rattle.std.proofs.Common.{◌<◌, ◌↔◌, length, IsTrue, sym, subst, arith}
+use Rattle.std.proofs.Common.{◌<◌, ◌↔◌, IsTrue, sym, subst, arith}
 use Rattle.std.proofs.lemmas.Bool.{ltb-true}
 use Rattle.branch.specs.Searching.{SearchState, CanSplitAt}
 use Rattle.branch.proofs.lemmas.ReaderLemmas.{note_within, is_decided, rooms_size, can_split, has_end}
