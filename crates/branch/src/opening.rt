@@ -64,9 +64,9 @@ pub(crate) fn decided_inside(
     }
 }
 
-/// The leaf of a further decision: that of the ascent which begins with what a leaf's packing carries there. Where a
-/// packing is offered and this one may begin with no cut, it is the better one of this leaf and of that of the ascent
-/// which begins with the offered packing, if that is feasible and has few cuts. An `Err` is want of memory.
+/// The leaf of a further decision: the ascent that begins with what a leaf's packing carries there; or, where a packing
+/// is offered and the child's may begin with no cut, the better one of this ascent and of the one that begins with the
+/// offered packing, if that is feasible and has few cuts. An `Err` is want of memory.
 pub(crate) fn child_of<F: Rule>(
     alloc: Global,
     g: &NetGraph,
