@@ -5,4 +5,3 @@ pub mod TreeSteps
 pub mod Unique
 pub mod LineWords
 pub mod Lawful
-pub mod Sections

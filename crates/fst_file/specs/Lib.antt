@@ -4,6 +4,6 @@ pub mod Said
 pub mod Faults
 pub mod Format
 pub mod Text
-pub mod Judged
+pub mod TextLaws
 pub mod Kept
 pub mod Pieces

@@ -16,8 +16,8 @@ use text_in::LineWords;
 /// How many trees a file holds at most.
 pub const MAX_TREES: u32 = 20_000;
 
-// The format of the file: its items are trees, which are judged by the grid of the points.
-pub(crate) struct FstFormat;
+/// The format of the file: its items are trees, which are judged by the grid of the points.
+pub struct FstFormat;
 
 impl SectionFormat for FstFormat {
     type Item = Tree;
@@ -31,6 +31,8 @@ impl SectionFormat for FstFormat {
     ghost format = { fst_format };
 
     ghost points_of = { λ grid. grid };
+
+    fn lawful() {}
 
     fn title() -> &'static [u8] {
         b"rst fst 1"

@@ -4,7 +4,6 @@
 mod fault;
 mod file;
 mod format;
-mod laws;
 mod read;
 mod tree_line;
 mod trees;
@@ -12,7 +11,6 @@ mod write;
 
 pub use fault::FstFault;
 pub use file::FstFile;
-pub use format::MAX_TREES;
-pub use laws::{one_outcome, one_reading, values_are_spelled};
+pub use format::{FstFormat, MAX_TREES};
 pub use read::read_file;
 pub use write::write_file;

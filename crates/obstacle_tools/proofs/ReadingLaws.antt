@@ -1,15 +1,17 @@
 -- What readers of a text and takers of a task answer is what these come to, and a Steiner problem has no fault.
 use Rattle.std.proofs.Common.{ℕ, ◌≡◌, List, Some, Result, Ok, Err, IfOk, IfErr, OnOk}
 use Rattle.std.proofs.Common.{slice_get, sym, subst, arith}
-use Rattle.std.specs.Prelude.{All, ◌↔◌}
+use Rattle.std.specs.Prelude.{All}
 use Rattle.std.proofs.lemmas.Option.{get_or_from_slice_get, slice_get_within}
 use Rattle.net_graph.specs.Graph.{Graph}
 use Rattle.net_graph.specs.Network.{Reaches}
+use Rattle.section_text.specs.Judged.{IsFirstFault as IsFirstFaultOfText}
+use Rattle.section_text.specs.Laws.{OneOutcome, ValuesAreSpelled, no_fault as no_fault_of_text, one_value}
 use Rattle.obstacles_in.specs.declared.fault.ObstacleFault.{ObstacleFault}
-use Rattle.obstacles_in.specs.declared.fault.ObstacleFault.TheVariants as text
 use Rattle.obstacles_in.specs.Obstacles.{ObstaclesValue}
+use Rattle.obstacles_in.specs.Format.{obstacles_format}
 use Rattle.obstacles_in.specs.Text.{SpellsObstacles}
-use Rattle.obstacles_in.specs.Judged.{IsOutcome, IsFirstFault as IsFirstFaultOfText}
+use Rattle.obstacles_in.specs.TextLaws.{obstacles_spelled}
 use Rattle.obstacles_in.specs.Said.{IsMemory as IsMemoryOfText}
 use Rattle.obstacle_grid.specs.declared.fault.ObstacleTaskFault.{ObstacleTaskFault}
 use Rattle.obstacle_grid.specs.declared.fault.ObstacleTaskFault.TheVariants as task
@@ -26,11 +28,11 @@ use Rattle.obstacle_tools.specs.Reading.{ReadsText, TakesTask, AroundHasNoFault}
 -- an answer of the reader that is no want of memory
 pub text_apart : (bytes : List ℕ) (read : Result ObstaclesValue ObstacleFault)
     (found : Result ObstaclesValue (Stop ObstacleFault)) → IfOk read (SpellsObstacles bytes) →
-    IfErr read (IsFirstFaultOfText bytes) → IfFound found (λ r. r ≡ read) →
+    IfErr read (IsFirstFaultOfText obstacles_format bytes) → IfFound found (λ r. r ≡ read) →
     IfFound found (λ r. IfErr r (λ fault. IsMemoryOfText fault → ⊥)) → IfFound found (ReadsText bytes)
 text_apart bytes read (Ok o) spelled fault same told = subst (λ r. IfOk r (SpellsObstacles bytes)) (sym same) spelled
 text_apart bytes read (Err (Fault why)) spelled fault same told =
-    (subst (λ r. IfErr r (IsFirstFaultOfText bytes)) (sym same) fault, told)
+    (subst (λ r. IfErr r (IsFirstFaultOfText obstacles_format bytes)) (sym same) fault, told)
 text_apart bytes read (Err (Memory error)) spelled fault same told = tt
 
 -- the same of the graph of points and boxes
@@ -60,38 +62,13 @@ task_faultless o (task.Apart place) is (short, apart) told =
     apart.apart (at_place (Reaches g (all_edges g)) g.terminals place apart.terminal is.joined apart.at)
 task_faultless o (task.Memory error) is fault told = told tt
 
--- bytes come to one outcome at most
-abbrev pub OneOutcome : Type 0
-OneOutcome = (bytes : List ℕ) (o o' : Result ObstaclesValue ObstacleFault) → IsOutcome bytes o → IsOutcome bytes o' →
-    o ≡ o'
-
--- and to a value where they spell it
-abbrev pub ValuesAreSpelled : Type 0
-ValuesAreSpelled =
-    (bytes : List ℕ) (v : ObstaclesValue) → IsOutcome bytes (Ok v) ↔ SpellsObstacles bytes v
-
--- a fault that is no want of memory is the outcome
-fault_is_outcome : (bytes : List ℕ) (fault : ObstacleFault) → IsFirstFaultOfText bytes fault →
-    (IsMemoryOfText fault → ⊥) → IsOutcome bytes (Err fault)
-fault_is_outcome bytes (text.Memory error) is told = absurd (told tt)
-fault_is_outcome bytes (text.BadLine line) is told = is
-fault_is_outcome bytes (text.TooManyPoints line) is told = is
-fault_is_outcome bytes (text.RepeatedPoint line) is told = is
-fault_is_outcome bytes (text.TooManyBoxes line) is told = is
-fault_is_outcome bytes (text.BadBox line) is told = is
-fault_is_outcome bytes (text.PointInBox line) is told = is
-fault_is_outcome bytes (text.TooLarge vertices) is told = is
-
--- one text is of one value
-same_value : OneOutcome → ValuesAreSpelled → (bytes : List ℕ) (o other : ObstaclesValue) → SpellsObstacles bytes o →
-    SpellsObstacles bytes other → o ≡ other
-same_value one spelled bytes o other is are =
-    let both = one bytes (Ok o) (Ok other) ((spelled bytes o).1 is) ((spelled bytes other).1 are) in cc
-
-pub no_fault : OneOutcome → ValuesAreSpelled → AroundHasNoFault
-no_fault one spelled bytes o (InText fault) is (first, told) =
-    let both = one bytes (Ok o) (Err fault) ((spelled bytes o).1 is.text) (fault_is_outcome bytes fault first told) in
-    absurd cc
-no_fault one spelled bytes o (InGraph fault) is (other, text, (first, told)) =
-    let same = same_value one spelled bytes other o text is.text in
-    task_faultless o fault is.task (subst (λ v. IsFirstFault v fault) same first) told
+-- and its text has none
+module _ (one : OneOutcome obstacles_format) (spelled : ValuesAreSpelled obstacles_format) where
+  pub no_fault : AroundHasNoFault
+  no_fault bytes o (InText fault) is (first, told) =
+      no_fault_of_text obstacles_format one spelled bytes o fault (obstacles_spelled bytes o is.text) (first told)
+  no_fault bytes o (InGraph fault) is (other, text, (first, told)) =
+      let same : other ≡ o =
+      one_value obstacles_format one spelled bytes other o (obstacles_spelled bytes other text)
+      (obstacles_spelled bytes o is.text) in
+      task_faultless o fault is.task (subst (λ v. IsFirstFault v fault) same first) told

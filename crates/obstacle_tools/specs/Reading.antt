@@ -1,10 +1,11 @@
 -- What a text gives as a Steiner problem around boxes.
 use Rattle.std.specs.Prelude.{ℕ, ◌≡◌, List, Result, Ok, Err}
 use Rattle.net_graph.specs.Graph.{Graph}
+use Rattle.section_text.specs.Judged.{IsFirstFault as IsFirstFaultOfText}
 use Rattle.obstacles_in.specs.declared.fault.ObstacleFault.{ObstacleFault}
 use Rattle.obstacles_in.specs.Obstacles.{ObstaclesValue}
+use Rattle.obstacles_in.specs.Format.{obstacles_format}
 use Rattle.obstacles_in.specs.Text.{SpellsObstacles}
-use Rattle.obstacles_in.specs.Judged.{IsFirstFault as IsFirstFaultOfText}
 use Rattle.obstacles_in.specs.Said.{obstacle_fault_text, obstacle_passes_limit, IsMemory as IsMemoryOfText}
 use Rattle.obstacle_grid.specs.declared.fault.ObstacleTaskFault.{ObstacleTaskFault}
 use Rattle.obstacle_grid.specs.Grid.{obstacle_graph_of}
@@ -28,7 +29,7 @@ around_fault_status (InGraph fault) = format_fault_status (task_passes_limit fau
 -- The points and boxes that the bytes spell; or their first fault, which is no want of memory.
 abbrev pub ReadsText : List ℕ → Result ObstaclesValue ObstacleFault → Type 0
 ReadsText bytes (Ok o) = SpellsObstacles bytes o
-ReadsText bytes (Err fault) = IsFirstFaultOfText bytes fault × (IsMemoryOfText fault → ⊥)
+ReadsText bytes (Err fault) = IsFirstFaultOfText obstacles_format bytes fault × (IsMemoryOfText fault → ⊥)
 
 -- The points and boxes are a Steiner problem of the suite, and this is its graph; or this is their first fault, and no
 -- want of memory.

@@ -6,9 +6,8 @@ ghost use Rattle.obstacle_tools.specs.Reading.{ReadsText, ReadsAround, TakesTask
 use crate::text_fault::ObstacleTextFault;
 use net_graph::NetGraph;
 use obstacle_grid::{ObstacleTaskFault, obstacle_graph};
-use obstacles_in::{
-    ObstacleFault, Obstacles, one_outcome, one_reading, read_obstacles, values_are_spelled,
-};
+use obstacles_in::{ObstacleFault, Obstacles, ObstaclesFormat, read_obstacles};
+use section_text::{one_outcome, one_reading, values_are_spelled};
 use std::alloc::Global;
 use tool_frame::{Stop, faults_apart, within};
 
@@ -24,9 +23,9 @@ pub(crate) fn graph_around(alloc: Global, bytes: &[u8]) -> Result<NetGraph, Stop
 pub fn around_has_no_fault()
     ensures { AroundHasNoFault }
 {
-    one_outcome();
-    values_are_spelled();
-    one_reading();
+    one_outcome::<ObstaclesFormat>();
+    values_are_spelled::<ObstaclesFormat>();
+    one_reading::<ObstaclesFormat>();
 }
 
 // The points and boxes that a text spells; or its first fault.

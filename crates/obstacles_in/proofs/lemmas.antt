@@ -3,4 +3,3 @@ pub mod Marks
 pub mod Unique
 pub mod LineWords
 pub mod Lawful
-pub mod Sections

@@ -4,4 +4,4 @@ pub mod Said
 pub mod Faults
 pub mod Format
 pub mod Text
-pub mod Judged
+pub mod TextLaws

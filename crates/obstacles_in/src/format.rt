@@ -17,8 +17,8 @@ use text_in::LineWords;
 // How many boxes a text lists at most.
 const MAX_BOXES: u32 = 25;
 
-// The format of the text: its items are boxes, which are judged by the points.
-pub(crate) struct ObstaclesFormat;
+/// The format of the text: its items are boxes, which are judged by the points.
+pub struct ObstaclesFormat;
 
 impl SectionFormat for ObstaclesFormat {
     type Item = Rectangle;
@@ -32,6 +32,8 @@ impl SectionFormat for ObstaclesFormat {
     ghost format = { obstacles_format };
 
     ghost points_of = { λ points. points };
+
+    fn lawful() {}
 
     fn title() -> &'static [u8] {
         b"rst obstacles 1"

@@ -4,14 +4,13 @@
 mod boxes;
 mod fault;
 mod format;
-mod laws;
 mod obstacles;
 mod read;
 mod rectangle;
 mod size;
 
 pub use fault::ObstacleFault;
-pub use laws::{one_outcome, one_reading, values_are_spelled};
+pub use format::ObstaclesFormat;
 pub use obstacles::Obstacles;
 pub use read::read_obstacles;
 pub use rectangle::Rectangle;

@@ -3,7 +3,7 @@
 ghost use Rattle.std.specs.Prelude.{◌≡◌, ◌≤◌, List, length, IfOk, IfErr, OnOk};
 ghost use Rattle.points_in.specs.declared.point.Point.{Point};
 ghost use Rattle.text_in.specs.Lines.{words_of};
-ghost use Rattle.section_text.specs.Format.{Format};
+ghost use Rattle.section_text.specs.Format.{Format, IsLawful};
 ghost use Rattle.section_text.specs.Faults.{SpellsItem, FailsItem};
 
 use crate::fault::LineFault;
@@ -31,6 +31,10 @@ pub trait SectionFormat {
 
     /// The points of what the items are judged by.
     ghost points_of: { Self.Basis → List Point };
+
+    /// The law of the format: it does nothing, and is there for its clause.
+    fn lawful()
+        ensures { IsLawful format };
 
     /// The first line.
     fn title() -> &'static [u8]

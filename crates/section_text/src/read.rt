@@ -15,7 +15,6 @@ use text_in::TextLines;
 /// Reads a text of the format: its value, where the bytes spell one, or else its first fault. Want of memory may come
 /// anywhere.
 pub fn read_sections<S: SectionFormat>(alloc: Global, bytes: &[u8]) -> Result<S::Whole, S::Fault>
-    requires { IsLawful S.format }
     // What is read is spelled so, each byte of it, and a fault is the first one.
     ensures spelled { IfOk result (Spells S.format bytes.now) }
     ensures fault { IfErr result (IsFirstFault S.format bytes.now) }
@@ -23,6 +22,7 @@ pub fn read_sections<S: SectionFormat>(alloc: Global, bytes: &[u8]) -> Result<S:
     ensures only { (v : S.Whole) → Spells S.format bytes.now v → Answers S.format result (Ok v) }
     ensures only_fault { (f : S.Fault) → IsOutcome S.format bytes.now (Err f) → Answers S.format result (Err f) }
 {
+    S::lawful();
     read_lines::<S>(alloc, bytes)
 }
 

@@ -4,4 +4,4 @@ use Rattle.section_text.proofs.Outcome.{judges_one}
 use Rattle.section_text.proofs.laws.one_outcome.Goals as goal
 
 pub returns : goal.returns
-returns g c = λ bytes o o'. judges_one g.S.SectionFormat.format c.requires nothing 1 (lines_of bytes) o o'
+returns g c = λ bytes o o'. judges_one g.S.SectionFormat.format c.lawful.ensures nothing 1 (lines_of bytes) o o'
