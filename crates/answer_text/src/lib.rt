@@ -24,6 +24,7 @@ pub use form::Form;
 pub use head::{AnswerHead, ConcatNote};
 pub use label::{EdgeLabel, VertexLabel};
 pub use length::{answer_len, graph_answer_len};
+pub use naming::write_name;
 pub use reader::{EventReader, Spelling};
 pub use reading::{lines_fit, one_reading, reads_beginnings, upgraded_alike};
 pub use split::SplitName;

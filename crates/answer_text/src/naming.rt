@@ -16,21 +16,23 @@ use rst_outside::Sink;
 use text_out::{Block, literal, signed};
 
 // The line of an edge.
+#[tactic(auto, using(text_out::specs::GatherLaws::pieces))]
 pub(crate) fn write_edge<S: Sink>(block: &mut Block, sink: &mut S, label: &EdgeLabel)
     ensures { Gathers (S.state sink.old) block.old (line_text (line_of.Edge label.now)) (S.state sink.new) block.new }
 {
     match label {
-        EdgeLabel::Ends(name) => write_ends(block, sink, name),
+        EdgeLabel::Ends(name) => {
+            write_name(block, sink, name);
+            literal(block, sink, b"\n");
+        }
         EdgeLabel::Number(number) => write_number(block, sink, b"", *number),
     }
 }
 
-// The words of an edge's ends, to the end of their line.
+/// Writes an edge's name: the coordinates of one end and of the other.
 #[tactic(auto, using(text_out::specs::GatherLaws::pieces))]
-fn write_ends<S: Sink>(block: &mut Block, sink: &mut S, name: &EdgeName)
-    ensures { Gathers (S.state sink.old) block.old
-        (name_words name.now ++ codes "\n")
-        (S.state sink.new) block.new }
+pub fn write_name<S: Sink>(block: &mut Block, sink: &mut S, name: &EdgeName)
+    ensures { Gathers (S.state sink.old) block.old (name_words name.now) (S.state sink.new) block.new }
 {
     signed(block, sink, &name.x1);
     literal(block, sink, b" ");
@@ -39,7 +41,6 @@ fn write_ends<S: Sink>(block: &mut Block, sink: &mut S, name: &EdgeName)
     signed(block, sink, &name.x2);
     literal(block, sink, b" ");
     signed(block, sink, &name.y2);
-    literal(block, sink, b"\n");
 }
 
 // The line of a split, which says what it is on.
