@@ -12,12 +12,12 @@ section_name Graph = codes "Graph"
 section_name Terminals = codes "Terminals"
 section_name Coordinates = codes "Coordinates"
 
--- what is said of a section, and of a node
+-- what is said of a section, and of a number
 abbrev pub section_text : StpSection → List ℕ → List ℕ
 section_text section said = codes "section " ++ section_name section ++ said
 
-abbrev pub node_text : List ℕ → ℕ → List ℕ → List ℕ
-node_text before node after = before ++ decimal node ++ after
+abbrev pub number_text : List ℕ → ℕ → List ℕ → List ℕ
+number_text before n after = before ++ decimal n ++ after
 
 abbrev pub stp_fault_text : StpFault → List ℕ
 stp_fault_text NoMagic = codes "not an STP file"
@@ -27,8 +27,8 @@ stp_fault_text (NodeOutOfRange line) = line_text line (codes " names no node")
 stp_fault_text (WrongCount section) = section_text section (codes " has a wrong count")
 stp_fault_text (MissingSection section) = section_text section (codes " is missing")
 stp_fault_text NoTerminals = codes "no terminals"
-stp_fault_text (NoCoordinates node) = node_text (codes "node ") node (codes " has no coordinates")
-stp_fault_text (TooManyPoints node) = node_text (codes "more than 50 points at node ") node (codes "")
+stp_fault_text (NoCoordinates node) = number_text (codes "node ") node (codes " has no coordinates")
+stp_fault_text (TooManyPoints node) = number_text (codes "more than 50 points at node ") node (codes "")
 stp_fault_text (Memory error) = codes "out of memory"
 
 -- the terminals have more than 50 distinct points

@@ -2,7 +2,7 @@
 
 ghost use Rattle.std.specs.Prelude.{◌≡◌};
 ghost use Rattle.text_out.specs.Gathers.{Gathers};
-ghost use Rattle.stp_format.specs.Said.{section_name, section_text, node_text, stp_fault_text, stp_passes_limit, IsMemory};
+ghost use Rattle.stp_format.specs.Said.{section_name, section_text, number_text, stp_fault_text, stp_passes_limit, IsMemory};
 
 use rst_outside::Sink;
 use std::alloc::AllocError;
@@ -85,10 +85,10 @@ impl FormatFault for StpFault {
             }
             StpFault::NoTerminals => literal(block, sink, b"no terminals"),
             StpFault::NoCoordinates(node) => {
-                write_node(block, sink, b"node ", *node, b" has no coordinates")
+                write_number(block, sink, b"node ", *node, b" has no coordinates")
             }
             StpFault::TooManyPoints(node) => {
-                write_node(block, sink, b"more than 50 points at node ", *node, b"")
+                write_number(block, sink, b"more than 50 points at node ", *node, b"")
             }
             StpFault::Memory(_) => literal(block, sink, b"out of memory"),
         }
@@ -112,14 +112,14 @@ fn write_section<S: Sink>(block: &mut Block, sink: &mut S, section: StpSection, 
     literal(block, sink, said);
 }
 
-// Writes what is said of a node.
+/// Writes what is said of a number.
 #[tactic(auto, using(text_out::specs::GatherLaws::pieces))]
-fn write_node<S: Sink>(block: &mut Block, sink: &mut S, before: &[u8], node: u32, after: &[u8])
-    ensures { Gathers (S.state sink.old) block.old (node_text before.now node after.now)
+pub fn write_number<S: Sink>(block: &mut Block, sink: &mut S, before: &[u8], n: u32, after: &[u8])
+    ensures { Gathers (S.state sink.old) block.old (number_text before.now n after.now)
         (S.state sink.new) block.new }
 {
     literal(block, sink, before);
-    number(block, sink, node);
+    number(block, sink, n);
     literal(block, sink, after);
 }
 

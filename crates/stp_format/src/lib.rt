@@ -19,7 +19,7 @@ mod words;
 mod write;
 
 pub use edge::StpEdge;
-pub use fault::{StpFault, StpSection};
+pub use fault::{StpFault, StpSection, write_number};
 pub use file::StpFile;
 pub use points::points_of;
 pub use read::read_stp;

@@ -14,7 +14,7 @@ pub returns-in-NoTerminals : goal.returns-in-NoTerminals
 returns-in-NoTerminals g c = rw c.in-NoTerminals.is c.literal-in-NoTerminals.ensures
 
 pub returns-in-TooManyPoints : goal.returns-in-TooManyPoints
-returns-in-TooManyPoints g c = rw c.in-TooManyPoints.is c.write_node-in-TooManyPoints.ensures
+returns-in-TooManyPoints g c = rw c.in-TooManyPoints.is c.write_number-in-TooManyPoints.ensures
 
 pub returns-in-Memory : goal.returns-in-Memory
 returns-in-Memory g c = rw c.in-Memory.is c.literal-in-Memory.ensures
