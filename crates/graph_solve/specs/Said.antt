@@ -1,12 +1,9 @@
 -- What is said of the faults of a file as a Steiner problem, and which of them pass a limit.
 use Rattle.std.specs.Prelude.{ℕ, Bool, true, false, List, ◌++◌, codes, decimal}
+use Rattle.stp_format.specs.Said.{number_text}
 use Rattle.graph_solve.specs.declared.fault.TaskFault.{TaskFault}
 use Rattle.graph_solve.specs.declared.fault.TaskFault.TheVariants.{TooManyNodes, TooManyEdges, TooManyTerminals}
 use Rattle.graph_solve.specs.declared.fault.TaskFault.TheVariants.{NoTerminals, ZeroLength, TooLong, Apart, Memory}
-
--- what is said of a number
-abbrev pub number_text : List ℕ → ℕ → List ℕ → List ℕ
-number_text before n after = before ++ decimal n ++ after
 
 -- what is said of the lengths' sum, which is too great
 abbrev pub total_text : ℕ → List ℕ

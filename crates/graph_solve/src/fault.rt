@@ -1,10 +1,11 @@
 //! Why an STP file is no Steiner problem of the suite, and what is said of it.
 
 ghost use Rattle.text_out.specs.Gathers.{Gathers};
-ghost use Rattle.graph_solve.specs.Said.{number_text, total_text, task_fault_text, task_passes_limit, IsMemory};
+ghost use Rattle.graph_solve.specs.Said.{total_text, task_fault_text, task_passes_limit, IsMemory};
 
 use rst_outside::Sink;
 use std::alloc::AllocError;
+use stp_format::write_number;
 use text_in::FormatFault;
 use text_out::{Block, literal, number};
 
@@ -83,20 +84,9 @@ impl FormatFault for TaskFault {
     }
 }
 
-// Writes what is said of a number.
+/// Writes what is said of lengths that sum to this total, which is too great.
 #[tactic(auto, using(text_out::specs::GatherLaws::pieces))]
-fn write_number<S: Sink>(block: &mut Block, sink: &mut S, before: &[u8], n: u32, after: &[u8])
-    ensures { Gathers (S.state sink.old) block.old (number_text before.now n after.now)
-        (S.state sink.new) block.new }
-{
-    literal(block, sink, before);
-    number(block, sink, n);
-    literal(block, sink, after);
-}
-
-// Writes what is said of a total that is too great.
-#[tactic(auto, using(text_out::specs::GatherLaws::pieces))]
-fn write_total<S: Sink>(block: &mut Block, sink: &mut S, total: u128)
+pub fn write_total<S: Sink>(block: &mut Block, sink: &mut S, total: u128)
     ensures { Gathers (S.state sink.old) block.old (total_text total) (S.state sink.new) block.new }
 {
     literal(block, sink, b"the graph is too long: ");

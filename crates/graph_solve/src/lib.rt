@@ -9,6 +9,6 @@ mod task;
 
 pub use cert_check::Ruling as GraphVerdict;
 pub use check::check_graph;
-pub use fault::TaskFault;
+pub use fault::{TaskFault, write_total};
 pub use network::first_network;
 pub use task::graph_of;

@@ -1,19 +1,13 @@
 -- What is said of the faults of points and boxes as a Steiner problem. None of them passes a limit.
-use Rattle.std.specs.Prelude.{ℕ, Bool, false, List, ◌++◌, codes, decimal}
+use Rattle.std.specs.Prelude.{ℕ, Bool, false, List, codes}
+use Rattle.stp_format.specs.Said.{number_text}
+use Rattle.graph_solve.specs.Said.{total_text}
 use Rattle.obstacle_grid.specs.declared.fault.ObstacleTaskFault.{ObstacleTaskFault}
 use Rattle.obstacle_grid.specs.declared.fault.ObstacleTaskFault.TheVariants.{TooLong, Apart, Memory}
 
--- what is said of the lengths' sum, which is too great
-abbrev pub total_text : ℕ → List ℕ
-total_text total = codes "the graph is too long: " ++ decimal total
-
--- what is said of a point that can't be joined
-abbrev pub apart_text : ℕ → List ℕ
-apart_text place = codes "the boxes leave point " ++ decimal place ++ codes " apart"
-
 abbrev pub task_fault_text : ObstacleTaskFault → List ℕ
 task_fault_text (TooLong total) = total_text total
-task_fault_text (Apart place) = apart_text place
+task_fault_text (Apart place) = number_text (codes "the boxes leave point ") place (codes " apart")
 task_fault_text (Memory error) = codes "out of memory"
 
 abbrev pub task_passes_limit : ObstacleTaskFault → Bool

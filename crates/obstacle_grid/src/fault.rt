@@ -1,12 +1,13 @@
 //! Why points and boxes have no graph of the suite, and what is said of it.
 
-ghost use Rattle.text_out.specs.Gathers.{Gathers};
-ghost use Rattle.obstacle_grid.specs.Said.{total_text, apart_text, task_fault_text, task_passes_limit, IsMemory};
+ghost use Rattle.obstacle_grid.specs.Said.{task_fault_text, task_passes_limit, IsMemory};
 
+use graph_solve::write_total;
 use rst_outside::Sink;
 use std::alloc::AllocError;
+use stp_format::write_number;
 use text_in::FormatFault;
-use text_out::{Block, literal, number};
+use text_out::{Block, literal};
 
 /// Why points and boxes are no Steiner problem of the suite: the first of their faults in this order; or want of
 /// memory.
@@ -48,7 +49,13 @@ impl FormatFault for ObstacleTaskFault {
     fn write<S: Sink>(&self, block: &mut Block, sink: &mut S) {
         match self {
             ObstacleTaskFault::TooLong { total } => write_total(block, sink, *total),
-            ObstacleTaskFault::Apart(place) => write_apart(block, sink, *place),
+            ObstacleTaskFault::Apart(place) => write_number(
+                block,
+                sink,
+                b"the boxes leave point ",
+                u32::from(*place),
+                b" apart",
+            ),
             ObstacleTaskFault::Memory(_) => literal(block, sink, b"out of memory"),
         }
     }
@@ -59,23 +66,4 @@ impl FormatFault for ObstacleTaskFault {
             fault => Ok(fault),
         }
     }
-}
-
-// Writes what is said of a total that is too great.
-#[tactic(auto, using(text_out::specs::GatherLaws::pieces))]
-fn write_total<S: Sink>(block: &mut Block, sink: &mut S, total: u128)
-    ensures { Gathers (S.state sink.old) block.old (total_text total) (S.state sink.new) block.new }
-{
-    literal(block, sink, b"the graph is too long: ");
-    number(block, sink, total);
-}
-
-// Writes what is said of a point that can't be joined.
-#[tactic(auto, using(text_out::specs::GatherLaws::pieces))]
-fn write_apart<S: Sink>(block: &mut Block, sink: &mut S, place: u8)
-    ensures { Gathers (S.state sink.old) block.old (apart_text place) (S.state sink.new) block.new }
-{
-    literal(block, sink, b"the boxes leave point ");
-    number(block, sink, place);
-    literal(block, sink, b" apart");
 }
