@@ -1,10 +1,11 @@
 -- The text that tells the bounds of a grid's edges (this project's own format).
 use Rattle.std.specs.Prelude.{ℕ, Bool, true, List, ◌++◌, length, flat_map, filter, codes, Option, Some, None, nat_lt, slice_index}
-use Rattle.std.specs.Fmt.{decimal, signed_decimal}
+use Rattle.std.specs.Fmt.{decimal}
 use Rattle.std.specs.List.{range_with_len}
 use Rattle.points_in.specs.declared.point.Point.{Point}
 use Rattle.hanan_grid.specs.declared.name.EdgeName.{EdgeName}
 use Rattle.hanan_grid.specs.Names.{name_of_edge}
+use Rattle.answer_text.specs.Words.{name_words}
 
 -- whether a bound is above the threshold, as each is where there is none
 abbrev pub is_above : Option ℕ → ℕ → Bool
@@ -15,14 +16,9 @@ is_above (Some most) bound = nat_lt most bound
 abbrev pub listed : Option ℕ → List ℕ → List ℕ
 listed above bounds = filter (λ e. is_above above (slice_index bounds e)) (range_with_len 0 (length bounds))
 
--- the ends of an edge, with a blank behind each number
-abbrev pub ends_text : EdgeName → List ℕ
-ends_text e = signed_decimal e.x1 ++ codes " " ++ signed_decimal e.y1 ++ codes " " ++ signed_decimal e.x2 ++ codes " "
-    ++ signed_decimal e.y2 ++ codes " "
-
 -- the line of an edge and its bound
 abbrev pub bound_line : EdgeName → ℕ → List ℕ
-bound_line e bound = ends_text e ++ decimal bound ++ codes "\n"
+bound_line e bound = name_words e ++ codes " " ++ decimal bound ++ codes "\n"
 
 -- the line of the edge of a number
 abbrev pub edge_text : List Point → List ℕ → ℕ → List ℕ

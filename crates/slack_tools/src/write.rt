@@ -4,11 +4,12 @@ ghost use Rattle.std.specs.Prelude.{◌≡◌, ◌<◌, ◌≤◌, [], length, f
 ghost use Rattle.rst_outside.specs.Sink.{Writes};
 ghost use Rattle.text_out.specs.Gathers.{Gathers};
 ghost use Rattle.hanan_grid.specs.Grid.{hanan_grid_of};
-ghost use Rattle.slack_tools.specs.Text.{bound_line, edge_text, ends_text, head_text, is_above, listed, slack_text};
+ghost use Rattle.slack_tools.specs.Text.{bound_line, edge_text, head_text, is_above, listed, slack_text};
 
+use answer_text::write_name;
 use hanan_grid::{EdgeName, Grid};
 use rst_outside::{PutFault, Sink};
-use text_out::{Block, finish, literal, number, signed};
+use text_out::{Block, finish, literal, number};
 
 /// Writes the edges whose bound is above the threshold, or all edges where there is none, in ascending number, each by
 /// its ends and with its bound. It takes no memory; on an `Err` the sink failed, and the text was cut short.
@@ -128,22 +129,8 @@ fn write_edge<S: Sink>(
 fn write_line<S: Sink>(block: &mut Block, sink: &mut S, name: &EdgeName, bound: u64)
     ensures { Gathers (S.state sink.old) block.old (bound_line name.now bound) (S.state sink.new) block.new }
 {
-    write_ends(block, sink, name);
+    write_name(block, sink, name);
+    literal(block, sink, b" ");
     number(block, sink, bound);
     literal(block, sink, b"\n");
-}
-
-// The ends of an edge, with a blank behind each number.
-#[tactic(auto, using(text_out::specs::GatherLaws::pieces))]
-fn write_ends<S: Sink>(block: &mut Block, sink: &mut S, name: &EdgeName)
-    ensures { Gathers (S.state sink.old) block.old (ends_text name.now) (S.state sink.new) block.new }
-{
-    signed(block, sink, &name.x1);
-    literal(block, sink, b" ");
-    signed(block, sink, &name.y1);
-    literal(block, sink, b" ");
-    signed(block, sink, &name.x2);
-    literal(block, sink, b" ");
-    signed(block, sink, &name.y2);
-    literal(block, sink, b" ");
 }
