@@ -3,6 +3,7 @@
 ghost use Rattle.rst_outside.specs.Sink.{Writes};
 ghost use Rattle.text_out.specs.Gathers.{Gathers};
 ghost use Rattle.points_in.specs.Text.{point_line, points_text};
+ghost use Rattle.printed_texts.specs.Trees.{point_text};
 
 use drawn_points::Drawn;
 use points_in::{Point, Points};
@@ -36,17 +37,25 @@ fn write_points<S: Sink>(block: &mut Block, sink: &mut S, points: &[Point])
     ensures { Gathers (S.state sink.old) block.old (points_text points.now) (S.state sink.new) block.new }
 {
     for point in points {
-        write_point(block, sink, point);
+        write_line(block, sink, point);
     }
 }
 
 // The line of a point.
 #[tactic(auto, using(text_out::specs::GatherLaws::pieces))]
-fn write_point<S: Sink>(block: &mut Block, sink: &mut S, point: &Point)
+fn write_line<S: Sink>(block: &mut Block, sink: &mut S, point: &Point)
     ensures { Gathers (S.state sink.old) block.old (point_line point.now) (S.state sink.new) block.new }
+{
+    write_point(block, sink, point);
+    literal(block, sink, b"\n");
+}
+
+// A point by its coordinates.
+#[tactic(auto, using(text_out::specs::GatherLaws::pieces))]
+pub(crate) fn write_point<S: Sink>(block: &mut Block, sink: &mut S, point: &Point)
+    ensures { Gathers (S.state sink.old) block.old (point_text point.now) (S.state sink.new) block.new }
 {
     signed(block, sink, &point.x);
     literal(block, sink, b" ");
     signed(block, sink, &point.y);
-    literal(block, sink, b"\n");
 }

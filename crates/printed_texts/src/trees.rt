@@ -7,13 +7,13 @@ ghost use Rattle.text_out.specs.Gathers.{Gathers};
 ghost use Rattle.full_tree.specs.Code.{members_of, HasFewMembers};
 ghost use Rattle.full_tree.specs.Form.{IsInForm};
 ghost use Rattle.full_tree.specs.Pieces.{pieces_of};
-ghost use Rattle.printed_texts.specs.Trees.{places_text, tree_line, point_text, piece_line, tree_lines, tree_list_text};
+ghost use Rattle.printed_texts.specs.Trees.{places_text, tree_line, piece_line, tree_lines, tree_list_text};
 
+use crate::points::write_point;
 use full_tree::{Piece, Tree, TreeCode, TreeList, member, member_count, piece, piece_count};
 use hanan_grid::Grid;
-use points_in::Point;
 use rst_outside::{PutFault, Sink};
-use text_out::{Block, finish, literal, number, signed};
+use text_out::{Block, finish, literal, number};
 
 /// Writes a line for each tree: its members' places in ascending order and its length. Where `pieces` is true each
 /// such line is followed by one for each of the tree's pieces, in their order. It takes no memory; on an `Err` the
@@ -112,14 +112,4 @@ fn write_piece<S: Sink>(block: &mut Block, sink: &mut S, piece: &Piece)
     literal(block, sink, b" ");
     write_point(block, sink, &piece.to);
     literal(block, sink, b"\n");
-}
-
-// A point by its coordinates.
-#[tactic(auto, using(text_out::specs::GatherLaws::pieces))]
-fn write_point<S: Sink>(block: &mut Block, sink: &mut S, point: &Point)
-    ensures { Gathers (S.state sink.old) block.old (point_text point.now) (S.state sink.new) block.new }
-{
-    signed(block, sink, &point.x);
-    literal(block, sink, b" ");
-    signed(block, sink, &point.y);
 }
