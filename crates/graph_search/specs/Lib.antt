@@ -1,5 +1,6 @@
 pub mod Kinds
 pub mod Plans
+pub mod Raised
 pub mod Searched
 pub mod Anew
 pub mod Answering

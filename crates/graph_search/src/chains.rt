@@ -7,6 +7,7 @@ ghost use Rattle.dual_ascent.specs.Choosing.{IsCallableOnSome, AnswersAPlace};
 ghost use Rattle.cert_tree.specs.Preorder.{split_count};
 ghost use Rattle.branch.specs.States.{IsNetworkOf};
 ghost use Rattle.graph_search.specs.Anew.{IsAhead, IsFoundOnEdges};
+ghost use Rattle.graph_search.specs.Raised.{IsUnsplit};
 
 use crate::proposing::{Proposal, Proposing};
 use branch::{Search, Solved, SplitKind, Step};
@@ -173,10 +174,7 @@ fn raise<F: Rule, G: Rule>(
 ) -> Result<(), AllocError>
     requires graph { graph.now ≡ search.old.graph }
     requires leaf { split_count search.old.tree ≡ 0 }
-    ensures graph { search.new.graph ≡ search.old.graph }
-    ensures kind { search.new.kind ≡ search.old.kind }
-    ensures first { search.new.first_length ≡ search.old.first_length }
-    ensures leaf { split_count search.new.tree ≡ 0 }
+    ensures { IsUnsplit search.old search.new }
 {
     let none = Decision::none(alloc, graph)?;
     if first.len() <= 2 * graph.edge_count() as usize

@@ -6,6 +6,7 @@ ghost use Rattle.net_graph.specs.Network.{length_of};
 ghost use Rattle.cert_tree.specs.Preorder.{split_count};
 ghost use Rattle.packing_judge.specs.Bound.{IsBoundOf};
 ghost use Rattle.packing_judge.specs.Outcome.{IsOutcomeFor};
+ghost use Rattle.graph_search.specs.Raised.{IsSameSearch, IsUnsplit};
 
 use crate::guiding::raise_along_network;
 use crate::raising::Raising;
@@ -92,10 +93,7 @@ impl Exchanges<'_> {
     ) -> Result<Guesses, AllocError>
         requires graph { self.now.graph.now ≡ search.old.graph }
         requires leaf { split_count search.old.tree ≡ 0 }
-        ensures graph { search.new.graph ≡ search.old.graph }
-        ensures kind { search.new.kind ≡ search.old.kind }
-        ensures first { search.new.first_length ≡ search.old.first_length }
-        ensures leaf { split_count search.new.tree ≡ 0 }
+        ensures { IsUnsplit search.old search.new }
     {
         let mut guesses = Guesses::none(alloc);
         for exchange in 0..self.most {
@@ -150,10 +148,7 @@ impl Exchanges<'_> {
         ensures further { IfOk result (λ turn.
             length_of search.old.graph search.new.network < length_of search.old.graph search.old.network
             → turn.end ≡ TurnEnd.Shorter) }
-        ensures graph { search.new.graph ≡ search.old.graph }
-        ensures kind { search.new.kind ≡ search.old.kind }
-        ensures first { search.new.first_length ≡ search.old.first_length }
-        ensures leaf { split_count search.new.tree ≡ 0 }
+        ensures unsplit { IsUnsplit search.old search.new }
     {
         let graph = self.graph;
         let before = length(graph, search.network());
@@ -199,9 +194,7 @@ impl Exchanges<'_> {
         search: &mut Search<'_, F, G>,
     ) -> Result<(), AllocError>
         requires graph { self.now.graph.now ≡ search.old.graph }
-        ensures graph { search.new.graph ≡ search.old.graph }
-        ensures kind { search.new.kind ≡ search.old.kind }
-        ensures first { search.new.first_length ≡ search.old.first_length }
+        ensures same { IsSameSearch search.old search.new }
         ensures tree { search.new.tree ≡ search.old.tree }
     {
         let graph = self.graph;

@@ -2,6 +2,7 @@
 
 ghost use Rattle.std.specs.Prelude.{◌≡◌};
 ghost use Rattle.cert_tree.specs.Preorder.{split_count};
+ghost use Rattle.graph_search.specs.Raised.{IsUnsplit};
 
 use branch::Search;
 use dual_ascent::Rule;
@@ -19,10 +20,7 @@ pub(crate) fn raise_along_network<F: Rule, G: Rule>(
 ) -> Result<(), AllocError>
     requires graph { graph.now ≡ search.old.graph }
     requires leaf { split_count search.old.tree ≡ 0 }
-    ensures graph { search.new.graph ≡ search.old.graph }
-    ensures kind { search.new.kind ≡ search.old.kind }
-    ensures first { search.new.first_length ≡ search.old.first_length }
-    ensures leaf { split_count search.new.tree ≡ 0 }
+    ensures { IsUnsplit search.old search.new }
 {
     for ascent in 0..most {
         if search.is_settled() {
@@ -43,10 +41,7 @@ fn raise_once<F: Rule, G: Rule>(
 ) -> Result<(), AllocError>
     requires graph { graph.now ≡ search.old.graph }
     requires leaf { split_count search.old.tree ≡ 0 }
-    ensures graph { search.new.graph ≡ search.old.graph }
-    ensures kind { search.new.kind ≡ search.old.kind }
-    ensures first { search.new.first_length ≡ search.old.first_length }
-    ensures leaf { split_count search.new.tree ≡ 0 }
+    ensures { IsUnsplit search.old search.new }
 {
     let network = search.network();
     let outcome = guided(alloc, graph, network, seed)?;

@@ -4,6 +4,7 @@ ghost use Rattle.std.specs.Prelude.{◌≡◌, ◌≤◌};
 ghost use Rattle.net_graph.specs.Graph.{Graph};
 ghost use Rattle.branch.specs.Kinds.{SplitsVertices};
 ghost use Rattle.cert_tree.specs.Preorder.{split_count};
+ghost use Rattle.graph_search.specs.Raised.{IsSameSearch};
 
 use branch::Search;
 use dual_ascent::Rule;
@@ -24,9 +25,7 @@ pub trait Raising {
     ) -> Result<(), AllocError>
         requires graph { is_for self.now search.old.graph }
         requires leaf { split_count search.old.tree ≡ 0 }
-        ensures graph { search.new.graph ≡ search.old.graph }
-        ensures kind { search.new.kind ≡ search.old.kind }
-        ensures first { search.new.first_length ≡ search.old.first_length }
+        ensures same { IsSameSearch search.old search.new }
         ensures few { split_count search.new.tree ≤ openings }
         ensures vertices { SplitsVertices search.new.tree };
 }

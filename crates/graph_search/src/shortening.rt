@@ -1,6 +1,7 @@
 //! Shorter networks that a search finds in its first leaf.
 
 ghost use Rattle.std.specs.Prelude.{◌≡◌, OnErr};
+ghost use Rattle.graph_search.specs.Raised.{IsSameSearch};
 
 use crate::raising::Raising;
 use branch::Search;
@@ -46,9 +47,7 @@ pub fn offer_shorter<F: Rule, G: Rule>(
     search: &mut Search<'_, F, G>,
 ) -> Result<(), AllocError>
     requires graph { g.now ≡ search.old.graph }
-    ensures graph { search.new.graph ≡ search.old.graph }
-    ensures kind { search.new.kind ≡ search.old.kind }
-    ensures first { search.new.first_length ≡ search.old.first_length }
+    ensures same { IsSameSearch search.old search.new }
     ensures tree { search.new.tree ≡ search.old.tree }
     ensures err { OnErr result (search.new ≡ search.old) }
 {

@@ -6,6 +6,7 @@ ghost use Rattle.cert_tree.specs.Preorder.{packings_of, split_count};
 ghost use Rattle.branch.specs.Kinds.{SplitsVertices};
 ghost use Rattle.branch.specs.Searching.{AreOfSize, CanSplitAt};
 ghost use Rattle.graph_search.specs.Plans.{IsPlanIn};
+ghost use Rattle.graph_search.specs.Raised.{IsSameSearch};
 
 use crate::children::Plan;
 use crate::trials::Trial;
@@ -53,9 +54,7 @@ impl Splitting {
     ) -> Result<(), AllocError>
         requires graph { graph.now ≡ search.old.graph }
         requires leaf { split_count search.old.tree ≡ 0 }
-        ensures graph { search.new.graph ≡ search.old.graph }
-        ensures kind { search.new.kind ≡ search.old.kind }
-        ensures first { search.new.first_length ≡ search.old.first_length }
+        ensures same { IsSameSearch search.old search.new }
         ensures few { split_count search.new.tree ≤ openings }
         ensures vertices { SplitsVertices search.new.tree }
     {
@@ -98,9 +97,7 @@ impl Splitting {
         requires few { split_count search.old.tree < 255 }
         requires vertices { SplitsVertices search.old.tree }
         requires plans { All (IsPlanIn search.old.graph) plans.old.items }
-        ensures graph { search.new.graph ≡ search.old.graph }
-        ensures kind { search.new.kind ≡ search.old.kind }
-        ensures first { search.new.first_length ≡ search.old.first_length }
+        ensures same { IsSameSearch search.old search.new }
         ensures few { split_count search.new.tree ≤ split_count search.old.tree + 1 }
         ensures vertices { SplitsVertices search.new.tree }
         ensures plans { OnOk result (All (IsPlanIn search.old.graph) plans.new.items) }
@@ -149,9 +146,7 @@ fn split_leaf<F: Rule, G: Rule>(
     requires can { CanSplitAt search.old leaf vertex }
     requires sizes { AreOfSize search.old.graph.vertices offered }
     requires vertices { SplitsVertices search.old.tree }
-    ensures graph { search.new.graph ≡ search.old.graph }
-    ensures kind { search.new.kind ≡ search.old.kind }
-    ensures first { search.new.first_length ≡ search.old.first_length }
+    ensures same { IsSameSearch search.old search.new }
     ensures few { split_count search.new.tree ≤ split_count search.old.tree + 1 }
     ensures vertices { SplitsVertices search.new.tree }
 {
@@ -201,9 +196,7 @@ fn offer_network<F: Rule, G: Rule>(
 ) -> Result<(), AllocError>
     requires graph { graph.now ≡ search.old.graph }
     requires size { length network.now ≡ length graph.now.edges }
-    ensures graph { search.new.graph ≡ search.old.graph }
-    ensures kind { search.new.kind ≡ search.old.kind }
-    ensures first { search.new.first_length ≡ search.old.first_length }
+    ensures same { IsSameSearch search.old search.new }
     ensures tree { search.new.tree ≡ search.old.tree }
 {
     if joins(alloc, graph, network)? {
