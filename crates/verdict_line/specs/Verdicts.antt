@@ -1,5 +1,6 @@
 -- The line that tells a verdict, and the status that the tool ends with.
 use Rattle.std.specs.Prelude.{ℕ, ◌+◌, Bool, List, ◌++◌, codes, decimal}
+use Rattle.text_in.specs.Texts.{line_text as about_line}
 use Rattle.answer_text.specs.Text.{status_word}
 use Rattle.tree_judge.specs.declared.cause.Cause.{Cause}
 use Rattle.tree_judge.specs.declared.cause.Cause.TheVariants.{NotAnswer, OffGrid, OffGridVertex, EdgeOrder, NotJoined, WrongLength, Decided, DecidedVertex, TooDeep, RootInCut, IdleCut, Overload, WrongBound, WrongStatus}
@@ -16,10 +17,6 @@ use Rattle.verdict_line.specs.declared.counting.Counting.TheVariants.{FromZero, 
 abbrev pub counted : Counting → ℕ → ℕ
 counted FromZero number = number
 counted FromOne number = number + 1
-
--- what is said of a line
-abbrev pub about_line : ℕ → List ℕ → List ℕ
-about_line line fault = codes "line " ++ decimal line ++ fault
 
 -- what is said of a point that isn't joined
 abbrev pub about_point : ℕ → List ℕ

@@ -1,12 +1,13 @@
 //! The causes of a refusal, as they are told.
 
 ghost use Rattle.text_out.specs.Gathers.{Gathers};
-ghost use Rattle.verdict_line.specs.Verdicts.{cause_text_by, refusal, refusal_by, about_line, about_point};
+ghost use Rattle.verdict_line.specs.Verdicts.{cause_text_by, refusal, refusal_by, about_point};
 ghost use Rattle.verdict_line.specs.Verdicts.{about_number, about_decided, about_decided_vertex, about_load};
 
 use crate::counting::Counting;
 use cert_check::Cause;
 use rst_outside::Sink;
+use text_in::write_line;
 use text_out::{Block, literal, number};
 
 /// Writes what is said of an answer for points that is refused, without the line feed.
@@ -35,12 +36,10 @@ fn write_cause<O: Sink>(block: &mut Block, out: &mut O, counting: Counting, caus
     ensures { Gathers (O.state out.old) block.old (cause_text_by counting cause) (O.state out.new) block.new }
 {
     match cause {
-        Cause::NotAnswer(line) => write_about_line(block, out, line, b" is not in the format"),
-        Cause::OffGrid(line) => write_about_line(block, out, line, b" names no grid edge"),
-        Cause::OffGridVertex(line) => {
-            write_about_line(block, out, line, b" names no grid vertex")
-        }
-        Cause::EdgeOrder(line) => write_about_line(block, out, line, b" is out of order"),
+        Cause::NotAnswer(line) => write_line(block, out, line, b" is not in the format"),
+        Cause::OffGrid(line) => write_line(block, out, line, b" names no grid edge"),
+        Cause::OffGridVertex(line) => { write_line(block, out, line, b" names no grid vertex") }
+        Cause::EdgeOrder(line) => write_line(block, out, line, b" is out of order"),
         Cause::NotJoined(point) => write_about_point(block, out, point),
         Cause::WrongLength { printed, found } => {
             write_about_number(block, out, b"length", printed, found)
@@ -51,11 +50,9 @@ fn write_cause<O: Sink>(block: &mut Block, out: &mut O, counting: Counting, caus
         Cause::DecidedVertex { line, vertex } => {
             write_about_decided_vertex(block, out, line, counting.told(vertex))
         }
-        Cause::TooDeep(line) => write_about_line(block, out, line, b" is split 256"),
-        Cause::RootInCut(line) => write_about_line(block, out, line, b" has the root in its cut"),
-        Cause::IdleCut(line) => {
-            write_about_line(block, out, line, b" cuts off no required vertex")
-        }
+        Cause::TooDeep(line) => write_line(block, out, line, b" is split 256"),
+        Cause::RootInCut(line) => write_line(block, out, line, b" has the root in its cut"),
+        Cause::IdleCut(line) => { write_line(block, out, line, b" cuts off no required vertex") }
         Cause::Overload {
             line,
             edge,
@@ -67,16 +64,6 @@ fn write_cause<O: Sink>(block: &mut Block, out: &mut O, counting: Counting, caus
         }
         Cause::WrongStatus => literal(block, out, b"status"),
     }
-}
-
-// What is said of a line.
-#[tactic(auto, using(text_out::specs::GatherLaws::pieces))]
-fn write_about_line<O: Sink>(block: &mut Block, out: &mut O, line: u64, fault: &[u8])
-    ensures { Gathers (O.state out.old) block.old (about_line line fault.now) (O.state out.new) block.new }
-{
-    literal(block, out, b"line ");
-    number(block, out, line);
-    literal(block, out, fault);
 }
 
 // What is said of a point that isn't joined.
@@ -112,7 +99,7 @@ fn write_about_number<O: Sink>(
 fn write_about_decided<O: Sink>(block: &mut Block, out: &mut O, line: u64, edge: u64)
     ensures { Gathers (O.state out.old) block.old (about_decided line edge) (O.state out.new) block.new }
 {
-    write_about_line(block, out, line, b" decides edge ");
+    write_line(block, out, line, b" decides edge ");
     number(block, out, edge);
     literal(block, out, b" again");
 }
@@ -122,7 +109,7 @@ fn write_about_decided<O: Sink>(block: &mut Block, out: &mut O, line: u64, edge:
 fn write_about_decided_vertex<O: Sink>(block: &mut Block, out: &mut O, line: u64, vertex: u64)
     ensures { Gathers (O.state out.old) block.old (about_decided_vertex line vertex) (O.state out.new) block.new }
 {
-    write_about_line(block, out, line, b" splits on vertex ");
+    write_line(block, out, line, b" splits on vertex ");
     number(block, out, vertex);
     literal(block, out, b", which is decided");
 }
@@ -139,7 +126,7 @@ fn write_about_load<O: Sink>(
 )
     ensures { Gathers (O.state out.old) block.old (about_load line edge load room) (O.state out.new) block.new }
 {
-    write_about_line(block, out, line, b" loads edge ");
+    write_line(block, out, line, b" loads edge ");
     number(block, out, edge);
     literal(block, out, b" with ");
     number(block, out, load);
