@@ -5,11 +5,13 @@ use Rattle.net_graph.specs.declared.packing.Cut.{Cut}
 use Rattle.net_graph.specs.Members.{members_of}
 use Rattle.net_graph.specs.Graph.{Graph}
 use Rattle.answer_text.specs.declared.form.Form.{Form}
+use Rattle.answer_text.specs.declared.form.Form.TheVariants as form
+use Rattle.answer_text.specs.declared.head.AnswerHead.{AnswerHead}
 use Rattle.answer_text.specs.declared.label.EdgeLabel.{EdgeLabel}
 use Rattle.answer_text.specs.declared.label.EdgeLabel.TheVariants as edge
 use Rattle.answer_text.specs.declared.label.VertexLabel.{VertexLabel}
 use Rattle.answer_text.specs.declared.label.VertexLabel.TheVariants as vertex
-use Rattle.hanan_grid.specs.Grid.{xs_of, ys_of}
+use Rattle.hanan_grid.specs.Grid.{hanan_grid_of, xs_of, ys_of}
 use Rattle.hanan_grid.specs.Names.{name_of_edge, point_of_vertex}
 use Rattle.cert_tree.specs.declared.split.SplitOn.{SplitOn}
 use Rattle.cert_tree.specs.declared.split.SplitOn.TheVariants as split
@@ -21,6 +23,7 @@ use Rattle.answer_text.specs.declared.split.SplitName.{SplitName}
 use Rattle.answer_text.specs.declared.split.SplitName.TheVariants as name
 use Rattle.answer_text.specs.declared.version.Version.TheVariants as version
 use Rattle.answer_text.specs.Notes.{no_note}
+use Rattle.answer_text.specs.Forms.{newest_of}
 use Rattle.answer_text.specs.Spelling.{FitsSplit}
 use Rattle.cert_tree.specs.Preorder.{nodes_of, packings_of, split_count}
 
@@ -65,23 +68,27 @@ named ps tree = labelled (grid_labels ps) tree
 abbrev pub names_of : List Point → List ℕ → List EdgeLabel
 names_of ps numbers = edge_labels (grid_labels ps) numbers
 
--- what the text of an answer tells, on the grid of these terminals: it is of version 2
-abbrev pub value_of : List Point → Answer → WrittenAnswer
-value_of ps a = record {
-  version = version.Two;
-  head = a.head;
-  edges = names_of ps (members_of a.network);
-  tree = named ps a.tree;
+-- what the text of an answer tells of its head: in a graph nothing of a concatenation
+abbrev pub head_told : Form → AnswerHead → AnswerHead
+head_told (form.OnGrid V) h = h
+head_told (form.OfGraph E V) h = record h { concat = no_note }
+
+-- what the text of an answer tells in its form, with these labels
+abbrev pub value_told : Form → Labels → Answer → WrittenAnswer
+value_told F labels a = record {
+  version = newest_of F;
+  head = head_told F a.head;
+  edges = edge_labels labels (members_of a.network);
+  tree = labelled labels a.tree;
 }
 
--- what it tells in a graph: nothing of a concatenation
-abbrev pub graph_value_of : Answer → WrittenAnswer
-graph_value_of a = record {
-  version = version.Graph;
-  head = record a.head { concat = no_note };
-  edges = edge_labels number_labels (members_of a.network);
-  tree = labelled number_labels a.tree;
-}
+-- .. on the grid of these terminals
+abbrev pub value_of : List Point → Answer → WrittenAnswer
+value_of ps a = value_told (form.OnGrid (hanan_grid_of ps).vertices) (grid_labels ps) a
+
+-- .. and in a graph
+abbrev pub graph_value_of : Graph → Answer → WrittenAnswer
+graph_value_of g a = value_told (form.OfGraph (length g.edges) g.vertices) number_labels a
 
 -- a cut weighs at least 1, and its set is one of the graph's vertices
 pub record IsCutOn (g : Graph) (c : Cut) : Type 0 where

@@ -30,6 +30,11 @@ IsVersionOf (form.OfGraph E V) version.One = ⊥
 IsVersionOf (form.OfGraph E V) version.Two = ⊥
 IsVersionOf (form.OfGraph E V) version.Graph = Unit {0}
 
+-- the version that a text of the form is written in
+abbrev pub newest_of : Form → Version
+newest_of (form.OnGrid V) = version.Two
+newest_of (form.OfGraph E V) = version.Graph
+
 -- the version that a reader takes a text for before its title was read
 abbrev pub first_version : Form → Version
 first_version (form.OnGrid V) = version.One

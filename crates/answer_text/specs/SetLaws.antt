@@ -1,5 +1,5 @@
 -- The digits of a set, place by place.
-use Rattle.std.specs.Prelude.{ℕ, suc, zero, ◌+◌, ◌-◌, ◌*◌, ◌/◌, ◌≡◌, ◌<◌, ◌≤◌, Bool, true, false, ◌&&◌, List, [], ◌∷◌, ◌++◌, length, replicate, nat_lt, nat_le, ◌==◌, if◌then◌else◌, refl}
+use Rattle.std.specs.Prelude.{ℕ, suc, zero, ◌+◌, ◌-◌, ◌*◌, ◌/◌, ◌≡◌, ◌<◌, ◌≤◌, Bool, true, false, ◌&&◌, List, [], ◌∷◌, ◌++◌, length, nat_lt, nat_le, ◌==◌, if◌then◌else◌, refl}
 use Rattle.std.proofs.Common.{get_or, take, arith, add-zero, ap, sym, ◌∙◌, append_assoc}
 use Rattle.std.specs.Int.{div_ceil, bit_at}
 use Rattle.std.proofs.lemmas.Grind.{div_ceil_times}
@@ -132,9 +132,3 @@ flag_at_place set place (suc (suc zero)) v below is = rw is
 flag_at_place set place (suc (suc (suc zero))) v below is = rw is
     (flags_in (has set (4 * place)) (has set (4 * place + 1)) (has set (4 * place + 2)) (has set (4 * place + 3))).3
 flag_at_place set place (suc (suc (suc (suc r)))) v below is = absurd (omega arith)
-
--- no vertex is in an empty set
-pub none_has : (n v : ℕ) → has (replicate n false) v ≡ false
-none_has zero v = refl
-none_has (suc n) zero = refl
-none_has (suc n) (suc v) = none_has n v

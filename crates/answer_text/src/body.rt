@@ -1,14 +1,14 @@
 //! The network and the tree of an answer's text, of which the labels are all that is the grid's or the graph's own.
 
-ghost use Rattle.std.specs.Prelude.{◌≡◌, ◌<◌, ◌^◌, ◌++◌, length, map, All};
+ghost use Rattle.std.specs.Prelude.{◌≡◌, ◌++◌, length, map, All};
 ghost use Rattle.text_out.specs.Gathers.{Gathers};
 ghost use Rattle.net_graph.specs.Members.{members_of};
-ghost use Rattle.cert_tree.specs.Preorder.{nodes_of, packings_of};
+ghost use Rattle.cert_tree.specs.Preorder.{nodes_of};
 ghost use Rattle.answer_text.specs.declared.version.Version.TheVariants as version_of;
-ghost use Rattle.answer_text.specs.Answers.{FitsNode, IsNodeOn, IsSplitOn, edge_labels, labelled, split_label};
+ghost use Rattle.answer_text.specs.Answers.{IsNodeOn, IsSplitOn, edge_labels, labelled, split_label};
 ghost use Rattle.answer_text.specs.LineKinds as line_of;
 ghost use Rattle.answer_text.specs.Lines.{lines_text, network_lines, proof_lines, tree_lines};
-ghost use Rattle.answer_text.specs.Spelling.{FitsEdge, FitsSplit, FitsWeight};
+ghost use Rattle.answer_text.specs.Spelling.{FitsSplit};
 
 use crate::answer::Answer;
 use crate::labelled::Labelled;
@@ -30,14 +30,10 @@ pub(crate) fn write_body<S: Sink, L: Labelled>(
 )
     requires network { length answer.now.network ≡ length (L.graph of.now).edges }
     requires nodes { All (IsNodeOn (L.graph of.now)) (nodes_of answer.now.tree) }
-    ensures text { Gathers (S.state sink.old) block.old
+    ensures { Gathers (S.state sink.old) block.old
         (lines_text (network_lines (edge_labels (L.labels of.now) (members_of answer.now.network))
         ++ proof_lines version_of.Two (labelled (L.labels of.now) answer.now.tree)))
         (S.state sink.new) block.new }
-    ensures count { length (edge_labels (L.labels of.now) (members_of answer.now.network)) < 2 ^ 32 }
-    ensures edges { All (FitsEdge (L.form of.now)) (edge_labels (L.labels of.now) (members_of answer.now.network)) }
-    ensures names { All (FitsNode (L.form of.now) (L.labels of.now)) (nodes_of answer.now.tree) }
-    ensures weights { All (All FitsWeight) (packings_of answer.now.tree) }
 {
     write_network(block, sink, of, &answer.network);
     write_proof(block, sink, of, &answer.tree);
@@ -47,11 +43,9 @@ pub(crate) fn write_body<S: Sink, L: Labelled>(
 #[tactic(auto, using(text_out::specs::GatherLaws::pieces))]
 fn write_network<S: Sink, L: Labelled>(block: &mut Block, sink: &mut S, of: &L, network: &EdgeSet)
     requires { length network.now ≡ length (L.graph of.now).edges }
-    ensures text { Gathers (S.state sink.old) block.old
+    ensures { Gathers (S.state sink.old) block.old
         (lines_text (network_lines (edge_labels (L.labels of.now) (members_of network.now))))
         (S.state sink.new) block.new }
-    ensures count { length (edge_labels (L.labels of.now) (members_of network.now)) < 2 ^ 32 }
-    ensures edges { All (FitsEdge (L.form of.now)) (edge_labels (L.labels of.now) (members_of network.now)) }
 {
     write_number(block, sink, b"edges ", count_of(network));
     write_edges(block, sink, of, network);
@@ -73,10 +67,9 @@ pub(crate) fn count_of(set: &EdgeSet) -> u32
 // A line for each edge of the set, in ascending number.
 fn write_edges<S: Sink, L: Labelled>(block: &mut Block, sink: &mut S, of: &L, network: &EdgeSet)
     requires { length network.now ≡ length (L.graph of.now).edges }
-    ensures text { Gathers (S.state sink.old) block.old
+    ensures { Gathers (S.state sink.old) block.old
         (lines_text (map line_of.Edge (edge_labels (L.labels of.now) (members_of network.now))))
         (S.state sink.new) block.new }
-    ensures edges { All (FitsEdge (L.form of.now)) (edge_labels (L.labels of.now) (members_of network.now)) }
 {
     for e in 0..network.len() {
         if network.has(e) {
@@ -89,11 +82,9 @@ fn write_edges<S: Sink, L: Labelled>(block: &mut Block, sink: &mut S, of: &L, ne
 #[tactic(auto, using(text_out::specs::GatherLaws::pieces))]
 fn write_proof<S: Sink, L: Labelled>(block: &mut Block, sink: &mut S, of: &L, tree: &CertTree)
     requires { All (IsNodeOn (L.graph of.now)) (nodes_of tree.now) }
-    ensures text { Gathers (S.state sink.old) block.old
+    ensures { Gathers (S.state sink.old) block.old
         (lines_text (proof_lines version_of.Two (labelled (L.labels of.now) tree.now)))
         (S.state sink.new) block.new }
-    ensures names { All (FitsNode (L.form of.now) (L.labels of.now)) (nodes_of tree.now) }
-    ensures weights { All (All FitsWeight) (packings_of tree.now) }
 {
     literal(block, sink, b"tree\n");
     write_tree(block, sink, of, tree);
@@ -103,11 +94,9 @@ fn write_proof<S: Sink, L: Labelled>(block: &mut Block, sink: &mut S, of: &L, tr
 // The nodes of a tree in preorder.
 fn write_tree<S: Sink, L: Labelled>(block: &mut Block, sink: &mut S, of: &L, tree: &CertTree)
     requires { All (IsNodeOn (L.graph of.now)) (nodes_of tree.now) }
-    ensures text { Gathers (S.state sink.old) block.old
+    ensures { Gathers (S.state sink.old) block.old
         (lines_text (tree_lines version_of.Two (labelled (L.labels of.now) tree.now)))
         (S.state sink.new) block.new }
-    ensures names { All (FitsNode (L.form of.now) (L.labels of.now)) (nodes_of tree.now) }
-    ensures weights { All (All FitsWeight) (packings_of tree.now) }
 {
     let mut leaf = 0;
     for node in tree.nodes() {

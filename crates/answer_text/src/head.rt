@@ -24,6 +24,21 @@ pub struct AnswerHead {
     pub concat: ConcatNote,
 }
 
+impl Default for ConcatNote {
+    ghost use Rattle.std.specs.Prelude.{◌≡◌};
+    ghost use Rattle.answer_text.specs.Notes.{no_note};
+
+    ghost is_default = { λ note. note ≡ no_note };
+
+    /// A note of which nothing was told.
+    fn default() -> ConcatNote {
+        ConcatNote {
+            least: false,
+            total: 0,
+        }
+    }
+}
+
 impl Default for AnswerHead {
     ghost use Rattle.std.specs.Prelude.{◌≡◌};
     ghost use Rattle.answer_text.specs.Events.{no_head};
@@ -37,10 +52,7 @@ impl Default for AnswerHead {
             bound: 0,
             optimal: false,
             openings: 0,
-            concat: ConcatNote {
-                least: false,
-                total: 0,
-            },
+            concat: ConcatNote::default(),
         }
     }
 }

@@ -1,35 +1,48 @@
 //! What an answer's text is of: a graph whose edges and vertices have labels.
 
 ghost use Rattle.std.specs.Prelude.{◌≡◌, ◌<◌, length};
-ghost use Rattle.net_graph.specs.Graph.{Graph};
+ghost use Rattle.net_graph.specs.Graph.{Graph, IsGraph};
 ghost use Rattle.hanan_grid.specs.Grid.{hanan_grid_of};
 ghost use Rattle.answer_text.specs.declared.form.Form.{Form};
 ghost use Rattle.answer_text.specs.declared.form.Form.TheVariants as form_of;
 ghost use Rattle.answer_text.specs.Answers.{Labels, grid_labels, number_labels};
+ghost use Rattle.answer_text.specs.Forms.{newest_of, set_size};
 ghost use Rattle.answer_text.specs.Spelling.{FitsEdge, FitsVertex};
 
 use crate::label::{EdgeLabel, VertexLabel};
+use crate::version::Version;
 use hanan_grid::Grid;
 use net_graph::NetGraph;
 
-// A graph whose edges and vertices a text names.
-pub(crate) trait Labelled {
-    // The form of the text.
+/// A graph whose edges and vertices the text of an answer names: a grid, by their ends and points, or any graph, by
+/// their numbers.
+pub trait Labelled {
+    /// The form of the text.
     ghost form: { Self → Form };
 
-    // The graph.
+    /// The graph.
     ghost graph: { Self → Graph };
 
-    // The labels.
+    /// The labels.
     ghost labels: { Self → Labels };
 
-    // The label of an edge.
+    /// The version that the text is written in.
+    fn version(&self) -> Version
+        ensures { result ≡ newest_of (form self.now) };
+
+    /// How many edges have labels, at most 4,900.
+    fn labelled_edges(&self) -> u32
+        ensures count { result ≡ length (graph self.now).edges }
+        ensures graph { IsGraph (graph self.now) }
+        ensures size { set_size (form self.now) ≡ (graph self.now).vertices };
+
+    /// The label of an edge.
     fn edge_label(&self, edge: u32) -> EdgeLabel
         requires { edge < length (graph self.now).edges }
         ensures label { result ≡ (labels self.now).edge edge }
         ensures fits { FitsEdge (form self.now) result };
 
-    // The label of a vertex.
+    /// The label of a vertex.
     fn vertex_label(&self, vertex: u32) -> VertexLabel
         requires { vertex < (graph self.now).vertices }
         ensures label { result ≡ (labels self.now).vertex vertex }
@@ -42,6 +55,14 @@ impl Labelled for Grid {
     ghost graph = { λ points. hanan_grid_of points };
 
     ghost labels = { λ points. grid_labels points };
+
+    fn version(&self) -> Version {
+        Version::Two
+    }
+
+    fn labelled_edges(&self) -> u32 {
+        self.graph().edge_count()
+    }
 
     fn edge_label(&self, edge: u32) -> EdgeLabel {
         EdgeLabel::Ends(self.edge_name(edge))
@@ -58,6 +79,14 @@ impl Labelled for NetGraph {
     ghost graph = { λ graph. graph };
 
     ghost labels = { λ graph. number_labels };
+
+    fn version(&self) -> Version {
+        Version::Graph
+    }
+
+    fn labelled_edges(&self) -> u32 {
+        self.edge_count()
+    }
 
     fn edge_label(&self, edge: u32) -> EdgeLabel {
         // A graph has few edges: the next number is within 32 bits.

@@ -4,59 +4,47 @@ ghost use Rattle.std.specs.Prelude.{◌≡◌, ◌+◌, ◌*◌, ◌/◌, ◌<�
 ghost use Rattle.std.specs.Fmt.{decimal, signed_decimal};
 ghost use Rattle.net_graph.specs.Graph.{IsGraph};
 ghost use Rattle.net_graph.specs.Members.{members_of};
-ghost use Rattle.hanan_grid.specs.Grid.{hanan_grid_of};
 ghost use Rattle.answer_text.specs.declared.version.Version.TheVariants as version_of;
 ghost use Rattle.answer_text.specs.LineKinds as line_of;
 ghost use Rattle.answer_text.specs.Lines.{head_lines, leaf_lines, line_text, lines_text};
 ghost use Rattle.answer_text.specs.Lines.{network_lines, split_line, tree_lines};
+ghost use Rattle.answer_text.specs.Spelling.{FitsEdge, FitsHead, FitsWeight, SpellsAnswer};
 ghost use Rattle.answer_text.specs.Text.{answer_text};
 ghost use Rattle.cert_tree.specs.Preorder.{nodes_of, packings_of};
-ghost use Rattle.answer_text.specs.Answers.{IsAnswerOn, IsNodeOn, IsPackingOn, edge_labels, graph_value_of, labelled};
-ghost use Rattle.answer_text.specs.Answers.{value_of};
+ghost use Rattle.answer_text.specs.Answers.{FitsNode, IsAnswerOn, IsNodeOn, IsPackingOn};
+ghost use Rattle.answer_text.specs.Answers.{edge_labels, labelled, value_told};
 
 use crate::answer::Answer;
 use crate::body::{count_of, split_label};
-use crate::head::AnswerHead;
+use crate::head::{AnswerHead, ConcatNote};
 use crate::label::{EdgeLabel, VertexLabel};
 use crate::labelled::Labelled;
 use crate::split::SplitName;
-use crate::write::{kind_of, status_word};
+use crate::version::Version;
+use crate::write::{kind_of, status_word, title_of};
 use cert_tree::CertTree;
-use hanan_grid::Grid;
 use itoa::Buffer;
-use net_graph::{Cut, EdgeSet, NetGraph, Packing};
+use net_graph::{Cut, EdgeSet, Packing};
 
 // The length of the lines before the tree and behind it, `tree` and `end`.
 const AROUND_TREE: u64 = 9;
 
-/// The length of the text that `write_answer` writes, which is below 2^32. It takes no memory.
-pub fn answer_len(grid: &Grid, answer: &Answer) -> u64
-    requires { IsAnswerOn (hanan_grid_of grid.now) answer.now }
-    ensures length { result ≡ length (answer_text (value_of grid.now answer.now)) }
+/// The length of the text that `write_answer` writes, which is below 2^32. It takes no memory. The text spells the
+/// answer.
+pub fn answer_len<L: Labelled>(of: &L, answer: &Answer) -> u64
+    requires { IsAnswerOn (L.graph of.now) answer.now }
+    ensures length { result ≡ length (answer_text (value_told (L.form of.now) (L.labels of.now) answer.now)) }
     ensures short { result < 2 ^ 32 }
-{
-    // A grid is a graph, and a graph has few edges: so the sums stay within 64 bits.
-    let edges = grid.graph().edge_count();
-    prove!(edges <= 4900);
-    head_len(&answer.head)
-        + network_len(grid, &answer.network)
-        + AROUND_TREE
-        + tree_len(grid, &answer.tree)
-}
-
-/// The length of the text that `write_graph_answer` writes, which is below 2^32. It takes no memory.
-pub fn graph_answer_len(graph: &NetGraph, answer: &Answer) -> u64
-    requires { IsAnswerOn graph.now answer.now }
-    ensures length { result ≡ length (answer_text (graph_value_of answer.now)) }
-    ensures short { result < 2 ^ 32 }
+    ensures spells { SpellsAnswer (L.form of.now)
+        (answer_text (value_told (L.form of.now) (L.labels of.now) answer.now))
+        (value_told (L.form of.now) (L.labels of.now) answer.now) }
 {
     // A graph has few edges: so the sums stay within 64 bits.
-    let edges = graph.edge_count();
-    prove!(edges <= 4900);
-    graph_head_len(&answer.head)
-        + network_len(graph, &answer.network)
+    prove!(of.labelled_edges() <= 4900);
+    head_len(of.version(), &answer.head)
+        + network_len(of, &answer.network)
         + AROUND_TREE
-        + tree_len(graph, &answer.tree)
+        + tree_len(of, &answer.tree)
 }
 
 // The length of the network's part.
@@ -66,6 +54,8 @@ fn network_len<L: Labelled>(of: &L, network: &EdgeSet) -> u64
     ensures length { result
         ≡ length (lines_text (network_lines (edge_labels (L.labels of.now) (members_of network.now)))) }
     ensures short { result ≤ 50 + 164 * 4900 }
+    ensures count { length (edge_labels (L.labels of.now) (members_of network.now)) < 2 ^ 32 }
+    ensures fits { All (FitsEdge (L.form of.now)) (edge_labels (L.labels of.now) (members_of network.now)) }
 {
     7 + number_len(u128::from(count_of(network))) + edges_len(of, network)
 }
@@ -77,6 +67,7 @@ fn edges_len<L: Labelled>(of: &L, network: &EdgeSet) -> u64
     ensures length { result
         ≡ length (lines_text (map line_of.Edge (edge_labels (L.labels of.now) (members_of network.now)))) }
     ensures short { result ≤ 164 * 4900 }
+    ensures fits { All (FitsEdge (L.form of.now)) (edge_labels (L.labels of.now) (members_of network.now)) }
 {
     let mut sum = 0;
     for e in 0..network.len() {
@@ -94,6 +85,8 @@ fn tree_len<L: Labelled>(of: &L, tree: &CertTree) -> u64
     requires packings { All (IsPackingOn (L.graph of.now)) (packings_of tree.now) }
     ensures length { result ≡ length (lines_text (tree_lines version_of.Two (labelled (L.labels of.now) tree.now))) }
     ensures short { result ≤ 175 * length (nodes_of tree.now) + 12760297 * length (packings_of tree.now) }
+    ensures names { All (FitsNode (L.form of.now) (L.labels of.now)) (nodes_of tree.now) }
+    ensures weights { All (All FitsWeight) (packings_of tree.now) }
 {
     let mut leaf = 0;
     let mut sum = 0;
@@ -126,28 +119,28 @@ fn signed_len(number: &i64) -> u64
     Buffer::new().format(*number).len() as u64
 }
 
-// The length of the first six lines on a grid.
-fn head_len(head: &AnswerHead) -> u64
-    ensures length { result ≡ length (lines_text (head_lines version_of.Two head.now)) }
+// The length of the lines of a head, in a text of this version.
+fn head_len(version: Version, head: &AnswerHead) -> u64
+    ensures length { result ≡ length (lines_text (head_lines version head.now)) }
     ensures short { result ≤ 300 }
-{
-    let numbers = number_len(u128::from(head.length))
-        + number_len(u128::from(head.bound))
-        + number_len(u128::from(head.openings))
-        + number_len(head.concat.total);
-    let words = status_word(head.optimal).len() as u64 + kind_of(head.concat.least).len() as u64;
-    55 + numbers + words
-}
-
-// The length of the first five lines in a graph, which have no note on a concatenation.
-fn graph_head_len(head: &AnswerHead) -> u64
-    ensures length { result ≡ length (lines_text (head_lines version_of.Graph head.now)) }
-    ensures short { result ≤ 300 }
+    ensures fits { FitsHead head.now }
 {
     let numbers = number_len(u128::from(head.length))
         + number_len(u128::from(head.bound))
         + number_len(u128::from(head.openings));
-    45 + numbers + status_word(head.optimal).len() as u64
+    let words = title_of(version).len() as u64 + status_word(head.optimal).len() as u64;
+    let note = note_len(&head.concat);
+    34 + numbers + words + if version == Version::Graph { 0 } else { note }
+}
+
+// The length of the line of the note on the concatenation.
+fn note_len(note: &ConcatNote) -> u64
+    ensures length { result ≡ length (line_text (line_of.Concat note.now)) }
+    ensures short { result ≤ 60 }
+    ensures fits { note.now.total < 2 ^ 128 }
+{
+    let total = note.total;
+    9 + kind_of(note.least).len() as u64 + number_len(total)
 }
 
 // The length of an edge's line.
@@ -192,6 +185,7 @@ fn vertex_len(label: &VertexLabel) -> u64
 fn cut_len(cut: &Cut) -> u64
     ensures length { result ≡ length (line_text (line_of.Cut cut.now)) }
     ensures short { result ≤ 26 + (length cut.now.members + 3) / 4 }
+    ensures fits { FitsWeight cut.now }
 {
     let digits = u64::from(cut.members.len().div_ceil(4));
     6 + number_len(u128::from(cut.weight)) + digits
@@ -203,6 +197,7 @@ fn leaf_len(packing: &Packing) -> u64
     requires small { All (λ c. length c.members ≤ 2500) packing.now }
     ensures length { result ≡ length (lines_text (leaf_lines packing.now)) }
     ensures short { result ≤ 46 + 651 * length packing.now }
+    ensures fits { All FitsWeight packing.now }
 {
     6 + number_len(packing.len() as u128) + cuts_len(packing.cuts())
 }
@@ -213,6 +208,7 @@ fn cuts_len(cuts: &[Cut]) -> u64
     requires small { All (λ c. length c.members ≤ 2500) cuts.now }
     ensures length { result ≡ length (lines_text (map line_of.Cut cuts.now)) }
     ensures short { result ≤ 651 * length cuts.now }
+    ensures fits { All FitsWeight cuts.now }
 {
     let mut sum = 0;
     for cut in cuts {

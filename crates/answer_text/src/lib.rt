@@ -18,12 +18,13 @@ mod split;
 mod version;
 mod write;
 
-pub use answer::{Answer, write_answer, write_graph_answer};
+pub use answer::{Answer, write_answer};
 pub use event::{AnswerEvent, Event};
 pub use form::Form;
 pub use head::{AnswerHead, ConcatNote};
 pub use label::{EdgeLabel, VertexLabel};
-pub use length::{answer_len, graph_answer_len};
+pub use labelled::Labelled;
+pub use length::answer_len;
 pub use naming::write_name;
 pub use reader::{EventReader, Spelling};
 pub use reading::{lines_fit, one_reading, reads_beginnings, upgraded_alike};

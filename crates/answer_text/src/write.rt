@@ -1,6 +1,6 @@
 //! The parts of an answer's text that name no edge and no vertex.
 
-ghost use Rattle.std.specs.Prelude.{ℕ, ◌≡◌, ◌+◌, ◌*◌, ◌==◌, ◌<◌, ◌^◌, ◌++◌, length, map, slice_get, All, Some, codes};
+ghost use Rattle.std.specs.Prelude.{ℕ, ◌≡◌, ◌+◌, ◌*◌, ◌==◌, ◌<◌, ◌++◌, length, map, slice_get, Some, codes};
 ghost use Rattle.std.specs.Int.{bit_at};
 ghost use Rattle.text_out.specs.Gathers.{Gathers};
 ghost use Rattle.net_graph.specs.Flags.{has};
@@ -8,7 +8,6 @@ ghost use Rattle.answer_text.specs.LineKinds as line_of;
 ghost use Rattle.answer_text.specs.Lines.{head_lines, leaf_lines, line_text, lines_text};
 ghost use Rattle.answer_text.specs.Lines.{result_lines, search_lines};
 ghost use Rattle.answer_text.specs.SetLaws.{digit_in_word};
-ghost use Rattle.answer_text.specs.Spelling.{FitsHead, FitsWeight};
 ghost use Rattle.answer_text.specs.Words.{concat_word, set_text, status_word, title_words};
 
 use crate::head::{AnswerHead, ConcatNote};
@@ -26,10 +25,9 @@ pub(crate) fn write_head<S: Sink>(
     version: Version,
     head: &AnswerHead,
 )
-    ensures text { Gathers (S.state sink.old) block.old
+    ensures { Gathers (S.state sink.old) block.old
         (lines_text (head_lines version head.now))
         (S.state sink.new) block.new }
-    ensures fits { FitsHead head.now }
 {
     write_result(block, sink, version, head);
     write_search(block, sink, version, head);
@@ -38,23 +36,19 @@ pub(crate) fn write_head<S: Sink>(
 // The first four lines.
 #[tactic(auto, using(text_out::specs::GatherLaws::pieces))]
 fn write_result<S: Sink>(block: &mut Block, sink: &mut S, version: Version, head: &AnswerHead)
-    ensures text { Gathers (S.state sink.old) block.old
+    ensures { Gathers (S.state sink.old) block.old
         (lines_text (result_lines version head.now))
         (S.state sink.new) block.new }
-    ensures length { head.now.length < 2 ^ 64 }
-    ensures bound { head.now.bound < 2 ^ 64 }
 {
-    let length = head.length;
-    let bound = head.bound;
     literal(block, sink, title_of(version));
     literal(block, sink, b"\n");
-    write_number(block, sink, b"length ", length);
-    write_number(block, sink, b"bound ", bound);
+    write_number(block, sink, b"length ", head.length);
+    write_number(block, sink, b"bound ", head.bound);
     write_status(block, sink, head.optimal);
 }
 
-// The title of a text of this version.
-fn title_of(version: Version) -> &'static [u8]
+/// The title of a text of this version.
+pub(crate) fn title_of(version: Version) -> &'static [u8]
     ensures { result.now ≡ title_words version }
 {
     match version {
@@ -67,15 +61,11 @@ fn title_of(version: Version) -> &'static [u8]
 // The lines behind those: on a grid two, and in a graph one.
 #[tactic(auto, using(text_out::specs::GatherLaws::pieces))]
 fn write_search<S: Sink>(block: &mut Block, sink: &mut S, version: Version, head: &AnswerHead)
-    ensures text { Gathers (S.state sink.old) block.old
+    ensures { Gathers (S.state sink.old) block.old
         (lines_text (search_lines version head.now))
         (S.state sink.new) block.new }
-    ensures openings { head.now.openings < 2 ^ 8 }
-    ensures total { head.now.concat.total < 2 ^ 128 }
 {
-    let openings = head.openings;
-    let _total = head.concat.total;
-    write_number(block, sink, b"openings ", openings);
+    write_number(block, sink, b"openings ", head.openings);
     if version != Version::Graph {
         write_concat(block, sink, &head.concat);
     }
@@ -111,10 +101,9 @@ fn write_status<S: Sink>(block: &mut Block, sink: &mut S, optimal: bool)
 // The line of the note on the concatenation.
 #[tactic(auto, using(text_out::specs::GatherLaws::pieces))]
 fn write_concat<S: Sink>(block: &mut Block, sink: &mut S, note: &ConcatNote)
-    ensures text { Gathers (S.state sink.old) block.old
+    ensures { Gathers (S.state sink.old) block.old
         (line_text (line_of.Concat note.now))
         (S.state sink.new) block.new }
-    ensures total { note.now.total < 2 ^ 128 }
 {
     literal(block, sink, b"concat ");
     literal(block, sink, kind_of(note.least));
@@ -140,10 +129,9 @@ pub(crate) fn kind_of(least: bool) -> &'static [u8]
 // A leaf with its cuts.
 #[tactic(auto, using(text_out::specs::GatherLaws::pieces))]
 pub(crate) fn write_leaf<S: Sink>(block: &mut Block, sink: &mut S, packing: &Packing)
-    ensures text { Gathers (S.state sink.old) block.old
+    ensures { Gathers (S.state sink.old) block.old
         (lines_text (leaf_lines packing.now))
         (S.state sink.new) block.new }
-    ensures weights { All FitsWeight packing.now }
 {
     write_number(block, sink, b"leaf ", packing.len());
     write_cuts(block, sink, packing.cuts());
@@ -152,10 +140,9 @@ pub(crate) fn write_leaf<S: Sink>(block: &mut Block, sink: &mut S, packing: &Pac
 // The lines of cuts.
 #[tactic(auto, using(text_out::specs::GatherLaws::pieces))]
 fn write_cuts<S: Sink>(block: &mut Block, sink: &mut S, cuts: &[Cut])
-    ensures text { Gathers (S.state sink.old) block.old
+    ensures { Gathers (S.state sink.old) block.old
         (lines_text (map line_of.Cut cuts.now))
         (S.state sink.new) block.new }
-    ensures weights { All FitsWeight cuts.now }
 {
     for cut in cuts {
         write_cut(block, sink, cut);
@@ -165,8 +152,7 @@ fn write_cuts<S: Sink>(block: &mut Block, sink: &mut S, cuts: &[Cut])
 // The line of a cut.
 #[tactic(auto, using(text_out::specs::GatherLaws::pieces))]
 fn write_cut<S: Sink>(block: &mut Block, sink: &mut S, cut: &Cut)
-    ensures text { Gathers (S.state sink.old) block.old (line_text (line_of.Cut cut.now)) (S.state sink.new) block.new }
-    ensures weight { FitsWeight cut.now }
+    ensures { Gathers (S.state sink.old) block.old (line_text (line_of.Cut cut.now)) (S.state sink.new) block.new }
 {
     literal(block, sink, b"cut ");
     number(block, sink, cut.weight);

@@ -1,6 +1,5 @@
 -- What a reader stands for and where bytes stop, said of the same bytes.
-use Rattle.std.proofs.Common.{ℕ, ◌≡◌, ◌-◌, List, [], ◌∷◌, ◌++◌, length, take, drop, refl, sym, ap, subst, ◌∙◌, arith, append_assoc}
-use Rattle.std.proofs.lemmas.List.{take-append-drop, take_rest}
+use Rattle.std.proofs.Common.{ℕ, ◌≡◌, List, subst}
 use Rattle.answer_text.specs.declared.event.AnswerEvent.{AnswerEvent}
 use Rattle.answer_text.specs.declared.form.Form.TheVariants as form
 use Rattle.answer_text.specs.declared.reader.EventReader.{EventReader}
@@ -13,13 +12,3 @@ stands_for V xs ys events reader same reads = (events, subst (λ x. Reads (form.
 
 pub stops_in : (V : ℕ) (xs ys : List ℕ) (m n : ℕ) (events : List AnswerEvent) → xs ≡ ys → m ≡ n → StopsAt (form.OnGrid V) xs m events → Stops V ys n
 stops_in V xs ys m n events same line stops = (events, subst (λ x. StopsAt (form.OnGrid V) x n events) same (subst (λ k. StopsAt (form.OnGrid V) xs k events) line stops))
-
--- after n more bytes the parts are still the whole
-pub moved_on : (front rest : List ℕ) (n : ℕ) → front ++ rest ≡ (front ++ take n rest) ++ take (length rest - n) (drop n rest)
-moved_on front rest n =
-    rw take_rest (ap (λ x. front ++ x) (sym (take-append-drop n rest)) ∙ sym (append_assoc front (take n rest) (drop n rest)))
-
--- a list without length is empty
-pub empty_of : (xs : List ℕ) → length xs ≡ 0 → xs ≡ []
-empty_of [] none = refl
-empty_of (x ∷ xs) none = absurd (omega arith)

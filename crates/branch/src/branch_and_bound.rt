@@ -246,6 +246,13 @@ impl<'a, F: Rule, G: Rule> Search<'a, F, G> {
         &self.kept.best.network
     }
 
+    /// The best network's length. It takes no memory.
+    pub fn length(&self) -> u64
+        ensures { result ≡ length_of self.now.graph self.now.network }
+    {
+        self.kept.best.length
+    }
+
     /// The network of edges with a saturated arc that the first leaf in preorder shows, where its packing is maximal.
     /// There is none only where that leaf is worth the sum of all lengths. It takes no memory.
     pub fn shown(&self) -> Option<&EdgeSet>

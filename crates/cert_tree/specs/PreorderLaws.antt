@@ -1,5 +1,5 @@
 -- What the nodes and packings of trees come to, and how trees are stored by them.
-use Rattle.std.specs.Prelude.{ℕ, ◌≡◌, ◌+◌, ◌*◌, ◌≤◌, ◌^◌, List, [], ◌∷◌, ◌++◌, length, Option, Some, None, refl, ◌⊎◌}
+use Rattle.std.specs.Prelude.{ℕ, ◌≡◌, ◌+◌, ◌*◌, ◌<◌, ◌≤◌, ◌^◌, List, [], ◌∷◌, ◌++◌, length, Option, Some, None, refl, ◌⊎◌}
 use Rattle.std.specs.Coded.{Coded, code_by, coded×, coded⊎, coded_ℕ, coded_bool, coded_list, coded_option}
 use Rattle.std.proofs.Common.{Bool, ap, inl, inr, append_assoc, length-append, arith}
 use Rattle.std.proofs.lemmas.List.{append-nil}
@@ -37,6 +37,10 @@ pub length-packings_of : {S : Type 0} (t : Tree S) → length (packings_of t) �
 length-packings_of (Leaf cuts) = omega arith
 length-packings_of (Split on o i) =
     omega (arith, length-append (packings_of o) (packings_of i), length-packings_of o, length-packings_of i)
+
+-- .. so it has one
+pub some_leaf : {S : Type 0} (t : Tree S) → 0 < length (packings_of t)
+some_leaf t = omega (arith, length-packings_of t)
 
 -- the nodes are the leaves and, one fewer, the splits
 pub length-nodes_of : {S : Type 0} (t : Tree S) → length (nodes_of t) + 1 ≡ 2 * length (packings_of t)

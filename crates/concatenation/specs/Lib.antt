@@ -5,3 +5,4 @@ pub mod Trails
 pub mod TrailLaws
 pub mod Partitions
 pub mod PartitionLaws
+pub mod ChoiceLaws

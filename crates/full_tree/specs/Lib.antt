@@ -15,3 +15,5 @@ pub mod LengthBound
 pub mod Word
 pub mod WordLaws
 pub mod Pairs
+pub mod PassingLaws
+pub mod GeometryLaws

@@ -1,8 +1,8 @@
 -- What a long code in form says of its parts.
 use Rattle.std.specs.Prelude.{ℕ, ◌≡◌, ◌+◌, ◌<◌, ◌≤◌, List, [], ◌∷◌, ◌++◌, length, All, Option, option_to_list}
 use Rattle.std.proofs.Common.{subst, sym, arith, length-append}
-use Rattle.std.proofs.lemmas.List.{get_or_append_left, get_or-append-add}
 use Rattle.std.proofs.lemmas.List.Elements.{All-head, All-tail}
+use Rattle.lists.specs.ListLaws.{All-first, All-second}
 use Rattle.points_in.specs.declared.point.Point.{Point}
 use Rattle.full_tree.specs.declared.way.Way.{Way}
 use Rattle.full_tree.specs.declared.way.Way.TheVariants.{East}
@@ -10,13 +10,6 @@ use Rattle.full_tree.specs.declared.code.TreeCode.{TreeCode}
 use Rattle.full_tree.specs.declared.code.TreeCode.TheVariants.{Long}
 use Rattle.full_tree.specs.Code.{named_places}
 use Rattle.full_tree.specs.Form.{IsInForm}
-
--- what holds of each item of two lists joined holds of each item of the first, and of the second
-pub All-first : {X : Type 0} (P : X → Type 0) (xs ys : List X) → All P (xs ++ ys) → All P xs
-All-first P xs ys all k d inside = grind (arith, length-append xs ys, get_or_append_left xs ys d k inside)
-
-pub All-second : {X : Type 0} (P : X → Type 0) (xs ys : List X) → All P (xs ++ ys) → All P ys
-All-second P xs ys all k d inside = grind (arith, length-append xs ys, get_or-append-add xs ys k d)
 
 -- the places that a long code names are places of the points, and no more than 8
 pub record NamesFew (ps : List Point) (root : ℕ) (drops : List ℕ) (side : Option ℕ) (tip : ℕ) : Type 0 where

@@ -134,7 +134,7 @@ Contains-from_ascending_places (q ∷ qs) p member = elim (with_place-cases q p 
 
 -- ---- there are as many, where none stands twice
 
-length-with_place : (p : ℕ) (qs : List ℕ) → (Contains qs p → ⊥) → length (with_place p qs) ≡ length qs + 1
+pub length-with_place : (p : ℕ) (qs : List ℕ) → (Contains qs p → ⊥) → length (with_place p qs) ≡ length qs + 1
 length-with_place p [] new = omega arith
 length-with_place p (q ∷ qs) new = elim (order_of p q) [
   | is_below b ↦ rw (with_place-below p q qs b) (omega arith)

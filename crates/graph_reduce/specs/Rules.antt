@@ -2,7 +2,8 @@
 use Rattle.std.specs.Prelude.{ℕ, ◌≡◌, ◌⊎◌, ◌+◌, ◌==◌, ◌<◌, nat_lt, List, false, map, replicate, length, slice_set, Some, None, if◌then◌else◌}
 use Rattle.std.specs.List.{list_any}
 use Rattle.net_graph.specs.Network.{HasEnds}
-use Rattle.graph_reduce.specs.State.{Bundle, State, HasEdge, HasNode, IsTerminal, EndsIn, HasOneEdge, union, without}
+use Rattle.graph_reduce.specs.State.{Bundle, State, HasEdge, HasNode, IsTerminal, EndsIn, HasOneEdge, union}
+use Rattle.net_graph.specs.Distinct.{without}
 
 -- the state without the edge at a place
 abbrev pub without_edge : State → ℕ → State

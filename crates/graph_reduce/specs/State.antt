@@ -1,7 +1,8 @@
 -- States of a reduction: what is left of a graph with terminals, and what is certain by then.
-use Rattle.std.specs.Prelude.{ℕ, ◌+◌, ◌==◌, ◌≡◌, ◌⊎◌, Bool, true, false, not, ◌||◌, List, [], ◌∷◌, length, replicate, filter, slice_get, slice_set, Option, Some, Contains}
+use Rattle.std.specs.Prelude.{ℕ, ◌+◌, ◌≡◌, ◌⊎◌, Bool, true, false, ◌||◌, List, [], ◌∷◌, length, replicate, slice_get, slice_set, Option, Some, Contains}
 use Rattle.net_graph.specs.declared.edge.Edge.{Edge}
 pub use Rattle.graph_reduce.specs.declared.originals.Bundle.{Bundle}
+use Rattle.net_graph.specs.Distinct.{distinct_of}
 use Rattle.net_graph.specs.Graph.{Graph}
 use Rattle.net_graph.specs.Network.{HasEnds}
 
@@ -42,15 +43,6 @@ abbrev pub union : List Bool → List Bool → List Bool
 union [] ys = ys
 union (x ∷ xs) [] = x ∷ xs
 union (x ∷ xs) (y ∷ ys) = (x || y) ∷ union xs ys
-
--- the list without a number
-abbrev pub without : ℕ → List ℕ → List ℕ
-without v xs = filter (λ x. not (x == v)) xs
-
--- the list without repeats: each number where it stands first
-abbrev pub distinct_of : List ℕ → List ℕ
-distinct_of [] = []
-distinct_of (x ∷ xs) = x ∷ without x (distinct_of xs)
 
 -- each edge stands for itself; the first has the number n, and the graph has so many
 abbrev pub bundles_from : ℕ → ℕ → List Edge → List (Option Bundle)

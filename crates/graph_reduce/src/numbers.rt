@@ -2,7 +2,7 @@
 
 ghost use Rattle.std.specs.Prelude.{◌≡◌, ◌==◌, map, if◌then◌else◌};
 ghost use Rattle.std.specs.List.{list_any};
-ghost use Rattle.graph_reduce.specs.State.{without};
+ghost use Rattle.net_graph.specs.Distinct.{without};
 ghost use Rattle.graph_reduce.specs.Rules.{moved};
 
 // Puts one number in the place of another, wherever that stands.

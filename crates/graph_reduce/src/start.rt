@@ -1,9 +1,8 @@
 //! The parts of the first state of a reduction.
 
 ghost use Rattle.std.specs.Prelude.{◌≡◌, ◌<◌, true, length, replicate, IfOk, Some};
-ghost use Rattle.graph_reduce.specs.State.{bundles_from, distinct_of};
+ghost use Rattle.graph_reduce.specs.State.{bundles_from};
 
-use crate::numbers::stands_in;
 use crate::originals::{Bundle, Originals};
 use net_graph::{Edge, VertexSet};
 use std::alloc::{AllocError, Global};
@@ -36,17 +35,4 @@ pub(crate) fn every_edge(
         }))?;
     }
     Ok(bundles)
-}
-
-// The numbers without repeats, each where it stands first. An `Err` is want of memory.
-pub(crate) fn without_repeats(alloc: Global, numbers: &[u32]) -> Result<Vec<u32>, AllocError>
-    ensures { IfOk result (λ v. v.items ≡ distinct_of numbers.now) }
-{
-    let mut distinct = Vec::new(alloc);
-    for n in numbers {
-        if !stands_in(&distinct, *n) {
-            distinct.push(*n)?;
-        }
-    }
-    Ok(distinct)
 }

@@ -7,8 +7,8 @@ ghost use Rattle.graph_reduce.specs.Clear.{HasSetsOfOneSize};
 
 use crate::numbers::move_all;
 use crate::originals::Bundle;
-use crate::start::{every_edge, every_node, without_repeats};
-use net_graph::{Edge, EdgeSet, NetGraph, VertexSet};
+use crate::start::{every_edge, every_node};
+use net_graph::{Edge, EdgeSet, NetGraph, VertexSet, without_repeats};
 use std::alloc::{AllocError, Global};
 use std::marker::Model;
 
@@ -47,7 +47,7 @@ impl Work {
         Ok(Work {
             nodes: every_node(alloc, g.vertex_count())?,
             edges: every_edge(alloc, g.edges(), g.edge_count())?,
-            terminals: without_repeats(alloc, g.terminals())?,
+            terminals: without_repeats(alloc, g.terminals(), g.vertex_count())?,
             forced: EdgeSet::empty(alloc, g.edge_count())?,
             offset: 0,
         })

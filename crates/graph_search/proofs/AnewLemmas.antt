@@ -1,12 +1,10 @@
 -- Searches that begin anew.
-use Rattle.std.proofs.Common.{ℕ, zero, suc, ◌≡◌, ◌<◌, ◌≤◌, Bool, List, length, true, false, refl, sym, ◌∙◌, subst, arith}
-use Rattle.std.proofs.Common.{length-append}
+use Rattle.std.proofs.Common.{ℕ, zero, suc, ◌≡◌, ◌≤◌, Bool, List, true, false, refl, sym, ◌∙◌, subst, arith}
 use Rattle.net_graph.specs.Graph.{Graph}
 use Rattle.net_graph.specs.Network.{length_of}
-use Rattle.cert_tree.specs.Preorder.{packings_of, split_count}
+use Rattle.cert_tree.specs.Preorder.{split_count}
 use Rattle.cert_tree.specs.declared.split.SplitOn.{SplitOn}
 use Rattle.cert_tree.specs.Tree.{Tree}
-use Rattle.cert_tree.specs.Tree.Tree.{Leaf, Split}
 use Rattle.branch.specs.declared.solved.Solved.{Solved}
 use Rattle.branch.specs.declared.split_kind.SplitKind.{SplitKind}
 use Rattle.branch.specs.declared.split_kind.SplitKind.TheVariants as kind
@@ -21,12 +19,6 @@ use Rattle.branch.specs.Solving.{IsSolved}
 use Rattle.graph_search.specs.Anew.{IsAhead, IsFoundOnEdges}
 use Rattle.graph_search.specs.Searched.{EndsByKind, IsTold}
 use Rattle.graph_search.proofs.SearchedLaws.{told}
-
--- a tree has a leaf
-pub some_packing : (tree : Tree SplitOn) → 0 < length (packings_of tree)
-some_packing (Leaf cuts) = omega arith
-some_packing (Split on outside inside) =
-    grind (arith, some_packing outside, length-append (packings_of outside) (packings_of inside))
 
 -- openings and then others are openings
 leads_on : (asked : SplitKind) (g : Graph) (network : List Bool) (tree : Tree SplitOn) (n : ℕ) (middle : List Bool)

@@ -90,7 +90,7 @@ impl Splitting {
         requires decision { IsDecisionFor search.now.graph decision.now }
         ensures { IfOk result (IsChildIn search.now.graph) }
     {
-        let wanted = length(graph, search.network());
+        let wanted = search.length();
         let Some(under) = graph_under(alloc, graph, decision, wanted)? else {
             return without_plan(alloc, plan);
         };

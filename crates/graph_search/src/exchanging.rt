@@ -14,7 +14,7 @@ use crate::shortening::offer_shorter;
 use crate::splitting::{Splitting, splits_next};
 use branch::Search;
 use dual_ascent::Rule;
-use net_graph::{NetGraph, Packing, length};
+use net_graph::{NetGraph, Packing};
 use network_judge::shortened_by_shares;
 use packing_judge::{Bound, Exchanged, Ground, Outcome, exchange};
 use std::alloc::{AllocError, Global};
@@ -151,7 +151,7 @@ impl Exchanges<'_> {
         ensures unsplit { IsUnsplit search.old search.new }
     {
         let graph = self.graph;
-        let before = length(graph, search.network());
+        let before = search.length();
         let start = Packing::empty(alloc);
         let network = search.network();
         let found = exchange(alloc, graph, self.ground, network, before, &start, budget)?;
@@ -169,7 +169,7 @@ impl Exchanges<'_> {
             offer_shorter(alloc, graph, self.descents, search)?;
             self.offer_by_shares(alloc, guesses.shares.as_slice(), search)?;
         }
-        let end = if length(graph, search.network()) < before {
+        let end = if search.length() < before {
             TurnEnd::Shorter
         } else if is_spent {
             TurnEnd::Spent

@@ -5,6 +5,7 @@ ghost use Rattle.std.specs.Prelude.{◌≡◌};
 use crate::exchanging::Exchanges;
 use crate::splitting::Splitting;
 use net_graph::NetGraph;
+use network_judge::ENOUGH_DESCENTS;
 use packing_judge::Ground;
 use tight_packing::Budget;
 
@@ -19,9 +20,6 @@ const FURTHER_BUDGET: Budget = Budget {
     moves: 2_000_000,
     seed: 20240608,
 };
-
-// In how many descents a network is made shorter at most: about what gains nearly all at 50 points.
-const DESCENTS: u32 = 100;
 
 // In so many draws networks are grown by the shares that an exchange guesses which leaves a gap: what full trees of few
 // members don't make is found so.
@@ -41,7 +39,7 @@ const SPLITTING: Splitting = Splitting {
         seed: 20240609,
     },
     draws: 2,
-    descents: DESCENTS,
+    descents: ENOUGH_DESCENTS,
 };
 
 impl<'a> Exchanges<'a> {
@@ -59,7 +57,7 @@ impl<'a> Exchanges<'a> {
             first: Budget::USUAL,
             further: FURTHER_BUDGET,
             draws: DRAWS,
-            descents: DESCENTS,
+            descents: ENOUGH_DESCENTS,
             splitting: SPLITTING,
         }
     }

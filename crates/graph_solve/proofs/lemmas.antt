@@ -1,4 +1,3 @@
-pub mod Repeats
 pub mod Parts
 pub mod Joined
 pub mod OneFault

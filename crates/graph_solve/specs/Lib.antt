@@ -3,3 +3,4 @@ pub mod Fault
 pub mod FirstLaws
 pub mod Said
 pub mod Accepted
+pub mod JoinedLaws

@@ -1,8 +1,9 @@
 -- The graph of an STP file.
-use Rattle.std.specs.Prelude.{ℕ, ◌-◌, ◌==◌, Bool, true, not, List, [], ◌∷◌, length, map, filter, replicate, sum_by}
+use Rattle.std.specs.Prelude.{ℕ, ◌-◌, Bool, true, List, length, map, replicate, sum_by}
 use Rattle.stp_format.specs.declared.edge.StpEdge.{StpEdge}
 use Rattle.stp_format.specs.Value.{StpValue}
 use Rattle.net_graph.specs.declared.edge.Edge.{Edge}
+use Rattle.net_graph.specs.Distinct.{distinct_of}
 use Rattle.net_graph.specs.Graph.{Graph, graph_of}
 
 -- node i of a file, counted from 1, is the vertex i - 1 of its graph
@@ -13,14 +14,9 @@ vertex_of node = node - 1
 abbrev pub edge_of : StpEdge → Edge
 edge_of e = record { a = vertex_of e.i; b = vertex_of e.j; length = e.length }
 
--- the numbers in order of first appearance: each repeat of an earlier one is left out
-abbrev pub without_repeats : List ℕ → List ℕ
-without_repeats [] = []
-without_repeats (n ∷ ns) = n ∷ filter (λ m. not (n == m)) (without_repeats ns)
-
 -- the vertices of a file's terminals, in the order of their lines, each once
 abbrev pub terminals_of : StpValue → List ℕ
-terminals_of file = without_repeats (map vertex_of file.terminals)
+terminals_of file = distinct_of (map vertex_of file.terminals)
 
 -- The graph of a file: a vertex for each node, the edges in order, and the terminals.
 abbrev pub graph_of_stp : StpValue → Graph

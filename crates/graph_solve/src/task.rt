@@ -13,7 +13,7 @@ ghost use Rattle.graph_solve.specs.declared.fault.TaskFault.{TaskFault};
 use crate::fault::TaskFault;
 use lists::ItemList;
 use net_graph::{
-    Edge, EdgeList, EdgeSet, GraphFault, NetGraph, VertexList, VertexSet, first_apart,
+    Edge, EdgeList, EdgeSet, GraphFault, NetGraph, VertexList, first_apart, without_repeats,
 };
 use std::alloc::{AllocError, Global};
 use stp_format::{StpEdge, StpFile};
@@ -81,16 +81,12 @@ fn terminals_in(alloc: Global, file: &StpFile) -> Result<VertexList, AllocError>
     ensures terminals { IfOk result (λ list. list ≡ terminals_of file.now) }
     ensures vertices { IfOk result (λ list. All (λ t. t < file.now.nodes) list) }
 {
-    let mut marks = VertexSet::empty(alloc, file.nodes())?;
-    let mut list = ItemList::empty(alloc);
+    let mut vertices = Vec::with_capacity(alloc, file.terminal_count() as usize)?;
     for n in 0..file.terminal_count() {
-        let vertex = file.terminal(n) - 1;
-        if !marks.has(vertex) {
-            marks.add(vertex);
-            list.push(vertex)?;
-        }
+        vertices.push_reserved(file.terminal(n) - 1);
     }
-    Ok(list)
+    let distinct = without_repeats(alloc, vertices.as_slice(), file.nodes())?;
+    Ok(ItemList::from_vec(distinct))
 }
 
 // The edges between the vertices of their nodes. An `Err` is want of memory.

@@ -17,7 +17,7 @@ use Rattle.search_rules.specs.Options.{usual_in_graph}
 use Rattle.graph_tools.specs.declared.lifted.Lifted.{Lifted}
 use Rattle.graph_tools.specs.Lifted.{IsLiftedFor, lifted_by}
 use Rattle.graph_tools.specs.Reduce.{IsReduced}
-use Rattle.graph_tools.specs.Solution.{IsAnswerFor, IsSpelled}
+use Rattle.graph_tools.specs.Solution.{IsAnswerFor}
 use Rattle.graph_tools.specs.SolutionLaws.{permitted_answer}
 
 -- each edge is one of all
@@ -55,8 +55,7 @@ bound_small r a graph is = grind (arith, length_of-small r.graph a.network graph
 
 -- the network of an answer in the reduced graph, lifted, is one that is lifted in the graph
 pub lifted_for : {E : Type 0} (g : Graph) (r : Reduction) (a : Answer) (result : Result Lifted E) → IsReduced g r →
-    IsAnswerFor usual_in_graph r.graph a → IsSpelled (record { graph = r.graph; answer = a }) →
-    IfOk result (λ l. l ≡ lifted_by r a.network a.tree) → IfOk result (IsLiftedFor g)
-lifted_for g r a (Ok l) reduced is spells same =
-    grind (arith, permitted_answer usual_in_graph r.graph (record { graph = r.graph; answer = a }) is spells)
-lifted_for g r a (Err memory) reduced is spells same = tt
+    IsAnswerFor usual_in_graph r.graph a → IfOk result (λ l. l ≡ lifted_by r a.network a.tree) → IfOk result (IsLiftedFor g)
+lifted_for g r a (Ok l) reduced is same =
+    grind (arith, permitted_answer usual_in_graph r.graph (record { instance = r.graph; answer = a }) is)
+lifted_for g r a (Err memory) reduced is same = tt

@@ -1,7 +1,7 @@
 -- What readers of a text and of a file answer is what they come to, and a Steiner problem has no fault.
-use Rattle.std.proofs.Common.{ℕ, ◌≡◌, ◌<◌, List, length, All, Some, Result, Ok, Err, IfOk, IfErr, OnOk}
-use Rattle.std.proofs.Common.{slice_get, sym, subst, ap, ◌∙◌, arith}
-use Rattle.std.proofs.lemmas.Option.{get_or_from_slice_get, slice_get_within}
+use Rattle.std.proofs.Common.{ℕ, ◌≡◌, ◌<◌, List, length, All, Result, Ok, Err, IfOk, IfErr, OnOk}
+use Rattle.std.proofs.Common.{sym, subst, ap, ◌∙◌, arith}
+use Rattle.lists.specs.ListLaws.{All-at}
 use Rattle.net_graph.specs.Graph.{Graph}
 use Rattle.net_graph.specs.Fault.{IsFirst}
 use Rattle.net_graph.specs.Network.{Reaches}
@@ -49,18 +49,12 @@ task_apart file read (Err (Fault why)) graph is fault same told =
     (subst (λ r. IfErr r (IsFirstFault file)) (sym same) fault, told)
 task_apart file read (Err (Memory error)) graph is fault same told = tt
 
--- what holds of each holds of the one at a place
-at_place : {X : Type 0} (P : X → Type 0) (xs : List X) (place : ℕ) (x : X) → All P xs → slice_get xs place ≡ Some x →
-    P x
-at_place P xs place x all at =
-    subst P (get_or_from_slice_get xs place x x at) (all place x (slice_get_within xs place x at))
-
 -- an edge of length 0 is none of a file whose edges all have a length
 has_length : (edges : List StpEdge) (place : ℕ) → All (λ e. 0 < e.length) edges →
     IsFirst (λ (e : StpEdge). e.length ≡ 0) edges place → ⊥
 has_length edges place lengths first =
     let (edge, at, zero) = first.here in
-    let some : 0 < edge.length = at_place (λ e. 0 < e.length) edges place edge lengths at in omega (arith, some, zero)
+    let some : 0 < edge.length = All-at (λ e. 0 < e.length) edges place edge lengths at in omega (arith, some, zero)
 
 -- a Steiner problem has no first fault
 pub task_faultless : (file : StpValue) (fault : TaskFault) → IsTask file → IsFirstFault file fault →
@@ -80,7 +74,7 @@ task_faultless file (task.TooLong total) is (lengths, same, long) told =
 task_faultless file (task.Apart node) is (lengths, short, apart) told =
     let g = graph_of_stp file in
     apart.first.apart
-    (at_place (Reaches g (all_edges g)) g.terminals apart.place apart.first.terminal is.joined apart.first.at)
+    (All-at (Reaches g (all_edges g)) g.terminals apart.place apart.first.terminal is.joined apart.first.at)
 task_faultless file (task.Memory error) is fault told = told tt
 
 -- one text is one file

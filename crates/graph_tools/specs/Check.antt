@@ -10,13 +10,11 @@ use Rattle.cert_check.specs.Rulings.{verdict_of}
 use Rattle.graph_solve.specs.Task.{graph_of_stp}
 use Rattle.tool_frame.specs.declared.status.FaultStatus.{FaultStatus}
 use Rattle.tool_frame.specs.declared.status.TheConstants.{NO_MEMORY}
-use Rattle.tool_frame.specs.declared.take.FileFault.{FileFault}
-use Rattle.tool_frame.specs.declared.take.FileFault.TheVariants as file_fault
 use Rattle.tool_frame.specs.declared.take.TheConstants.{TEXT_LIMIT}
 use Rattle.tool_frame.specs.Outside.{Readable, Outside}
 use Rattle.tool_frame.specs.Ends.{Print, Ends}
 use Rattle.tool_frame.specs.Leaves.{LeavesFiles}
-use Rattle.tool_frame.specs.FaultTexts.{file_fault_status, input_fault_text, input_fault_status, too_long_text}
+use Rattle.tool_frame.specs.FaultTexts.{file_fault_text, file_fault_status, input_fault_text, input_fault_status}
 use Rattle.tool_frame.specs.Taking.{IsFileFault, IsInputFault, IsWholeFile, IsWholeInput}
 use Rattle.verdict_line.specs.declared.counting.Counting.TheVariants.{FromOne}
 use Rattle.verdict_line.specs.Judging.{JudgesBytes}
@@ -27,14 +25,9 @@ use Rattle.graph_tools.specs.declared.checking.CheckgraphFault.{CheckgraphFault}
 use Rattle.graph_tools.specs.declared.checking.CheckgraphFault.TheVariants.{File, Graph as OfGraph, Input}
 use Rattle.graph_tools.specs.declared.checking.TheConstants.{GRAPH_ANSWER_LIMIT}
 
--- what is said where the STP file isn't taken whole
-abbrev pub graph_file_text : FileFault → List ℕ
-graph_file_text file_fault.Unread = codes "cannot read the graph"
-graph_file_text (file_fault.TooLong limit) = too_long_text limit
-
 -- what is said of a fault
 abbrev pub checkgraph_fault_text : CheckgraphFault → List ℕ
-checkgraph_fault_text (File fault) = graph_file_text fault
+checkgraph_fault_text (File fault) = file_fault_text (codes "the graph") fault
 checkgraph_fault_text (OfGraph fault) = graph_fault_text fault
 checkgraph_fault_text (Input fault) = input_fault_text fault
 

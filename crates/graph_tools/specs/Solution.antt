@@ -13,16 +13,14 @@ use Rattle.answer_text.specs.Text.{answer_text}
 use Rattle.answer_text.specs.Spelling.{SpellsAnswer}
 use Rattle.answer_text.specs.Value.{WrittenAnswer}
 use Rattle.answer_text.specs.Answers.{IsAnswerOn, edge_labels, graph_value_of, labelled, number_labels}
-use Rattle.tool_frame.specs.declared.status.AnswerStatus.{AnswerStatus}
-use Rattle.tool_frame.specs.Statuses.{search_status}
 use Rattle.tool_frame.specs.Ends.{Print}
+use Rattle.graph_search.specs.declared.solution.Solution.{Solution}
 use Rattle.graph_search.specs.Kinds.{kind_of}
 use Rattle.graph_search.specs.Searched.{IsSearched, bound_of, value_on}
 use Rattle.graph_search.specs.Answering.{head_with}
 use Rattle.graph_search.specs.Status.{status_of_bound}
 use Rattle.search_rules.specs.declared.options.GraphOptions.{GraphOptions}
 use Rattle.graph_solve.specs.Accepted.{IsGraphAccepted}
-use Rattle.graph_tools.specs.declared.solution.GraphSolution.{GraphSolution}
 
 -- what the answer of a network and a tree tells, with so many openings allowed
 abbrev pub graph_solution : ℕ → Graph → List Bool → Tree SplitOn → WrittenAnswer
@@ -57,32 +55,24 @@ graph_print openings g network tree = record {
 }
 
 -- the text of an answer in its graph
-abbrev pub solution_text : GraphSolution → List ℕ
-solution_text s = answer_text (graph_value_of s.answer)
-
--- the status that the tool ends with when it is printed
-abbrev pub solution_status : GraphSolution → AnswerStatus
-solution_status s = search_status s.answer.head.optimal
+abbrev pub solution_text : Solution Graph → List ℕ
+solution_text s = answer_text (graph_value_of s.instance s.answer)
 
 -- the answer can be written
-abbrev pub IsPrintable : GraphSolution → Type 0
-IsPrintable s = IsAnswerOn s.graph s.answer
-
--- its text spells it
-abbrev pub IsSpelled : GraphSolution → Type 0
-IsSpelled s =
-    SpellsAnswer (form.OfGraph (length s.graph.edges) s.graph.vertices) (solution_text s) (graph_value_of s.answer)
+abbrev pub IsPrintable : Solution Graph → Type 0
+IsPrintable s = IsAnswerOn s.instance s.answer
 
 -- The answer tells a network of the graph and a tree of cuts, as a search from a network ends with them that is no
--- longer than all edges together. Its text has fewer than 2^32 bytes.
-pub record IsFor (options : GraphOptions) (g : Graph) (s : GraphSolution) : Type 0 where
-  pub graph : s.graph ≡ g
+-- longer than all edges together. Its text spells it, and has fewer than 2^32 bytes.
+pub record IsFor (options : GraphOptions) (g : Graph) (s : Solution Graph) : Type 0 where
+  pub graph : s.instance ≡ g
   pub searched : IsSearched g (kind_of options.split) options.openings (total_of g) s.answer.network s.answer.tree
   pub head : s.answer.head
       ≡ head_with options.openings (length_of g s.answer.network) (value_on g s.answer.tree) no_note
   pub fits : IsAnswerOn g s.answer
+  pub spelled : SpellsAnswer (form.OfGraph (length g.edges) g.vertices) (solution_text s) (graph_value_of g s.answer)
   pub few_bytes : length (solution_text s) < 2 ^ 32
 
 -- The answer is one in this graph.
 abbrev pub IsAnswerFor : GraphOptions → Graph → Answer → Type 0
-IsAnswerFor options g a = IsFor options g (record { graph = g; answer = a })
+IsAnswerFor options g a = IsFor options g (record { instance = g; answer = a })

@@ -1,14 +1,13 @@
 //! The tool `checkgraph`: an STP file and an answer in its graph come in, the verdict on the answer goes out.
 
 ghost use Rattle.std.specs.Prelude.{◌≡◌};
-ghost use Rattle.text_out.specs.Gathers.{Gathers};
 ghost use Rattle.tool_frame.specs.Outside.{readable, outside};
 ghost use Rattle.tool_frame.specs.Leaves.{LeavesFiles};
 ghost use Rattle.tool_frame.specs.Stops.{FindsDue, IfFound, OnStarved};
 ghost use Rattle.tool_frame.specs.Taking.{KeepsFiles};
 ghost use Rattle.verdict_line.specs.Verdicts.{line_text, line_status};
 ghost use Rattle.graph_tools.specs.Check.{ChecksGraph, EndsCheckgraph, ReadsGraphFile};
-ghost use Rattle.graph_tools.specs.Check.{checkgraph_fault_text, checkgraph_fault_status, graph_file_text};
+ghost use Rattle.graph_tools.specs.Check.{checkgraph_fault_text, checkgraph_fault_status};
 
 use crate::reading::graph_in;
 use crate::text_fault::GraphTextFault;
@@ -17,7 +16,7 @@ use net_graph::NetGraph;
 use rst_outside::{Shelf, Sink, Source};
 use std::alloc::Global;
 use std::marker::Brand;
-use text_out::{Block, literal};
+use text_out::Block;
 use tool_frame::{
     Fault, FaultStatus, FileFault, InputFault, Stop, TEXT_LIMIT, end_found, whole_file, within,
 };
@@ -52,20 +51,10 @@ impl Fault for CheckgraphFault {
 
     fn write<R: Sink>(&self, block: &mut Block, err: &mut R) {
         match self {
-            CheckgraphFault::File(fault) => write_file_fault(block, err, *fault),
+            CheckgraphFault::File(fault) => fault.write(block, err, b"the graph"),
             CheckgraphFault::Graph(fault) => fault.write(block, err),
             CheckgraphFault::Input(fault) => fault.write(block, err),
         }
-    }
-}
-
-// What is said where the STP file isn't taken whole.
-fn write_file_fault<R: Sink>(block: &mut Block, err: &mut R, fault: FileFault)
-    ensures { Gathers (R.state err.old) block.old (graph_file_text fault) (R.state err.new) block.new }
-{
-    match fault {
-        FileFault::Unread => literal(block, err, b"cannot read the graph"),
-        FileFault::TooLong { .. } => fault.write(block, err),
     }
 }
 
@@ -96,7 +85,7 @@ fn verdict_on<I: Source, S: Shelf>(
     input: &mut I,
     shelf: &mut S,
 ) -> Result<VerdictLine, Stop<CheckgraphFault>>
-    ensures finds { FindsDue line_text line_status (λ _. Unit {0}) (ChecksGraph graph_name.now
+    ensures finds { FindsDue line_text line_status (ChecksGraph graph_name.now
         (readable (I.state input.old) (S.state shelf.old)) (readable (I.state input.new) (S.state shelf.new))) result }
     ensures unread { OnStarved result (I.state input.new ≡ I.state input.old) }
     ensures leaves { LeavesFiles

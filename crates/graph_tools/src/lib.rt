@@ -17,6 +17,6 @@ pub use lifted::Lifted;
 pub use reading::{graph_in, task_has_no_fault};
 pub use reducing::reduce;
 pub use reduction::GraphReduction;
-pub use solution::{GraphSolution, solution_in};
+pub use solution::solution_in;
 pub use solving::graph;
 pub use text_fault::GraphTextFault;

@@ -9,10 +9,9 @@ ghost use Rattle.graph_tools.specs.Solution.{IsAnswerFor};
 
 use crate::lifted::Lifted;
 use crate::solution::answer_in;
-use answer_text::{Answer as CutAnswer, write_graph_answer};
+use answer_text::Answer;
 use graph_reduce::{Reduced, reduce};
 use net_graph::NetGraph;
-use rst_outside::SureSink;
 use search_rules::GraphOptions;
 use std::alloc::{AllocError, Global};
 
@@ -25,13 +24,11 @@ pub(crate) fn lifted_in(alloc: Global, graph: &NetGraph) -> Result<Lifted, Alloc
     let _total = graph.total();
     let reduced = reduce(alloc, graph)?;
     let answer = answer_in(alloc, reduced.graph(), GraphOptions::USUAL)?;
-    // That the answer's text spells it is known once it is written.
-    let _spelled = write_graph_answer(&mut SureSink::new(), reduced.graph(), &answer);
     lifted_by(alloc, &reduced, &answer)
 }
 
 // What is told of an answer's network in the reduced graph, once it is lifted. An `Err` is want of memory.
-fn lifted_by(alloc: Global, reduced: &Reduced, answer: &CutAnswer) -> Result<Lifted, AllocError>
+fn lifted_by(alloc: Global, reduced: &Reduced, answer: &Answer) -> Result<Lifted, AllocError>
     requires answer { IsAnswerFor usual_in_graph reduced.now.graph answer.now }
     requires offset { reduced.now.offset < 2 ^ 63 }
     ensures { IfOk result (λ lifted. lifted ≡ lifted_by reduced.now answer.now.network answer.now.tree) }

@@ -5,8 +5,10 @@ ghost use Rattle.tool_frame.specs.Outside.{outside};
 ghost use Rattle.graph_tools.specs.Solve.{EndsGraph, SolvesGraph};
 
 use crate::reading::graph_in;
-use crate::solution::{GraphSolution, solution_in};
+use crate::solution::solution_in;
 use crate::text_fault::GraphTextFault;
+use graph_search::Solution;
+use net_graph::NetGraph;
 use rst_outside::{Sink, Source};
 use search_rules::GraphOptions;
 use std::alloc::Global;
@@ -35,14 +37,18 @@ struct Solving {
 }
 
 impl TextTool for Solving {
-    type Found = GraphSolution;
+    type Found = Solution<NetGraph>;
 
     type Wrong = GraphTextFault;
 
     ghost prints = { λ tool. SolvesGraph tool.options };
 
     #[tactic(auto, using(crate::specs::SolutionLaws::answer_printed, crate::specs::SolutionLaws::for_fits))]
-    fn find(&self, alloc: Global, bytes: &[u8]) -> Result<GraphSolution, Stop<GraphTextFault>> {
+    fn find(
+        &self,
+        alloc: Global,
+        bytes: &[u8],
+    ) -> Result<Solution<NetGraph>, Stop<GraphTextFault>> {
         let graph = graph_in(alloc, bytes)?;
         Ok(solution_in(alloc, graph, self.options)?)
     }

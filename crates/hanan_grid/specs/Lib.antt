@@ -15,3 +15,4 @@ pub mod RunsLaws
 pub mod Stretch
 pub mod StretchLaws
 pub mod Whole
+pub mod FaultLaws

@@ -20,7 +20,7 @@ gaps_from lines a zero = 0
 gaps_from lines a (suc n) = gap_after lines a + gaps_from lines (a + 1) n
 
 -- a line and the gaps behind it make the line after them
-span_of : (lines : List ℤ) (a n : ℕ) → a + n < length lines → IsRising lines
+pub span_of : (lines : List ℤ) (a n : ℕ) → a + n < length lines → IsRising lines
     → line_at lines a +ℤ pos (gaps_from lines a n) ≡ line_at lines (a + n)
 span_of lines a zero inside rises =
     let here : a + 0 ≡ a = omega arith in rw here (omega (arith, ints))

@@ -39,7 +39,7 @@ fn verdict_on<I: Source, S: Shelf>(
     input: &mut I,
     shelf: &mut S,
 ) -> Result<VerdictLine, Stop<CheckFault>>
-    ensures finds { FindsDue line_text line_status (λ _. Unit {0}) (Checks points_name.now
+    ensures finds { FindsDue line_text line_status (Checks points_name.now
         (readable (I.state input.old) (S.state shelf.old)) (readable (I.state input.new) (S.state shelf.new))) result }
     ensures unread { OnStarved result (I.state input.new ≡ I.state input.old) }
     ensures leaves { LeavesFiles

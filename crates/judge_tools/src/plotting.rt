@@ -76,7 +76,7 @@ fn picture_of<I: Source, S: Shelf>(
     shelf: &mut S,
 ) -> Result<Picture, Stop<PlotFault>>
     ensures fits { ForOk result HasEdges }
-    ensures finds { FindsDue picture_text (λ _. Done) (λ _. Unit {0}) (Plots points_name.now
+    ensures finds { FindsDue picture_text (λ _. Done) (Plots points_name.now
         (readable (I.state input.old) (S.state shelf.old)) (readable (I.state input.new) (S.state shelf.new))) result }
     ensures unread { OnStarved result (I.state input.new ≡ I.state input.old) }
     ensures leaves { LeavesFiles

@@ -1,1 +1,2 @@
 pub mod RowLending
+pub mod ListLaws

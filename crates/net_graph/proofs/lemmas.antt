@@ -11,3 +11,4 @@ pub mod LengthLemmas
 pub mod DecisionLemmas
 pub mod RootedLemmas
 pub mod FeasibleLemmas
+pub mod DistinctLemmas

@@ -2,8 +2,9 @@
 use Rattle.std.specs.Prelude.{◌≡◌, ◌≢◌, ℕ, ◌<◌, Bool, true, false, List, length, slice_get, slice_set, Some, replicate, ◌⊎◌}
 use Rattle.std.proofs.Common.{⊎_elim, arith, length-set}
 use Rattle.std.proofs.lemmas.Bool.{cases_eq, cases_lt}
-use Rattle.std.proofs.lemmas.Option.{slice_get-get_or, slice_get_within, slice_get_past}
-use Rattle.std.proofs.lemmas.List.{get_or-set_same, get_or-set_other, get_or-replicate, length-replicate}
+use Rattle.std.proofs.lemmas.Option.{slice_get-get_or, slice_get_past}
+use Rattle.std.proofs.lemmas.List.{get_or-set_same, get_or-set_other}
+use Rattle.net_graph.specs.EntryLaws.{none_set}
 use Rattle.net_graph.specs.Adds.{Adds}
 
 -- the flag that was written
@@ -25,17 +26,6 @@ slice_get-set_other set n e flag apart =
       slice_get_past,
     )
 
--- nothing is in the empty set
-none_before : (size e : ℕ) → slice_get (replicate size false) e ≡ Some true → ⊥
-none_before size e inside =
-    grind (
-      arith,
-      slice_get_within (replicate size false) e true inside,
-      slice_get-get_or (replicate size false) e false (slice_get_within (replicate size false) e true inside),
-      get_or-replicate,
-      length-replicate size false,
-    )
-
 -- nothing was put in
 pub Adds-nothing : (P : ℕ → Type 0) (set : List Bool) → ((e : ℕ) → P e → ⊥) → Adds P set set
 Adds-nothing P set none = grind arith
@@ -53,7 +43,7 @@ Adds-then P Q R old mid new one two first second split = grind arith
 -- a set that was empty holds just what was put in
 pub Adds-holds : (P : ℕ → Type 0) (size : ℕ) (set : List Bool) → Adds P (replicate size false) set → (e : ℕ) →
     slice_get set e ≡ Some true → P e
-Adds-holds P size set adds e inside = ⊎_elim (λ before. absurd (none_before size e before))
+Adds-holds P size set adds e inside = ⊎_elim (λ before. absurd (none_set size e before))
     (λ is. is) (adds.only e inside)
 
 -- the same numbers in other words

@@ -1,10 +1,10 @@
 -- What is joined by an edge set, in any graph and from any root.
-use Rattle.std.specs.Prelude.{ℕ, ◌≡◌, Bool, List, [], ◌∷◌, ◌++◌, Contains}
+use Rattle.std.specs.Prelude.{ℕ, ◌≡◌, Bool, List, [], ◌∷◌, ◌++◌, Contains, ◌<◌}
 use Rattle.std.proofs.Common.{inl, inr, ⊎_elim}
 use Rattle.net_graph.specs.Flags.{IsSubset}
 use Rattle.net_graph.specs.Graph.{Graph}
 use Rattle.net_graph.specs.Joins.{slice_get-has, has-slice_get}
-use Rattle.net_graph.specs.Network.{HasEnds, Links, Joins}
+use Rattle.net_graph.specs.Network.{HasEnds, Links, Joins, IsFirstApart}
 use Rattle.net_graph.specs.Search.{Leads}
 use Rattle.net_graph.specs.SearchLaws.{Leads-trans, Leads-weaker, Leads-back}
 
@@ -47,3 +47,7 @@ Joins-from g set start vertices led v w first second =
 abbrev pub Meets : List ℕ → List (List ℕ) → Type 0
 Meets before [] = Unit {0}
 Meets before (vs ∷ rest) = ((v : ℕ) × Contains before v × Contains vs v) × Meets (before ++ vs) rest
+
+-- no terminal before the first one that is apart is the first one
+pub not_apart_before : (g : Graph) (set : List Bool) (n m : ℕ) → IsFirstApart g set n → IsFirstApart g set m → n < m → ⊥
+not_apart_before g set n m first other below = first.apart (other.before n first.terminal below first.at)

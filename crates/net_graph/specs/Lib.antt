@@ -4,6 +4,7 @@ pub mod Adds
 pub mod AddsLaws
 pub mod Members
 pub mod MembersLaws
+pub mod Distinct
 pub mod Graph
 pub mod Fault
 pub mod Arcs

@@ -3,6 +3,7 @@
 
 mod arcs;
 mod decision;
+mod distinct;
 mod edge;
 mod feasibility;
 mod flag_set;
@@ -20,6 +21,7 @@ mod state;
 
 pub use arcs::{Arc, partner};
 pub use decision::{Decision, required, vertex_undecided};
+pub use distinct::without_repeats;
 pub use edge::{Edge, EdgeList, VertexList};
 pub use feasibility::{enters, feasible, holds_terminal};
 pub use found::Found;

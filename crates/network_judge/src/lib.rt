@@ -5,4 +5,4 @@ mod by_shares;
 mod shortening;
 
 pub use by_shares::shortened_by_shares;
-pub use shortening::{cleaned, shortened};
+pub use shortening::{ENOUGH_DESCENTS, cleaned, shortened};

@@ -7,6 +7,9 @@ use net_graph::{EdgeSet, NetGraph, joins, length};
 use network_search::{propose_cleaned, propose_shorter};
 use std::alloc::{AllocError, Global};
 
+/// So many descents of local search gain nearly all that there is to gain on 50 terminals.
+pub const ENOUGH_DESCENTS: u32 = 100;
+
 /// A network without what it doesn't need: a least spanning tree of its edges, without the leaves that are no terminals
 /// and what hangs on them alone. An `Err` is want of memory.
 pub fn cleaned(alloc: Global, g: &NetGraph, network: &EdgeSet) -> Result<EdgeSet, AllocError>
@@ -21,8 +24,8 @@ pub fn cleaned(alloc: Global, g: &NetGraph, network: &EdgeSet) -> Result<EdgeSet
 }
 
 /// A network that is no longer than a given one: this one cleaned, and then made shorter by local search as long as
-/// that gains, in at most so many descents. With none it is only cleaned; about a hundred gain nearly all that there is
-/// to gain on 50 terminals. The same arguments give the same network. An `Err` is want of memory.
+/// that gains, in at most so many descents. With none it is only cleaned. The same arguments give the same network. An
+/// `Err` is want of memory.
 pub fn shortened(
     alloc: Global,
     g: &NetGraph,

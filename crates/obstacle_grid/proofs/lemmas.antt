@@ -2,7 +2,6 @@ pub mod Blocking
 pub mod Edges
 pub mod Crossings
 pub mod Sizes
-pub mod Texts
 pub mod Faults
 pub mod OneFault
 pub mod Words

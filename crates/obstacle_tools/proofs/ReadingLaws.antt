@@ -1,8 +1,7 @@
 -- What readers of a text and takers of a task answer is what these come to, and a Steiner problem has no fault.
-use Rattle.std.proofs.Common.{ℕ, ◌≡◌, List, Some, Result, Ok, Err, IfOk, IfErr, OnOk}
-use Rattle.std.proofs.Common.{slice_get, sym, subst, arith}
-use Rattle.std.specs.Prelude.{All}
-use Rattle.std.proofs.lemmas.Option.{get_or_from_slice_get, slice_get_within}
+use Rattle.std.proofs.Common.{ℕ, ◌≡◌, List, Result, Ok, Err, IfOk, IfErr, OnOk}
+use Rattle.std.proofs.Common.{sym, subst, arith}
+use Rattle.lists.specs.ListLaws.{All-at}
 use Rattle.net_graph.specs.Graph.{Graph}
 use Rattle.net_graph.specs.Network.{Reaches}
 use Rattle.section_text.specs.Judged.{IsFirstFault as IsFirstFaultOfText}
@@ -46,12 +45,6 @@ task_apart o read (Err (Fault why)) graph is fault same told =
     (subst (λ r. IfErr r (IsFirstFault o)) (sym same) fault, told)
 task_apart o read (Err (Memory error)) graph is fault same told = tt
 
--- what holds of each holds of the one at a place
-at_place : {X : Type 0} (P : X → Type 0) (xs : List X) (place : ℕ) (x : X) → All P xs → slice_get xs place ≡ Some x →
-    P x
-at_place P xs place x all at =
-    subst P (get_or_from_slice_get xs place x x at) (all place x (slice_get_within xs place x at))
-
 -- a Steiner problem has no first fault
 task_faultless : (o : ObstaclesValue) (fault : ObstacleTaskFault) → IsTask o → IsFirstFault o fault →
     (IsMemoryOfTask fault → ⊥) → ⊥
@@ -59,7 +52,7 @@ task_faultless o (task.TooLong total) is (same, long) told =
     let short = is.total in omega (arith, short, same, long)
 task_faultless o (task.Apart place) is (short, apart) told =
     let g = obstacle_graph_of o in
-    apart.apart (at_place (Reaches g (all_edges g)) g.terminals place apart.terminal is.joined apart.at)
+    apart.apart (All-at (Reaches g (all_edges g)) g.terminals place apart.terminal is.joined apart.at)
 task_faultless o (task.Memory error) is fault told = told tt
 
 -- and its text has none

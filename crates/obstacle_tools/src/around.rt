@@ -7,7 +7,9 @@ ghost use Rattle.obstacle_tools.specs.Around.{EndsObstacles, SolvesAround, Write
 use crate::graph_file::GraphFile;
 use crate::reading::graph_around;
 use crate::text_fault::ObstacleTextFault;
-use graph_tools::{GraphSolution, solution_in};
+use graph_search::Solution;
+use graph_tools::solution_in;
+use net_graph::NetGraph;
 use rst_outside::{Sink, Source};
 use search_rules::GraphOptions;
 use std::alloc::Global;
@@ -43,14 +45,18 @@ struct SolvingAround {
 }
 
 impl TextTool for SolvingAround {
-    type Found = GraphSolution;
+    type Found = Solution<NetGraph>;
 
     type Wrong = ObstacleTextFault;
 
     ghost prints = { λ tool. SolvesAround tool.options };
 
     #[tactic(auto, using(graph_tools::specs::SolutionLaws::answer_printed, graph_tools::specs::SolutionLaws::for_fits))]
-    fn find(&self, alloc: Global, bytes: &[u8]) -> Result<GraphSolution, Stop<ObstacleTextFault>> {
+    fn find(
+        &self,
+        alloc: Global,
+        bytes: &[u8],
+    ) -> Result<Solution<NetGraph>, Stop<ObstacleTextFault>> {
         let graph = graph_around(alloc, bytes)?;
         Ok(solution_in(alloc, graph, self.options)?)
     }

@@ -5,3 +5,4 @@ pub mod Faults
 pub mod Format
 pub mod Text
 pub mod TextLaws
+pub mod ObstaclesLaws

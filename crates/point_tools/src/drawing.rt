@@ -32,7 +32,7 @@ pub fn points<O: Sink, R: Sink>(alloc: Global, n: u8, seed: u64, out: &mut O, er
 fn draw(alloc: Global, n: u8, seed: u64) -> Result<DrawnList, Stop<InputFault>>
     requires some { 0 < n }
     requires few { n ≤ 50 }
-    ensures { FindsDue drawn_text (λ _. Done) (λ _. Unit {0}) (PrintsDrawn n seed) result }
+    ensures { FindsDue drawn_text (λ _. Done) (PrintsDrawn n seed) result }
 {
     let drawn = draw_points(alloc, n, seed)?;
     Ok(DrawnList { drawn })

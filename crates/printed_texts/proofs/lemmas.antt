@@ -1,3 +1,2 @@
 pub mod Sections
 pub mod Strokes
-pub mod Texts

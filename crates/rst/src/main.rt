@@ -7,9 +7,7 @@ use std::io::Read;
 use std::process::ExitCode;
 use std::{env, io};
 use suite::run;
-
-/// The status where memory to hold the words is wanting.
-const NO_MEMORY: u8 = 7;
+use tool_frame::NO_MEMORY;
 
 // The words after the program's name. None where memory to hold them is wanting. Where one of them is no text
 // there are no words.

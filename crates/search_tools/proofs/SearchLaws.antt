@@ -15,17 +15,18 @@ use Rattle.tree_inputs.specs.Generation.{GeneratesFst}
 use Rattle.search_rules.specs.declared.options.SearchOptions.{SearchOptions}
 use Rattle.search_tools.specs.declared.build_fault.BuildFault.{BuildFault}
 use Rattle.search_tools.specs.declared.build_fault.BuildFault.TheVariants.{Apart}
-use Rattle.search_tools.specs.declared.solution.Solution.{Solution}
+use Rattle.graph_search.specs.declared.solution.Solution.{Solution}
 use Rattle.search_tools.specs.Solve.{Solves}
 use Rattle.search_tools.specs.Build.{Builds}
-use Rattle.search_tools.specs.Steps.{IsFor, IsSpelled, SolvesFile, SolvesPoints, solution_text, solution_status}
+use Rattle.search_tools.specs.Steps.{IsFor, SolvesFile, SolvesPoints, solution_text}
+use Rattle.graph_search.specs.Status.{solution_status}
 use Rattle.search_tools.specs.SolutionLaws.{permitted_answer, printed_answer}
 
--- An answer for the points that a text lists is due to the text, once its own text is known to spell it.
-solved_answer : (options : SearchOptions) (k : ℕ) (bytes : List ℕ) (grid : List Point) (s : Solution) →
-    ReadsGrid bytes (Ok grid) → SolvesPoints options k grid (Ok s) → IsSpelled s →
+-- An answer for the points that a text lists is due to the text.
+solved_answer : (options : SearchOptions) (k : ℕ) (bytes : List ℕ) (grid : List Point) (s : Solution (List Point)) →
+    ReadsGrid bytes (Ok grid) → SolvesPoints options k grid (Ok s) →
     Solves options k bytes (Ok (record { text = solution_text s; status = solution_status s }))
-solved_answer options k bytes grid s (ps, lists, same) (generated, trees, are, kept, of_grid) spells =
+solved_answer options k bytes grid s (ps, lists, same) (generated, trees, are, kept, of_grid) =
     let is = subst (λ (qs : List Point). IsFor options qs trees s) same of_grid in (
       ps,
       s.answer.network,
@@ -37,7 +38,7 @@ solved_answer options k bytes grid s (ps, lists, same) (generated, trees, are, k
         points = lists;
         are_generated = subst (λ (qs : List Point). AreTreesOf qs k generated) same are;
         are_kept = kept;
-        permitted = permitted_answer options (terminals_of ps) trees s is spells;
+        permitted = permitted_answer options (terminals_of ps) trees s is;
       },
       printed_answer options (terminals_of ps) trees s is,
     )
@@ -50,29 +51,29 @@ solved_fault options k bytes grid TooManyTrees (ps, lists, same) more =
     (ps, lists, subst (λ (qs : List Point). HasMoreSets qs k 20000) same more)
 
 -- An answer for the file that a text spells is due to the text.
-built_answer : (options : SearchOptions) (bytes : List ℕ) (file : FstValue) (s : Solution) →
-    SpellsFstFile bytes file → IsFor options file.points file.trees s → IsSpelled s →
+built_answer : (options : SearchOptions) (bytes : List ℕ) (file : FstValue) (s : Solution (List Point)) →
+    SpellsFstFile bytes file → IsFor options file.points file.trees s →
     Builds options bytes (Ok (record { text = solution_text s; status = solution_status s }))
-built_answer options bytes file s spelled is spells =
-    grind (arith, permitted_answer options file.points file.trees s is spells, printed_answer options file.points file.trees s is)
+built_answer options bytes file s spelled is =
+    grind (arith, permitted_answer options file.points file.trees s is, printed_answer options file.points file.trees s is)
 
 -- What was found of the file that a text spells is due to the text.
-pub built_due : (options : SearchOptions) (bytes : List ℕ) (file : FstValue) (read : Result Solution (Stop ℕ))
-    (found : Result Solution (Stop BuildFault)) (Is : ℕ → BuildFault → Type 0) →
+pub built_due : (options : SearchOptions) (bytes : List ℕ) (file : FstValue) (read : Result (Solution (List Point)) (Stop ℕ))
+    (found : Result (Solution (List Point)) (Stop BuildFault)) (Is : ℕ → BuildFault → Type 0) →
     ((place : ℕ) (fault : BuildFault) → Is place fault → fault ≡ Apart place) → SpellsFstFile bytes file →
     IfFound read (SolvesFile options file) → IsWithin Is read found →
-    FindsDue solution_text solution_status IsSpelled (Builds options bytes) found
-built_due options bytes file read (Ok s) Is each spelled finds same = λ spells.
-    built_answer options bytes file s spelled (subst (λ r. IfFound r (SolvesFile options file)) same finds) spells
+    FindsDue solution_text solution_status (Builds options bytes) found
+built_due options bytes file read (Ok s) Is each spelled finds same =
+    built_answer options bytes file s spelled (subst (λ r. IfFound r (SolvesFile options file)) same finds)
 built_due options bytes file read (Err (Fault fault)) Is each spelled finds (place, same, is) =
     grind (arith, each place fault is)
 built_due options bytes file read (Err (Memory error)) Is each spelled finds same = tt
 
 -- What was found of the points that a text lists is due to the text.
 pub solved_due : (options : SearchOptions) (k : ℕ) (bytes : List ℕ) (grid : List Point)
-    (found : Result Solution (Stop GenerationFault)) → ReadsGrid bytes (Ok grid) →
+    (found : Result (Solution (List Point)) (Stop GenerationFault)) → ReadsGrid bytes (Ok grid) →
     IfFound found (SolvesPoints options k grid) →
-    FindsDue solution_text solution_status IsSpelled (Solves options k bytes) found
-solved_due options k bytes grid (Ok s) reads finds = λ spells. solved_answer options k bytes grid s reads finds spells
+    FindsDue solution_text solution_status (Solves options k bytes) found
+solved_due options k bytes grid (Ok s) reads finds = solved_answer options k bytes grid s reads finds
 solved_due options k bytes grid (Err (Fault fault)) reads finds = solved_fault options k bytes grid fault reads finds
 solved_due options k bytes grid (Err (Memory error)) reads finds = tt

@@ -5,6 +5,8 @@ use Rattle.net_graph.specs.Network.{length_of}
 use Rattle.hanan_grid.specs.Grid.{hanan_grid_of}
 use Rattle.full_tree.specs.declared.code.Tree.{Tree as FullTree}
 use Rattle.branch.specs.declared.solved.Solved.{Solved}
+use Rattle.answer_text.specs.declared.form.Form.TheVariants as form
+use Rattle.answer_text.specs.Spelling.{SpellsAnswer}
 use Rattle.answer_text.specs.Text.{answer_text}
 use Rattle.answer_text.specs.Answers.{value_of}
 use Rattle.net_graph.specs.Graph.{Graph}
@@ -22,9 +24,11 @@ use Rattle.search_tools.specs.Steps.{IsFor, IsMadeOf}
 pub is_for : (options : SearchOptions) (ps : List Point) (trees : List FullTree) (found : Found) (s : Solved) →
     options.openings ≤ 255 → IsMadeOf options.concat ps trees found →
     IsTold (hanan_grid_of ps) (kind_of options.split) options.openings (length_of (hanan_grid_of ps) found.network) s →
+    (let value = value_of ps (answer_with options.openings found.note s) in
+    SpellsAnswer (form.OnGrid (hanan_grid_of ps).vertices) (answer_text value) value) →
     length (answer_text (value_of ps (answer_with options.openings found.note s))) < 2 ^ 32 →
-    IsFor options ps trees (record { grid = ps; answer = answer_with options.openings found.note s })
-is_for options ps trees found s small made is few =
+    IsFor options ps trees (record { instance = ps; answer = answer_with options.openings found.note s })
+is_for options ps trees found s small made is spelled few =
     let g = hanan_grid_of ps in
     let asked = kind_of options.split in
     let first = length_of g found.network in
@@ -36,6 +40,7 @@ is_for options ps trees found s small made is few =
       short = let less = is.no_longer in let length = is.length in omega arith;
       head = told_head g asked options.openings first found.note s is;
       fits = told_fits g asked options.openings first found.note s small is;
+      spelled = spelled;
       few_bytes = few;
     }
 

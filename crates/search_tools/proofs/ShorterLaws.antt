@@ -7,7 +7,7 @@ use Rattle.fst_file.specs.Value.{FstValue}
 use Rattle.tree_inputs.specs.Pruning.{IsPruned}
 use Rattle.search_rules.specs.declared.options.SearchOptions.{SearchOptions}
 use Rattle.search_tools.specs.declared.network.Found.{Found}
-use Rattle.search_tools.specs.declared.solution.Solution.{Solution}
+use Rattle.graph_search.specs.declared.solution.Solution.{Solution}
 use Rattle.search_tools.specs.Steps.{IsFor, IsMadeOf, IsNoLonger, SolvesPruned}
 
 -- A network that may stand in place of one of trees is one of these trees.
@@ -16,7 +16,7 @@ pub made_no_longer : (allowed : ℕ) (ps : List Point) (trees : List FullTree) (
 made_no_longer allowed ps trees found later made is = grind arith
 
 -- An answer for the kept trees of a file is one for the file, where memory is not wanting.
-pub solves_or_not : {E : Type 0} (options : SearchOptions) (file kept : FstValue) (found : Found) (answer : Result Solution E) →
+pub solves_or_not : {E : Type 0} (options : SearchOptions) (file kept : FstValue) (found : Found) (answer : Result (Solution (List Point)) E) →
     IsPruned file kept → IsMadeOf options.concat kept.points kept.trees found →
     IfOk answer (λ s. (trees : List FullTree) → IsMadeOf options.concat kept.points trees found → IsFor options kept.points trees s) →
     IfOk answer (SolvesPruned options file)

@@ -17,13 +17,11 @@ use Rattle.answer_text.specs.Text.{answer_text}
 use Rattle.answer_text.specs.declared.form.Form.TheVariants as form
 use Rattle.answer_text.specs.Spelling.{SpellsAnswer}
 use Rattle.answer_text.specs.Answers.{IsAnswerOn, value_of}
-use Rattle.tool_frame.specs.declared.status.AnswerStatus.{AnswerStatus}
-use Rattle.tool_frame.specs.Statuses.{search_status}
 use Rattle.tree_inputs.specs.declared.generation_fault.GenerationFault.{GenerationFault}
 use Rattle.tree_inputs.specs.declared.generation_fault.GenerationFault.TheVariants.{List as InList, TooManyTrees}
 use Rattle.search_rules.specs.declared.options.SearchOptions.{SearchOptions}
 use Rattle.search_tools.specs.declared.network.Found.{Found}
-use Rattle.search_tools.specs.declared.solution.Solution.{Solution}
+use Rattle.graph_search.specs.declared.solution.Solution.{Solution}
 use Rattle.graph_search.specs.Kinds.{kind_of}
 use Rattle.graph_search.specs.Searched.{IsSearched, value_on}
 use Rattle.graph_search.specs.Answering.{head_with}
@@ -52,26 +50,18 @@ pub record IsNoLonger (g : Graph) (found later : Found) : Type 0 where
   pub note : later.note ≡ found.note
 
 -- the text of an answer for its grid
-abbrev pub solution_text : Solution → List ℕ
-solution_text s = answer_text (value_of s.grid s.answer)
-
--- the status that a tool ends with when it is printed
-abbrev pub solution_status : Solution → AnswerStatus
-solution_status s = search_status s.answer.head.optimal
+abbrev pub solution_text : Solution (List Point) → List ℕ
+solution_text s = answer_text (value_of s.instance s.answer)
 
 -- the answer can be written
-abbrev pub IsPrintable : Solution → Type 0
-IsPrintable s = IsAnswerOn (hanan_grid_of s.grid) s.answer
-
--- its text spells it
-abbrev pub IsSpelled : Solution → Type 0
-IsSpelled s =
-    SpellsAnswer (form.OnGrid (hanan_grid_of s.grid).vertices) (solution_text s) (value_of s.grid s.answer)
+abbrev pub IsPrintable : Solution (List Point) → Type 0
+IsPrintable s = IsAnswerOn (hanan_grid_of s.instance) s.answer
 
 -- The answer tells a network of the grid and a tree of cuts, as a search from a network ends with them that is no
--- longer than a concatenation of these trees.
-pub record IsFor (options : SearchOptions) (ps : List Point) (trees : List FullTree) (s : Solution) : Type 0 where
-  pub grid : s.grid ≡ ps
+-- longer than a concatenation of these trees. Its text spells it, and has fewer than 2^32 bytes.
+pub record IsFor (options : SearchOptions) (ps : List Point) (trees : List FullTree) (s : Solution (List Point))
+    : Type 0 where
+  pub grid : s.instance ≡ ps
   pub searched :
       IsSearched (hanan_grid_of ps) (kind_of options.split) options.openings s.answer.head.concat.total s.answer.network
       s.answer.tree
@@ -81,21 +71,22 @@ pub record IsFor (options : SearchOptions) (ps : List Point) (trees : List FullT
       ≡ head_with options.openings (length_of (hanan_grid_of ps) s.answer.network)
       (value_on (hanan_grid_of ps) s.answer.tree) s.answer.head.concat
   pub fits : IsPrintable s
+  pub spelled : SpellsAnswer (form.OnGrid (hanan_grid_of ps).vertices) (solution_text s) (value_of s.instance s.answer)
   pub few_bytes : length (solution_text s) < 2 ^ 32
 
 -- Such an answer for a file of trees; or the first point that all trees together leave apart.
-abbrev pub SolvesFile : SearchOptions → FstValue → Result Solution ℕ → Type 0
+abbrev pub SolvesFile : SearchOptions → FstValue → Result (Solution (List Point)) ℕ → Type 0
 SolvesFile options file (Ok s) = IsFor options file.points file.trees s
 SolvesFile options file (Err place) = IsFirstApart (length file.points) file.trees (all_of file.trees) place
 
 -- Such an answer for the kept ones of a file's trees.
-abbrev pub SolvesPruned : SearchOptions → FstValue → Solution → Type 0
+abbrev pub SolvesPruned : SearchOptions → FstValue → Solution (List Point) → Type 0
 SolvesPruned options file s =
     (trees : List FullTree) × AreKeptTrees file.trees trees × IsFor options file.points trees s
 
 -- What is found of terminals: an answer for them and for the kept ones of their trees of up to k members; or there are
 -- more than 20,000 of these.
-abbrev pub SolvesPoints : SearchOptions → ℕ → List Point → Result Solution GenerationFault → Type 0
+abbrev pub SolvesPoints : SearchOptions → ℕ → List Point → Result (Solution (List Point)) GenerationFault → Type 0
 SolvesPoints options k ps (Ok s) =
     (generated : List FullTree) × (trees : List FullTree) × AreTreesOf ps k generated × AreKeptTrees generated trees
     × IsFor options ps trees s

@@ -6,7 +6,9 @@ ghost use Rattle.tool_frame.specs.Outside.{outside};
 ghost use Rattle.search_tools.specs.Build.{Builds, EndsBb};
 
 use crate::build_fault::BuildFault;
-use crate::solution::{Solution, solution_of};
+use crate::solution::solution_of;
+use graph_search::Solution;
+use hanan_grid::Grid;
 use rst_outside::{Sink, Source};
 use search_rules::SearchOptions;
 use std::alloc::Global;
@@ -36,13 +38,13 @@ struct Build {
 }
 
 impl TextTool for Build {
-    type Found = Solution;
+    type Found = Solution<Grid>;
 
     type Wrong = BuildFault;
 
     ghost prints = { λ tool. Builds tool.options };
 
-    fn find(&self, alloc: Global, bytes: &[u8]) -> Result<Solution, Stop<BuildFault>> {
+    fn find(&self, alloc: Global, bytes: &[u8]) -> Result<Solution<Grid>, Stop<BuildFault>> {
         let file = within(fst_in(alloc, bytes), BuildFault::InFile)?;
         within(solution_of(alloc, file, self.options), BuildFault::Apart)
     }

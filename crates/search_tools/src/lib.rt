@@ -13,7 +13,6 @@ mod trial_run;
 
 pub use build::bb;
 pub use build_fault::BuildFault;
-pub use solution::Solution;
 pub use solve_points::{solve, solved_on};
 pub use trial_line::TrialLine;
 pub use trial_run::trial;

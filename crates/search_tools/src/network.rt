@@ -12,13 +12,10 @@ use fst_concat::{ChosenKind, ConcatFault, concat, trees_in_form_have_members};
 use full_tree::TreeList;
 use hanan_grid::Grid;
 use net_graph::EdgeSet;
-use network_judge::shortened;
+use network_judge::{ENOUGH_DESCENTS, shortened};
 use std::alloc::{AllocError, Global};
 use tool_frame::Stop;
 use tree_network::network_of;
-
-// How many descents the search for a shorter network may make: about what gains nearly all at 50 points.
-const DESCENTS: u32 = 100;
 
 /// A network of a grid that is made of full trees, or that is shorter than such a one, and what is told of their
 /// concatenation.
@@ -61,7 +58,7 @@ pub fn improved(alloc: Global, grid: &Grid, found: Found) -> Result<Found, Alloc
     ensures { IfOk result (IsNoLonger (hanan_grid_of grid.now) found) }
 {
     let Found { network, note } = found;
-    let network = shortened(alloc, grid.graph(), &network, DESCENTS)?;
+    let network = shortened(alloc, grid.graph(), &network, ENOUGH_DESCENTS)?;
     Ok(Found { network, note })
 }
 

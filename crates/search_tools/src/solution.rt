@@ -5,43 +5,16 @@ ghost use Rattle.hanan_grid.specs.Grid.{hanan_grid_of};
 ghost use Rattle.full_tree.specs.declared.code.Tree.{Tree};
 ghost use Rattle.branch.specs.States.{IsNetworkOf};
 ghost use Rattle.tool_frame.specs.Stops.{IfFound};
-ghost use Rattle.search_tools.specs.Steps.{IsFor, IsMadeOf, IsPrintable, IsSpelled, SolvesFile};
-ghost use Rattle.search_tools.specs.Steps.{solution_text, solution_status};
+ghost use Rattle.search_tools.specs.Steps.{IsFor, IsMadeOf, SolvesFile};
 
 use crate::network::{Found, improved, network_on};
-use answer_text::{Answer as CutAnswer, answer_len, write_answer};
+use answer_text::answer_len;
 use fst_file::FstFile;
-use graph_search::{answer_with, searched_on};
+use graph_search::{Solution, answer_with, searched_on};
 use hanan_grid::Grid;
-use rst_outside::{PutFault, Sink};
 use search_rules::SearchOptions;
 use std::alloc::{AllocError, Global};
-use tool_frame::{Answer, AnswerStatus, Stop};
-
-/// An answer, and the grid that it is for.
-#[derive(Drop)]
-pub struct Solution {
-    pub grid: Grid,
-    pub answer: CutAnswer,
-}
-
-impl Answer for Solution {
-    ghost text = { solution_text };
-
-    ghost status = { solution_status };
-
-    ghost fits = { IsPrintable };
-
-    ghost told = { IsSpelled };
-
-    fn status(&self) -> AnswerStatus {
-        AnswerStatus::of_search(self.answer.head.optimal)
-    }
-
-    fn write<O: Sink>(&self, out: &mut O) -> Result<(), PutFault> {
-        write_answer(out, &self.grid, &self.answer)
-    }
-}
+use tool_frame::Stop;
 
 /// The answer for the points of a file: what a search finds that begins with a network no longer than a concatenation
 /// of the file's trees. A fault is the place of the first point that all trees together leave apart.
@@ -49,7 +22,7 @@ pub fn solution_of(
     alloc: Global,
     file: FstFile,
     options: SearchOptions,
-) -> Result<Solution, Stop<u8>>
+) -> Result<Solution<Grid>, Stop<u8>>
     ensures { IfFound result (SolvesFile options file) }
 {
     let FstFile { grid, trees } = file;
@@ -65,7 +38,7 @@ pub fn answered(
     grid: Grid,
     found: Found,
     options: SearchOptions,
-) -> Result<Solution, AllocError>
+) -> Result<Solution<Grid>, AllocError>
     requires { IsNetworkOf (hanan_grid_of grid) found.network }
     ensures { IfOk result (λ solution. (trees : List Tree) → IsMadeOf options.concat grid trees found
         → IsFor options grid trees solution) }
@@ -74,5 +47,8 @@ pub fn answered(
     let solved = searched_on(alloc, &grid, network, options.in_graph())?;
     let answer = answer_with(options.openings, note, solved);
     prove!(answer_len(&grid, &answer) < 1 << 32);
-    Ok(Solution { grid, answer })
+    Ok(Solution {
+        instance: grid,
+        answer,
+    })
 }

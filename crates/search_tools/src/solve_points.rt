@@ -10,9 +10,10 @@ ghost use Rattle.search_tools.specs.Solve.{EndsSolve, Solves};
 ghost use Rattle.search_tools.specs.Steps.{SolvesPoints, SolvesPruned};
 
 use crate::longer_trees::{joined, no_longer};
-use crate::solution::{Solution, answered};
+use crate::solution::answered;
 use concatenation::more_trees;
 use fst_file::FstFile;
+use graph_search::Solution;
 use hanan_grid::Grid;
 use rst_outside::{Sink, Source};
 use search_rules::SearchOptions;
@@ -49,13 +50,13 @@ struct Solving {
 }
 
 impl TextTool for Solving {
-    type Found = Solution;
+    type Found = Solution<Grid>;
 
     type Wrong = GenerationFault;
 
     ghost prints = { λ tool. Solves tool.options tool.k };
 
-    fn find(&self, alloc: Global, bytes: &[u8]) -> Result<Solution, Stop<GenerationFault>> {
+    fn find(&self, alloc: Global, bytes: &[u8]) -> Result<Solution<Grid>, Stop<GenerationFault>> {
         let grid = within(grid_in(alloc, bytes), GenerationFault::List)?;
         solved_on(alloc, grid, self.options, self.k)
     }
@@ -68,7 +69,7 @@ pub fn solved_on(
     grid: Grid,
     options: SearchOptions,
     k: u8,
-) -> Result<Solution, Stop<GenerationFault>>
+) -> Result<Solution<Grid>, Stop<GenerationFault>>
     requires least { 2 ≤ k }
     requires most { k ≤ 8 }
     ensures { IfFound result (SolvesPoints options k grid) }
@@ -79,7 +80,11 @@ pub fn solved_on(
 
 // The answer for the points of a file whose trees join them, and for the kept ones of these trees: what a search finds
 // that begins with a network of these, or with a shorter one of the longer list. An `Err` is want of memory.
-fn solved(alloc: Global, lists: TreeLists, options: SearchOptions) -> Result<Solution, AllocError>
+fn solved(
+    alloc: Global,
+    lists: TreeLists,
+    options: SearchOptions,
+) -> Result<Solution<Grid>, AllocError>
     requires joins { JoinsAll (length lists.file.points) lists.file.trees }
     requires longer { IfSome lists.longer (AreTreesOf lists.file.points) }
     requires longer_joins { IfSome lists.longer (JoinsAll (length lists.file.points)) }

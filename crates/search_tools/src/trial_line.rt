@@ -6,8 +6,9 @@ ghost use Rattle.text_out.specs.Gathers.{Gathers};
 ghost use Rattle.search_tools.specs.TrialLine.{answer_part, drawing_part, status_part, trial_text, trial_status};
 ghost use Rattle.search_tools.specs.TrialSteps.{line_of};
 
-use crate::solution::Solution;
 use answer_text::status_word;
+use graph_search::Solution;
+use hanan_grid::Grid;
 use rst_outside::{PutFault, Sink};
 use text_out::{Block, finish, literal, number};
 use tool_frame::{Answer, AnswerStatus};
@@ -33,14 +34,14 @@ pub struct TrialLine {
 
 impl TrialLine {
     /// What is told of the answer for the distinct ones of so many points of a seed.
-    pub(crate) fn of(count: u8, seed: u64, solution: &Solution) -> TrialLine
+    pub(crate) fn of(count: u8, seed: u64, solution: &Solution<Grid>) -> TrialLine
         ensures { result ≡ line_of count seed solution.now }
     {
         let head = &solution.answer.head;
         TrialLine {
             count,
             seed,
-            points: solution.grid.points().len() as u8,
+            points: solution.instance.points().len() as u8,
             length: head.length,
             bound: head.bound,
             optimal: head.optimal,

@@ -38,7 +38,7 @@ pub fn trial<O: Sink, R: Sink>(alloc: Global, n: u8, seed: u64, out: &mut O, err
 fn find(alloc: Global, n: u8, seed: u64) -> Result<TrialLine, Stop<GenerationFault>>
     requires some { 0 < n }
     requires few { n ≤ 50 }
-    ensures { FindsDue trial_text trial_status (λ _. Unit {0}) (Tries n seed) result }
+    ensures { FindsDue trial_text trial_status (Tries n seed) result }
 {
     let grid = drawn_grid(alloc, n, seed)?;
     let solution = solved_on(alloc, grid, SearchOptions::USUAL, MOST_MEMBERS)?;

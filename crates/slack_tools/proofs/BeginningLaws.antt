@@ -1,5 +1,5 @@
 -- The packing of a tree's only leaf.
-use Rattle.std.proofs.Common.{◌≡◌, ◌<◌, ◌≤◌, List, length, length-append, slice_get, Some, subst, arith}
+use Rattle.std.proofs.Common.{◌≡◌, ◌≤◌, List, slice_get, Some, subst, arith}
 use Rattle.net_graph.specs.declared.packing.Cut.{Cut}
 use Rattle.net_graph.specs.Graph.{Graph}
 use Rattle.net_graph.specs.Decision.{nothing_decided}
@@ -17,9 +17,3 @@ pub leaf_feasible : (g : Graph) (tree : Tree SplitOn) (packing : List Cut) → s
 leaf_feasible g (Leaf cuts) packing none valid first =
     let same : cuts ≡ packing = cc in subst (λ p. IsFeasible g (nothing_decided g) p) same valid
 leaf_feasible g (Split on outside inside) packing none valid first = absurd (omega (arith, none))
-
--- a tree has a leaf
-pub some_leaf : (tree : Tree SplitOn) → 0 < length (packings_of tree)
-some_leaf (Leaf cuts) = omega arith
-some_leaf (Split on outside inside) =
-    omega (arith, length-append (packings_of outside) (packings_of inside), some_leaf outside)

@@ -4,8 +4,8 @@ use Rattle.std.specs.Prelude.{if◌then◌else◌, Contains, Some, slice_index}
 use Rattle.std.specs.List.{range_with_len}
 use Rattle.std.proofs.lemmas.Bool.{cases_lt, false_from_ne_true, ltb-false}
 use Rattle.std.proofs.lemmas.Grind.{flat_map-append}
-use Rattle.std.proofs.lemmas.List.{append-nil}
 use Rattle.std.proofs.lemmas.List.Elements.{filter-append, Contains-append_cases, Contains-append_left, Contains-append_right}
+use Rattle.lists.specs.ListLaws.{flat_map-if}
 use Rattle.text_out.specs.GatherLaws.{range_more}
 use Rattle.slack_tools.specs.Text.{is_above, listed}
 
@@ -20,12 +20,6 @@ pub passing_count : (p : ℕ → Bool) (n : ℕ) →
 passing_count p n =
     grind (arith, passing_more p n, length-append (filter p (range_with_len 0 n)) (if p n then n ∷ [] else []), p n)
 
--- the text of a number that may be there
-text_if : (f : ℕ → List ℕ) (flag : Bool) (n : ℕ) →
-    (if flag then f n else []) ≡ flat_map f (if flag then n ∷ [] else [])
-text_if f true n = sym (append-nil (f n))
-text_if f false n = refl
-
 -- their text
 pub passing_text : (f : ℕ → List ℕ) (p : ℕ → Bool) (n : ℕ) →
     flat_map f (filter p (range_with_len 0 n)) ++ (if p n then f n else [])
@@ -33,7 +27,7 @@ pub passing_text : (f : ℕ → List ℕ) (p : ℕ → Bool) (n : ℕ) →
 passing_text f p n =
     grind (
       arith,
-      text_if f (p n) n,
+      flat_map-if f (p n) n,
       p n,
       flat_map-append f (filter p (range_with_len 0 n)) (if p n then n ∷ [] else []),
       passing_more p n,

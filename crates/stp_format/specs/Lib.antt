@@ -7,3 +7,4 @@ pub mod Said
 pub mod Located
 pub mod Text
 pub mod Left
+pub mod LineLaws

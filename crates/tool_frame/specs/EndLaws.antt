@@ -1,5 +1,5 @@
 -- What follows of how a run ends.
-use Rattle.std.specs.Prelude.{ℕ, ◌≡◌, List, Option, None, Some, Result, Ok, Err, IfOk, IfSome, ◌⊎◌}
+use Rattle.std.specs.Prelude.{ℕ, ◌≡◌, List, Option, None, Some, Result, Ok, Err, IfSome, ◌⊎◌}
 use Rattle.std.proofs.Common.{inl, inr, refl, sym, ◌∙◌}
 use Rattle.rst_outside.specs.Counts.{Rose}
 use Rattle.tool_frame.specs.declared.status.AnswerStatus.{AnswerStatus}
@@ -112,26 +112,25 @@ complete_ends fault_status fault_text tool Finds Leaves before after status faul
     ends.found faultless writes ends.finds ends.concludes
 
 -- What was found, and how the run then ended, are a run.
-pub ends_found : {A : Type 0} {F : Type 0} (text : A → List ℕ) (answer_status : A → AnswerStatus) (Told : A → Type 0)
+pub ends_found : {A : Type 0} {F : Type 0} (text : A → List ℕ) (answer_status : A → AnswerStatus)
     (fault_status : F → FaultStatus) (fault_text : F → List ℕ) (tool : List ℕ)
     (Finds : Readable → Readable → Result Print F → Type 0) (Leaves : Readable → Readable → Type 0)
     (before after : Outside) (status : ℕ) (found : Result A (Stop F)) →
-    FindsDue text answer_status Told (Finds before.read after.read) found → IfOk found Told →
-    Leaves before.read after.read →
+    FindsDue text answer_status (Finds before.read after.read) found → Leaves before.read after.read →
     Concludes fault_status fault_text tool (prints_found text answer_status found) before.written after.written
     status →
     Ends fault_status fault_text tool Finds Leaves before after status
-ends_found text answer_status Told fault_status fault_text tool Finds Leaves before after status (Ok answer) finds told
-    leaves concludes =
+ends_found text answer_status fault_status fault_text tool Finds Leaves before after status (Ok answer) finds leaves
+    concludes =
     record {
       found = Some (Ok (record { text = text answer; status = answer_status answer }));
-      finds = finds told;
+      finds = finds;
       leaves = leaves;
       concludes = concludes;
     }
-ends_found text answer_status Told fault_status fault_text tool Finds Leaves before after status (Err (Fault fault))
-    finds told leaves concludes =
+ends_found text answer_status fault_status fault_text tool Finds Leaves before after status (Err (Fault fault)) finds
+    leaves concludes =
     record { found = Some (Err fault); finds = finds; leaves = leaves; concludes = concludes }
-ends_found text answer_status Told fault_status fault_text tool Finds Leaves before after status (Err (Memory error))
-    finds told leaves concludes =
+ends_found text answer_status fault_status fault_text tool Finds Leaves before after status (Err (Memory error)) finds
+    leaves concludes =
     record { found = None; finds = tt; leaves = leaves; concludes = concludes }

@@ -27,10 +27,10 @@ abbrev pub input_fault_status : InputFault → FaultStatus
 input_fault_status input_fault.Unread = ends.Unread
 input_fault_status (input_fault.TooLong limit) = ends.TooLarge
 
--- the points' file isn't taken whole
-abbrev pub file_fault_text : FileFault → List ℕ
-file_fault_text file_fault.Unread = codes "cannot read the points"
-file_fault_text (file_fault.TooLong limit) = too_long_text limit
+-- a file that is to hold what the words say isn't taken whole
+abbrev pub file_fault_text : List ℕ → FileFault → List ℕ
+file_fault_text content file_fault.Unread = codes "cannot read " ++ content
+file_fault_text content (file_fault.TooLong limit) = too_long_text limit
 
 abbrev pub file_fault_status : FileFault → FaultStatus
 file_fault_status file_fault.Unread = ends.Unread
@@ -55,7 +55,7 @@ list_fault_status (list_fault.GridTooLong total) = ends.Malformed
 
 -- a file gives no grid
 abbrev pub points_fault_text : PointsFault → List ℕ
-points_fault_text (points_fault.File fault) = file_fault_text fault
+points_fault_text (points_fault.File fault) = file_fault_text (codes "the points") fault
 points_fault_text (points_fault.List fault) = list_fault_text fault
 
 abbrev pub points_fault_status : PointsFault → FaultStatus

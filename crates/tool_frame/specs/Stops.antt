@@ -36,10 +36,9 @@ prints_found text status (Ok answer) = Some (Ok (record { text = text answer; st
 prints_found text status (Err (Fault fault)) = Some (Err fault)
 prints_found text status (Err (Memory error)) = None
 
--- A tool found what is due: an answer whose text is, once its writer told of it; or a fault.
-abbrev pub FindsDue : {A : Type 0} → {F : Type 0} → (A → List ℕ) → (A → AnswerStatus) → (A → Type 0) →
+-- A tool found what is due: an answer, by its text and its status; or a fault.
+abbrev pub FindsDue : {A : Type 0} → {F : Type 0} → (A → List ℕ) → (A → AnswerStatus) →
     (Result Print F → Type 0) → Result A (Stop F) → Type 0
-FindsDue text status Told IsDue (Ok answer) =
-    Told answer → IsDue (Ok (record { text = text answer; status = status answer }))
-FindsDue text status Told IsDue (Err (Fault fault)) = IsDue (Err fault)
-FindsDue text status Told IsDue (Err (Memory error)) = Unit {0}
+FindsDue text status IsDue (Ok answer) = IsDue (Ok (record { text = text answer; status = status answer }))
+FindsDue text status IsDue (Err (Fault fault)) = IsDue (Err fault)
+FindsDue text status IsDue (Err (Memory error)) = Unit {0}

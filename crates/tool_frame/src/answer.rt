@@ -19,9 +19,6 @@ pub trait Answer {
     /// What an answer has to meet so that its text can be written; nothing, where nothing is said.
     ghost fits: { Self → Type 0 } = { λ _. Unit {0} };
 
-    /// What its writer tells of it, whatever the sink does; nothing, where nothing is said.
-    ghost told: { Self → Type 0 } = { λ _. Unit {0} };
-
     /// The status that the tool ends with once the text is written.
     fn status(&self) -> AnswerStatus
         ensures { result ≡ status self.now };
@@ -29,6 +26,5 @@ pub trait Answer {
     /// Writes the text. It takes no memory; on an `Err` the sink failed, and the text was cut short.
     fn write<O: Sink>(&self, out: &mut O) -> Result<(), PutFault>
         requires { fits self.now }
-        ensures writes { Writes (O.state out.old) (text self.now) (O.state out.new) result }
-        ensures told { told self.now };
+        ensures { Writes (O.state out.old) (text self.now) (O.state out.new) result };
 }

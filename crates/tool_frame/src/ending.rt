@@ -1,6 +1,6 @@
 //! The end of a run: what a tool found is printed, or refused.
 
-ghost use Rattle.std.specs.Prelude.{◌≡◌, ℕ, List, IfOk};
+ghost use Rattle.std.specs.Prelude.{◌≡◌, ℕ, List};
 ghost use Rattle.std.specs.Result.{ForOk};
 ghost use Rattle.rst_outside.specs.Sink.{SinkState, Writes};
 ghost use Rattle.tool_frame.specs.Outside.{writable};
@@ -24,9 +24,8 @@ pub fn end_found<O: Sink, R: Sink, A: Answer + Drop, F: Fault + Drop>(
     found: Result<A, Stop<F>>,
 ) -> u8
     requires { ForOk found A.fits }
-    ensures concludes { Concludes F.status F.text tool.now (prints_found A.text A.status found)
+    ensures { Concludes F.status F.text tool.now (prints_found A.text A.status found)
         (writable (O.state out.old) (R.state err.old)) (writable (O.state out.new) (R.state err.new)) result }
-    ensures told { IfOk found A.told }
 {
     match found {
         Ok(answer) => print(out, err, tool, &answer),
@@ -77,9 +76,8 @@ pub fn end_starved<R: Sink>(err: &mut R) -> u8
 // Writes the text of an answer, and gives the status.
 fn print<O: Sink, R: Sink, A: Answer>(out: &mut O, err: &mut R, tool: &[u8], answer: &A) -> u8
     requires { A.fits answer.now }
-    ensures prints { PrintsOrNot tool.now (record { text = A.text answer.now; status = A.status answer.now })
+    ensures { PrintsOrNot tool.now (record { text = A.text answer.now; status = A.status answer.now })
         (writable (O.state out.old) (R.state err.old)) (writable (O.state out.new) (R.state err.new)) result }
-    ensures told { A.told answer.now }
 {
     let written = answer.write(out);
     end_written(err, tool, answer.status(), written)

@@ -133,7 +133,7 @@ impl Fault for PointsFault {
 
     fn write<R: Sink>(&self, block: &mut Block, err: &mut R) {
         match self {
-            PointsFault::File(fault) => fault.write(block, err),
+            PointsFault::File(fault) => fault.write(block, err, b"the points"),
             PointsFault::List(fault) => fault.write(block, err),
         }
     }

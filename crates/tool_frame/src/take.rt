@@ -106,21 +106,29 @@ impl Fault for InputFault {
     }
 }
 
-impl Fault for FileFault {
-    ghost text = { file_fault_text };
-
-    ghost status = { file_fault_status };
-
-    fn status(&self) -> FaultStatus {
+impl FileFault {
+    /// The status that a tool ends with which reads the file.
+    pub fn status(&self) -> FaultStatus
+        ensures { result ≡ file_fault_status self.now }
+    {
         match self {
             FileFault::Unread => FaultStatus::Unread,
             FileFault::TooLong { .. } => FaultStatus::TooLarge,
         }
     }
 
-    fn write<R: Sink>(&self, block: &mut Block, err: &mut R) {
+    /// Writes what is said of it, of which the last bytes wait in the block, where the file is to hold what the words
+    /// say.
+    #[tactic(auto, using(text_out::specs::GatherLaws::pieces))]
+    pub fn write<R: Sink>(&self, block: &mut Block, err: &mut R, content: &[u8])
+        ensures { Gathers (R.state err.old) block.old (file_fault_text content.now self.now)
+            (R.state err.new) block.new }
+    {
         match self {
-            FileFault::Unread => literal(block, err, b"cannot read the points"),
+            FileFault::Unread => {
+                literal(block, err, b"cannot read ");
+                literal(block, err, content);
+            }
             FileFault::TooLong { limit } => write_too_long(block, err, *limit),
         }
     }

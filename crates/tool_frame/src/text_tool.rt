@@ -36,7 +36,7 @@ pub trait TextTool {
 
     /// What it finds in a text.
     fn find(&self, alloc: Global, bytes: &[u8]) -> Result<Self::Found, Stop<Self::Wrong>>
-        ensures finds { FindsDue Self.Found.text Self.Found.status Self.Found.told (prints self.now bytes.now) result }
+        ensures finds { FindsDue Self.Found.text Self.Found.status (prints self.now bytes.now) result }
         ensures fits { IfOk result Self.Found.fits };
 }
 
@@ -65,7 +65,7 @@ fn find_in_input<T: TextTool, I: Source>(
     tool: &T,
     input: &mut I,
 ) -> Result<T::Found, Stop<TextFault<T::Wrong>>>
-    ensures finds { (shelf : ShelfState) → FindsDue T.Found.text T.Found.status T.Found.told
+    ensures finds { (shelf : ShelfState) → FindsDue T.Found.text T.Found.status
         (FromText TEXT_LIMIT (T.prints tool.now)
         (readable (I.state input.old) shelf) (readable (I.state input.new) shelf))
         result }

@@ -5,6 +5,7 @@ use Rattle.std.specs.declared.cmp.Ordering.TheVariants.{Less}
 use Rattle.std.proofs.lemmas.Bool.{leb-true, le-leb}
 use Rattle.std.proofs.lemmas.List.Elements.{All-contains, All-contains_itself, All-filter, All-from_recursion, filter_passes}
 use Rattle.std.proofs.lemmas.List.Kept.{AllPairs-filter}
+use Rattle.lists.specs.ListLaws.{length-filter-le}
 use Rattle.points_in.specs.declared.point.Point.{Point}
 use Rattle.points_in.specs.Terminals.{AreDistinct}
 use Rattle.full_tree.specs.declared.code.Tree.{Tree}
@@ -36,10 +37,6 @@ contains_filter p (y ∷ xs) x (suc k, inside, at) passes =
 kept_no_more : {X : Type 0} (b : Bool) (x : X) (ys : List X) (n : ℕ) → length ys ≤ n → length (cond b (x ∷ ys) ys) ≤ suc n
 kept_no_more true x ys n few = omega (arith, few)
 kept_no_more false x ys n few = omega (arith, few)
-
-filter_no_more : {X : Type 0} (p : X → Bool) (xs : List X) → length (filter p xs) ≤ length xs
-filter_no_more p [] = omega arith
-filter_no_more p (x ∷ xs) = kept_no_more (p x) x (filter p xs) (length xs) (filter_no_more p xs)
 
 -- a tree of a list that has few members
 module _ (ps : List Point) (k : ℕ) (trees : List Tree) where
@@ -83,14 +80,14 @@ module _ (ps : List Point) (k : ℕ) (trees : List Tree) where
   pub fewer_in_file : AreTreesOf ps trees → AreTreesOf ps (trees_up_to k trees)
   fewer_in_file are =
       kept_trees ps trees (trees_up_to k trees) are (All-filter (has_up_to k) (Contains trees) trees (All-contains_itself trees))
-      (filter_no_more (has_up_to k) trees) (AllPairs-filter (λ a b. tree_cmp a b ≡ Less) (has_up_to k) trees are.ordered)
+      (length-filter-le (has_up_to k) trees) (AllPairs-filter (λ a b. tree_cmp a b ≡ Less) (has_up_to k) trees are.ordered)
 
   -- they are the list of points for k, where all are the list for m
   pub fewer_list : (m : ℕ) → TreesJoin → AreDistinct ps → 2 ≤ k → k ≤ m → IsTreeList ps m trees → IsTreeList ps k (trees_up_to k trees)
   fewer_list m law distinct some less are =
       let exact = fewer_exact m less are.exact in record {
         exact = exact;
-        few = let all = are.few in let less = filter_no_more (has_up_to k) trees in omega (arith, all, less);
+        few = let all = are.few in let less = length-filter-le (has_up_to k) trees in omega (arith, all, less);
         joins = (law ps k (trees_up_to k trees) distinct some exact).0;
       }
 

@@ -1,10 +1,11 @@
 -- What the steps of edges tell that all pass: the network of their numbers. Those of a network that is as claimed pass.
-use Rattle.std.proofs.Common.{ℕ, suc, zero, ◌≡◌, ◌+◌, ◌-◌, ◌≤◌, Bool, true, false, List, [], ◌∷◌, ◌++◌, length}
+use Rattle.std.proofs.Common.{ℕ, ◌≡◌, ◌+◌, ◌-◌, ◌≤◌, Bool, true, false, List, [], ◌∷◌, ◌++◌, length}
 use Rattle.std.proofs.Common.{set}
 use Rattle.std.proofs.Common.{refl, sym, ap, ◌∙◌, subst, arith, append_assoc, length-append, inl, inr}
 use Rattle.std.specs.Prelude.{replicate}
 use Rattle.std.proofs.lemmas.Bool.{cases_lt, false≢true}
 use Rattle.std.proofs.lemmas.List.{append-nil, get_or-append_right, length-set, set_at}
+use Rattle.net_graph.specs.EntryLaws.{has-none}
 use Rattle.net_graph.specs.Flags.{has}
 use Rattle.net_graph.specs.Graph.{Graph}
 use Rattle.net_graph.specs.Members.{members_from, members_of}
@@ -56,12 +57,6 @@ TellsNetwork-from_runs g s s' before (e ∷ numbers) (m, (follows, is, right), r
     }
 
 -- ---- edges of a network pass
-
--- the empty set has no number
-has-none : (n i : ℕ) → has (replicate n false) i ≡ false
-has-none zero i = refl
-has-none (suc n) zero = refl
-has-none (suc n) (suc i) = has-none n i
 
 -- a set with no members is empty
 no_members : (k : ℕ) (set : List Bool) → length (members_from k set) ≡ 0 → replicate (length set) false ≡ set

@@ -2,6 +2,7 @@
 use Rattle.std.proofs.Common.{ℕ, ◌≡◌, ◌<◌, Bool, List, length, get_or, ◌⊎◌, inl, inr, refl, sym, ap, ◌∙◌, subst, arith}
 use Rattle.std.proofs.lemmas.Bool.{cases_lt}
 use Rattle.std.proofs.lemmas.Option.{slice_get_within, get_or_from_slice_get}
+use Rattle.net_graph.specs.JoinsLaws.{not_apart_before}
 use Rattle.net_graph.specs.Graph.{Graph}
 use Rattle.net_graph.specs.Network.{Reaches, IsNetwork, IsFirstApart}
 use Rattle.tree_judge.specs.declared.cause.Cause.{Cause}
@@ -26,12 +27,6 @@ apart_from_network g network place joins first =
     get_or_from_slice_get g.terminals place first.terminal first.terminal first.at in
     absurd (first.apart (subst (Reaches g network) is (joins place first.terminal within)))
 
--- the first terminal apart has one place
-apart_no_sooner : (g : Graph) (network : List Bool) (place place' : ℕ) → IsFirstApart g network place →
-    IsFirstApart g network place' → place < place' → ⊥
-apart_no_sooner g network place place' first first' sooner =
-    first.apart (first'.before place first.terminal sooner first.at)
-
 -- edges that are the network have no fault
 pub measured_without_fault : {P : Type 0} (g : Graph) (printed : ℕ) (network : List Bool) (cause : Cause) →
     IsMeasured g printed network → NetworkFault g printed network cause → P
@@ -48,7 +43,7 @@ same_network_fault g printed network cause cause' fault fault' =
     elim (network_causes g printed network cause fault) [
       | inl (place, is, first) ↦ elim (network_causes g printed network cause' fault') [
         | inl (place', is', first') ↦ is
-            ∙ ap NotJoined (grind (arith, cases_lt place place', apart_no_sooner, cases_lt place' place)) ∙ sym is'
+            ∙ ap NotJoined (grind (arith, cases_lt place place', not_apart_before, cases_lt place' place)) ∙ sym is'
         | inr (said', found', _, wrong') ↦ apart_from_network g network place wrong'.joins first
       ]
       | inr (said, found, is, wrong) ↦ elim (network_causes g printed network cause' fault') [

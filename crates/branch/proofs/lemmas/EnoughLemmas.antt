@@ -3,6 +3,7 @@ use Rattle.std.proofs.Common.{ℕ, zero, suc, ◌≡◌, ◌+◌, ◌^◌, ◌<�
 use Rattle.std.proofs.lemmas.Nat.{pow_pos, pow_below}
 use Rattle.std.proofs.lemmas.Option.{slice_get-get_or}
 use Rattle.std.proofs.Math.Nat.{pow-suc, pow-le-pow_right}
+use Rattle.lists.specs.ListLaws.{All-at}
 use Rattle.net_graph.specs.declared.edge.Edge.{Edge}
 use Rattle.net_graph.specs.declared.state.EdgeState.{EdgeState}
 use Rattle.net_graph.specs.declared.state.EdgeState.TheVariants.{Undecided, Inside, Outside}
@@ -29,7 +30,7 @@ use Rattle.branch.specs.States.{IsReadyLeaf, IsOpenLeaf, IsState, leaf_value}
 use Rattle.branch.specs.Runs.{EndsOpenings}
 use Rattle.branch.specs.Kinds.{SplitsEdges}
 use Rattle.branch.specs.Solving.{IsSolved, ways_of}
-use Rattle.branch.proofs.lemmas.ListLemmas.{all_at, place_cases}
+use Rattle.branch.proofs.lemmas.ListLemmas.{place_cases}
 use Rattle.branch.proofs.lemmas.TreeLemmas.{least_leaf}
 use Rattle.branch.proofs.lemmas.InsideLemmas.{inside-covers}
 use Rattle.branch.proofs.lemmas.OpeningLemmas.{saturated_inside}
@@ -270,7 +271,7 @@ leaf_left g first_length solved holds stopped =
     let total = holds.length_is in
     let low : leaf_value g leaf < length_of g solved.network = omega arith in
     let state = run_state g first_length (split_count solved.tree) solved.network solved.tree holds.run in
-    let ready = all_at (λ (l : DecidedLeaf). IsOpenLeaf g (length_of g solved.network) l → IsReadyLeaf g (length_of g solved.network) l)
+    let ready = All-at (λ (l : DecidedLeaf). IsOpenLeaf g (length_of g solved.network) l → IsReadyLeaf g (length_of g solved.network) l)
     (leaves_of d solved.tree) k leaf state.leaves at low in
     (k, leaf, at, open_has_undecided g (length_of g solved.network) leaf ready low)
 

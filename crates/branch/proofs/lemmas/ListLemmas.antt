@@ -1,7 +1,6 @@
 -- Elements of lists by their places, and lists of the same length side by side.
-use Rattle.std.proofs.Common.{ℕ, zero, suc, ◌≡◌, ◌+◌, ◌<◌, ◌⊎◌, inl, inr, List, [], ◌∷◌, ◌++◌, length, take, slice_get, slice_set, Some, All, refl, ap, sym, ◌∙◌, subst, arith, get_or}
+use Rattle.std.proofs.Common.{ℕ, zero, suc, ◌≡◌, ◌+◌, ◌<◌, ◌⊎◌, inl, inr, List, [], ◌∷◌, ◌++◌, length, take, slice_get, slice_set, Some, refl, ap, sym, ◌∙◌, subst, arith}
 use Rattle.std.specs.List.{AllZip, insert}
-use Rattle.std.proofs.lemmas.Option.{slice_get-get_or, slice_get_within, get_or_from_slice_get}
 
 -- two elements in place of the one at a place
 abbrev pub two_at : {X : Type 0} → List X → ℕ → X → X → List X
@@ -35,11 +34,6 @@ place_cases [] ys k x at = inr (k, omega arith, at)
 place_cases (z ∷ xs) ys zero x at = inl (omega arith, at)
 place_cases (z ∷ xs) ys (suc k) x at = grind (arith, place_cases xs ys k x at)
 
-pub slice_get-append_left : {X : Type 0} (xs ys : List X) (k : ℕ) (x : X) → slice_get xs k ≡ Some x → slice_get (xs ++ ys) k ≡ Some x
-slice_get-append_left [] ys k x at = absurd cc
-slice_get-append_left (z ∷ xs) ys zero x at = at
-slice_get-append_left (z ∷ xs) ys (suc k) x at = slice_get-append_left xs ys k x at
-
 pub slice_get-append_right : {X : Type 0} (xs ys : List X) (m : ℕ) (x : X) → slice_get ys m ≡ Some x → slice_get (xs ++ ys) (length xs + m) ≡ Some x
 slice_get-append_right {X = X} xs ys m x at = go xs (length xs + m) refl
   where
@@ -47,13 +41,6 @@ slice_get-append_right {X = X} xs ys m x at = go xs (length xs + m) refl
     go [] k is = let same : k ≡ m = omega arith in subst (λ (n : ℕ). slice_get ys n ≡ Some x) (sym same) at
     go (z ∷ zs) zero is = absurd (omega arith)
     go (z ∷ zs) (suc k) is = go zs k (omega arith)
-
--- what holds at each place holds of all, and the other way round
-pub all_from_places : {X : Type 0} (P : X → Type 0) (xs : List X) → ((k : ℕ) (x : X) → slice_get xs k ≡ Some x → P x) → All P xs
-all_from_places P xs each = λ k d within. each k (get_or xs k d) (slice_get-get_or xs k d within)
-
-pub all_at : {X : Type 0} (P : X → Type 0) (xs : List X) (k : ℕ) (x : X) → All P xs → slice_get xs k ≡ Some x → P x
-all_at P xs k x all at = subst P (get_or_from_slice_get xs k x x at) (all k x (slice_get_within xs k x at))
 
 pub AllZip-two_at : {A B : Type 0} (R : A → B → Type 0) (xs : List A) (ys : List B) (k : ℕ) (a b : A) (m n : B) →
     AllZip R xs ys → R a m → R b n → AllZip R (two_at xs k a b) (two_at ys k m n)

@@ -3,6 +3,7 @@ use Rattle.std.proofs.Common.{ℕ, suc, ◌≡◌, ◌+◌, ◌<◌, ◌≤◌, 
 use Rattle.std.specs.List.{AllZip, insert}
 use Rattle.std.proofs.lemmas.Option.{same_Some, slice_get_within}
 use Rattle.std.proofs.lemmas.Bool.{cases_Bool}
+use Rattle.lists.specs.ListLaws.{All-from_places}
 use Rattle.dual_ascent.specs.Ascending.{BeginsWith}
 use Rattle.dual_ascent.specs.Carried.{carried}
 use Rattle.net_graph.specs.declared.packing.Cut.{Cut}
@@ -32,7 +33,7 @@ use Rattle.branch.specs.Notes.{IsBest, IsNoteOf, IsUpToOwn, IsKeptNote, AreNotes
 use Rattle.branch.specs.Variants.{in_units, MayBe, IsVariant, MayBegin}
 use Rattle.branch.specs.declared.leaf.NewLeaf.{NewLeaf}
 use Rattle.branch.specs.Searching.{search_state, is_anew_at, IsSearch, IsOpeningOf, IsPlain, IsOpened, OpensTo, IsSplitAt}
-use Rattle.branch.proofs.lemmas.ListLemmas.{two_at, insert-set, AllZip-two_at, AllZip-weaker, AllZip-length, beside_left, all_from_places}
+use Rattle.branch.proofs.lemmas.ListLemmas.{two_at, insert-set, AllZip-two_at, AllZip-weaker, AllZip-length, beside_left}
 use Rattle.branch.proofs.lemmas.VariantLemmas.{IsLike-may_be, like_value, like_split, variant_same, variant_splits, variant_state, variant_split}
 use Rattle.branch.proofs.lemmas.VariantLemmas.{flags_same_before, flags_same_behind, flag_of_outside, flag_of_inside}
 use Rattle.branch.proofs.lemmas.TreeLemmas.{leaves_of-replaced, IsValidTree-replaced, split_count-replaced}
@@ -43,7 +44,7 @@ pub state_of : (g : Graph) (best : Best) (tree : Tree SplitOn) (notes : List Lea
 state_of g best tree notes is_best valid are = record {
   network_of = is_best.network_of;
   valid = valid;
-  leaves = all_from_places (λ (leaf : DecidedLeaf). IsOpenLeaf g (length_of g best.network) leaf → IsReadyLeaf g (length_of g best.network) leaf)
+  leaves = All-from_places (λ (leaf : DecidedLeaf). IsOpenLeaf g (length_of g best.network) leaf → IsReadyLeaf g (length_of g best.network) leaf)
       (leaves_of (nothing_decided g) tree)
       (λ k leaf at below.
       let (note, _, kept) = beside_left (IsKeptNote g best.length) (leaves_of (nothing_decided g) tree) notes k leaf are at in

@@ -2,6 +2,7 @@
 use Rattle.std.proofs.Common.{ℕ, ◌≡◌, ◌+◌, ◌*◌, ◌<◌, ◌≤◌, Bool, List, length, min, take, All, IsTrue, ◌↔◌, sym, ◌∙◌, subst, arith}
 use Rattle.std.proofs.Math.Nat.{min-le_left, min-le_right, le-min}
 use Rattle.std.proofs.lemmas.Option.{slice_get_within, slice_get-get_or, same_Some}
+use Rattle.lists.specs.ListLaws.{All-at, All-from_places}
 use Rattle.net_graph.specs.declared.packing.Cut.{Cut}
 use Rattle.net_graph.specs.Graph.{Graph}
 use Rattle.net_graph.specs.Decision.{nothing_decided}
@@ -16,7 +17,7 @@ use Rattle.branch.specs.States.{IsOpenLeaf, leaf_value}
 use Rattle.branch.specs.Notes.{IsKeptNote, IsLesserOfNotes, IsNextNote}
 use Rattle.branch.specs.Searching.{search_state, is_anew_at, IsSearch, IsSettled, IsOpenAt}
 use Rattle.branch.specs.Solving.{IsSolved}
-use Rattle.branch.proofs.lemmas.ListLemmas.{AllZip-take, all_at, all_from_places, beside_left, beside_right}
+use Rattle.branch.proofs.lemmas.ListLemmas.{AllZip-take, beside_left, beside_right}
 use Rattle.branch.proofs.lemmas.TreeLemmas.{length-leaves_of, packing_at, le-tree_value, tree_value-le}
 use Rattle.branch.proofs.lemmas.SearchLemmas.{state_of}
 use Rattle.branch.proofs.lemmas.VariantLemmas.{variant_same}
@@ -30,7 +31,7 @@ module _ (g : Graph) (kept : Frontier) (search : IsSearch g kept) where
   tree_above bound each = le-tree_value g (nothing_decided g) kept.tree bound
       (λ k leaf at.
       let (note, note_at, kept_note) = beside_left (IsKeptNote g kept.best.length) leaves kept.notes.items k leaf search.notes at in
-      let low : bound ≤ note.value = all_at (λ (n : LeafNote). bound ≤ n.value) kept.notes.items k note each note_at in
+      let low : bound ≤ note.value = All-at (λ (n : LeafNote). bound ≤ n.value) kept.notes.items k note each note_at in
       let value = kept_note.0.value in omega arith)
 
   pub settled : All (λ (note : LeafNote). kept.best.length ≤ note.value) kept.notes.items → IsSettled (search_state g kept)
@@ -42,7 +43,7 @@ module _ (g : Graph) (kept : Frontier) (search : IsSearch g kept) where
   bound_is bound lesser = grind (arith, tree_above, min, le-min, min-le_left, min-le_right, beside_right, tree_value-le)
 
   pub few_cuts : All (λ (packing : List Cut). length packing ≤ 4 * length g.edges + 1) (packings_of kept.tree)
-  few_cuts = all_from_places (λ (packing : List Cut). length packing ≤ 4 * length g.edges + 1) (packings_of kept.tree)
+  few_cuts = All-from_places (λ (packing : List Cut). length packing ≤ 4 * length g.edges + 1) (packings_of kept.tree)
       (λ k packing at.
       let within : k < length (packings_of kept.tree) = slice_get_within (packings_of kept.tree) k packing at in
       let other : DecidedLeaf = record { decision = nothing_decided g; packing = packing } in
@@ -65,11 +66,11 @@ module _ (g : Graph) (kept : Frontier) (search : IsSearch g kept) where
   -- the leaves before one whose note is the next have greater values
   earlier_leaves : (place value : ℕ) → All (λ (other : LeafNote). value < other.value) (take place kept.notes.items) →
       All (λ (other : DecidedLeaf). value < leaf_value g other) (take place leaves)
-  earlier_leaves place value earlier = all_from_places (λ (other : DecidedLeaf). value < leaf_value g other) (take place leaves)
+  earlier_leaves place value earlier = All-from_places (λ (other : DecidedLeaf). value < leaf_value g other) (take place leaves)
       (λ k leaf at.
       let both = AllZip-take (IsKeptNote g kept.best.length) place leaves kept.notes.items search.notes in
       let (note, note_at, kept_note) = beside_left (IsKeptNote g kept.best.length) (take place leaves) (take place kept.notes.items) k leaf both at in
-      let more : value < note.value = all_at (λ (n : LeafNote). value < n.value) (take place kept.notes.items) k note earlier note_at in
+      let more : value < note.value = All-at (λ (n : LeafNote). value < n.value) (take place kept.notes.items) k note earlier note_at in
       let value_is = kept_note.0.value in omega arith)
 
   -- the next note's leaf is the one that is open next

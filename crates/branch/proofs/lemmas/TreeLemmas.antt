@@ -3,6 +3,7 @@ use Rattle.std.proofs.Common.{ℕ, zero, suc, ◌≡◌, ◌+◌, ◌<◌, ◌�
 use Rattle.std.proofs.Math.Nat.{min-le_left, min-le_right, le-min, min-eq_left, min-eq_right}
 use Rattle.std.proofs.lemmas.Option.{same_Some}
 use Rattle.std.proofs.lemmas.Bool.{cases_lt}
+use Rattle.lists.specs.ListLaws.{slice_get-append_left}
 use Rattle.net_graph.specs.declared.packing.Cut.{Cut}
 use Rattle.net_graph.specs.Graph.{Graph}
 use Rattle.net_graph.specs.Decision.{Decided}
@@ -17,7 +18,7 @@ use Rattle.cert_tree.specs.Decisions.{outside_of, inside_of, IsUndecidedSplit}
 use Rattle.cert_tree.specs.TreeValue.{IsValidTree, tree_value}
 use Rattle.branch.specs.Leaves.{DecidedLeaf, leaf_under, leaves_of}
 use Rattle.branch.specs.States.{leaf_value}
-use Rattle.branch.proofs.lemmas.ListLemmas.{two_at, two_at-append_left, two_at-append_right, place_cases, slice_get-append_left, slice_get-append_right}
+use Rattle.branch.proofs.lemmas.ListLemmas.{two_at, two_at-append_left, two_at-append_right, place_cases, slice_get-append_right}
 
 -- a tree has a leaf for each packing
 pub length-leaves_of : (d : Decided) (t : Tree SplitOn) → length (leaves_of d t) ≡ length (packings_of t)

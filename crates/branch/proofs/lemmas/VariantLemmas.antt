@@ -4,6 +4,7 @@ use Rattle.std.proofs.Common.{◌++◌, length, slice_get, slice_set, Some, sum_
 use Rattle.std.proofs.Common.{refl, ap, sym, ◌∙◌, subst, arith, length-append}
 use Rattle.std.specs.List.{AllZip, insert}
 use Rattle.std.proofs.lemmas.Option.{same_Some, slice_get_within}
+use Rattle.lists.specs.ListLaws.{slice_get-append_left, All-at, All-from_places}
 use Rattle.net_graph.specs.declared.packing.Cut.{Cut}
 use Rattle.net_graph.specs.Graph.{Graph, root_of}
 use Rattle.net_graph.specs.Network.{length_of}
@@ -26,8 +27,8 @@ use Rattle.branch.specs.States.{AreSaturated, IsReadyLeaf, IsOpenLeaf, IsState}
 use Rattle.branch.specs.Openings.{IsSplitOf}
 use Rattle.branch.specs.Variants.{in_units, MayBe, IsVariantFrom, IsVariant}
 use Rattle.branch.specs.Searching.{is_anew_at}
-use Rattle.branch.proofs.lemmas.ListLemmas.{two_at, insert-set, place_cases, slice_get-append_left, slice_get-append_right}
-use Rattle.branch.proofs.lemmas.ListLemmas.{all_at, all_from_places, beside_right}
+use Rattle.branch.proofs.lemmas.ListLemmas.{two_at, insert-set, place_cases, slice_get-append_right}
+use Rattle.branch.proofs.lemmas.ListLemmas.{beside_right}
 use Rattle.branch.proofs.lemmas.TreeLemmas.{length-leaves_of, split_count-replaced}
 use Rattle.branch.proofs.lemmas.UnitLemmas.{weight-in_units, load-in_units, cuts-in_units}
 
@@ -181,11 +182,11 @@ variant_state anew g network tree other is state = record {
       let before = leaves_of (nothing_decided g) tree in
       let after = leaves_of (nothing_decided g) other in
       let same = variant_alike anew 0 (nothing_decided g) tree other is in
-      all_from_places (IsReadyWhereOpen g network) after
+      All-from_places (IsReadyWhereOpen g network) after
       (λ k leaf at.
       let (own, own_at, alike) = beside_right AreLike before after k leaf same at in
       alike_ready g (length_of g network) own leaf alike
-      (all_at (IsReadyWhereOpen g network) before k own state.leaves own_at));
+      (All-at (IsReadyWhereOpen g network) before k own state.leaves own_at));
 }
 
 -- ---- a split leaf

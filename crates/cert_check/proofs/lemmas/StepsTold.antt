@@ -1,8 +1,9 @@
 -- The steps that an answer's lines tell, its names resolved: the lines pass where the steps do.
-use Rattle.std.proofs.Common.{ℕ, ◌≡◌, ◌+◌, arith, length-append, List, [], ◌∷◌, ◌++◌, length, map, All, Some, None}
+use Rattle.std.proofs.Common.{ℕ, ◌≡◌, List, [], ◌∷◌, ◌++◌, length, map, All, Some, None}
 use Rattle.std.proofs.Common.{refl, sym, ap, ◌∙◌, subst}
-use Rattle.std.proofs.lemmas.List.{get_or_append_left, get_or-append-add, length-map}
+use Rattle.std.proofs.lemmas.List.{length-map}
 use Rattle.std.proofs.lemmas.List.Elements.{All-nil, All-cons, All-head, All-tail, All-append}
+use Rattle.lists.specs.ListLaws.{All-first, All-second}
 use Rattle.net_graph.specs.declared.packing.Cut.{Cut}
 use Rattle.answer_text.specs.declared.label.EdgeLabel.{EdgeLabel}
 use Rattle.cert_tree.specs.declared.split.SplitOn.{SplitOn}
@@ -55,15 +56,6 @@ edges_named N s s' (e ∷ edges) (m, passes, runs) =
     (m, (e, record { inside = passes.0.inside; named = refl }, passes), edges_named N m s' edges runs)
 
 -- ---- trees
-
--- what holds of each of a list holds of its front and of its back
-All-front : {X : Type 0} (P : X → Type 0) (xs ys : List X) → All P (xs ++ ys) → All P xs
-All-front P xs ys all i d below = subst P (get_or_append_left xs ys d i below)
-    (all i d (omega (arith, length-append xs ys)))
-
-All-back : {X : Type 0} (P : X → Type 0) (xs ys : List X) → All P (xs ++ ys) → All P ys
-All-back P xs ys all i d below = subst P (get_or-append-add xs ys i d)
-    (all (length xs + i) d (omega (arith, length-append xs ys)))
 
 cuts_resolved : (N : Named) (s s' : SoFar) (cuts : List Cut) → Runs N s (map cut_told cuts) s' →
     steps.Runs N.graph s (map cut_step cuts) s'
@@ -119,9 +111,9 @@ tree_named N s s' (Split on outside inside) nodes (m, passes, runs) =
     let behind = All-tail (IsNodeOn g) (Some on) (nodes_of outside ++ nodes_of inside) nodes in
     let parts = step_laws.Runs-append g m s' (tree_steps outside) (tree_steps inside) runs in
     let first = tree_named N m parts.0 outside
-    (All-front (IsNodeOn g) (nodes_of outside) (nodes_of inside) behind) parts.1 in
+    (All-first (IsNodeOn g) (nodes_of outside) (nodes_of inside) behind) parts.1 in
     let second = tree_named N parts.0 s' inside
-    (All-back (IsNodeOn g) (nodes_of outside) (nodes_of inside) behind) parts.2 in (
+    (All-second (IsNodeOn g) (nodes_of outside) (nodes_of inside) behind) parts.2 in (
       m,
       (on, record { inside = here; named = refl }, passes),
       Runs-join N m parts.0 s' (tree_told (labelled N.labels outside)) (tree_told (labelled N.labels inside)) first second,

@@ -1,15 +1,16 @@
 -- What holds of a search's choices at the ends of a trail holds of the choices above it.
-use Rattle.std.proofs.Common.{ℕ, zero, suc, ◌≡◌, ◌<◌, ◌≤◌, ◌⊎◌, inl, inr, Bool, true, false, List, [], ◌∷◌, length, set, replicate, slice_get, Some, arith, refl, sym, ◌∙◌, ap}
-use Rattle.std.specs.Option.{option_map}
+use Rattle.std.proofs.Common.{ℕ, zero, suc, ◌≡◌, ◌≤◌, ◌⊎◌, inl, inr, Bool, true, false, List, [], ◌∷◌, length, set, slice_get, Some, arith, refl, sym, ◌∙◌}
 use Rattle.std.proofs.lemmas.Bool.{cases_lt}
 use Rattle.std.proofs.lemmas.List.{length-set, length-map, length-replicate}
 use Rattle.std.proofs.lemmas.Option.{slice_get-map, slice_get_within}
+use Rattle.concatenation.specs.ChoiceLaws.{remaining_of-holds}
+use Rattle.net_graph.specs.EntryLaws.{slice_get-replicate}
+use Rattle.lists.specs.ListLaws.{slice_get-inside}
 use Rattle.full_tree.specs.declared.code.Tree.{Tree}
 use Rattle.concatenation.specs.declared.choice.Choice.{Choice}
 use Rattle.concatenation.specs.declared.choice.Choice.TheVariants.{Open, Taken, LeftOut}
 use Rattle.concatenation.specs.Concatenation.{total_of}
 use Rattle.concatenation.specs.Choices.{is_left, taken_of, remaining_of, Respects, IsLeastUnder}
-use Rattle.concatenation.specs.SetLaws.{IsWithin}
 use Rattle.concatenation.specs.Trails.{Trail, End, Split, no_choices, AllEnds, SomeEnd, AllSplits, IsOpenPlace, IsOpenEnd, IsNoBetter}
 use Rattle.concatenation.specs.TrailLaws.{BoundedTrailIsLeast, ClosedTrailIsLeast}
 use Rattle.concatenation.proofs.lemmas.Sets.{more_trees_join_lem, totals_rise_lem}
@@ -23,18 +24,6 @@ slice_get-set_cases (x ∷ xs) zero (suc k) y z at = inr at
 slice_get-set_cases (x ∷ xs) (suc i) zero y z at = inr at
 slice_get-set_cases (x ∷ xs) (suc i) (suc k) y z at = grind (arith, slice_get-set_cases xs i k y z)
 
--- what stands in a replicated list is its element
-slice_get-replicate_same : {X : Type 0} (n k : ℕ) (y z : X) → slice_get (replicate n y) k ≡ Some z → y ≡ z
-slice_get-replicate_same zero k y z at = cc
-slice_get-replicate_same (suc n) zero y z at = cc
-slice_get-replicate_same (suc n) (suc k) y z at = slice_get-replicate_same n k y z at
-
--- a place of a list holds something
-slice_get_some : {X : Type 0} (xs : List X) (k : ℕ) → k < length xs → (x : X) × (slice_get xs k ≡ Some x)
-slice_get_some [] k below = absurd (omega arith)
-slice_get_some (x ∷ xs) zero below = (x, refl)
-slice_get_some (x ∷ xs) (suc k) below = slice_get_some xs k (omega arith)
-
 -- a set with the tree respects the choices that take it too
 Respects-taken : (choices : List Choice) (flags : List Bool) (place : ℕ) → slice_get flags place ≡ Some true →
     Respects choices flags → Respects (set choices place Taken) flags
@@ -47,7 +36,7 @@ Respects-left_out choices flags place not_in_set respects = grind (arith, slice_
 
 -- every set respects that nothing is decided
 Respects-no_choices : (trees : List Tree) (flags : List Bool) → Respects (no_choices trees) flags
-Respects-no_choices trees flags = grind (arith, slice_get-replicate_same)
+Respects-no_choices trees flags = grind (arith, slice_get-replicate)
 
 -- ---- a bound at each end is one above them
 
@@ -58,7 +47,7 @@ IsLeastUnder-from_ends n trees total choices End size places ends = ends
 IsLeastUnder-from_ends n trees total choices (Split place without with_it) size places ends =
     λ flags joined respects.
     let inside = slice_get_within choices place Open places.0 in
-    let (flag, is) = slice_get_some flags place (omega (arith, inside, size, joined.size)) in
+    let (flag, is) = slice_get-inside flags place (omega (arith, inside, size, joined.size)) in
     elim flag as (λ b. slice_get flags place ≡ Some b → total ≤ total_of trees flags) [
       | true ↦ λ in_set. IsLeastUnder-from_ends n trees total (set choices place Taken) with_it
           (length-set choices place Taken ∙ size) places.2 ends.1 flags joined
@@ -75,24 +64,11 @@ bounded_trail_lem n trees total trail bounded flags joined =
 
 -- ---- an end that isn't open is bounded
 
--- each set that respects the choices is within the trees that are not left out
-remaining_of-holds : (choices : List Choice) (flags : List Bool) → length flags ≡ length choices → Respects choices flags →
-    IsWithin flags (remaining_of choices)
-remaining_of-holds choices flags size respects k in_set =
-    let inside = slice_get_within flags k true in_set in
-    let same = slice_get-map is_left choices k in
-    let (choice, is) = slice_get_some choices k (omega (arith, inside, size)) in
-    elim choice as (λ c. slice_get choices k ≡ Some c → slice_get (remaining_of choices) k ≡ Some true) [
-      | Open ↦ λ at_k. same ∙ ap (option_map is_left) at_k
-      | Taken ↦ λ at_k. same ∙ ap (option_map is_left) at_k
-      | LeftOut ↦ λ at_k. let absent = respects.leaves k at_k in cc
-    ] is
-
 -- where no concatenation of the trees that are left is below the total, none that respects the choices is
 IsLeastUnder-from_closed : (n : ℕ) (trees : List Tree) (total : ℕ) (choices : List Choice) → length choices ≡ length trees →
     IsNoBetter n trees total choices → (IsOpenEnd n trees total choices → ⊥) → IsLeastUnder n trees choices total
 IsLeastUnder-from_closed n trees total choices size no_better closed flags joined respects =
-    let rises = totals_rise_lem trees (taken_of choices) flags (grind (arith, slice_get_within, slice_get-map, slice_get_some, length-map)) in
+    let rises = totals_rise_lem trees (taken_of choices) flags (grind (arith, slice_get_within, slice_get-map, slice_get-inside, length-map)) in
     elim (cases_lt (total_of trees (taken_of choices)) total) [
       | inl below ↦ absurd (closed record {
         can_go_on = record {

@@ -1,7 +1,8 @@
 -- A set of trees within another: what it joins the other joins, and its total is no greater.
-use Rattle.std.proofs.Common.{ℕ, zero, suc, ◌≡◌, ◌<◌, Bool, true, false, List, [], ◌∷◌, length, replicate, slice_get, Some, arith, refl}
+use Rattle.std.proofs.Common.{ℕ, suc, ◌≡◌, Bool, true, false, List, [], ◌∷◌, length, arith, refl}
 use Rattle.std.proofs.lemmas.List.{length-replicate}
 use Rattle.std.proofs.lemmas.Option.{slice_get_within}
+use Rattle.lists.specs.ListLaws.{slice_get-repeated}
 use Rattle.net_graph.specs.SearchLaws.{Leads-weaker}
 use Rattle.full_tree.specs.declared.code.Tree.{Tree}
 use Rattle.concatenation.specs.Concatenation.{SharesTree, all_of, total_of}
@@ -20,17 +21,11 @@ more_trees_join_lem n trees few more within size joined = record {
       (joined.joins i below);
 }
 
--- a replicated list has its element at each of its places
-slice_get-replicate : (n k : ℕ) → k < n → slice_get (replicate n true) k ≡ Some true
-slice_get-replicate zero k below = absurd (omega arith)
-slice_get-replicate (suc n) zero below = refl
-slice_get-replicate (suc n) (suc k) below = slice_get-replicate n k (omega arith)
-
 pub all_join_lem : AllJoin
 all_join_lem n trees set joined =
     more_trees_join_lem n trees set (all_of trees)
     (λ k in_set. let within = slice_get_within set k true in_set in
-    slice_get-replicate (length trees) k (omega (arith, within, joined.size)))
+    slice_get-repeated (length trees) k true (omega (arith, within, joined.size)))
     (length-replicate (length trees) true) joined
 
 -- the rest of a set is within the rest of another

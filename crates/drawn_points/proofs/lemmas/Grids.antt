@@ -1,6 +1,6 @@
 -- The grid of points that lie near: its edges do not sum to much.
-use Rattle.std.proofs.Common.{ℕ, zero, suc, ◌≡◌, ◌+◌, ◌-◌, ◌^◌, ◌<◌, ◌≤◌, List, [], ◌∷◌, length, map, arith, subst, refl}
-use Rattle.std.specs.Prelude.{ℤ, pos, ◌+ℤ◌, ◌≤ℤ◌, ◌<ℤ◌, Contains}
+use Rattle.std.proofs.Common.{zero, suc, ◌≡◌, ◌+◌, ◌-◌, ◌^◌, ◌<◌, ◌≤◌, List, [], ◌∷◌, length, map, arith, subst, refl}
+use Rattle.std.specs.Prelude.{ℤ, pos, ◌≤ℤ◌, ◌<ℤ◌, Contains}
 use Rattle.std.specs.List.{AllByRecursion}
 use Rattle.std.proofs.lemmas.Int.{ints}
 use Rattle.std.proofs.lemmas.Nat.{mul-le}
@@ -9,10 +9,10 @@ use Rattle.points_in.specs.Terminals.{terminals_of}
 use Rattle.points_in.specs.TerminalLaws.{length-terminals_of-le, terminals_of_contains}
 use Rattle.net_graph.specs.Graph.{total_of}
 use Rattle.hanan_grid.specs.Lines.{line_at}
-use Rattle.hanan_grid.specs.LinesLaws.{IsRising, gap_after-is, Contains-line_at, Contains-from_ascending}
+use Rattle.hanan_grid.specs.LinesLaws.{IsRising, Contains-line_at, Contains-from_ascending}
 use Rattle.hanan_grid.specs.Grid.{xs_of, ys_of, hanan_grid_of}
 use Rattle.hanan_grid.specs.GridLaws.{IsRising-xs_of, IsRising-ys_of, length-xs_of-le, length-ys_of-le}
-use Rattle.hanan_grid.specs.TotalLaws.{gaps_from, width_of, total_of-hanan_grid_of}
+use Rattle.hanan_grid.specs.TotalLaws.{width_of, total_of-hanan_grid_of, span_of}
 use Rattle.drawn_points.specs.Drawn.{IsNear, AreDrawn}
 
 -- a coordinate from 0 to 9999
@@ -34,21 +34,13 @@ low_value f low (q ∷ qs) near z (zero, inside, is) = subst IsLow is (low q (ne
 low_value f low (q ∷ qs) near z (suc k, inside, is) =
     low_value f low qs (λ r member. near r (suc member.0, omega arith, member.2)) z (k, omega arith, is)
 
--- a line and the gaps behind it make the line after them
-gaps_span : (lines : List ℤ) (a n : ℕ) → a + n < length lines → IsRising lines → line_at lines a +ℤ pos (gaps_from lines a n) ≡ line_at lines (a + n)
-gaps_span lines a zero inside rises =
-    let here : a + 0 ≡ a = omega arith in rw here (omega (arith, ints))
-gaps_span lines a (suc n) inside rises =
-    let there : a + suc n ≡ a + 1 + n = omega arith in
-    rw there (omega (arith, ints, gap_after-is lines a (omega arith) rises, gaps_span lines (a + 1) n (omega arith) rises))
-
 -- low lines are not far apart
 low_width : (lines : List ℤ) → IsRising lines → ((z : ℤ) → Contains lines z → IsLow z) → width_of lines ≤ 9999
 low_width [] rises low = omega arith
 low_width (y ∷ ys) rises low =
     let lines = y ∷ ys in
     let last : 0 + (length lines - 1) ≡ length lines - 1 = omega arith in
-    let whole = rw last at (gaps_span lines 0 (length lines - 1) (omega arith) rises) in
+    let whole = rw last at (span_of lines 0 (length lines - 1) (omega arith) rises) in
     let first_low = low (line_at lines 0) (Contains-line_at lines 0 (omega arith)) in
     let last_low = low (line_at lines (length lines - 1)) (Contains-line_at lines (length lines - 1) (omega arith)) in
     omega (arith, ints, whole, first_low.above, last_low.below)

@@ -1,7 +1,7 @@
 -- A packing carried to the next decision stays feasible.
-use Rattle.std.proofs.Common.{ℕ, zero, suc, ◌≡◌, ◌≤◌, ◌<◌, Bool, true, false, not, ◌||◌, List, [], ◌∷◌, ◌++◌, filter, length, slice_get, All, Contains, Some, ⊎_elim, refl, sym, ap, subst, ◌∙◌, arith, append-nil, append_assoc}
+use Rattle.std.proofs.Common.{ℕ, zero, suc, ◌≡◌, ◌≤◌, ◌<◌, Bool, true, false, not, List, [], ◌∷◌, ◌++◌, filter, length, slice_get, All, Contains, Some, ⊎_elim, refl, sym, ap, subst, ◌∙◌, arith, append-nil, append_assoc}
 use Rattle.std.specs.List.{list_any}
-use Rattle.std.proofs.lemmas.Bool.{cases_Bool}
+use Rattle.std.proofs.lemmas.Bool.{cases_Bool, or_parts}
 use Rattle.std.proofs.lemmas.List.Elements.{All-filter, All-head, All-tail, All-weaker, Contains-append_right, filter_passes}
 use Rattle.std.proofs.lemmas.List.Folds.{list_any-from_Any}
 use Rattle.std.proofs.lemmas.List.Sums.{sum_by-cons}
@@ -52,10 +52,6 @@ inside_listed (x ∷ edges) [] n e at inside = absurd cc
 inside_listed (x ∷ edges) (t ∷ states) zero e at inside = grind arith
 inside_listed (x ∷ edges) (t ∷ states) (suc n) e at inside =
     rw (inside_first x t edges states) (Contains-append_right (inside_one x t) (inside_edges edges states) e (inside_listed edges states n e at inside))
-
--- neither of two holds
-neither : (x y : Bool) → (x || y) ≡ false → (x ≡ false) × (y ≡ false)
-neither x y none = grind arith
 
 -- an arc along which no cut is entered has no load
 load-none : (packing : List Cut) (u v : ℕ) → All (λ c. enters c.members u v ≡ false) packing → load packing u v ≡ 0
@@ -108,7 +104,7 @@ room_kept g before now packing n e Inside one feasible at decided =
     let listed : Contains edges e = inside_listed g.edges now.edges n e at (states_of-inside g now n decided) in
     let apart : All (λ c. (enters c.members e.a e.b ≡ false) × (enters c.members e.b e.a ≡ false)) (filter test packing) =
     All-weaker (λ c. test c ≡ true) (λ c. (enters c.members e.a e.b ≡ false) × (enters c.members e.b e.a ≡ false))
-    (λ c passes. neither (enters c.members e.a e.b) (enters c.members e.b e.a)
+    (λ c passes. or_parts (enters c.members e.a e.b) (enters c.members e.b e.a)
     (grind (arith, list_any-from_Any)))
     (filter test packing) (filter_passes test packing) in
     let there : load (filter test packing) e.a e.b ≡ 0 = load-none (filter test packing) e.a e.b (λ k d lt. (apart k d lt).0) in

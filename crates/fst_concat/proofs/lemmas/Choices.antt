@@ -1,9 +1,9 @@
 -- What choices say of the sets that respect them, and of searches that go on or end there.
-use Rattle.std.specs.Prelude.{slice_get}
-use Rattle.std.proofs.Common.{ℕ, zero, suc, ◌≡◌, ◌<◌, ◌⊎◌, Bool, true, false, Option, Some, None, List, [], ◌∷◌, length, refl, ap, sym, subst, ◌∙◌, inl, inr, ⊎_elim, arith}
+use Rattle.std.proofs.Common.{ℕ, suc, ◌≡◌, ◌⊎◌, Bool, true, false, Option, Some, None, List, [], ◌∷◌, length, refl, ap, sym, subst, ◌∙◌, inl, inr, arith}
 use Rattle.std.specs.Option.{option_map}
-use Rattle.std.proofs.lemmas.Option.{slice_get-map, slice_get_within}
+use Rattle.std.proofs.lemmas.Option.{slice_get-map}
 use Rattle.std.proofs.lemmas.List.{length-map}
+use Rattle.concatenation.specs.ChoiceLaws.{remaining_of-holds}
 use Rattle.full_tree.specs.declared.code.Tree.{Tree}
 use Rattle.concatenation.specs.declared.choice.Choice.{Choice}
 use Rattle.concatenation.specs.declared.choice.Choice.TheVariants.{Open, Taken, LeftOut}
@@ -23,12 +23,6 @@ taken_only Open is = (cc)
 taken_only Taken is = refl
 taken_only LeftOut is = (cc)
 
--- the item at a place of a list
-item_at : {X : Type 0} (xs : List X) (k : ℕ) → k < length xs → (x : X) × (slice_get xs k ≡ Some x)
-item_at [] k within = absurd (omega arith)
-item_at (x ∷ xs) zero within = (x, refl)
-item_at (x ∷ xs) (suc k) within = item_at xs k (omega arith)
-
 flags_differ : Some true ≡ Some false → ⊥
 flags_differ same = (cc)
 
@@ -42,15 +36,6 @@ left_cases Open = inr refl
 left_cases Taken = inr refl
 left_cases LeftOut = inl refl
 
-pub within_remaining : (choices : List Choice) (set : List Bool) → length set ≡ length choices → Respects choices set
-    → IsWithin set (remaining_of choices)
-within_remaining choices set size respects = λ k inside.
-    let below : k < length choices = omega (arith, slice_get_within set k true inside) in
-    let (choice, at) = item_at choices k below in
-    ⊎_elim (λ out. absurd (flags_differ (sym inside ∙ respects.leaves k (at ∙ ap Some out))))
-    (λ left. slice_get-map is_left choices k ∙ ap (option_map is_left) at ∙ ap Some left)
-    (left_cases choice)
-
 -- no set respects choices whose remaining trees don't join
 pub none_respects : (n : ℕ) (trees : List Tree) (choices : List Choice) (total : ℕ) → MoreTreesJoin → length choices ≡ length trees
     → ¬ AreRemainingJoining n trees choices → IsNoBetter n trees total choices × IsLeastUnder n trees choices total
@@ -58,7 +43,7 @@ none_respects n trees choices total more size apart =
     let length_is : length (remaining_of choices) ≡ length trees = length-map choices is_left ∙ size in (
       λ joins. absurd (apart (more n trees (taken_of choices) (remaining_of choices) (grind (arith, choice_of, slice_get-map, taken_only)) length_is joins)),
       λ set joins respects. absurd (apart (more n trees set (remaining_of choices)
-          (within_remaining choices set (joins.size ∙ sym size) respects) length_is joins)),
+          (remaining_of-holds choices set (joins.size ∙ sym size) respects) length_is joins)),
     )
 
 -- where a search can go on, some place is open

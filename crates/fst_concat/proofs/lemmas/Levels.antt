@@ -1,11 +1,10 @@
 -- Counts of labels, and sums over levels.
-use Rattle.std.specs.Prelude.{slice_index_or, Contains, nat_lt, ◌==◌, ◌||◌}
-use Rattle.std.proofs.Common.{ℕ, zero, suc, ◌≡◌, ◌+◌, ◌-◌, ◌<◌, ◌≤◌, ◌⊎◌, Bool, true, false, List, [], ◌∷◌, All, length, map, drop, take, get_or, drop-cons, length-drop, take_all, refl, ap, sym, ◌∙◌, inl, inr, ⊎_elim, arith}
+use Rattle.std.specs.Prelude.{slice_index_or, Contains, ◌==◌, ◌||◌}
+use Rattle.std.proofs.Common.{ℕ, zero, suc, ◌≡◌, ◌+◌, ◌-◌, ◌<◌, ◌≤◌, ◌⊎◌, Bool, true, false, List, [], ◌∷◌, All, length, map, drop, take, get_or, drop-cons, length-drop, take_all, refl, ap, ◌∙◌, inl, inr, ⊎_elim, arith}
 use Rattle.std.specs.List.{AllByRecursion}
-use Rattle.std.proofs.lemmas.Bool.{eqb-true, eq-eqb, cases_order}
-use Rattle.std.proofs.lemmas.Bool.Decides.{nat_tests}
+use Rattle.std.proofs.lemmas.Bool.{eqb-true, eq-eqb, cases_order, or_parts}
 use Rattle.full_tree.specs.Code.{ascending_places, with_place}
-use Rattle.full_tree.specs.MembersLaws.{Climbs, Climbs-ascending_places, Contains-ascending_places, Contains-from_ascending_places}
+use Rattle.full_tree.specs.MembersLaws.{Climbs, Climbs-ascending_places, Contains-ascending_places, Contains-from_ascending_places, with_place-same, with_place-above, length-with_place}
 use Rattle.concatenation.specs.Partitions.{Layer}
 use Rattle.fst_concat.specs.declared.level.Level.{Level}
 use Rattle.fst_concat.specs.Levels.{layer_of, layers_of, any_label}
@@ -16,15 +15,6 @@ below_none : (p q : ℕ) (qs : List ℕ) → AllByRecursion (λ r. q < r) qs →
 below_none p q [] above lower (k, inside, is) = absurd (omega arith)
 below_none p q (r ∷ rs) above lower (zero, inside, is) = omega (arith, above.0, is)
 below_none p q (r ∷ rs) above lower (suc k, inside, is) = below_none p q rs above.1 lower (k, omega arith, is)
-
-with_place-below : (p q : ℕ) (qs : List ℕ) → p < q → with_place p (q ∷ qs) ≡ p ∷ q ∷ qs
-with_place-below p q qs below = let test : nat_lt p q ≡ true = grind (arith, nat_tests) in rw test refl
-
-with_place-same : (p q : ℕ) (qs : List ℕ) → p ≡ q → with_place p (q ∷ qs) ≡ q ∷ qs
-with_place-same p q qs same = grind (arith, nat_tests, p == q)
-
-with_place-above : (p q : ℕ) (qs : List ℕ) → q < p → with_place p (q ∷ qs) ≡ q ∷ with_place p qs
-with_place-above p q qs above = grind (arith, nat_tests, p == q)
 
 -- a place that is below the first of a climbing list isn't in it
 not_below : (p q : ℕ) (qs : List ℕ) → Climbs (q ∷ qs) → p < q → Contains (q ∷ qs) p → ⊥
@@ -45,27 +35,11 @@ length-with_place_there p (q ∷ qs) climbs there = elim (cases_order p q) [
       ∙ ap suc (length-with_place_there p qs climbs.1 (among_rest p q qs above there))
 ]
 
-length-with_place_new : (p : ℕ) (qs : List ℕ) → (Contains qs p → ⊥) → length (with_place p qs) ≡ length qs + 1
-length-with_place_new p [] new = omega arith
-length-with_place_new p (q ∷ qs) new = elim (cases_order p q) [
-  | inl same ↦ absurd (new (0, omega arith, sym same))
-  | inr (inl below) ↦ omega (arith, ap length (with_place-below p q qs below))
-  | inr (inr above) ↦ omega (
-    arith,
-    ap length (with_place-above p q qs above),
-    length-with_place_new p qs (λ (k, inside, is). new (suc k, omega arith, is)),
-  )
-]
-
 -- ---- what a test says
 
 or_cases : (a b : Bool) → (a || b) ≡ true → (a ≡ true) ⊎ (b ≡ true)
 or_cases true b test = inl refl
 or_cases false b test = inr test
-
-or_none : (a b : Bool) → (a || b) ≡ false → (a ≡ false) × (b ≡ false)
-or_none true b test = (cc)
-or_none false b test = (refl, test)
 
 any_label-there : (label : ℕ) (labels : List ℕ) → any_label label labels ≡ true → Contains labels label
 any_label-there label [] test = (cc)
@@ -77,9 +51,9 @@ any_label-there label (other ∷ others) test = ⊎_elim
 any_label-new : (label : ℕ) (labels : List ℕ) → any_label label labels ≡ false → Contains labels label → ⊥
 any_label-new label [] test (k, inside, is) = absurd (omega arith)
 any_label-new label (other ∷ others) test (zero, inside, is) =
-    grind (arith, eq-eqb other label is, or_none (other == label) (any_label label others) test)
+    grind (arith, eq-eqb other label is, or_parts (other == label) (any_label label others) test)
 any_label-new label (other ∷ others) test (suc k, inside, is) =
-    any_label-new label others (or_none (other == label) (any_label label others) test).1 (k, omega arith, is)
+    any_label-new label others (or_parts (other == label) (any_label label others) test).1 (k, omega arith, is)
 
 -- a label more that is there already, or isn't
 pub ascending_there : (label : ℕ) (labels : List ℕ) → any_label label labels ≡ true
@@ -89,7 +63,7 @@ ascending_there label labels test = length-with_place_there label (ascending_pla
 
 pub ascending_new : (label : ℕ) (labels : List ℕ) → any_label label labels ≡ false
     → length (ascending_places (label ∷ labels)) ≡ length (ascending_places labels) + 1
-ascending_new label labels test = length-with_place_new label (ascending_places labels)
+ascending_new label labels test = length-with_place label (ascending_places labels)
     (λ there. any_label-new label labels test (Contains-from_ascending_places labels label there))
 
 -- a list from the place before one on

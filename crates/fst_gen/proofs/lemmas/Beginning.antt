@@ -4,6 +4,8 @@ use Rattle.std.specs.Prelude.{All, AllPairs, Contains, option_to_list}
 use Rattle.std.proofs.lemmas.Int.{ints}
 use Rattle.std.proofs.lemmas.List.{append_assoc, get_or_append_left, get_or-append-add, get_or_default}
 use Rattle.std.proofs.lemmas.List.Elements.{All-nil, All-cons, All-head, All-tail, All-append, All-contains, Contains-append_left, Contains-append_right, Contains-append_cases}
+use Rattle.lists.specs.ListLaws.{All-first, All-second}
+use Rattle.full_tree.specs.GeometryLaws.{along-itself, across-itself}
 use Rattle.points_in.specs.declared.point.Point.{Point}
 use Rattle.hanan_grid.specs.Distance.{distance_between}
 use Rattle.spanning.specs.Bottleneck.{IsBottleneck}
@@ -14,7 +16,7 @@ use Rattle.full_tree.specs.declared.station.Station.{Station}
 use Rattle.full_tree.specs.declared.code.TreeCode.TheVariants.{Long}
 use Rattle.full_tree.specs.Geometry.{point_at, along, across, point_seen, RisesFrom}
 use Rattle.full_tree.specs.Form.{along_of, across_of, IsOnShortLeg}
-use Rattle.full_tree.specs.LongLaws.{All-first, All-second, long_names_few}
+use Rattle.full_tree.specs.LongLaws.{long_names_few}
 use Rattle.full_tree.specs.Pieces.{piece_between, foot, side_foot, line_over, long_leg, short_leg, drop_pieces, side_piece}
 use Rattle.full_tree.specs.Stations.{station, station_at, drop_stations, first_stations, last_foot}
 use Rattle.full_tree.specs.Passing.{Passes, IsClear, IsWithinBottleneck, KeepsBottlenecks}
@@ -53,18 +55,6 @@ across-seen r East a c = omega (arith, ints)
 across-seen r North a c = omega (arith, ints)
 across-seen r West a c = omega (arith, ints)
 across-seen r South a c = omega (arith, ints)
-
-along-root : (r : Point) (w : Way) → along r w r ≡ pos 0
-along-root r East = omega (arith, ints)
-along-root r North = omega (arith, ints)
-along-root r West = omega (arith, ints)
-along-root r South = omega (arith, ints)
-
-across-root : (r : Point) (w : Way) → across r w r ≡ pos 0
-across-root r East = omega (arith, ints)
-across-root r North = omega (arith, ints)
-across-root r West = omega (arith, ints)
-across-root r South = omega (arith, ints)
 
 -- ---- pieces that are clear of late members
 
@@ -237,10 +227,10 @@ module _ (ps : List Point) (root : ℕ) (toward : Way) (drops more : List ℕ) (
   at_root = early_unless start
       (λ k behind same.
       let above = All-contains (λ y. pos 0 <ℤ ahead y) late k past_root behind in
-      let none : ahead k ≡ pos 0 = ap (along start toward) same ∙ along-root start toward in
+      let none : ahead k ≡ pos 0 = ap (along start toward) same ∙ along-itself start toward in
       omega (arith, ints))
       (λ k hangs same. All-contains (λ q. beside q ≢ pos 0) (option_to_list side) k beside_leg hangs
-      (ap (across start toward) same ∙ across-root start toward))
+      (ap (across start toward) same ∙ across-itself start toward))
 
   at_feet : All (λ d. IsEarly (foot ps root toward d)) drops
   at_feet n e inside =

@@ -4,6 +4,8 @@ use Rattle.std.specs.List.{last_or}
 use Rattle.std.proofs.Common.{refl, ap, sym, subst, ◌∙◌, arith, inl, inr, ⊎_elim, length-append}
 use Rattle.std.proofs.lemmas.List.{append_assoc, get_or_append_left, get_or-append-add}
 use Rattle.std.proofs.lemmas.List.Elements.{All-push, All-nil, All-cons, All-head, All-tail}
+use Rattle.lists.specs.ListLaws.{All-first}
+use Rattle.full_tree.specs.PassingLaws.{IsBottleneck-at}
 use Rattle.points_in.specs.declared.point.Point.{Point}
 use Rattle.hanan_grid.specs.Distance.{distance_between}
 use Rattle.full_tree.specs.declared.way.Way.{Way}
@@ -12,12 +14,10 @@ use Rattle.full_tree.specs.declared.code.TreeCode.{TreeCode}
 use Rattle.full_tree.specs.declared.code.TreeCode.TheVariants.{Long}
 use Rattle.full_tree.specs.Geometry.{point_at, RisesFrom, AlternatesAfter, Alternates, AreOpposite}
 use Rattle.full_tree.specs.Form.{along_of, across_of}
-use Rattle.full_tree.specs.LongLaws.{All-first}
 use Rattle.full_tree.specs.Pieces.{foot}
 use Rattle.full_tree.specs.Stations.{station, station_at, drop_stations, first_stations, end_stations, last_foot, stations_of}
 use Rattle.full_tree.specs.Passing.{Passes, IsWithinBottleneck, KeepsUpTo, KeepsBottlenecks}
 use Rattle.full_tree.specs.StationsLaws.{member_of}
-use Rattle.spanning.specs.Bottleneck.{IsBottleneck}
 use Rattle.fst_gen.specs.declared.prefix.Prefix.{Prefix}
 use Rattle.fst_gen.specs.Prefix.{last_member, MayFollow, HasPrefix, FailingDropNeverPasses, FarTipNeverPasses, IsPrefix, IsLongerBy}
 
@@ -197,9 +197,6 @@ keeps_longer ps prefix longer d by = search
 
 abbrev before_of : Station → ℕ
 before_of s = s.before
-
-IsBottleneck-at : (ps : List Point) (i i' j j' most : ℕ) → i ≡ i' → j ≡ j' → IsBottleneck ps i j most → IsBottleneck ps i' j' most
-IsBottleneck-at ps i i' j j' most e f b = subst (λ k. IsBottleneck ps i' k most) f (subst (λ k. IsBottleneck ps k j most) e b)
 
 -- the long leg from the last member to the corner is within their bottleneck
 pub near_from_passing : (ps : List Point) (root : ℕ) (toward : Way) (drops : List ℕ) (side : Option ℕ) (tip : ℕ)

@@ -5,6 +5,7 @@ use Rattle.std.specs.BTreeMap.{BTreeMap}
 use Rattle.std.proofs.lemmas.Bool.{cases_eq}
 use Rattle.std.proofs.lemmas.List.{append_assoc, append-nil}
 use Rattle.std.proofs.lemmas.List.Elements.{All-head}
+use Rattle.lists.specs.ListLaws.{All-second}
 use Rattle.points_in.specs.declared.point.Point.{Point}
 use Rattle.hanan_grid.specs.Distance.{distance_between}
 use Rattle.spanning.specs.Bottleneck.{IsBottleneck}
@@ -15,7 +16,7 @@ use Rattle.full_tree.specs.declared.code.TreeCode.{TreeCode}
 use Rattle.full_tree.specs.declared.code.TreeCode.TheVariants.{Long, Cross}
 use Rattle.full_tree.specs.MembersLaws.{length-ascending_places}
 use Rattle.full_tree.specs.Geometry.{point_at}
-use Rattle.full_tree.specs.LongLaws.{NamesFew, long_names_few, All-second}
+use Rattle.full_tree.specs.LongLaws.{NamesFew, long_names_few}
 use Rattle.full_tree.specs.Pieces.{foot}
 use Rattle.full_tree.specs.Passing.{IsWithinBottleneck}
 use Rattle.fst_gen.specs.declared.fault.GenFault.{GenFault}
@@ -174,9 +175,6 @@ IsPrefix-of ps qs prefix same is = subst (λ (rs : List Point). IsPrefix rs pref
 -- the bottleneck of two terminals that were named otherwise
 pub IsBottleneck-there : (ps ts : List Point) (i i' j j' most : ℕ) → ps ≡ ts → i' ≡ i → j' ≡ j → IsBottleneck ts i' j' most → IsBottleneck ps i j most
 IsBottleneck-there ps ts i i' j j' most same e f b = grind arith
-
-pub within-from : (ps : List Point) (i j most n : ℕ) → IsBottleneck ps i j most → n ≤ most → IsWithinBottleneck ps i j n
-within-from ps i j most n b h other c = omega (arith, b.least other c.chain)
 
 -- ---- roots and directions
 

@@ -1,7 +1,7 @@
 -- What holds of each item of a list, and of the item at each place.
 use Rattle.std.proofs.Common.{ℕ, ◌≡◌, ◌+◌, ◌<◌, List, length, subst, sym, ◌∙◌, arith}
 use Rattle.std.specs.Prelude.{All, slice_get, Some}
-use Rattle.std.proofs.lemmas.Option.{slice_get-get_or, slice_get_within}
+use Rattle.std.proofs.lemmas.Option.{slice_get-get_or}
 use Rattle.points_in.specs.declared.point.Point.{Point}
 use Rattle.full_tree.specs.declared.station.Station.{Station}
 use Rattle.full_tree.specs.declared.code.TreeCode.{TreeCode}
@@ -12,10 +12,6 @@ use Rattle.full_tree.specs.Passing.{KeepsBottlenecks}
 
 some_same : {X : Type 0} (x y : X) → Some x ≡ Some y → x ≡ y
 some_same x y e = cc
-
-pub All-at : {X : Type 0} (P : X → Type 0) (xs : List X) (k : ℕ) (x : X) → All P xs → slice_get xs k ≡ Some x → P x
-All-at P xs k x all at =
-    grind (arith, slice_get_within xs k x, some_same, slice_get-get_or xs k x (slice_get_within xs k x at), all k x (slice_get_within xs k x at))
 
 pub All-from_places : {X : Type 0} (P : X → Type 0) (xs : List X) (n : ℕ) → n ≡ length xs
     → ((k : ℕ) (x : X) → k < n → slice_get xs k ≡ Some x → P x) → All P xs

@@ -7,13 +7,14 @@ use Rattle.std.specs.Ordering.{int_cmp, is_lt, is_eq, is_ne, is_ge, ordering_ind
 use Rattle.std.proofs.lemmas.Bool.{true≢false, false≢true, cases_lt}
 use Rattle.std.proofs.lemmas.List.{get_or-take, length-take, drop_all, get_or_default}
 use Rattle.std.proofs.lemmas.List.Elements.{All-contains, Contains-get_or, Contains-append_left, Contains-push}
+use Rattle.full_tree.specs.GeometryLaws.{across-itself}
 use Rattle.points_in.specs.declared.point.Point.{Point}
 use Rattle.full_tree.specs.declared.way.Way.{Way}
 use Rattle.full_tree.specs.Geometry.{across, RisesFrom}
 use Rattle.full_tree.specs.declared.code.TreeCode.TheVariants.{Long}
 use Rattle.full_tree.specs.Code.{named_places}
 use Rattle.full_tree.specs.Form.{along_of, across_of, LieInTurn, IsOnShortLeg}
-use Rattle.full_tree.proofs.lemmas.Signs.{TurnsFrom, sides_iff_turns, across-itself, turns_from_between}
+use Rattle.full_tree.proofs.lemmas.Signs.{TurnsFrom, sides_iff_turns, turns_from_between}
 
 -- a test that answers no decides what doesn't hold
 pub no : {P : Type 0} → ¬ P → IsTrue false ↔ P

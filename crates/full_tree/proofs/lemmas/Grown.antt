@@ -1,7 +1,7 @@
 -- How pieces grow from points that are reached, and where they end.
 use Rattle.std.proofs.Common.{ℕ, ◌≡◌, List, [], ◌∷◌, ◌++◌, get_or, map, subst, inl, inr, arith}
 use Rattle.std.specs.Prelude.{All, Contains}
-use Rattle.std.proofs.lemmas.List.Elements.{All-nil, All-cons, All-head, All-tail, All-weaker, All-contains, Contains-get_or, Contains-append_left, Contains-append_right}
+use Rattle.std.proofs.lemmas.List.Elements.{All-nil, All-cons, All-head, All-tail, All-weaker, Contains-get_or}
 use Rattle.points_in.specs.declared.point.Point.{Point}
 use Rattle.hanan_grid.specs.ContainsLaws.{Contains-first, Contains-rest, Contains-cases}
 use Rattle.full_tree.specs.declared.straight.Piece.{Piece}
@@ -9,15 +9,6 @@ use Rattle.full_tree.specs.Pieces.{piece_between, line_over}
 use Rattle.full_tree.specs.Joined.{GrowsFrom, ends_of}
 
 -- ---- lists
-
--- what holds of two lists joined holds of each
-pub All-first : {X : Type 0} (P : X → Type 0) (xs ys : List X) → All P (xs ++ ys) → All P xs
-All-first P xs ys all k d inside =
-    All-contains P (xs ++ ys) (get_or xs k d) all (Contains-append_left xs ys (get_or xs k d) (Contains-get_or xs k d inside))
-
-pub All-second : {X : Type 0} (P : X → Type 0) (xs ys : List X) → All P (xs ++ ys) → All P ys
-All-second P xs ys all k d inside =
-    All-contains P (xs ++ ys) (get_or ys k d) all (Contains-append_right xs ys (get_or ys k d) (Contains-get_or ys k d inside))
 
 -- ---- growing
 

@@ -6,6 +6,7 @@ use Rattle.std.proofs.lemmas.Int.{ints}
 use Rattle.std.proofs.lemmas.Bool.{cases_Bool, false_from_ne_true}
 use Rattle.std.proofs.lemmas.Bool.Decides.{Decides-int_eq}
 use Rattle.std.proofs.lemmas.List.Elements.{All-nil, All-cons, All-head, All-tail, All-append, All-weaker, All-map, Contains-append_left, Contains-append_right, Contains-push}
+use Rattle.lists.specs.ListLaws.{All-first, All-second}
 use Rattle.points_in.specs.declared.point.Point.{Point}
 use Rattle.hanan_grid.specs.Grid.{xs_of, ys_of}
 use Rattle.hanan_grid.specs.Names.{IsCrossing}
@@ -20,7 +21,7 @@ use Rattle.full_tree.specs.Pieces.{piece_between, line_over, foot, side_foot, lo
 use Rattle.full_tree.specs.Joined.{IsStraight, GrowsFrom, HangsTogether, ends_of, IsOnGrid, JoinsMembers}
 use Rattle.full_tree.proofs.lemmas.Meets.{ahead, aside, point_seen-meet, point_seen-foot, straight_ahead, straight_across, same_seen, aside-across, IsCrossing-point_at, IsCrossing-meet}
 use Rattle.hanan_grid.specs.ContainsLaws.{Contains-first}
-use Rattle.full_tree.proofs.lemmas.Grown.{All-first, All-second, line_grows, hung_grow, GrowsFrom-append, tos_of_line, All-places, Contains-ends_to, Contains-line_to, hung_ends}
+use Rattle.full_tree.proofs.lemmas.Grown.{line_grows, hung_grow, GrowsFrom-append, tos_of_line, All-places, Contains-ends_to, Contains-line_to, hung_ends}
 
 -- ---- the points of a long code
 

@@ -11,6 +11,7 @@ use Rattle.std.proofs.lemmas.List.Elements.{All-nil, All-cons, All-head, All-tai
 use Rattle.std.proofs.lemmas.List.Kept.{AllPairs-cons}
 use Rattle.std.proofs.lemmas.List.Sums.{sum_by-cons, sum_by-append, sum_by-le, sum_by_more_le}
 use Rattle.std.proofs.lemmas.Option.{slice_get_within, get_or_from_slice_get}
+use Rattle.full_tree.specs.GeometryLaws.{along-itself, across-itself}
 use Rattle.points_in.specs.declared.point.Point.{Point}
 use Rattle.net_graph.specs.Graph.{total_of}
 use Rattle.hanan_grid.specs.Distance.{distance_between}
@@ -25,7 +26,6 @@ use Rattle.full_tree.specs.declared.code.TreeCode.TheVariants.{Long, Cross}
 use Rattle.full_tree.specs.Geometry.{point_at, along, across, RisesFrom, IsBetweenZeroAnd}
 use Rattle.full_tree.specs.Form.{along_of, across_of, IsOnShortLeg, IsCrossShape, IsInForm}
 use Rattle.full_tree.specs.Pieces.{piece_between, line_over, foot, side_foot, long_leg, short_leg, drop_pieces, side_piece, crossing_of, length_of_piece, code_length}
-use Rattle.full_tree.proofs.lemmas.Signs.{along-itself, across-itself}
 use Rattle.full_tree.proofs.lemmas.Meets.{ahead, aside, distance_ahead, distance_across, along-same, across-same, lines_ahead, lines_aside, IsRising-lines_aside, Contains-lines_ahead, Contains-lines_aside, IsCrossing-point_at, total_seen}
 use Rattle.full_tree.proofs.lemmas.Joins.{aside-foot, ahead-foot, ahead-side_foot, aside-side_foot, long_places}
 

@@ -1,9 +1,10 @@
 -- Which piece stands at which number.
-use Rattle.std.proofs.Common.{ℕ, zero, suc, ◌+◌, ◌≡◌, ◌<◌, false, List, [], ◌∷◌, ◌++◌, length, get_or, map, refl, ap, subst, ◌∙◌, arith, length-append}
-use Rattle.std.specs.Prelude.{pos, All, Option, Some, option_map, option_to_list, slice_get}
+use Rattle.std.proofs.Common.{ℕ, zero, suc, ◌+◌, ◌≡◌, ◌<◌, false, List, [], ◌∷◌, ◌++◌, length, get_or, map, refl, ap, ◌∙◌, arith, length-append}
+use Rattle.std.specs.Prelude.{pos, Option, Some, option_map, option_to_list, slice_get}
 use Rattle.std.specs.Ordering.{int_eq}
 use Rattle.std.proofs.lemmas.List.{length-map}
-use Rattle.std.proofs.lemmas.Option.{slice_get-map, slice_get-get_or, slice_get_within, get_or_from_slice_get}
+use Rattle.std.proofs.lemmas.Option.{slice_get-map, slice_get-get_or}
+use Rattle.lists.specs.ListLaws.{slice_get-append_left}
 use Rattle.points_in.specs.declared.point.Point.{Point}
 use Rattle.full_tree.specs.declared.way.Way.{Way}
 use Rattle.full_tree.specs.declared.straight.Piece.{Piece}
@@ -12,21 +13,11 @@ use Rattle.full_tree.specs.Geometry.{point_at}
 use Rattle.full_tree.specs.Form.{across_of}
 use Rattle.full_tree.specs.Pieces.{piece_between, line_over, foot, side_foot, long_leg, short_leg, drop_pieces, side_piece, pieces_of}
 
--- what stands in the first of two lists stands there in both together
-slice_get-append_left : {X : Type 0} (xs ys : List X) (n : ℕ) (x : X) → slice_get xs n ≡ Some x → slice_get (xs ++ ys) n ≡ Some x
-slice_get-append_left [] ys n x at = cc
-slice_get-append_left (y ∷ xs) ys zero x at = at
-slice_get-append_left (y ∷ xs) ys (suc n) x at = slice_get-append_left xs ys n x at
-
 -- what stands in the second stands behind the first
 slice_get-append_right : {X : Type 0} (xs ys : List X) (n k : ℕ) (x : X) → n ≡ length xs + k → slice_get ys k ≡ Some x → slice_get (xs ++ ys) n ≡ Some x
 slice_get-append_right [] ys n k x is at = let here : n ≡ k = omega arith in rw here at
 slice_get-append_right (y ∷ xs) ys zero k x is at = absurd (omega arith)
 slice_get-append_right (y ∷ xs) ys (suc n) k x is at = slice_get-append_right xs ys n k x (omega arith) at
-
--- what holds of all holds of what stands at a number
-pub All-slice_get : {X : Type 0} (P : X → Type 0) (xs : List X) (n : ℕ) (x : X) → All P xs → slice_get xs n ≡ Some x → P x
-All-slice_get P xs n x all at = subst P (get_or_from_slice_get xs n x x at) (all n x (slice_get_within xs n x at))
 
 -- a line's pieces lead from each of its points to the next one
 pub slice_get-line_over : (p : Point) (qs : List Point) (n : ℕ) (d : Point) → n < length qs → slice_get (line_over p qs) n ≡ Some (piece_between (get_or (p ∷ qs) n d) (get_or (p ∷ qs) (n + 1) d))

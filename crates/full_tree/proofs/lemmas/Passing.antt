@@ -1,15 +1,12 @@
 -- The walk back from a station over the ones before it, with the greatest stretch so far.
 use Rattle.std.proofs.Common.{ℕ, ◌≡◌, ◌+◌, ◌-◌, ◌<◌, ◌≤◌, max, List, arith, sym, subst, ⊎_elim}
 use Rattle.std.proofs.lemmas.Bool.{cases_eq}
+use Rattle.full_tree.specs.PassingLaws.{within-from}
 use Rattle.points_in.specs.declared.point.Point.{Point}
 use Rattle.spanning.specs.Bottleneck.{IsBottleneck}
 use Rattle.full_tree.specs.declared.station.Station.{Station}
 use Rattle.full_tree.specs.Stations.{station_at}
-use Rattle.full_tree.specs.Passing.{IsWithinBottleneck, KeepsBetween, KeepsUpTo}
-
--- a length is within a bottleneck where it is at most a number that is the bottleneck
-pub within-from : (ps : List Point) (i j most n : ℕ) → IsBottleneck ps i j most → n ≤ most → IsWithinBottleneck ps i j n
-within-from ps i j most n b h other c = omega (arith, b.least other c.chain)
+use Rattle.full_tree.specs.Passing.{KeepsBetween, KeepsUpTo}
 
 -- the greatest of the last station's leg and of the stretches behind the first station
 pub record IsMost (stations : List Station) (first last greatest : ℕ) : Type 0 where
@@ -102,6 +99,3 @@ HasGoneBack-fails ps stations first last greatest more most some back are is kee
     (test-from_KeepsBetween ps stations (first - 1) last _ most is
     (IsMost-more stations (first - 1) last greatest back'.most back'.within)
     (keeps (first - 1) (omega (arith, back.within))))
-
-pub IsBottleneck-at : (ps : List Point) (i i' j j' most : ℕ) → i ≡ i' → j ≡ j' → IsBottleneck ps i j most → IsBottleneck ps i' j' most
-IsBottleneck-at ps i i' j j' most e f b = subst (λ k. IsBottleneck ps i' k most) f (subst (λ k. IsBottleneck ps k j most) e b)

@@ -6,23 +6,7 @@ use Rattle.std.specs.declared.cmp.Ordering.{Ordering}
 use Rattle.std.specs.Ordering.{int_cmp}
 use Rattle.std.proofs.lemmas.Int.{ints}
 use Rattle.std.proofs.lemmas.List.Elements.{All-cons, All-head, All-tail}
-use Rattle.points_in.specs.declared.point.Point.{Point}
-use Rattle.full_tree.specs.declared.way.Way.{Way}
-use Rattle.full_tree.specs.declared.way.Way.TheVariants.{East, North, West, South}
-use Rattle.full_tree.specs.Geometry.{along, across, RisesFrom, AreOpposite, AlternatesAfter, Alternates, IsBetweenZeroAnd}
-
--- a point lies neither ahead of itself nor beside itself
-pub along-itself : (r : Point) (w : Way) → along r w r ≡ pos 0
-along-itself r East = omega (arith, ints)
-along-itself r North = omega (arith, ints)
-along-itself r West = omega (arith, ints)
-along-itself r South = omega (arith, ints)
-
-pub across-itself : (r : Point) (w : Way) → across r w r ≡ pos 0
-across-itself r East = omega (arith, ints)
-across-itself r North = omega (arith, ints)
-across-itself r West = omega (arith, ints)
-across-itself r South = omega (arith, ints)
+use Rattle.full_tree.specs.Geometry.{RisesFrom, AreOpposite, AlternatesAfter, Alternates, IsBetweenZeroAnd}
 
 -- how two numbers stand to each other, with what their comparison answers
 pub data Stand (z y : ℤ) : Type 0 where

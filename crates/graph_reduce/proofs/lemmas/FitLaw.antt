@@ -4,7 +4,8 @@ use Rattle.std.proofs.Common.{refl, sym, ap, ◌∙◌, subst, arith}
 use Rattle.std.proofs.lemmas.List.{length-map, get_or-map}
 use Rattle.std.proofs.lemmas.List.Elements.{Contains-get_or}
 use Rattle.std.proofs.lemmas.List.Sums.{sum_by-cons}
-use Rattle.std.proofs.lemmas.Option.{slice_get-get_or, slice_get_within}
+use Rattle.std.proofs.lemmas.Option.{slice_get_within}
+use Rattle.lists.specs.ListLaws.{All-from_places}
 use Rattle.net_graph.specs.declared.edge.Edge.{Edge}
 use Rattle.net_graph.specs.Flags.{has}
 use Rattle.net_graph.specs.Graph.{Graph, IsGraph, HasEndsBelow}
@@ -72,11 +73,6 @@ total_left nodes [] = refl
 total_left nodes (None ∷ xs) = omega (arith, total_left nodes xs)
 total_left nodes (Some x ∷ xs) = search (sum_by-cons, total_left nodes xs)
 
--- what holds at each place that holds something holds of all
-All-from_get : {A : Type 0} (P : A → Type 0) (xs : List A) →
-    ((k : ℕ) (x : A) → slice_get xs k ≡ Some x → P x) → All P xs
-All-from_get P xs each k d below = each k (slice_index_or xs k d) (slice_get-get_or xs k d below)
-
 module _ (g : Graph) (graph : IsGraph g) (s : State) (sound : IsSound s) (fits : Fits g s) where
   abbrev r : Reduction
   r = reduction_of s
@@ -91,7 +87,7 @@ module _ (g : Graph) (graph : IsGraph g) (s : State) (sound : IsSound s) (fits :
   -- what holds of each edge that is left, with its new ends
   each_edge : (P : Edge → Type 0) → ((n : ℕ) (x : Bundle) → HasEdge s n x → P (renumbered s.nodes x.edge)) →
       All P r.graph.edges
-  each_edge P holds = All-from_get P r.graph.edges (λ k e at.
+  each_edge P holds = All-from_places P r.graph.edges (λ k e at.
       let (x, x_at, is) = mapped_at (λ (y : Bundle). renumbered s.nodes y.edge) (bundles_left s.edges) k e at in
       let stands = left_at s.edges k x x_at in
       subst P is (holds stands.place x stands.at))

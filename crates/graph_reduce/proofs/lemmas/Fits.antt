@@ -9,7 +9,8 @@ use Rattle.net_graph.specs.EntryLaws.{slice_get-replicate}
 use Rattle.net_graph.specs.Flags.{has}
 use Rattle.net_graph.specs.Joins.{slice_get-has}
 use Rattle.net_graph.specs.Graph.{Graph, IsGraph, total_of}
-use Rattle.graph_reduce.specs.State.{Bundle, State, HasEdge, bundles_from, distinct_of, start_of}
+use Rattle.graph_reduce.specs.State.{Bundle, State, HasEdge, bundles_from, start_of}
+use Rattle.net_graph.specs.Distinct.{distinct_of}
 use Rattle.graph_reduce.specs.Rules.{DropsAllEdges, DropsParallel, DropsLoneNode, JoinsEdges, ForcesEdge, moved}
 use Rattle.graph_reduce.specs.Step.{Rule, Takes, Applies, order_of}
 use Rattle.graph_reduce.specs.Step.Rule.{OneTerminal, Loop, Parallel, Leaf, Passed, TerminalLeaf}

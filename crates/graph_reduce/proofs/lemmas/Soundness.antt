@@ -1,10 +1,10 @@
 -- What holds of every state of a reduction: no terminal is listed twice, and terminals and ends of edges are nodes that
 -- are left.
 use Rattle.std.specs.Prelude.{ℕ, zero, suc, ◌≡◌, ◌+◌, ◌<◌, Bool, true, false, List, [], ◌∷◌, length, replicate, slice_get, slice_set, Some, All}
-use Rattle.std.proofs.Common.{refl, sym, ap, ◌∙◌, inl, inr, ⊎_elim, subst, arith}
-use Rattle.std.proofs.lemmas.List.{get_or-replicate, length-replicate}
+use Rattle.std.proofs.Common.{refl, sym, ◌∙◌, inl, inr, ⊎_elim, subst, arith}
 use Rattle.std.proofs.lemmas.List.Elements.{All-contains}
 use Rattle.std.proofs.lemmas.Option.{same_Some, slice_get-get_or, slice_get_within}
+use Rattle.lists.specs.ListLaws.{slice_get-repeated}
 use Rattle.net_graph.specs.declared.edge.Edge.{Edge}
 use Rattle.net_graph.specs.EntryLaws.{slice_get-set_other}
 use Rattle.net_graph.specs.Graph.{Graph, IsGraph, HasEndsBelow}
@@ -35,18 +35,14 @@ ends_below : (es : List Edge) (vertices k : ℕ) (e : Edge) → All (HasEndsBelo
 ends_below es vertices k e all at =
     grind (arith, slice_get_within es k e, same_Some, slice_get-get_or es k e (slice_get_within es k e at), all k e (slice_get_within es k e at))
 
-all_left : (size v : ℕ) → v < size → slice_get (replicate size true) v ≡ Some true
-all_left size v below = slice_get-get_or (replicate size true) v true (omega (arith, length-replicate size true))
-    ∙ ap Some (get_or-replicate size v true true below)
-
 pub IsSound-start : (g : Graph) → IsGraph g → IsSound (start_of g)
 IsSound-start g graph = record {
   distinct = AreDistinct-distinct_of g.terminals;
-  terminals = λ t is. all_left g.vertices t (All-contains (λ v. v < g.vertices) g.terminals t graph.terminals
+  terminals = λ t is. slice_get-repeated g.vertices t true (All-contains (λ v. v < g.vertices) g.terminals t graph.terminals
       (Contains-from_In g.terminals t (In-distinct_of g.terminals t is)));
   ends = λ n x at. let below = ends_below g.edges g.vertices n x.edge graph.ends
       (bundle_at (length g.edges) 0 g.edges n x at).0 in
-      (all_left g.vertices x.edge.a below.a, all_left g.vertices x.edge.b below.b);
+      (slice_get-repeated g.vertices x.edge.a true below.a, slice_get-repeated g.vertices x.edge.b true below.b);
 }
 
 -- where no loop can be dropped, the other end of an edge is another node

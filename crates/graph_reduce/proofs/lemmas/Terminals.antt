@@ -3,7 +3,7 @@ use Rattle.std.specs.Prelude.{ℕ, zero, suc, ◌≡◌, ◌==◌, ◌⊎◌, Bo
 use Rattle.std.specs.List.{list_any}
 use Rattle.std.proofs.Common.{refl, sym, ap, ◌∙◌, inl, inr, ⊎_elim, subst, arith}
 use Rattle.std.proofs.lemmas.Bool.{eqb-true, eqb-false, eq-eqb, or_cases, or_left, or_right, both_ways}
-use Rattle.graph_reduce.specs.State.{without, distinct_of}
+use Rattle.net_graph.specs.Distinct.{without, distinct_of}
 use Rattle.graph_reduce.specs.Rules.{moved}
 
 -- the number is in the list, by recursion

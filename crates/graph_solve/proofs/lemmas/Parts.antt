@@ -1,14 +1,16 @@
 -- What is said of the edges of a file is said of those of its graph, and back.
-use Rattle.std.specs.Prelude.{ℕ, ◌≡◌, ◌+◌, ◌<◌, List, [], ◌∷◌, length, get_or, map, sum_by, slice_get, Some, All, option_map}
+use Rattle.std.specs.Prelude.{ℕ, ◌≡◌, ◌+◌, ◌<◌, List, [], ◌∷◌, length, get_or, map, sum_by, slice_get, Some, All, IsTrue, option_map}
 use Rattle.std.proofs.Common.{ap, sym, ◌∙◌, subst, refl, arith}
 use Rattle.std.proofs.lemmas.List.{length-map, get_or-map}
 use Rattle.std.proofs.lemmas.List.Sums.{sum_by-cons}
+use Rattle.std.proofs.lemmas.Grind.{common_steps}
 use Rattle.std.proofs.lemmas.Option.{slice_get-map, slice_get_within, slice_get-get_or, same_Some}
 use Rattle.stp_format.specs.declared.edge.StpEdge.{StpEdge}
-use Rattle.stp_format.specs.Value.{StpValue}
+use Rattle.stp_format.specs.Value.{StpValue, is_node}
 use Rattle.net_graph.specs.declared.edge.Edge.{Edge}
+use Rattle.net_graph.specs.Distinct.{distinct_of}
 use Rattle.net_graph.specs.Fault.{IsFirst}
-use Rattle.graph_solve.specs.Task.{vertex_of, edge_of, without_repeats, total_of_stp}
+use Rattle.graph_solve.specs.Task.{vertex_of, edge_of, total_of_stp}
 use Rattle.graph_solve.specs.Fault.{HasTerminal, HasLengths, IsFirstWithoutLength}
 
 -- the sum of the lengths
@@ -28,6 +30,10 @@ pub lengths-edges : (edges : List StpEdge) → All (λ (e : Edge). 0 < e.length)
     All (λ (e : StpEdge). 0 < e.length) edges
 lengths-edges edges each k e within =
     grind (arith, length-map edges edge_of, get_or-map edge_of edges k e (edge_of e) within)
+
+-- the vertex of a node
+pub vertex_of-below : (nodes node : ℕ) → IsTrue (is_node nodes node) → vertex_of node < nodes
+vertex_of-below nodes node is = grind (arith, common_steps)
 
 -- some edge
 nowhere : StpEdge
@@ -51,7 +57,7 @@ IsFirst-edges edges place first =
     }
 
 -- a file with a terminal has one that is left
-pub terminals-left : (terminals : List ℕ) → 0 < length terminals → without_repeats (map vertex_of terminals) ≡ [] → ⊥
+pub terminals-left : (terminals : List ℕ) → 0 < length terminals → distinct_of (map vertex_of terminals) ≡ [] → ⊥
 terminals-left [] some none = omega arith
 terminals-left (t ∷ terminals) some none = cc
 

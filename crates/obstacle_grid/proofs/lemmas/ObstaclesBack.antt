@@ -5,6 +5,7 @@ use Rattle.std.proofs.Common.{arith, refl, sym, ap, subst, ◌∙◌}
 use Rattle.std.proofs.lemmas.List.{length-map, get_or-map, get_or_append_left}
 use Rattle.std.proofs.lemmas.List.Elements.{All-append, All-filter, All-head, All-tail, All-map}
 use Rattle.std.proofs.lemmas.List.Sums.{sum_by-cons}
+use Rattle.lists.specs.ListLaws.{length-filter-le}
 use Rattle.stp_format.specs.declared.edge.StpEdge.{StpEdge}
 use Rattle.points_in.specs.declared.point.Point.{Point}
 use Rattle.net_graph.specs.declared.edge.Edge.{Edge}
@@ -21,7 +22,7 @@ use Rattle.obstacles_in.specs.Obstacles.{ObstaclesValue, AreObstacles, corners_o
 use Rattle.obstacle_grid.specs.Fault.{IsTask}
 use Rattle.obstacle_grid.specs.Grid.{obstacle_grid_of, is_allowed, obstacle_graph_of}
 use Rattle.obstacle_grid.specs.ReadBack.{turned, with_edges_turned, AreDifferent, ObstaclesAreReadBack}
-use Rattle.obstacle_grid.proofs.lemmas.Faults.{sound_parts, length-filter-le, few_terminals}
+use Rattle.obstacle_grid.proofs.lemmas.Faults.{sound_parts, few_terminals}
 use Rattle.obstacle_grid.proofs.lemmas.ReadBack.{node_edge, node_of, file_of, text_is_file, graph_is_back}
 use Rattle.obstacle_grid.proofs.lemmas.Sizes.{few_edges, length-marks}
 

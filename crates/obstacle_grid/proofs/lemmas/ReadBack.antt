@@ -17,8 +17,9 @@ use Rattle.stp_format.specs.Sections.{◌>>=◌, Sections, no_sections, outside,
 use Rattle.stp_format.specs.Sections.{ended, listing, naming}
 use Rattle.stp_format.specs.Value.{StpGraph, StpValue}
 use Rattle.net_graph.specs.declared.edge.Edge.{Edge}
+use Rattle.net_graph.specs.Distinct.{distinct_of, without}
 use Rattle.net_graph.specs.Graph.{Graph, HasEndsBelow, IsGraph}
-use Rattle.graph_solve.specs.Task.{vertex_of, edge_of, without_repeats, graph_of_stp}
+use Rattle.graph_solve.specs.Task.{vertex_of, edge_of, graph_of_stp}
 use Rattle.obstacle_grid.specs.ReadBack.{turned, with_edges_turned, AreDifferent, GraphsAreReadBack}
 use Rattle.obstacle_grid.specs.Text.{edge_text, graph_text, terminal_text, terminals_text, graph_stp_text}
 use Rattle.obstacle_grid.proofs.lemmas.Words.{lines_of-line}
@@ -227,14 +228,14 @@ filter_all_pass p (x ∷ xs) all =
     (ap (λ ys. x ∷ ys) (filter_all_pass p xs (All-tail (λ x. p x ≡ true) x xs all)))
 
 -- different vertices have no repeats
-different_stay : (vertices : List ℕ) → AreDifferent vertices → without_repeats vertices ≡ vertices
+different_stay : (vertices : List ℕ) → AreDifferent vertices → distinct_of vertices ≡ vertices
 different_stay [] different = refl
 different_stay (v ∷ vertices) different =
     let rest = different_stay vertices
     (λ i j d earlier inside. different (suc i) (suc j) d (omega arith) (omega arith)) in
-    let others : All (λ w. not (v == w) ≡ true) vertices =
-    λ k d inside. ap not (ne_eqb v (get_or vertices k d) (different 0 (suc k) d (omega arith) (omega arith))) in
-    ap (λ vs. v ∷ filter (λ w. not (v == w)) vs) rest ∙ ap (λ vs. v ∷ vs) (filter_all_pass _ vertices others)
+    let others : All (λ w. not (w == v) ≡ true) vertices =
+    λ k d inside. ap not (ne_eqb (get_or vertices k d) v (λ e. different 0 (suc k) d (omega arith) (omega arith) (sym e))) in
+    ap (λ vs. v ∷ without v vs) rest ∙ ap (λ vs. v ∷ vs) (filter_all_pass _ vertices others)
 
 -- the file's graph is the graph, with its edges turned
 pub graph_is_back : (g : Graph) → AreDifferent g.terminals → graph_of_stp (file_of g) ≡ with_edges_turned g

@@ -1,21 +1,15 @@
 -- How many lines, crossings and edges there are.
-use Rattle.std.specs.Prelude.{ℕ, ◌+◌, ◌-◌, ◌*◌, ◌≡◌, ◌≤◌, ◌<◌, List, [], ◌∷◌, length, flat_map, refl}
+use Rattle.std.specs.Prelude.{ℕ, ◌+◌, ◌-◌, ◌*◌, ◌≡◌, ◌≤◌, ◌<◌, length, flat_map}
 use Rattle.std.proofs.Common.{arith, inl, inr}
 use Rattle.std.proofs.lemmas.Bool.{cases_lt}
 use Rattle.std.proofs.lemmas.List.{length-append}
 use Rattle.std.proofs.lemmas.Nat.{mul-le}
-use Rattle.obstacles_in.specs.declared.rectangle.Rectangle.{Rectangle}
+use Rattle.obstacles_in.specs.ObstaclesLaws.{length-corners}
 use Rattle.obstacles_in.specs.Obstacles.{ObstaclesValue, AreObstacles, corners_of, marks_of, columns_of, rows_of}
 use Rattle.hanan_grid.specs.GridLaws.{length-xs_of-le, length-ys_of-le, length-xs_of-positive, length-ys_of-positive}
 use Rattle.hanan_grid.specs.GridLaws.{edges_of_lines, length-edges_of_lines}
 
 -- ---- lines
-
--- each box has two corners
-length-corners : (boxes : List Rectangle) → length (flat_map corners_of boxes) ≡ length boxes + length boxes
-length-corners [] = refl
-length-corners (b ∷ boxes) =
-    omega (arith, length-append (corners_of b) (flat_map corners_of boxes), length-corners boxes)
 
 -- how many marks there are
 pub length-marks : (o : ObstaclesValue) → length (marks_of o) ≡ length o.points + (length o.boxes + length o.boxes)

@@ -11,9 +11,9 @@ use Rattle.std.proofs.lemmas.Bool.Decides.{Decides-ltb}
 use Rattle.std.proofs.lemmas.Fmt.{decimal_is_IsNumeral, decimal_nonempty}
 use Rattle.std.proofs.lemmas.List.Elements.{All-from_get_or}
 use Rattle.std.proofs.lemmas.List.Splits.{slice_split_at, slice_split_none, length-slice_split}
-use Rattle.std.proofs.lemmas.Str.Parse.{IsNumeralModel, numerals_by_value, tells_all_ascii_digits}
 use Rattle.std.proofs.lemmas.Str.Parse.{digit_at, digit_from_value}
-use Rattle.stp_format.specs.Lines.{is_gap, words_of, without_return, ended_lines, lines_of}
+use Rattle.stp_format.specs.LineLaws.{ended_lines-cons, digits_model}
+use Rattle.stp_format.specs.Lines.{is_gap, words_of, without_return, lines_of}
 use Rattle.stp_format.specs.Numbers.{spelled_number, natural_below, number_in, or_fault, word_fault}
 
 -- ---- words
@@ -60,12 +60,6 @@ IsOneLine line = All (λ b. 13 < b) line
 pub line_of_word : (word : List ℕ) → IsPlain word → IsOneLine word
 line_of_word word plain k d inside = let above = plain.above k d inside in omega arith
 
--- a line before others
-ended_more : (line : List ℕ) (parts : List (List ℕ)) → 0 < length parts
-    → ended_lines (line ∷ parts) ≡ without_return line ∷ ended_lines parts
-ended_more line [] some = absurd (omega arith)
-ended_more line (part ∷ parts) some = refl
-
 -- it has no carriage return at its end
 without_return-line : (line : List ℕ) → IsOneLine line → without_return line ≡ line
 without_return-line [] is = refl
@@ -77,13 +71,9 @@ no_feeds line is k d inside = let above = is k d inside in ne_eqb (get_or line k
 -- the first line of a text
 pub lines_of-line : (line rest : List ℕ) → IsOneLine line → lines_of (line ++ 10 ∷ rest) ≡ line ∷ lines_of rest
 lines_of-line line rest is =
-    grind (arith, slice_split_at, no_feeds line is, ended_more, length-slice_split, without_return-line line is)
+    grind (arith, slice_split_at, no_feeds line is, ended_lines-cons, length-slice_split, without_return-line line is)
 
 -- ---- numbers
-
--- the test of digits
-digits_model : IsNumeralModel (λ ds. all_ascii_digits ds ≡ true) (digits_value 10)
-digits_model = numerals_by_value (λ ds. all_ascii_digits ds ≡ true) tells_all_ascii_digits
 
 numeral_told : (ds : List ℕ) → IsNumeral 10 ds → (not (length ds == 0) && all_ascii_digits ds) ≡ true
 numeral_told ds numeral = rw (not_empty ds (omega (arith, numeral.0)), digits_model.from ds numeral.1) refl

@@ -1,18 +1,14 @@
 -- How many lines points and boxes have.
-use Rattle.std.specs.Prelude.{ℕ, ◌≡◌, ◌+◌, ◌*◌, ◌≤◌, List, [], ◌∷◌, length, flat_map}
-use Rattle.std.proofs.Common.{arith, refl}
+use Rattle.std.specs.Prelude.{ℕ, ◌*◌, ◌≤◌, List, length, flat_map}
+use Rattle.std.proofs.Common.{arith}
 use Rattle.std.proofs.Math.Nat.{mul-le-mul}
 use Rattle.std.proofs.lemmas.List.{length-append}
+use Rattle.obstacles_in.specs.ObstaclesLaws.{length-corners}
 use Rattle.points_in.specs.declared.point.Point.{Point}
 use Rattle.hanan_grid.specs.GridLaws.{length-xs_of-le, length-ys_of-le}
 use Rattle.obstacles_in.specs.declared.rectangle.Rectangle.{Rectangle}
 use Rattle.obstacles_in.specs.Obstacles.{corners_of, marks_of, columns_of, rows_of}
 use Rattle.obstacles_in.specs.Faults.{value_of}
-
--- each box has two corners
-length-corners : (bs : List Rectangle) → length (flat_map corners_of bs) ≡ length bs + length bs
-length-corners [] = refl
-length-corners (b ∷ bs) = omega (arith, length-corners bs)
 
 few_marks : (ps : List Point) (bs : List Rectangle) → length ps ≤ 50 → length bs ≤ 25
     → length (marks_of (value_of ps bs)) ≤ 100

@@ -1,8 +1,8 @@
 -- Flags that are written.
-use Rattle.std.proofs.Common.{ℕ, zero, suc, ◌≡◌, ◌≢◌, ◌<◌, ◌⊎◌, Bool, true, false, List, [], ◌∷◌, length, Some, slice_get, set, replicate, refl, arith, ap}
-use Rattle.std.proofs.lemmas.Bool.{cases_eq, cases_lt}
-use Rattle.std.proofs.lemmas.List.{get_or-set_same, get_or-set_other, get_or-replicate, get_or_past, length-replicate}
-use Rattle.std.proofs.lemmas.Option.{slice_get_within, get_or_from_slice_get}
+use Rattle.std.proofs.Common.{ℕ, zero, suc, ◌≡◌, ◌≢◌, ◌<◌, ◌⊎◌, Bool, true, false, List, [], ◌∷◌, length, Some, slice_get, set, refl, arith, ap}
+use Rattle.std.proofs.lemmas.Bool.{cases_eq}
+use Rattle.std.proofs.lemmas.List.{get_or-set_same, get_or-set_other}
+use Rattle.std.proofs.lemmas.Option.{slice_get_within}
 use Rattle.net_graph.specs.Flags.{has}
 
 -- the flag that was written
@@ -40,11 +40,3 @@ has-set_true flags k j within is = grind (arith, cases_eq j k, has-set_same flag
 pub has-set_cases : (flags : List Bool) (k j : ℕ) → has (set flags k true) j ≡ true →
     (j ≡ k) ⊎ (has flags j ≡ true)
 has-set_cases flags k j is = grind (arith, cases_eq j k, get_or-set_other)
-
--- nothing is in the empty set
-pub has-none : (n j : ℕ) → has (replicate n false) j ≡ false
-has-none n j = grind (arith, cases_lt j n, get_or-replicate, get_or_past, length-replicate n false)
-
--- .. and no flag of it is set
-pub none_set : (n j : ℕ) → slice_get (replicate n false) j ≡ Some true → ⊥
-none_set n j is = let here : has (replicate n false) j ≡ true = get_or_from_slice_get (replicate n false) j true false is in let none = has-none n j in cc

@@ -4,6 +4,7 @@ use Rattle.std.proofs.lemmas.Bool.{cases_eq, cases_Bool, both_ways}
 use Rattle.std.proofs.lemmas.List.{length-set, length-replicate}
 use Rattle.std.proofs.lemmas.List.Sums.{sum_by-set}
 use Rattle.std.proofs.lemmas.Option.{slice_get_within, same_Some, get_or_from_slice_get}
+use Rattle.net_graph.specs.EntryLaws.{has-none, none_set}
 use Rattle.net_graph.specs.Flags.{has}
 use Rattle.net_graph.specs.Network.{HasEnds}
 use Rattle.net_graph.specs.Search.{Leads}
@@ -13,7 +14,7 @@ use Rattle.spanning.specs.Joining.{edge_of, Hop, JoinsBelow, total_of, all_of}
 use Rattle.spanning.specs.JoiningLaws.{Leads-hops_more, total_of-within}
 use Rattle.spanning.specs.Leaving.{HasNumbersBelow, NoneLeaves, IsShortestLeaving}
 use Rattle.spanning.specs.Part.{IsNoWorse, IsPart}
-use Rattle.spanning.proofs.lemmas.Flags.{slice_get-set_same, slice_get-set_other, has-set_same, has-set_true, has-set_cases, has-none, none_set}
+use Rattle.spanning.proofs.lemmas.Flags.{slice_get-set_same, slice_get-set_other, has-set_same, has-set_true, has-set_cases}
 use Rattle.spanning.proofs.lemmas.Crossing.{LeavesFrom, leaves-from_ends, second_out, second_in}
 use Rattle.spanning.proofs.lemmas.Exchange.{IsNoWorse-more}
 

@@ -11,12 +11,9 @@ use Rattle.std.proofs.lemmas.Bool.Decides.{Decides-ltb, Decides-and, Decides-not
 use Rattle.std.proofs.lemmas.List.{get_or_past}
 use Rattle.std.proofs.lemmas.Str.{IsUtf8-from_ascii}
 use Rattle.std.proofs.lemmas.Str.Ascii.{IsAscii-nil, IsAscii-cons}
-use Rattle.std.proofs.lemmas.Str.Parse.{IsNumeralModel, numerals_by_value, tells_all_ascii_digits, digit_at}
+use Rattle.std.proofs.lemmas.Str.Parse.{digit_at}
+use Rattle.stp_format.specs.LineLaws.{digits_model}
 use Rattle.stp_format.specs.Numbers.{spelled_number, coordinate_of, weight_of}
-
--- the test of digits
-digits_model : IsNumeralModel (λ ds. all_ascii_digits ds ≡ true) (digits_value 10)
-digits_model = numerals_by_value (λ ds. all_ascii_digits ds ≡ true) tells_all_ascii_digits
 
 numeral_decides : (ds : List ℕ) → Decides (not (length ds == 0) && all_ascii_digits ds) (IsNumeral 10 ds)
 numeral_decides ds =

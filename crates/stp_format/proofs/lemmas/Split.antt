@@ -1,19 +1,16 @@
 -- Lines, cut off at the front of a text.
-use Rattle.std.specs.Prelude.{ℕ, ◌==◌, ◌≡◌, ◌<◌, false, List, [], ◌∷◌, ◌++◌, length, All}
+use Rattle.std.specs.Prelude.{ℕ, ◌==◌, ◌≡◌, false, List, [], ◌∷◌, ◌++◌, length, All}
 use Rattle.std.proofs.Common.{arith, refl, ap}
 use Rattle.std.proofs.lemmas.Bool.{eqb-true, false_from_ne_true}
 use Rattle.std.proofs.lemmas.List.Elements.{All-weaker}
 use Rattle.std.proofs.lemmas.List.Splits.{slice_split_none, slice_split_at, length-slice_split}
+use Rattle.stp_format.specs.LineLaws.{ended_lines-cons}
 use Rattle.text_in.specs.Words.{IsLine}
 use Rattle.stp_format.specs.Lines.{lines_of, ended_lines, without_return}
 
 -- no byte is a line feed, as the test tells
 other_bytes : (line : List ℕ) → IsLine line → All (λ b. (b == 10) ≡ false) line
 other_bytes line lacks = grind (arith, All-weaker, false_from_ne_true, eqb-true)
-
-ended_lines-cons : (line : List ℕ) (parts : List (List ℕ)) → 0 < length parts → ended_lines (line ∷ parts) ≡ without_return line ∷ ended_lines parts
-ended_lines-cons line [] some = absurd (omega (arith, some))
-ended_lines-cons line (next ∷ more) some = refl
 
 -- the first line, and those behind its line feed
 pub lines_of-at : (line left : List ℕ) → IsLine line → lines_of (line ++ 10 ∷ left) ≡ without_return line ∷ lines_of left

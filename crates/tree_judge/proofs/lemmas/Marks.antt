@@ -2,7 +2,7 @@
 use Rattle.std.proofs.Common.{ℕ, zero, suc, ◌≡◌, ◌+◌, ◌-◌, ◌*◌, ◌/◌, ◌^◌, ◌<◌, ◌≤◌, Bool, true, false, IsTrue, ◌↔◌, ◌⊎◌, List, slice_get, Some, refl, ap, sym, subst, ◌∙◌, arith, w64}
 use Rattle.std.specs.Int.{bit_at, from_bool, trailing_zeros}
 use Rattle.std.proofs.lemmas.Nat.Bits.{bit_at-zero, bit_at-trailing_zeros}
-use Rattle.std.proofs.lemmas.Bool.{iff_false}
+use Rattle.std.proofs.lemmas.Bool.{iff_false, false_from_ne_true}
 use Rattle.std.proofs.lemmas.Option.{same_Some}
 use Rattle.net_graph.specs.declared.edge.Edge.{Edge}
 use Rattle.net_graph.specs.Graph.{Graph}
@@ -80,13 +80,9 @@ pub bit_few : (p : Bool) (bit : ℕ) → bit ≡ from_bool p → bit ≤ 1
 bit_few true bit is = omega (arith, is)
 bit_few false bit is = omega (arith, is)
 
-not_true : (b : Bool) → (b ≡ true → ⊥) → b ≡ false
-not_true true never = absurd (never refl)
-not_true false never = refl
-
 -- an edge is whole whose bit is 0, where the bit tells whether an arc of it enters the set
 pub whole_unless : (g : Graph) (members : List Bool) (n : ℕ) (e : Edge) (p : Bool) (bit : ℕ) →
     slice_get g.edges n ≡ Some e → bit ≡ from_bool p →
     IsTrue p ↔ ((enters members e.a e.b ≡ true) ⊎ (enters members e.b e.a ≡ true)) → bit ≡ 0 → IsWhole g members n
 whole_unless g members n e p bit at is parts none x at_x =
-    grind (arith, same_Some e x (sym at ∙ at_x), iff_false parts (bit_off p bit is none), not_true)
+    grind (arith, same_Some e x (sym at ∙ at_x), iff_false parts (bit_off p bit is none), false_from_ne_true)

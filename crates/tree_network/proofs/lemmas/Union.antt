@@ -1,10 +1,10 @@
 -- What the trees at places of a list put into a set of edges, and what that joins.
 use Rattle.std.proofs.Common.{◌⊎◌, ℕ, ◌≡◌, ◌+◌, ◌<◌, ◌≤◌, Bool, true, false, List, [], ◌∷◌, ◌++◌, length, get_or, take, replicate, slice_get, Some, sym, ap, ◌∙◌, subst, inl, inr, ⊎_elim, arith}
-use Rattle.std.specs.Prelude.{All, Contains, ◌↔◌, sum_by}
+use Rattle.std.specs.Prelude.{Contains, ◌↔◌, sum_by}
 use Rattle.std.proofs.lemmas.List.{take_more, take_all}
 use Rattle.std.proofs.lemmas.List.Sums.{sum_by-append, sum_by-cons}
 use Rattle.std.proofs.lemmas.List.Elements.{Contains-append_left, Contains-push, Contains-push_cases}
-use Rattle.std.proofs.lemmas.Option.{same_Some, slice_get_within, get_or_from_slice_get}
+use Rattle.std.proofs.lemmas.Option.{same_Some}
 use Rattle.points_in.specs.declared.point.Point.{Point}
 use Rattle.net_graph.specs.Adds.{Adds}
 use Rattle.net_graph.specs.AddsLaws.{Adds-nothing, Adds-then, Adds-holds}
@@ -36,12 +36,6 @@ pub record IsEmbedded (ps : List Point) (tree : Tree) (set : List Bool) : Type 0
   pub edges : (e : ℕ) → (slice_get set e ≡ Some true) ↔ IsOnPiece ps (pieces_of ps tree.code) e
   pub joins : Joins (hanan_grid_of ps) set (member_vertices ps tree.code)
   pub length : length_of (hanan_grid_of ps) set ≤ tree.length
-
--- what holds of each tree of the list holds of the one at a place
-pub All-at : (P : Tree → Type 0) (trees : List Tree) (k : ℕ) (tree : Tree) → All P trees →
-    slice_get trees k ≡ Some tree → P tree
-All-at P trees k tree each at =
-    subst P (get_or_from_slice_get trees k tree tree at) (each k tree (slice_get_within trees k tree at))
 
 -- no place, no edge
 pub IsUnion-none : (ps : List Point) (trees : List Tree) (places : List ℕ) (size : ℕ) (set : List Bool) →

@@ -5,9 +5,6 @@ use Rattle.answer_text.specs.LineKinds as line
 use Rattle.answer_text.proofs.lemmas.NetworkLemmas.{count-names}
 use Rattle.answer_text.proofs.body.write_network.Goals as goal
 
-pub returns-clause-text : goal.returns-clause-text
-returns-clause-text g c =
+pub returns : goal.returns
+returns g c =
     grind (arith, g.L.Labelled.labels c.args.of.now, count-names (g.L.Labelled.labels c.args.of.now) (members_of c.args.network.now) c.count_of.result c.count_of.ensures, gathers_two)
-
-pub returns-clause-count : goal.returns-clause-count
-returns-clause-count g c = omega (arith, count-names (g.L.Labelled.labels c.args.of.now) (members_of c.args.network.now) c.count_of.result c.count_of.ensures)

@@ -1,15 +1,10 @@
-use Rattle.std.proofs.Common.{◌+◌, ◌++◌, take, sym, ◌∙◌, ap, arith, subst, rules, None}
-use Rattle.std.specs.Prelude.{All}
+use Rattle.std.proofs.Common.{◌+◌, ◌++◌, take, ◌∙◌, ap, arith}
 use Rattle.std.proofs.lemmas.List.{take_all}
-use Rattle.std.proofs.lemmas.List.Elements.{All-more}
 use Rattle.text_out.specs.GatherLaws.{gathers_two}
 use Rattle.answer_text.specs.declared.version.Version.TheVariants as version
 use Rattle.answer_text.specs.Lines.{line_text, lines_text, split_line}
-use Rattle.answer_text.specs.Spelling.{FitsSplit, FitsWeight}
 use Rattle.cert_tree.specs.Preorder.{packings_of}
-use Rattle.answer_text.specs.Answers.{FitsNode}
-use Rattle.answer_text.proofs.lemmas.PackingLemmas.{All-found_more}
-use Rattle.answer_text.proofs.lemmas.NodeLines.{nodes_lines, nodes_lines-tree, split_step, split_leaves, leaf_step, leaf_leaves, leaf_below, leaf_last}
+use Rattle.answer_text.proofs.lemmas.NodeLines.{nodes_lines, nodes_lines-tree, split_step, split_leaves, leaf_step, leaf_leaves, leaf_below}
 use Rattle.answer_text.proofs.body.write_tree.Goals as goal
 use Rattle.answer_text.proofs.body.write_tree.Goals.{in-Some, in-None}
 
@@ -33,30 +28,16 @@ loop-node-preserved g c =
         text =
             let text = ap (λ name. lines_text (nodes_lines (g.L.Labelled.labels c.args.of.now) (take i nodes) packings) ++ line_text (split_line version.Two name)) w.split_label.ensures.name ∙ split_step (g.L.Labelled.labels c.args.of.now) nodes packings i w.in-Some.on c.loop-node-test.true w.in-Some.is in
             rw (w.sink-is, w.block-is) (gathers_two _ _ _ _ _ _ _ _ _ c.loop-node.invariant.text w.write_split.ensures text);
-        names =
-            All-more (FitsNode (g.L.Labelled.form c.args.of.now) (g.L.Labelled.labels c.args.of.now)) nodes i None c.loop-node-test.true c.loop-node.invariant.names (subst (FitsNode (g.L.Labelled.form c.args.of.now) (g.L.Labelled.labels c.args.of.now)) (sym w.in-Some.is) (subst (FitsSplit version.Two (g.L.Labelled.form c.args.of.now)) w.split_label.ensures.name w.split_label.ensures.fits));
-        weights = rw w.leaf-is c.loop-node.invariant.weights;
       }
       | in-None w ↦ record {
         leaf = w.leaf-is ∙ ap (λ n. n + 1) c.loop-node.invariant.leaf ∙ leaf_leaves nodes i c.loop-node-test.true w.in-None.is;
         text =
             let below = leaf_below c.args.tree.now nodes i c.loop-node.leaf c.nodes-node-items.ensures.nodes c.loop-node-test.true w.in-None.is c.loop-node.invariant.leaf in
             let text = leaf_step (g.L.Labelled.labels c.args.of.now) nodes packings i c.loop-node.leaf w.packing.result.now c.loop-node-test.true w.in-None.is c.loop-node.invariant.leaf below w.packing.ensures in
-            rw (w.sink-is, w.block-is) (gathers_two _ _ _ _ _ _ _ _ _ c.loop-node.invariant.text w.write_leaf.ensures.text text);
-        names = All-more (FitsNode (g.L.Labelled.form c.args.of.now) (g.L.Labelled.labels c.args.of.now)) nodes i None c.loop-node-test.true c.loop-node.invariant.names (subst (FitsNode (g.L.Labelled.form c.args.of.now) (g.L.Labelled.labels c.args.of.now)) (sym w.in-None.is) (search rules));
-        weights = rw w.leaf-is (All-found_more (All FitsWeight) packings c.loop-node.leaf w.packing.result.now c.loop-node.invariant.weights w.packing.ensures w.write_leaf.ensures.weights);
+            rw (w.sink-is, w.block-is) (gathers_two _ _ _ _ _ _ _ _ _ c.loop-node.invariant.text w.write_leaf.ensures text);
       }
     ]
 
-pub returns-clause-text : goal.returns-clause-text
-returns-clause-text g c =
+pub returns : goal.returns
+returns g c =
     grind (arith, take_all c.loop-node.node-index c.nodes-node-items.result.now c.loop-node-test.false, nodes_lines-tree)
-
-pub returns-clause-names : goal.returns-clause-names
-returns-clause-names g c =
-    grind (arith, take_all c.loop-node.node-index c.nodes-node-items.result.now c.loop-node-test.false)
-
-pub returns-clause-weights : goal.returns-clause-weights
-returns-clause-weights g c =
-    let past = leaf_last c.args.tree.now c.nodes-node-items.result.now c.loop-node.node-index c.loop-node.leaf c.nodes-node-items.ensures.nodes c.loop-node-test.false c.loop-node.invariant.leaf in
-    rw (take_all c.loop-node.leaf (packings_of c.args.tree.now) past) at c.loop-node.invariant.weights

@@ -17,3 +17,6 @@ returns-clause-length g c =
     let digits : c.number_len.result ≡ length (decimal (length names)) = c.number_len.ensures.length ∙ ap (λ n. length (decimal n)) (c.from.ensures ∙ count) in
     let all : 7 + c.number_len.result + c.edges_len.result ≡ 7 + length (decimal (length names)) + length (lines_text (map line.Edge names)) = omega arith in
     all ∙ sym (length-number (codes "edges ") (length names) (line.Count (length names)) (map line.Edge names) refl)
+
+pub returns-clause-count : goal.returns-clause-count
+returns-clause-count g c = omega (arith, count-names (g.L.Labelled.labels c.args.of.now) (members_of c.args.network.now) c.count_of.result c.count_of.ensures)

@@ -1,11 +1,12 @@
 use Rattle.std.proofs.Common.{◌≡◌, ◌-◌, ◌++◌, [], length, take, drop, true, sym, ap, subst, ◌∙◌, arith, length-append}
 use Rattle.std.specs.Prelude.{◌==◌}
 use Rattle.std.proofs.lemmas.Bool.Decides.{nat_tests}
-use Rattle.std.proofs.lemmas.List.{append-nil, length-take-le}
+use Rattle.std.proofs.lemmas.List.{append-nil, length-take-le, nil_from_length}
+use Rattle.rst_outside.specs.FedLaws.{moved_on}
 use Rattle.answer_text.specs.declared.form.Form.TheVariants as form
 use Rattle.answer_text.specs.Spelling.{SpellsAnswer}
 use Rattle.answer_upgrade.specs.Spelling.{Stops}
-use Rattle.answer_upgrade.proofs.StoppedBytes.{stops_in, moved_on, empty_of}
+use Rattle.answer_upgrade.proofs.StoppedBytes.{stops_in}
 use Rattle.answer_upgrade.proofs.spelling.spelled.Goals as goal
 
 pub loop-rest-preserved : goal.loop-rest-preserved
@@ -42,11 +43,11 @@ returns-then-ended c =
     let rest = c.loop-rest.rest.now in
     let test : (length rest == 0) ≡ true = sym c.is_empty.ensures ∙ c.loop-rest-test.false in
     let none : length rest ≡ 0 = grind (arith, nat_tests) in
-    let all : front ≡ c.args.bytes.now = sym (parts ∙ ap (λ x. front ++ x) (empty_of rest none) ∙ append-nil front) in
+    let all : front ≡ c.args.bytes.now = sym (parts ∙ ap (λ x. front ++ x) (nil_from_length rest none) ∙ append-nil front) in
     let whole = c.if-ended.ensures.reads (form.OnGrid c.args.vertices) front reading.0 reading.1 in
     let told = c.version.ensures (form.OnGrid c.args.vertices) front reading.0 reading.1 [] whole.answer (subst (λ x. SpellsAnswer (form.OnGrid c.args.vertices) x whole.answer) (sym (append-nil front)) whole.spells) in
     (whole.answer, subst (λ x. SpellsAnswer (form.OnGrid c.args.vertices) x whole.answer) all whole.spells, told)
 
 pub returns : goal.returns
 returns c =
-    grind (arith, nat_tests, empty_of, append-nil, stops_in, c.loop-rest.invariant.reads, c.loop-rest.rest.now, c.is_empty.ensures, c.loop-rest-test.false, c.if-ended.ensures.reads, c.line-line.ensures.line)
+    grind (arith, nat_tests, nil_from_length, append-nil, stops_in, c.loop-rest.invariant.reads, c.loop-rest.rest.now, c.is_empty.ensures, c.loop-rest-test.false, c.if-ended.ensures.reads, c.line-line.ensures.line)

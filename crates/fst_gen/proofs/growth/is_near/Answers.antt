@@ -1,6 +1,7 @@
 use Rattle.std.proofs.Common.{refl, arith, ap, ◌∙◌}
+use Rattle.full_tree.specs.PassingLaws.{within-from}
 use Rattle.hanan_grid.specs.Distance.{distance_between}
-use Rattle.fst_gen.proofs.lemmas.Steps.{IsBottleneck-there, within-from}
+use Rattle.fst_gen.proofs.lemmas.Steps.{IsBottleneck-there}
 use Rattle.fst_gen.proofs.growth.is_near.Goals as goal
 
 pub returns-then-gap-from : goal.returns-then-gap-from

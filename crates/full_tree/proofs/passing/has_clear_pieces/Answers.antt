@@ -1,8 +1,9 @@
 use Rattle.std.proofs.Common.{refl, subst, sym, arith}
+use Rattle.lists.specs.ListLaws.{All-at}
 use Rattle.full_tree.specs.Code.{named_places}
 use Rattle.full_tree.specs.Pieces.{pieces_of}
 use Rattle.full_tree.specs.Passing.{IsClear}
-use Rattle.full_tree.proofs.lemmas.Clear.{All-at, All-from_places, places_more}
+use Rattle.full_tree.proofs.lemmas.Clear.{All-from_places, places_more}
 use Rattle.full_tree.proofs.passing.has_clear_pieces.Goals as goal
 
 pub returns-then-not-is_clear : goal.returns-then-not-is_clear

@@ -1,5 +1,6 @@
 use Rattle.std.proofs.Common.{refl, arith}
-use Rattle.full_tree.proofs.lemmas.Passing.{IsBottleneck-at, HasGoneBack-down, HasGoneBack-fails}
+use Rattle.full_tree.specs.PassingLaws.{IsBottleneck-at}
+use Rattle.full_tree.proofs.lemmas.Passing.{HasGoneBack-down, HasGoneBack-fails}
 use Rattle.full_tree.proofs.passing.keeps_up_to.Goals as goal
 
 pub returns-then-max-from : goal.returns-then-max-from

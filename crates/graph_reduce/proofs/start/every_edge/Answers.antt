@@ -1,4 +1,3 @@
-use Rattle.std.specs.Prelude.{length}
 use Rattle.std.proofs.Common.{arith, length-take}
 use Rattle.std.proofs.lemmas.List.{take_more}
 use Rattle.graph_reduce.proofs.lemmas.Start.{bundles_from-push}

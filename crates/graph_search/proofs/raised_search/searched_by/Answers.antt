@@ -1,13 +1,13 @@
 -- What the search found is told as it is, and so is what a search that begins anew finds in its place.
 use Rattle.std.proofs.Common.{Ok, ◌∙◌, arith}
+use Rattle.cert_tree.specs.PreorderLaws.{some_leaf}
 use Rattle.net_graph.specs.Network.{length_of}
 use Rattle.graph_search.specs.Kinds.{kind_of}
-use Rattle.graph_search.proofs.AnewLemmas.{some_packing}
 use Rattle.graph_search.proofs.SearchedLaws.{told_or_not}
 use Rattle.graph_search.proofs.raised_search.searched_by.Goals as goal
 
 pub packing-requires : goal.packing-requires
-packing-requires _ c = some_packing c.tree.result.now
+packing-requires _ c = some_leaf c.tree.result.now
 
 pub searched_anew-requires : goal.searched_anew-requires
 searched_anew-requires _ c =

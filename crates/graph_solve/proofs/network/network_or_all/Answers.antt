@@ -1,7 +1,7 @@
 use Rattle.std.proofs.Common.{sym, subst}
 use Rattle.std.proofs.lemmas.Result.{IfOk-weaker}
+use Rattle.graph_solve.specs.JoinedLaws.{whole_set}
 use Rattle.net_graph.specs.Network.{IsNetwork}
-use Rattle.graph_solve.proofs.lemmas.Joined.{whole_set}
 use Rattle.graph_solve.proofs.network.network_or_all.Goals as goal
 
 pub returns-else-branch-clause-network : goal.returns-else-branch-clause-network

@@ -1,8 +1,9 @@
 use Rattle.std.proofs.Common.{◌+◌, ap, ◌∙◌, arith, slice_index_or}
 use Rattle.std.proofs.lemmas.Option.{slice_get_within, get_or_from_slice_get}
+use Rattle.graph_solve.specs.JoinedLaws.{whole_set, joined_by_all}
 use Rattle.net_graph.specs.Network.{IsFirstApart}
 use Rattle.graph_solve.specs.Task.{all_edges}
-use Rattle.graph_solve.proofs.lemmas.Joined.{joined_by_all, apart_by_all, whole_set}
+use Rattle.graph_solve.proofs.lemmas.Joined.{apart_by_all}
 use Rattle.graph_solve.proofs.task.first_apart_node.Goals as goal
 
 pub returns-in-None-clause-none : goal.returns-in-None-clause-none

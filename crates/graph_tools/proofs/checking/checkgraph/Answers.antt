@@ -17,13 +17,12 @@ returns g c =
     let out' = g.O.Sink.state c.end_found.new.out in
     let err' = g.R.Sink.state c.end_found.new.err in
     record {
-      ends = ends_found line_text line_status (λ _. Unit {0}) checkgraph_fault_status checkgraph_fault_text
+      ends = ends_found line_text line_status checkgraph_fault_status checkgraph_fault_text
           (codes "checkgraph") (ChecksGraph c.args.graph_name.now) LeavesFiles
           (outside input out err (g.S.Shelf.state c.args.shelf.now))
           (outside input' out' err' (g.S.Shelf.state c.verdict_on-found.new.shelf))
-          c.end_found.result c.verdict_on-found.result c.verdict_on-found.ensures.finds
-          c.end_found.ensures.told c.verdict_on-found.ensures.leaves c.end_found.ensures.concludes;
+          c.end_found.result c.verdict_on-found.result c.verdict_on-found.ensures.finds c.verdict_on-found.ensures.leaves c.end_found.ensures;
       unread = without_memory line_text line_status checkgraph_fault_status checkgraph_fault_text (codes "checkgraph")
           (writable out err) (writable out' err') c.end_found.result c.verdict_on-found.result (input' ≡ input)
-          c.end_found.ensures.concludes c.verdict_on-found.ensures.unread;
+          c.end_found.ensures c.verdict_on-found.ensures.unread;
     }

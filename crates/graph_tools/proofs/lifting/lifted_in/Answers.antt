@@ -1,11 +1,7 @@
 -- All edges of the reduced graph are a network, and what is told of an answer there is lifted in the graph.
-use Rattle.std.proofs.Common.{length, sym, subst}
+use Rattle.std.proofs.Common.{sym, subst}
 use Rattle.net_graph.specs.Graph.{Graph}
 use Rattle.net_graph.specs.Network.{IsNetwork}
-use Rattle.answer_text.specs.declared.form.Form.TheVariants as form
-use Rattle.answer_text.specs.Answers.{graph_value_of}
-use Rattle.answer_text.specs.Spelling.{SpellsAnswer}
-use Rattle.answer_text.specs.Text.{answer_text}
 use Rattle.graph_solve.specs.Task.{all_edges}
 use Rattle.search_rules.specs.Options.{usual_in_graph}
 use Rattle.graph_tools.specs.Solution.{IsAnswerFor}
@@ -32,6 +28,4 @@ returns c =
       networks = c.in_ok-reduced.ensures.networks;
     })
     (subst (λ (h : Graph). IsAnswerFor usual_in_graph h a) c.graph.ensures.graph c.in_ok-answer.ensures)
-    (subst (λ (h : Graph). SpellsAnswer (form.OfGraph (length h.edges) h.vertices) (answer_text (graph_value_of a)) (graph_value_of a))
-    c.graph-2.ensures.graph c.write_graph_answer-spelled.ensures.spells)
     c.lifted_by.ensures

@@ -4,7 +4,7 @@ use Rattle.judge_tools.proofs.Pictures.{found_plot}
 use Rattle.judge_tools.proofs.plotting.picture_of.Goals as goal
 
 pub returns-in-Accepted-clause-finds : goal.returns-in-Accepted-clause-finds
-returns-in-Accepted-clause-finds g c = λ _.
+returns-in-Accepted-clause-finds g c =
     let found = rw c.in_ok-judgement.ensures at c.judge.ensures.finds in
     found_plot c.args.points_name.now
     (readable (g.I.Source.state c.args.input.now) (g.S.Shelf.state c.args.shelf.now))

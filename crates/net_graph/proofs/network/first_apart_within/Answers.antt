@@ -1,4 +1,4 @@
-use Rattle.std.proofs.Common.{ℕ, true, false, ap, ◌∙◌, arith, length, get_or}
+use Rattle.std.proofs.Common.{ℕ, ap, ◌∙◌, arith, length, get_or}
 use Rattle.std.proofs.lemmas.Bool.{eq-eqb, ne_eqb}
 use Rattle.net_graph.specs.Found.{flags_of_marks}
 use Rattle.net_graph.proofs.lemmas.ApartLemmas.{MarksReached, first_unmarked, reached_more, reached_all}

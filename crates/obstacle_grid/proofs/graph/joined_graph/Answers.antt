@@ -1,8 +1,8 @@
 -- The search over all edges found no point apart.
 use Rattle.std.proofs.Common.{subst}
+use Rattle.graph_solve.specs.JoinedLaws.{whole_set, joined_by_all}
 use Rattle.net_graph.specs.Network.{IsNetwork}
 use Rattle.graph_solve.specs.Task.{all_edges}
-use Rattle.obstacle_grid.proofs.lemmas.Faults.{joined_by_all, whole_set}
 use Rattle.obstacle_grid.proofs.graph.joined_graph.Goals as goal
 
 pub returns-in-None-clause-joined : goal.returns-in-None-clause-joined

@@ -1,7 +1,7 @@
 use Rattle.std.proofs.Common.{arith}
+use Rattle.lists.specs.ListLaws.{flat_map-take_more}
 use Rattle.text_out.specs.GatherLaws.{gathers_two}
 use Rattle.obstacle_grid.specs.Text.{edge_text}
-use Rattle.obstacle_grid.proofs.lemmas.Texts.{flat_map-take_more}
 use Rattle.obstacle_grid.proofs.write.write_edges.Goals as goal
 
 pub loop-n-preserved : goal.loop-n-preserved

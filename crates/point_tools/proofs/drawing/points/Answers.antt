@@ -10,8 +10,8 @@ use Rattle.point_tools.proofs.drawing.points.Goals as goal
 
 pub returns : goal.returns
 returns g c = λ input shelf.
-    ends_found drawn_text (λ _. Done) (λ _. Unit {0}) input_fault_status input_fault_text (codes "points") (λ _ _. PrintsDrawn c.args.n c.args.seed) LeavesAll
+    ends_found drawn_text (λ _. Done) input_fault_status input_fault_text (codes "points") (λ _ _. PrintsDrawn c.args.n c.args.seed) LeavesAll
     (outside input (g.O.Sink.state c.args.out.now) (g.R.Sink.state c.args.err.now) shelf)
     (outside input (g.O.Sink.state c.end_found.new.out) (g.R.Sink.state c.end_found.new.err) shelf)
-    c.end_found.result c.draw-found.result c.draw-found.ensures c.end_found.ensures.told
-    (record { input = refl; shelf = refl }) c.end_found.ensures.concludes
+    c.end_found.result c.draw-found.result c.draw-found.ensures
+    (record { input = refl; shelf = refl }) c.end_found.ensures

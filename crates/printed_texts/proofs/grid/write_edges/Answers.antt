@@ -1,6 +1,6 @@
+use Rattle.lists.specs.ListLaws.{flat_map-take_more}
 use Rattle.text_out.specs.GatherLaws.{gathers_two}
 use Rattle.printed_texts.specs.Grid.{edge_between}
-use Rattle.printed_texts.proofs.lemmas.Texts.{flat_map-take_more}
 use Rattle.printed_texts.proofs.grid.write_edges.Goals as goal
 
 pub loop-n-preserved : goal.loop-n-preserved

@@ -1,6 +1,6 @@
+use Rattle.lists.specs.ListLaws.{flat_map-take_more}
 use Rattle.text_out.specs.GatherLaws.{gathers_two}
 use Rattle.printed_texts.specs.Grid.{terminal_at}
-use Rattle.printed_texts.proofs.lemmas.Texts.{flat_map-take_more}
 use Rattle.printed_texts.proofs.grid.write_terminal_lines.Goals as goal
 
 pub loop-place-preserved : goal.loop-place-preserved

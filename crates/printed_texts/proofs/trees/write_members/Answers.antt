@@ -1,8 +1,8 @@
 use Rattle.std.proofs.Common.{◌++◌, codes}
 use Rattle.std.specs.Fmt.{decimal}
+use Rattle.lists.specs.ListLaws.{flat_map-take_more}
 use Rattle.text_out.specs.GatherLaws.{gathers_two}
 use Rattle.full_tree.specs.Code.{members_of}
-use Rattle.printed_texts.proofs.lemmas.Texts.{flat_map-take_more}
 use Rattle.printed_texts.proofs.trees.write_members.Goals as goal
 
 pub loop-n-preserved : goal.loop-n-preserved

@@ -1,7 +1,7 @@
+use Rattle.lists.specs.ListLaws.{flat_map-take_more}
 use Rattle.text_out.specs.GatherLaws.{gathers_two}
 use Rattle.full_tree.specs.Pieces.{pieces_of}
 use Rattle.printed_texts.specs.Trees.{piece_line}
-use Rattle.printed_texts.proofs.lemmas.Texts.{flat_map-take_more}
 use Rattle.printed_texts.proofs.trees.write_pieces.Goals as goal
 
 pub loop-n-preserved : goal.loop-n-preserved

@@ -3,6 +3,8 @@ use Rattle.std.proofs.Common.{◌≤◌, ◌^◌, ◌<◌, length, subst, sym, a
 use Rattle.hanan_grid.specs.Grid.{hanan_grid_of}
 use Rattle.net_graph.specs.Network.{length_of}
 use Rattle.answer_text.specs.declared.answer.Answer.{Answer}
+use Rattle.answer_text.specs.declared.form.Form.TheVariants as form
+use Rattle.answer_text.specs.Spelling.{SpellsAnswer}
 use Rattle.answer_text.specs.Text.{answer_text}
 use Rattle.answer_text.specs.Answers.{IsAnswerOn, value_of}
 use Rattle.search_tools.specs.Steps.{IsFor}
@@ -27,8 +29,9 @@ returns c = λ trees made.
     let same = c.answer_with-answer.ensures in
     let few : length (answer_text (value_of ps c.answer_with-answer.result)) < 2 ^ 32 =
     let is = c.answer_len.ensures.length in let short = c.answer_len.ensures.short in omega (arith, is, short) in
-    subst (λ (a : Answer). IsFor c.args.options ps trees (record { grid = ps; answer = a })) (sym same)
+    subst (λ (a : Answer). IsFor c.args.options ps trees (record { instance = ps; answer = a })) (sym same)
     (is_for c.args.options ps trees c.args.found c.in_ok-solved.solved small made
     (told_by c.args.options c.in_graph.result (hanan_grid_of ps) (length_of (hanan_grid_of ps) c.args.found.network) c.in_ok-solved.solved
     c.in_graph.ensures c.in_ok-solved.ensures)
+    (subst (λ (a : Answer). SpellsAnswer (form.OnGrid (hanan_grid_of ps).vertices) (answer_text (value_of ps a)) (value_of ps a)) same c.answer_len.ensures.spells)
     (subst (λ (a : Answer). length (answer_text (value_of ps a)) < 2 ^ 32) same few))

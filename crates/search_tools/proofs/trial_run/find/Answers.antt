@@ -11,10 +11,9 @@ use Rattle.search_tools.proofs.AnswerLaws.{tried_answer}
 use Rattle.search_tools.proofs.trial_run.find.Goals as goal
 
 pub returns : goal.returns
-returns c = λ _.
+returns c =
     let solution = c.in_ok-solution.solution in
     subst (λ (line : TrialLine). Tries c.args.n c.args.seed (Ok (trial_print line))) (sym c.of.ensures)
     (tried_answer c.args.n c.args.seed solution
     (subst (λ (ps : List Point). SolvesPoints usual_options most_members ps (Ok solution)) c.in_ok-grid.ensures
-    c.in_ok-solution.ensures)
-    c.in_ok-judge.ensures)
+    c.in_ok-solution.ensures))

@@ -10,10 +10,10 @@ use Rattle.search_tools.proofs.trial_run.trial.Goals as goal
 
 pub returns : goal.returns
 returns g c = λ input shelf.
-    ends_found trial_text trial_status (λ _. Unit {0}) generation_fault_status generation_fault_text (codes "trial")
+    ends_found trial_text trial_status generation_fault_status generation_fault_text (codes "trial")
     (λ _ _. Tries c.args.n c.args.seed) LeavesAll
     (outside input (g.O.Sink.state c.args.out.now) (g.R.Sink.state c.args.err.now) shelf)
     (outside input (g.O.Sink.state c.end_found.new.out) (g.R.Sink.state c.end_found.new.err) shelf)
-    c.end_found.result c.find-found.result c.find-found.ensures c.end_found.ensures.told
+    c.end_found.result c.find-found.result c.find-found.ensures
     (record { input = refl; shelf = refl })
-    c.end_found.ensures.concludes
+    c.end_found.ensures

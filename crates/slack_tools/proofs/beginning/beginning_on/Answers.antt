@@ -1,5 +1,6 @@
 -- All edges of the grid join its terminals, and the one leaf's packing is feasible where nothing is decided.
 use Rattle.std.proofs.Common.{◌≤◌, subst, sym, arith}
+use Rattle.cert_tree.specs.PreorderLaws.{some_leaf}
 use Rattle.net_graph.specs.Network.{IsNetwork}
 use Rattle.net_graph.specs.Decision.{nothing_decided}
 use Rattle.net_graph.specs.Packing.{IsFeasible}
@@ -7,7 +8,7 @@ use Rattle.cert_tree.specs.Preorder.{split_count}
 use Rattle.branch.specs.States.{IsNetworkOf}
 use Rattle.graph_solve.specs.Task.{all_edges}
 use Rattle.hanan_grid.specs.Grid.{hanan_grid_of}
-use Rattle.slack_tools.proofs.BeginningLaws.{leaf_feasible, some_leaf}
+use Rattle.slack_tools.proofs.BeginningLaws.{leaf_feasible}
 use Rattle.slack_tools.proofs.GridLemmas.{IsNetwork-grid}
 use Rattle.slack_tools.proofs.beginning.beginning_on.Goals as goal
 

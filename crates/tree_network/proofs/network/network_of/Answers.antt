@@ -1,9 +1,10 @@
 use Rattle.std.proofs.Common.{◌≡◌, ◌∙◌, ap, length, arith}
+use Rattle.lists.specs.ListLaws.{All-at}
 use Rattle.net_graph.specs.Graph.{Graph}
 use Rattle.full_tree.specs.declared.code.Tree.{Tree}
 use Rattle.full_tree.specs.Form.{IsInForm}
 use Rattle.full_tree.specs.Pieces.{code_length}
-use Rattle.tree_network.proofs.lemmas.Union.{All-at, IsUnion-none, IsUnion-more, IsUnion-all, IsUnion-edges, IsUnion-network, IsUnion-length}
+use Rattle.tree_network.proofs.lemmas.Union.{IsUnion-none, IsUnion-more, IsUnion-all, IsUnion-edges, IsUnion-network, IsUnion-length}
 use Rattle.tree_network.proofs.network.network_of.Goals as goal
 
 pub loop-place-init : goal.loop-place-init
