@@ -59,9 +59,6 @@ abbrev pub edge_labels : Labels → List ℕ → List EdgeLabel
 edge_labels labels numbers = map labels.edge numbers
 
 -- the same on the grid of these terminals
-abbrev pub split_name : List Point → SplitOn → SplitName
-split_name ps on = split_label (grid_labels ps) on
-
 abbrev pub named : List Point → Tree SplitOn → Tree SplitName
 named ps tree = labelled (grid_labels ps) tree
 

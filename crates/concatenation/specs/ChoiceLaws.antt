@@ -10,8 +10,8 @@ use Rattle.concatenation.specs.Choices.{is_left, remaining_of, Respects}
 use Rattle.concatenation.specs.SetLaws.{IsWithin}
 
 -- each set that respects the choices is within the trees that are not left out
-pub remaining_of-holds : (choices : List Choice) (flags : List Bool) → length flags ≡ length choices → Respects choices flags →
-    IsWithin flags (remaining_of choices)
+pub remaining_of-holds : (choices : List Choice) (flags : List Bool) → length flags ≡ length choices →
+    Respects choices flags → IsWithin flags (remaining_of choices)
 remaining_of-holds choices flags size respects k in_set =
     let inside = slice_get_within flags k true in_set in
     let same = slice_get-map is_left choices k in

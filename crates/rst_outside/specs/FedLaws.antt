@@ -15,4 +15,6 @@ fed_more stands before first mid next after one two front stood =
 pub moved_on : (front rest : List ℕ) (n : ℕ) →
     front ++ rest ≡ (front ++ take n rest) ++ take (length rest - n) (drop n rest)
 moved_on front rest n =
-    rw take_rest (ap (λ x. front ++ x) (sym (take-append-drop n rest)) ∙ sym (append_assoc front (take n rest) (drop n rest)))
+    let whole = sym (take-append-drop n rest) in
+    let parted = sym (append_assoc front (take n rest) (drop n rest)) in
+    rw take_rest (ap (λ x. front ++ x) whole ∙ parted)

@@ -7,7 +7,8 @@ use Rattle.std.proofs.lemmas.Str.Parse.{IsNumeralModel, numerals_by_value, tells
 use Rattle.stp_format.specs.Lines.{ended_lines, without_return}
 
 -- one more line in front of others
-pub ended_lines-cons : (line : List ℕ) (parts : List (List ℕ)) → 0 < length parts → ended_lines (line ∷ parts) ≡ without_return line ∷ ended_lines parts
+pub ended_lines-cons : (line : List ℕ) (parts : List (List ℕ)) → 0 < length parts →
+    ended_lines (line ∷ parts) ≡ without_return line ∷ ended_lines parts
 ended_lines-cons line [] some = absurd (omega (arith, some))
 ended_lines-cons line (next ∷ more) some = refl
 

@@ -33,11 +33,6 @@ contains_filter p (y ∷ xs) x (zero, inside, at) passes =
 contains_filter p (y ∷ xs) x (suc k, inside, at) passes =
     later_stays (p y) y x (filter p xs) (contains_filter p xs x (k, omega (arith, inside), at) passes)
 
--- those that pass are no more
-kept_no_more : {X : Type 0} (b : Bool) (x : X) (ys : List X) (n : ℕ) → length ys ≤ n → length (cond b (x ∷ ys) ys) ≤ suc n
-kept_no_more true x ys n few = omega (arith, few)
-kept_no_more false x ys n few = omega (arith, few)
-
 -- a tree of a list that has few members
 module _ (ps : List Point) (k : ℕ) (trees : List Tree) where
   from_longer : (tree : Tree) → Contains (trees_up_to k trees) tree → Contains trees tree

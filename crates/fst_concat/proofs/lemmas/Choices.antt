@@ -1,5 +1,5 @@
 -- What choices say of the sets that respect them, and of searches that go on or end there.
-use Rattle.std.proofs.Common.{ℕ, suc, ◌≡◌, ◌⊎◌, Bool, true, false, Option, Some, None, List, [], ◌∷◌, length, refl, ap, sym, subst, ◌∙◌, inl, inr, arith}
+use Rattle.std.proofs.Common.{ℕ, suc, ◌≡◌, Bool, true, false, Option, Some, None, List, [], ◌∷◌, length, refl, ap, sym, subst, ◌∙◌, arith}
 use Rattle.std.specs.Option.{option_map}
 use Rattle.std.proofs.lemmas.Option.{slice_get-map}
 use Rattle.std.proofs.lemmas.List.{length-map}
@@ -23,18 +23,9 @@ taken_only Open is = (cc)
 taken_only Taken is = refl
 taken_only LeftOut is = (cc)
 
-flags_differ : Some true ≡ Some false → ⊥
-flags_differ same = (cc)
-
 -- a set that respects choices holds the taken trees
 pub taken_within : (choices : List Choice) (set : List Bool) → Respects choices set → IsWithin (taken_of choices) set
 taken_within choices set respects = grind (arith, choice_of, slice_get-map, taken_only)
-
--- .. and is within the remaining ones
-left_cases : (choice : Choice) → (choice ≡ LeftOut) ⊎ (is_left choice ≡ true)
-left_cases Open = inr refl
-left_cases Taken = inr refl
-left_cases LeftOut = inl refl
 
 -- no set respects choices whose remaining trees don't join
 pub none_respects : (n : ℕ) (trees : List Tree) (choices : List Choice) (total : ℕ) → MoreTreesJoin → length choices ≡ length trees
