@@ -5,7 +5,6 @@
 mod entering;
 mod flood;
 mod kept;
-mod marks;
 mod new_cuts;
 mod pool;
 mod seeker;
@@ -16,7 +15,6 @@ mod units;
 mod users;
 
 pub use entering::find_entered;
-pub use marks::Marks;
 pub use pool::{Cut, Offered, PARTS, Pool};
 pub use seeker::Seeker;
 pub use tidy::Tidier;

@@ -3,7 +3,7 @@
 use crate::pool::{Offered, Pool};
 use crate::seeker::Seeker;
 use crate::units::Units;
-use cut_groups::{BLOCKED, CutFinder, NONE, Random, Tree, Wanted};
+use cut_groups::{BLOCKED, CutFinder, NONE, Random, Tree, Wanted, set};
 use std::alloc::{AllocError, Global};
 
 // New cuts asked for at a time.
@@ -49,15 +49,18 @@ impl NewCuts {
         finder: &mut F,
     ) -> Result<(), AllocError> {
         let arc = units.draw_overloaded(&mut seeker.random);
+        self.set_prices(units, tree, &mut seeker.random, arc)?;
         for _ in 0..NEW_CUTS {
             let user = units.draw_user(&mut seeker.random, arc);
             if user != NONE {
                 units.set_giver(pool, user);
-                self.set_prices(units, tree, &mut seeker.random, arc)?;
+                self.price_entered(units, pool.entered(user), arc);
                 let group = pool.cut(user).group;
                 if self.is_found(tree, seeker, finder, group)? {
                     take_in(units, pool, group, seeker.found())?;
                 }
+                units.clear_giver(pool);
+                self.price_entered(units, pool.entered(user), arc);
             }
         }
         Ok(())
@@ -82,7 +85,7 @@ impl NewCuts {
         Ok(price.is_some())
     }
 
-    // Prices by the room that there is when the giver has given a unit away. An `Err` is want of memory.
+    // Prices by the room that there is, with a draw for each arc that varies the cuts. An `Err` is want of memory.
     fn set_prices(
         &mut self,
         units: &Units,
@@ -102,6 +105,15 @@ impl NewCuts {
             self.prices.push(price)?;
         }
         Ok(())
+    }
+
+    // Prices some arcs off the tree anew by the room that there is when the giver has given a unit away.
+    fn price_entered(&mut self, units: &Units, arcs: &[u32], shunned: u32) {
+        for arc in arcs {
+            if *arc != shunned {
+                set(&mut self.prices, *arc, price_of_room(units.room(*arc)));
+            }
+        }
     }
 }
 

@@ -40,7 +40,7 @@ impl Units {
         Ok(pick.pairs)
     }
 
-    // The best move of a unit off an arc.
+    // The best move of a unit off an arc. No cut gives a unit behind it.
     fn best_move(&mut self, pool: &Pool, random: &mut Random, arc: u32, step: u32) -> Pick {
         let mut pick = Pick {
             change: i64::MAX,
@@ -49,27 +49,40 @@ impl Units {
             ties: 0,
             pairs: 0,
         };
+        self.note_users(arc, step);
         let mut place = self.users().first(arc);
         for _ in 0..self.users().len() {
             let Some(user) = self.users().get(place) else {
                 break;
             };
             if self.weight(user.cut) > 0 && !self.rests(user.cut, step) {
-                self.offer_moves(pool, random, &mut pick, user.cut, arc, step);
+                self.offer_moves(pool, random, &mut pick, user.cut, step);
             }
             place = user.next;
         }
+        self.clear_giver(pool);
         pick
     }
 
-    // Looks at the moves from a cut to others of its group that an arc doesn't enter.
+    // Notes the cuts that an arc enters which is to be relieved in a step.
+    fn note_users(&mut self, arc: u32, step: u32) {
+        let mut place = self.users().first(arc);
+        for _ in 0..self.users().len() {
+            let Some(user) = self.users().get(place) else {
+                break;
+            };
+            self.note_relieving(user.cut, step);
+            place = user.next;
+        }
+    }
+
+    // Looks at the moves from a cut to others of its group that the arc doesn't enter which is to be relieved.
     fn offer_moves(
         &mut self,
         pool: &Pool,
         random: &mut Random,
         pick: &mut Pick,
         from: u32,
-        arc: u32,
         step: u32,
     ) {
         let gain = self.set_giver(pool, from);
@@ -78,12 +91,11 @@ impl Units {
             if to == NONE {
                 break;
             }
-            if to != from && !self.rests(to, step) {
+            if !self.is_relieving(to, step) && !self.rests(to, step) {
                 // A move that changes more than the best one isn't looked at to the end.
                 let most = pick.change.saturating_add(gain);
-                if let Some(loss) = self.loss(pool, to, arc, most) {
-                    pick.offer(loss.wrapping_sub(gain), from, to, random);
-                }
+                let loss = self.loss(pool, to, most);
+                pick.offer(loss.wrapping_sub(gain), from, to, random);
             }
             to = pool.next(to);
         }

@@ -7,7 +7,7 @@ use crate::new_cuts::NewCuts;
 use crate::pool::Pool;
 use crate::seeker::Seeker;
 use crate::units::Units;
-use cut_groups::{CutFinder, NONE, Tree, count};
+use cut_groups::{CutFinder, NONE, Tree};
 use net_graph::{NetGraph, Packing};
 use std::alloc::{AllocError, Global};
 
@@ -42,17 +42,17 @@ pub struct UnitSearch {
 }
 
 impl UnitSearch {
-    /// No search yet, among arcs of these lengths in units. An `Err` is want of memory.
-    pub fn new(alloc: Global, lengths: Vec<i64>) -> Result<UnitSearch, AllocError> {
-        Ok(UnitSearch {
-            units: Units::new(alloc, count(&lengths))?,
+    /// No search yet, among arcs of these lengths in units. It takes no memory.
+    pub fn new(alloc: Global, lengths: Vec<i64>) -> UnitSearch {
+        UnitSearch {
             lengths,
+            units: Units::none(alloc),
             new_cuts: NewCuts::none(alloc),
             kept: Kept::none(alloc),
             searches: 0,
             steps: FIRST_STEPS,
             pairs: FIRST_PAIRS,
-        })
+        }
     }
 
     /// Searches for whole units without overload, from the weights of the pool, which are whole units, and keeps the

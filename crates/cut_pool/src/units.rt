@@ -1,6 +1,5 @@
 //! Weights in whole units, and the overload of the arcs.
 
-use crate::marks::Marks;
 use crate::pool::{PARTS, Pool};
 use crate::users::Users;
 use cut_groups::{NONE, Random, at, count, set};
@@ -24,16 +23,18 @@ pub struct Units {
     places: Vec<u32>,
     // The weights of the least overload met.
     best: Vec<i64>,
-    // The arcs of the cut that gives a unit.
-    giver: Marks,
+    // Of each cut the last step in which an arc was to be relieved that enters it.
+    relieving: Vec<u32>,
+    // The cut that gives a unit, which its arcs are without, or `NONE`.
+    giver: u32,
     // How many units were moved so far.
     moves: u32,
 }
 
 impl Units {
-    /// No cut, among so many arcs. An `Err` is want of memory.
-    pub fn new(alloc: Global, arcs: u32) -> Result<Units, AllocError> {
-        Ok(Units {
+    /// No cut, and no arc. It takes no memory.
+    pub fn none(alloc: Global) -> Units {
+        Units {
             total: 0,
             users: Users::new(alloc),
             overloaded: Vec::new(alloc),
@@ -42,9 +43,10 @@ impl Units {
             excess: Vec::new(alloc),
             places: Vec::new(alloc),
             best: Vec::new(alloc),
-            giver: Marks::none(alloc, arcs)?,
+            relieving: Vec::new(alloc),
+            giver: NONE,
             moves: 0,
-        })
+        }
     }
 
     /// Takes the weights of a pool, which are whole units, among arcs of these lengths in units. An `Err` is want of
@@ -70,6 +72,8 @@ impl Units {
         self.overloaded.clear();
         self.weights.clear();
         self.resting.clear();
+        self.relieving.clear();
+        self.giver = NONE;
         self.excess.clear();
         self.places.clear();
     }
@@ -126,10 +130,11 @@ impl Units {
     pub fn add_cut(&mut self, pool: &Pool, cut: u32) -> Result<(), AllocError> {
         self.weights.push(0)?;
         self.resting.push(0)?;
+        self.relieving.push(0)?;
         self.users.add(cut, pool.entered(cut))
     }
 
-    /// Moves a unit from one cut to another. An `Err` is want of memory.
+    /// Moves a unit from one cut to another, while no cut gives one. An `Err` is want of memory.
     pub fn shift(&mut self, pool: &Pool, from: u32, to: u32) -> Result<(), AllocError> {
         self.moves = self.moves.saturating_add(1);
         self.give(pool, from, -1)?;
@@ -174,7 +179,19 @@ impl Units {
     /// The room of an arc, once the giver has lost a unit.
     #[inline]
     pub fn room(&self, arc: u32) -> i64 {
-        i64::from(self.giver.has(arc)).wrapping_sub(self.excess(arc))
+        self.excess(arc).wrapping_neg()
+    }
+
+    /// Notes that an arc which enters a cut is to be relieved in a step.
+    #[inline]
+    pub fn note_relieving(&mut self, cut: u32, step: u32) {
+        set(&mut self.relieving, cut, step);
+    }
+
+    /// Whether the arc that is to be relieved in a step enters a cut, as was noted.
+    #[inline]
+    pub fn is_relieving(&self, cut: u32, step: u32) -> bool {
+        at(&self.relieving, cut, 0) == step
     }
 
     /// Keeps the weights as the best ones. An `Err` is want of memory.
@@ -188,36 +205,51 @@ impl Units {
         self.best.as_slice()
     }
 
-    /// Notes the cut that gives a unit, and tells how much of the overload that takes off.
+    /// Lets a cut give a unit, in place of another one, and tells how much of the overload that takes off.
     pub fn set_giver(&mut self, pool: &Pool, cut: u32) -> i64 {
-        self.giver.mark(pool.entered(cut));
+        self.clear_giver(pool);
+        self.giver = cut;
         let mut gain = 0i64;
         for arc in pool.entered(cut) {
-            if self.excess(*arc) > 0 {
-                gain = gain.wrapping_add(1);
-            }
+            let excess = self.excess(*arc);
+            gain = gain.wrapping_add(i64::from(excess > 0));
+            set(&mut self.excess, *arc, excess.wrapping_sub(1));
         }
         gain
     }
 
+    /// Lets no cut give a unit.
+    pub fn clear_giver(&mut self, pool: &Pool) {
+        for arc in pool.entered(self.giver) {
+            let excess = self.excess(*arc).wrapping_add(1);
+            set(&mut self.excess, *arc, excess);
+        }
+        self.giver = NONE;
+    }
+
     /// How much a unit more on a cut adds to the overload, once the giver has lost it, or some number above `most`
-    /// where that is more; `None` where an arc that is to be relieved is seen to enter the cut.
+    /// where that is more.
     #[inline]
-    pub fn loss(&self, pool: &Pool, cut: u32, relieved: u32, most: i64) -> Option<i64> {
+    pub fn loss(&self, pool: &Pool, cut: u32, most: i64) -> i64 {
+        let (eights, rest) = pool.entered(cut).as_chunks::<8>();
         let mut loss = 0i64;
-        for arc in pool.entered(cut) {
-            if *arc == relieved {
-                return None;
-            }
-            let excess = self.excess(*arc);
-            if excess > 0 || (excess == 0 && !self.giver.has(*arc)) {
-                loss = loss.wrapping_add(1);
-                if loss > most {
-                    break;
-                }
+        for eight in eights {
+            loss = loss.wrapping_add(self.full_of(eight));
+            if loss > most {
+                return loss;
             }
         }
-        Some(loss)
+        loss.wrapping_add(self.full_of(rest))
+    }
+
+    // How many of some arcs have no room.
+    #[inline]
+    fn full_of(&self, arcs: &[u32]) -> i64 {
+        let mut full = 0i64;
+        for arc in arcs {
+            full = full.wrapping_add(i64::from(self.excess(*arc) >= 0));
+        }
+        full
     }
 
     // Adds to the load of an arc. An `Err` is want of memory.

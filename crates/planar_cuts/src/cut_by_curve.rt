@@ -51,17 +51,21 @@ impl PlanarCuts {
 
     // Goes on from both ends to the cheapest curve. An `Err` is want of memory.
     fn meet(&mut self, search: Search<'_>, meeting: &mut Meeting) -> Result<(), AllocError> {
+        let mut ahead = self.ahead.low();
+        let mut back = self.back.low();
         for _ in 0..u32::MAX {
-            let (Some(ahead), Some(back)) = (self.ahead.low(), self.back.low()) else {
+            let (Some(before), Some(behind)) = (ahead, back) else {
                 break;
             };
-            if ahead.wrapping_add(back) >= meeting.bound {
+            if before.wrapping_add(behind) >= meeting.bound {
                 break;
             }
             if self.ahead.work <= self.back.work {
-                self.ahead.go_on(search, &self.back, back, meeting)?;
+                self.ahead.go_on(search, &self.back, behind, meeting)?;
+                ahead = self.ahead.low();
             } else {
-                self.back.go_on(search, &self.ahead, ahead, meeting)?;
+                self.back.go_on(search, &self.ahead, before, meeting)?;
+                back = self.back.low();
             }
         }
         Ok(())

@@ -27,20 +27,18 @@ pub struct Meeting {
     pub face: u32,
 }
 
-// The cheapest way to a face so far: its price, the arc crossed last, and the face before.
+// The cheapest way to a face so far: its price, and the arc crossed last, `NONE` where it begins.
 #[derive(Clone, Copy)]
 struct Label {
     price: i64,
     search: u32,
     arc: u32,
-    before: u32,
 }
 
 const NO_LABEL: Label = Label {
     price: BLOCKED,
     search: 0,
     arc: NONE,
-    before: NONE,
 };
 
 /// One end: ways from a face.
@@ -73,7 +71,6 @@ impl Front {
             price: 0,
             search,
             arc: NONE,
-            before: NONE,
         };
         set(&mut self.labels, face, start);
         self.waiting.push(0, face)
@@ -88,10 +85,7 @@ impl Front {
     // The price of the cheapest way to a face so far, `BLOCKED` where there is none.
     #[inline]
     fn price(&self, face: u32, search: u32) -> i64 {
-        match self.labels.get(face as usize) {
-            Some(label) if label.search == search => label.price,
-            _ => BLOCKED,
-        }
+        price_in(&self.labels, face, search)
     }
 
     /// Goes on with a cheap way; the other end's ways to be gone on with cost at least `beyond`. An `Err` is want of
@@ -114,17 +108,21 @@ impl Front {
         self.work = self.work.wrapping_add(steps.len() as u64);
         for step in steps {
             let price = way.price.wrapping_add(at(search.prices, step.arc, BLOCKED));
-            if price >= meeting.bound || !search.allows(step) {
+            let known = price_in(&self.labels, step.face, search.number);
+            if price >= meeting.bound || price >= known {
                 continue;
             }
             let rest = other.price(step.face, search.number);
-            if rest == BLOCKED && price.wrapping_add(beyond) >= meeting.bound {
+            let ends = price.wrapping_add(beyond) >= meeting.bound;
+            if (rest == BLOCKED && ends) || !search.allows(step) {
                 continue;
             }
-            let label = label_of(price, search.number, step);
-            if !improve(&mut self.labels, step.face, label) {
-                continue;
-            }
+            let label = Label {
+                price,
+                search: search.number,
+                arc: step.arc,
+            };
+            set(&mut self.labels, step.face, label);
             meeting.offer(price.wrapping_add(rest), step.face);
             if price.wrapping_add(beyond) < meeting.bound {
                 self.waiting.push(price, step.face)?;
@@ -142,7 +140,7 @@ impl Front {
                 break;
             }
             arcs.push(label.arc)?;
-            face = label.before;
+            face = self.steps.source(label.arc);
         }
         Ok(())
     }
@@ -181,26 +179,11 @@ impl Meeting {
     }
 }
 
-// The label of the face that a step leads to.
+// The price of the cheapest way to a face so far, `BLOCKED` where there is none.
 #[inline]
-fn label_of(price: i64, search: u32, step: &Step) -> Label {
-    Label {
-        price,
-        search,
-        arc: step.arc,
-        before: step.from,
+fn price_in(labels: &[Label], face: u32, search: u32) -> i64 {
+    match labels.get(face as usize) {
+        Some(label) if label.search == search => label.price,
+        _ => BLOCKED,
     }
-}
-
-// Sets the label of a face if it is cheaper; tells whether it is.
-#[inline]
-fn improve(labels: &mut [Label], face: u32, label: Label) -> bool {
-    let Some(slot) = labels.get_mut(face as usize) else {
-        return false;
-    };
-    if slot.search == label.search && slot.price <= label.price {
-        return false;
-    }
-    *slot = label;
-    true
 }

@@ -1,15 +1,13 @@
 //! The steps of a curve: from a face to the next one across an arc.
 
 use crate::faces::Faces;
-use cut_groups::{NONE, Tree, add_at, at, count};
+use cut_groups::{NONE, Tree, add_at, at, count, set};
 use net_graph::{Edge, NetGraph};
 use std::alloc::{AllocError, Global};
 
 /// A step to a face.
 #[derive(Clone, Copy)]
 pub struct Step {
-    /// The face that it comes from.
-    pub from: u32,
     /// The face that it leads to.
     pub face: u32,
     /// The arc that enters the cut where the curve takes this step.
@@ -31,15 +29,9 @@ pub struct Steps {
     steps: Vec<Step>,
     // The first step out of each face; behind the last face the number of steps.
     first: Vec<u32>,
+    // The face from which a step across each arc comes.
+    sources: Vec<u32>,
 }
-
-/// No step.
-pub const NO_STEP: Step = Step {
-    from: NONE,
-    face: NONE,
-    arc: NONE,
-    outside: NONE,
-};
 
 impl Steps {
     /// The steps of one direction in a graph with these faces and with a tree. An `Err` is want of memory.
@@ -50,27 +42,38 @@ impl Steps {
         tree: &Tree,
         direction: Direction,
     ) -> Result<Steps, AllocError> {
-        let mut steps = Vec::new(alloc);
+        let mut sourced = Vec::new(alloc);
         let mut arc = 0u32;
         for edge in graph.edges() {
-            push_both(&mut steps, faces, tree, *edge, arc, direction)?;
+            push_both(&mut sourced, faces, tree, *edge, arc, direction)?;
             arc = arc.wrapping_add(2);
         }
-        steps.sort_by_key(|step| step.from)?;
-        let mut first = vec![in alloc; 0; (faces.count() as usize).saturating_add(1)]?;
-        for step in &steps {
-            add_at(&mut first, step.from.wrapping_add(1), 1);
+        sourced.sort_by_key(|step| step.0)?;
+        let mut all = Steps {
+            steps: Vec::with_capacity(alloc, sourced.len())?,
+            first: vec![in alloc; 0; (faces.count() as usize).saturating_add(1)]?,
+            sources: vec![in alloc; NONE; arc as usize]?,
+        };
+        for (source, step) in &sourced {
+            all.steps.push(*step)?;
+            add_at(&mut all.first, source.wrapping_add(1), 1);
+            set(&mut all.sources, step.arc, *source);
         }
         for face in 0..faces.count() {
-            let before = at(&first, face, 0);
-            add_at(&mut first, face.wrapping_add(1), before);
+            let before = at(&all.first, face, 0);
+            add_at(&mut all.first, face.wrapping_add(1), before);
         }
-        Ok(Steps { steps, first })
+        Ok(all)
     }
 
     /// How many faces there are.
     pub fn faces(&self) -> u32 {
         count(&self.first).saturating_sub(1)
+    }
+
+    /// The face from which a step across an arc comes, `NONE` where there is none.
+    pub fn source(&self, arc: u32) -> u32 {
+        at(&self.sources, arc, NONE)
     }
 
     /// The steps out of a face.
@@ -85,9 +88,10 @@ impl Steps {
     }
 }
 
-// Appends the steps across both arcs of an edge, of which `arc` is the first. An `Err` is want of memory.
+// Appends the steps across both arcs of an edge, of which `arc` is the first, each behind the face from which it comes.
+// An `Err` is want of memory.
 fn push_both(
-    steps: &mut Vec<Step>,
+    sourced: &mut Vec<(u32, Step)>,
     faces: &Faces,
     tree: &Tree,
     edge: Edge,
@@ -106,20 +110,17 @@ fn push_both(
     let enters = tree.group(arc) != NONE;
     let enters_back = tree.group(back) != NONE;
     if !enters {
-        steps.push(Step {
-            from,
-            face,
-            arc,
-            outside: if enters_back { edge.a } else { NONE },
-        })?;
+        let outside = if enters_back { edge.a } else { NONE };
+        sourced.push((from, Step { face, arc, outside }))?;
     }
     if !enters_back {
-        steps.push(Step {
-            from: face,
+        let outside = if enters { edge.b } else { NONE };
+        let step = Step {
             face: from,
             arc: back,
-            outside: if enters { edge.b } else { NONE },
-        })?;
+            outside,
+        };
+        sourced.push((face, step))?;
     }
     Ok(())
 }

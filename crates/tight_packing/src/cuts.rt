@@ -6,9 +6,6 @@ use cut_groups::{BLOCKED, CutFinder, Wanted};
 use cut_pool::{Offered, Pool, Seeker};
 use std::alloc::AllocError;
 
-// A group that failed f times in a row looks for new cuts with chance 1 / (1 + min(f, this)).
-const SKIP_MOST: u32 = 6;
-
 impl State {
     /// Looks for cuts of a group cheaper than all that it has, for so many of its least terminals. An `Err` is want of
     /// memory.
@@ -20,7 +17,8 @@ impl State {
         tries: u32,
     ) -> Result<(), AllocError> {
         let failures = self.groups.failures(group);
-        let rest = failures.min(SKIP_MOST).wrapping_add(1);
+        let most = self.loads.settings().most_skips;
+        let rest = failures.min(most).wrapping_add(1);
         if failures > 0 && seeker.random.below(rest) != 0 {
             return Ok(());
         }
@@ -30,7 +28,7 @@ impl State {
         if cheapest == 0 {
             return Ok(());
         }
-        let limit = cheapest.saturating_mul(OVER_FACTOR).saturating_add(1);
+        let limit = self.limit_below(cheapest);
         let found = self.find_below(seeker, finder, group, tries, limit)?;
         self.groups.note_search(group, found);
         Ok(())
@@ -65,6 +63,16 @@ impl State {
             }
         }
         Ok(found)
+    }
+
+    // What a new cut may cost, with its charges, where the overload of the cheapest one of its group is so much.
+    fn limit_below(&self, cheapest: i64) -> i64 {
+        let worth = self.loads.settings().worth;
+        let less = cheapest.checked_div(worth).unwrap_or(0);
+        cheapest
+            .saturating_sub(less)
+            .saturating_mul(OVER_FACTOR)
+            .saturating_add(1)
     }
 }
 

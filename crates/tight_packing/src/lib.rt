@@ -9,6 +9,7 @@ mod groups;
 mod guesses;
 mod line;
 mod loads;
+mod marks;
 mod method;
 mod phases;
 mod rounding;

@@ -1,7 +1,7 @@
 //! The line search: how much weight goes from one cut of a group to another.
 
 use crate::loads::Loads;
-use cut_pool::Marks;
+use crate::marks::Marks;
 use std::alloc::{AllocError, Global};
 
 // Steps of the secant search: the amount need not be the best to the last part.

@@ -161,6 +161,11 @@ impl Loads {
         Ok(())
     }
 
+    /// How the exchange goes.
+    pub fn settings(&self) -> &Settings {
+        &self.settings
+    }
+
     /// The prices of all arcs: by their overload, and a charge.
     #[inline]
     pub fn prices(&self) -> &[i64] {

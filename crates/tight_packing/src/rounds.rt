@@ -52,7 +52,7 @@ impl Rounds {
             sweeper: Sweeper::new(alloc, state.loads.len())?,
             tidier: Tidier::new(alloc, groups)?,
             rounder: Rounder::new(alloc, groups)?,
-            units: UnitSearch::new(alloc, lengths)?,
+            units: UnitSearch::new(alloc, lengths),
             test: FarkasTest::none(alloc),
         })
     }

@@ -7,6 +7,10 @@ pub struct Settings {
     pub reserve: i64,
     /// Whether an arc that isn't overloaded is charged by how full it is.
     pub charges_all: bool,
+    /// A new cut is to be cheaper than all others of its group by one in so many.
+    pub worth: i64,
+    /// A group that failed f times in a row to find one looks with chance 1 / (1 + min(f, this)).
+    pub most_skips: u32,
     /// The rounding first begins at no greater an overload in units.
     pub most_excess: i64,
     /// Later roundings begin at this overload in units, or before.
@@ -24,6 +28,8 @@ impl Settings {
     pub const GRIDS: Settings = Settings {
         reserve: 4,
         charges_all: true,
+        worth: 16,
+        most_skips: 12,
         most_excess: i64::MAX,
         least_excess: 10,
         rounding_rounds: 10,
@@ -36,6 +42,8 @@ impl Settings {
     pub const GRAPHS: Settings = Settings {
         reserve: 0,
         charges_all: false,
+        worth: i64::MAX,
+        most_skips: 6,
         most_excess: 2,
         least_excess: 2,
         rounding_rounds: 1,

@@ -16,7 +16,7 @@ impl Marks {
     pub fn none(alloc: Global, arcs: u32) -> Result<Marks, AllocError> {
         Ok(Marks {
             put: vec![in alloc; 0; arcs as usize]?,
-            number: 0,
+            number: 1,
         })
     }
 
@@ -24,15 +24,6 @@ impl Marks {
     #[inline]
     pub fn clear(&mut self) {
         self.number = self.number.wrapping_add(1);
-    }
-
-    /// Makes it the set of some arcs.
-    #[inline]
-    pub fn mark(&mut self, arcs: &[u32]) {
-        self.clear();
-        for arc in arcs {
-            self.put(*arc);
-        }
     }
 
     /// Puts an arc in.
