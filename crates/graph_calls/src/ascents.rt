@@ -6,7 +6,7 @@ ghost use Rattle.net_graph.specs.Packing.{IsFeasible};
 ghost use Rattle.dual_ascent.specs.Costs.{costs_of};
 ghost use Rattle.dual_ascent.specs.Choosing.{IsCallableOnSome, AnswersAPlace};
 
-use crate::described::{decided, decision, graph};
+use crate::described::decided;
 use crate::rules::ascent_rule;
 use crate::told::tell_cuts;
 use dual_ascent::{
@@ -14,53 +14,71 @@ use dual_ascent::{
 };
 use net_graph::{Decision, NetGraph, Packing};
 use row_tables::{Call, Fault, Told};
-use search_rules::ascent_place;
+use search_rules::{AscentRule, ascent_place};
 use std::alloc::{AllocError, Global};
 
-/// For each word under `rule`: the cuts of the ascent from no cut by this rule, under the decision of `decided`, and
-/// whether it is closed. With one more step of the decision under `more`: the cuts that are carried to that decision
-/// too, and those of the ascent that goes on with them.
-pub fn ascents(alloc: Global, call: &Call, told: &mut Told) -> Result<(), Fault> {
+/// For each word under `rule`: the cuts of the ascent from no cut by this rule, under a decision, and whether it is
+/// closed. With one more step of the decision under `more`: the cuts that are carried to that decision too, and those
+/// of the ascent that goes on with them.
+pub fn ascents(
+    alloc: Global,
+    call: &Call,
+    g: &NetGraph,
+    d: &Decision,
+    told: &mut Told,
+) -> Result<(), Fault>
+    requires { IsDecisionFor g.now d.now }
+{
     for word in call.text("rule")?.split_whitespace() {
-        let rule = ascent_rule(word)?;
         told.word(word);
         told.word("\n");
-        tell_ascent(
-            alloc,
-            call,
-            told,
-            |list: &[Candidate]| -> usize
-                requires { 0 < length list.now }
-                ensures { result < length list.now }
-            { ascent_place(rule, list) },
-        )?;
+        ascent_by(alloc, call, g, d, ascent_rule(word)?, told)?;
     }
     Ok(())
 }
 
-// The same by any rule.
-fn tell_ascent<F: Rule>(alloc: Global, call: &Call, told: &mut Told, rule: F) -> Result<(), Fault>
-    requires callable { IsCallableOnSome (F.may_choose rule) }
-    requires place { AnswersAPlace (F.chooses rule) }
-{
-    let g = graph(alloc, call)?;
-    tell_ascent_on(alloc, call, &g, &Chooser::new(rule), told)
-}
-
-// The same on a graph.
-fn tell_ascent_on<F: Rule>(
+// The same by one rule.
+fn ascent_by(
     alloc: Global,
     call: &Call,
     g: &NetGraph,
-    chooser: &Chooser<F>,
+    d: &Decision,
+    rule: AscentRule,
     told: &mut Told,
-) -> Result<(), Fault> {
-    let d = decision(alloc, call, g)?;
-    tell_ascent_under(alloc, call, g, &d, chooser, told)
+) -> Result<(), Fault>
+    requires { IsDecisionFor g.now d.now }
+{
+    ascent_by_rule(
+        alloc,
+        call,
+        g,
+        d,
+        told,
+        |list: &[Candidate]| -> usize
+            requires { 0 < length list.now }
+            ensures { result < length list.now }
+        { ascent_place(rule, list) },
+    )
 }
 
-// The same under a decision.
-fn tell_ascent_under<F: Rule>(
+// The same by any rule.
+fn ascent_by_rule<F: Rule>(
+    alloc: Global,
+    call: &Call,
+    g: &NetGraph,
+    d: &Decision,
+    told: &mut Told,
+    rule: F,
+) -> Result<(), Fault>
+    requires decision { IsDecisionFor g.now d.now }
+    requires callable { IsCallableOnSome (F.may_choose rule) }
+    requires place { AnswersAPlace (F.chooses rule) }
+{
+    tell_ascent(alloc, call, g, d, &Chooser::new(rule), told)
+}
+
+// The same by a rule that is kept.
+fn tell_ascent<F: Rule>(
     alloc: Global,
     call: &Call,
     g: &NetGraph,

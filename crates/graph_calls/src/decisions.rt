@@ -3,7 +3,7 @@
 ghost use Rattle.std.specs.Prelude.{◌≡◌, length, All};
 ghost use Rattle.net_graph.specs.Decision.{IsDecisionFor};
 
-use crate::described::{decision, graph, packing};
+use crate::described::packing;
 use crate::told::tell_vertices;
 use dual_ascent::maximal;
 use net_graph::{
@@ -12,11 +12,17 @@ use net_graph::{
 use row_tables::{Call, Fault, Told};
 use std::alloc::{AllocError, Global};
 
-/// What a copy of the decision under `decided` says of a graph: the states of the edges, and which vertices are
-/// required and which undecided.
-pub fn decision_told(alloc: Global, call: &Call, told: &mut Told) -> Result<(), Fault> {
-    let g = graph(alloc, call)?;
-    tell_decision(alloc, &g, &decision(alloc, call, &g)?.copy()?, told)
+/// What a copy of a decision says of a graph: the states of the edges, and which vertices are required and which
+/// undecided.
+pub fn decision_told(
+    alloc: Global,
+    g: &NetGraph,
+    d: &Decision,
+    told: &mut Told,
+) -> Result<(), Fault>
+    requires { IsDecisionFor g.now d.now }
+{
+    tell_decision(alloc, g, &d.copy()?, told)
 }
 
 // What a decision says of a graph.
@@ -53,18 +59,19 @@ fn undecided_vertices(alloc: Global, g: &NetGraph, d: &Decision) -> Result<Verte
     Ok(set)
 }
 
-/// What is told of a copy of the packing under `cuts`, under the decision of `decided`: whether it is feasible, its
-/// value, and whether saturated arcs lead to all required vertices.
-pub fn packing_told(alloc: Global, call: &Call, told: &mut Told) -> Result<(), Fault> {
-    let g = graph(alloc, call)?;
-    packing_told_on(alloc, call, &g, told)
-}
-
-// The same on a graph.
-fn packing_told_on(alloc: Global, call: &Call, g: &NetGraph, told: &mut Told) -> Result<(), Fault> {
-    let d = decision(alloc, call, g)?;
+/// What is told of a copy of the packing under `cuts`, under a decision: whether it is feasible, its value, and whether
+/// saturated arcs lead to all required vertices.
+pub fn packing_told(
+    alloc: Global,
+    call: &Call,
+    g: &NetGraph,
+    d: &Decision,
+    told: &mut Told,
+) -> Result<(), Fault>
+    requires { IsDecisionFor g.now d.now }
+{
     let p = packing(alloc, call, g, "cuts")?.copy()?;
-    tell_packing(alloc, g, &d, &p, told)
+    tell_packing(alloc, g, d, &p, told)
 }
 
 // Tells whether the packing is feasible, its value, and whether saturated arcs lead to all required vertices.

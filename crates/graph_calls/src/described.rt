@@ -3,10 +3,11 @@
 ghost use Rattle.std.specs.Prelude.{◌≡◌, length, All, IfOk, IsTrue};
 ghost use Rattle.net_graph.specs.Decision.{IsDecisionFor, IsUndecided, IsVertexUndecided};
 ghost use Rattle.dual_ascent.specs.Carried.{DecidesOneMore};
+ghost use Rattle.branch.specs.States.{IsNetworkOf};
 
 use lists::ItemList;
 use net_graph::{
-    Cut, Decision, Edge, EdgeSet, EdgeState, GraphFault, NetGraph, Packing, VertexSet,
+    Cut, Decision, Edge, EdgeSet, EdgeState, GraphFault, NetGraph, Packing, VertexSet, joins,
     vertex_undecided,
 };
 use row_tables::{Call, Fault, exactly, narrow, narrow_numbers, number, numbers};
@@ -85,6 +86,18 @@ pub fn edges(alloc: Global, call: &Call, g: &NetGraph, key: &str) -> Result<Edge
     ensures { IfOk result (λ set. length set ≡ length g.now.edges) }
 {
     edges_of(alloc, g, &call.narrow_numbers(alloc, key)?)
+}
+
+/// The edges under the key `edges`, which are a network.
+pub fn network(alloc: Global, call: &Call, g: &NetGraph) -> Result<EdgeSet, Fault>
+    ensures { IfOk result (λ set. IsNetworkOf g.now set) }
+{
+    let set = edges(alloc, call, g, "edges")?;
+    if joins(alloc, g, &set)? {
+        Ok(set)
+    } else {
+        Err(Fault::NotAllowed)
+    }
 }
 
 // The set of these edges, of the size of the graph.

@@ -3,24 +3,26 @@
 ghost use Rattle.std.specs.Prelude.{◌≡◌, ◌<◌, length};
 ghost use Rattle.net_graph.specs.Network.{IsNetwork};
 ghost use Rattle.dual_ascent.specs.Choosing.{IsCallableOnSome, AnswersAPlace};
+ghost use Rattle.branch.specs.States.{IsNetworkOf};
 ghost use Rattle.edge_slack.specs.EdgeBound.{IsInSomeNetwork};
 
-use crate::described::{edges, graph};
+use crate::described::network;
 use crate::rules::ascent_rule;
 use dual_ascent::{Candidate, Chooser, Rule};
 use edge_slack::{edge_bound, taking_in};
-use net_graph::{EdgeSet, NetGraph, joins, root_part, value};
+use net_graph::{EdgeSet, NetGraph, root_part, value};
 use row_tables::{Call, Fault, Told};
 use search_rules::ascent_place;
 use std::alloc::{AllocError, Global};
 
 /// For each edge in the root part of the network under `edges`, the value of the packing that bounds the networks which
 /// use it, by the rule under `rule`.
-pub fn edge_bounds(alloc: Global, call: &Call, told: &mut Told) -> Result<(), Fault> {
+pub fn edge_bounds(alloc: Global, call: &Call, g: &NetGraph, told: &mut Told) -> Result<(), Fault> {
     let rule = ascent_rule(call.word("rule")?)?;
-    tell_bounds(
+    tell_bounds_by(
         alloc,
-        call,
+        g,
+        &network(alloc, call, g)?,
         told,
         |list: &[Candidate]| -> usize
             requires { 0 < length list.now }
@@ -30,31 +32,22 @@ pub fn edge_bounds(alloc: Global, call: &Call, told: &mut Told) -> Result<(), Fa
 }
 
 // The same by any rule.
-fn tell_bounds<F: Rule>(alloc: Global, call: &Call, told: &mut Told, rule: F) -> Result<(), Fault>
+fn tell_bounds_by<F: Rule>(
+    alloc: Global,
+    g: &NetGraph,
+    network: &EdgeSet,
+    told: &mut Told,
+    rule: F,
+) -> Result<(), Fault>
+    requires network { IsNetworkOf g.now network.now }
     requires callable { IsCallableOnSome (F.may_choose rule) }
     requires place { AnswersAPlace (F.chooses rule) }
 {
-    let g = graph(alloc, call)?;
-    tell_bounds_on(alloc, call, &g, &Chooser::new(rule), told)
-}
-
-// The same on a graph.
-fn tell_bounds_on<F: Rule>(
-    alloc: Global,
-    call: &Call,
-    g: &NetGraph,
-    chooser: &Chooser<F>,
-    told: &mut Told,
-) -> Result<(), Fault> {
-    let network = edges(alloc, call, g, "edges")?;
-    if !joins(alloc, g, &network)? {
-        return Err(Fault::NotAllowed);
-    }
-    tell_bounds_of(alloc, g, &network, chooser, told)
+    tell_bounds(alloc, g, network, &Chooser::new(rule), told)
 }
 
 // Adds the line of each edge of the network's root part.
-fn tell_bounds_of<F: Rule>(
+fn tell_bounds<F: Rule>(
     alloc: Global,
     g: &NetGraph,
     network: &EdgeSet,

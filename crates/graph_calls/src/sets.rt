@@ -52,10 +52,15 @@ fn change(set: &mut EdgeSet, added: &[u32], removed: &[u32]) {
 /// its place, and the value of its bits. Its words are told, and its members.
 pub fn fours(alloc: Global, call: &Call, told: &mut Told) -> Result<(), Fault> {
     let size = only(call.text("size")?)?;
-    let mut set = VertexSet::empty(alloc, size)?;
-    add_fours(call.text("fours")?, &mut set)?;
-    tell_words(&set, told);
-    tell_vertices(told, "members", &set);
+    let lines = call.text("fours")?;
+    tell_fours(lines, &mut VertexSet::empty(alloc, size)?, told)
+}
+
+// Adds what the lines say, and tells of the set.
+fn tell_fours(lines: &str, set: &mut VertexSet, told: &mut Told) -> Result<(), Fault> {
+    add_fours(lines, set)?;
+    tell_words(set, told);
+    tell_vertices(told, "members", set);
     Ok(())
 }
 

@@ -4,7 +4,7 @@ ghost use Rattle.std.specs.Prelude.{◌<◌, length, IfOk};
 ghost use Rattle.net_graph.specs.Decision.{nothing_decided};
 ghost use Rattle.cert_tree.specs.Decisions.{HasUndecidedSplits};
 
-use crate::described::{graph, only, packing};
+use crate::described::{only, packing};
 use crate::told::tell_cuts;
 use cert_tree::{CertTree, SplitOn};
 use net_graph::{NetGraph, Packing};
@@ -13,13 +13,7 @@ use std::alloc::Global;
 
 /// A certificate tree of one split, on the edge under `split`, whose children have the packings under `outside` and
 /// `inside`: how many splits and leaves it has, its nodes, its value, and the cuts of each leaf.
-pub fn tree(alloc: Global, call: &Call, told: &mut Told) -> Result<(), Fault> {
-    let g = graph(alloc, call)?;
-    tree_on(alloc, call, &g, told)
-}
-
-// The same on a graph.
-fn tree_on(alloc: Global, call: &Call, g: &NetGraph, told: &mut Told) -> Result<(), Fault> {
+pub fn tree(alloc: Global, call: &Call, g: &NetGraph, told: &mut Told) -> Result<(), Fault> {
     let e = only(call.text("split")?)?;
     if e >= g.edge_count() {
         return Err(Fault::NotAllowed);

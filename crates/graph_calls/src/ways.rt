@@ -2,7 +2,7 @@
 
 ghost use Rattle.std.specs.Prelude.{◌≡◌, ◌%◌, ◌==◌, length};
 
-use crate::described::{graph, only};
+use crate::described::only;
 use crate::told::tell_vertices;
 use net_graph::{NetGraph, Passage, found_leading_to, reached_from};
 use row_tables::{Call, Fault, Told};
@@ -26,13 +26,8 @@ impl Passage for OneWay {
 
 /// What is reached from the vertex under `from`, and from where it is reached, where each edge of the graph may be
 /// walked from its first end to its second alone.
-pub fn ways(alloc: Global, call: &Call, told: &mut Told) -> Result<(), Fault> {
+pub fn ways(alloc: Global, call: &Call, g: &NetGraph, told: &mut Told) -> Result<(), Fault> {
     let v = only(call.text("from")?)?;
-    tell_ways(alloc, &graph(alloc, call)?, v, told)
-}
-
-// The same on a graph.
-fn tell_ways(alloc: Global, g: &NetGraph, v: u32, told: &mut Told) -> Result<(), Fault> {
     if v >= g.vertex_count() {
         return Err(Fault::NotAllowed);
     }

@@ -3,24 +3,36 @@
 ghost use Rattle.std.specs.Prelude.{IfOk};
 ghost use Rattle.branch.specs.States.{IsNetworkOf};
 
-use crate::described::edges;
+use crate::described::network;
 use crate::rules::{ascent_rule, split_rule};
 use branch::SplitKind;
-use net_graph::{EdgeSet, NetGraph, joins};
+use net_graph::{EdgeSet, NetGraph};
 use row_tables::{Call, Fault};
 use search_rules::{AscentRule, SplitRule};
 use std::alloc::Global;
 
-/// The edges under the key `edges`, which are a network.
-pub fn network(alloc: Global, call: &Call, g: &NetGraph) -> Result<EdgeSet, Fault>
-    ensures { IfOk result (λ set. IsNetworkOf g.now set) }
+/// What a search begins with, and how far it may go.
+#[derive(Drop)]
+pub struct SearchPlan {
+    /// The first network.
+    pub first: EdgeSet,
+    /// The greatest number of its splits or steps.
+    pub most: u8,
+    /// What leaves are split on.
+    pub kind: SplitKind,
+}
+
+/// The network under `edges`, the number under a key, and the kind.
+pub fn asked_plan(alloc: Global, call: &Call, g: &NetGraph, key: &str) -> Result<SearchPlan, Fault>
+    ensures { IfOk result (λ plan. IsNetworkOf g.now plan.first) }
 {
-    let set = edges(alloc, call, g, "edges")?;
-    if joins(alloc, g, &set)? {
-        Ok(set)
-    } else {
-        Err(Fault::NotAllowed)
-    }
+    let most = call.byte(key)?;
+    let kind = asked_kind(call)?;
+    Ok(SearchPlan {
+        first: network(alloc, call, g)?,
+        most,
+        kind,
+    })
 }
 
 /// The rule of the ascents under the key `ascent`; `least` where there is none.
@@ -41,8 +53,8 @@ pub fn asked_splits(call: &Call) -> Result<SplitRule, Fault> {
     }
 }
 
-/// What leaves are split on, under the key `kind`: `edges` or `vertices`; edges where there is none.
-pub fn asked_kind(call: &Call) -> Result<SplitKind, Fault> {
+// What leaves are split on, under the key `kind`: `edges` or `vertices`; edges where there is none.
+fn asked_kind(call: &Call) -> Result<SplitKind, Fault> {
     if !call.has("kind") {
         return Ok(SplitKind::Edges);
     }

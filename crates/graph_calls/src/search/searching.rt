@@ -1,11 +1,11 @@
 //! Searches by splits, whole and step by step, and networks of saturated arcs.
 
-ghost use Rattle.std.specs.Prelude.{◌<◌, length};
+ghost use Rattle.std.specs.Prelude.{◌≡◌, ◌<◌, length};
 ghost use Rattle.cert_tree.specs.Preorder.{split_count};
+ghost use Rattle.net_graph.specs.Decision.{IsDecisionFor};
 ghost use Rattle.dual_ascent.specs.Choosing.{IsCallableOnSome, AnswersAPlace};
 
-use crate::described::graph;
-use crate::search::asked::{asked_ascents, asked_kind, asked_splits, network};
+use crate::search::asked::{SearchPlan, asked_ascents, asked_plan, asked_splits};
 use crate::search::telling::tell_solved;
 use crate::told::tell_edges;
 use branch::{Search, Step, saturated_network, solve_graph};
@@ -16,12 +16,13 @@ use search_rules::{ascent_place, split_place};
 use std::alloc::Global;
 
 /// Makes a call by the rules that the row names.
-pub fn search(alloc: Global, call: &Call, told: &mut Told) -> Result<(), Fault> {
+pub fn search(alloc: Global, call: &Call, g: &NetGraph, told: &mut Told) -> Result<(), Fault> {
     let ascents = asked_ascents(call)?;
     let splits = asked_splits(call)?;
     search_by(
         alloc,
         call,
+        g,
         |list: &[Candidate]| -> usize
             requires { 0 < length list.now }
             ensures { result < length list.now }
@@ -38,6 +39,7 @@ pub fn search(alloc: Global, call: &Call, told: &mut Told) -> Result<(), Fault> 
 fn search_by<F: Rule, G: Rule>(
     alloc: Global,
     call: &Call,
+    g: &NetGraph,
     ascent: F,
     split: G,
     told: &mut Told,
@@ -47,13 +49,12 @@ fn search_by<F: Rule, G: Rule>(
     requires split_callable { IsCallableOnSome (G.may_choose split) }
     requires split_place { AnswersAPlace (G.chooses split) }
 {
-    let g = graph(alloc, call)?;
     let ascent = Chooser::new(ascent);
     let split = Chooser::new(split);
     match call.kind() {
-        "solve" => solve(alloc, call, &g, ascent, split, told),
-        "steps" => steps(alloc, call, &g, ascent, split, told),
-        _ => saturated(alloc, &g, &ascent, told),
+        "solve" => solve(alloc, call, g, ascent, split, told),
+        "steps" => steps(alloc, call, g, ascent, split, told),
+        _ => saturated(alloc, g, &ascent, told),
     }
 }
 
@@ -66,10 +67,8 @@ fn solve<F: Rule, G: Rule>(
     split: Chooser<G>,
     told: &mut Told,
 ) -> Result<(), Fault> {
-    let first = network(alloc, call, g)?;
-    let allowed = call.byte("openings")?;
-    let kind = asked_kind(call)?;
-    let solved = solve_graph(alloc, g, first, allowed, ascent, split, kind)?;
+    let SearchPlan { first, most, kind } = asked_plan(alloc, call, g, "openings")?;
+    let solved = solve_graph(alloc, g, first, most, ascent, split, kind)?;
     tell_solved(told, &solved);
     Ok(())
 }
@@ -84,16 +83,28 @@ fn steps<F: Rule, G: Rule>(
     split: Chooser<G>,
     told: &mut Told,
 ) -> Result<(), Fault> {
-    let first = network(alloc, call, g)?;
-    let kind = asked_kind(call)?;
+    let SearchPlan { first, most, kind } = asked_plan(alloc, call, g, "steps")?;
     let mut search = Search::start(alloc, g, first, ascent, split, kind)?;
+    tell_steps(alloc, &mut search, most, told)?;
+    told.line("bound ", &search.finish().bound);
+    Ok(())
+}
+
+// Tells what the first leaf shows, once no cuts raised it, what comes of so many steps, and how far the search is.
+fn tell_steps<F: Rule, G: Rule>(
+    alloc: Global,
+    search: &mut Search<F, G>,
+    count: u8,
+    told: &mut Told,
+) -> Result<(), Fault>
+    requires { split_count search.old.tree ≡ 0 }
+{
     search.raise(Packing::empty(alloc))?;
     if let Some(shown) = search.shown() {
         tell_edges(told, "shown", shown);
     }
-    take_steps(&mut search, call.byte("steps")?, told)?;
-    tell_search(told, &search);
-    told.line("bound ", &search.finish().bound);
+    take_steps(search, count, told)?;
+    tell_search(told, search);
     Ok(())
 }
 
@@ -144,12 +155,24 @@ fn saturated<F: Rule>(
     ascent: &Chooser<F>,
     told: &mut Told,
 ) -> Result<(), Fault> {
-    let decision = Decision::none(alloc, g)?;
-    let made = ascend(alloc, g, &decision, Packing::empty(alloc), ascent)?;
+    saturated_under(alloc, g, &Decision::none(alloc, g)?, ascent, told)
+}
+
+// The same under a decision.
+fn saturated_under<F: Rule>(
+    alloc: Global,
+    g: &NetGraph,
+    d: &Decision,
+    ascent: &Chooser<F>,
+    told: &mut Told,
+) -> Result<(), Fault>
+    requires { IsDecisionFor g.now d.now }
+{
+    let made = ascend(alloc, g, d, Packing::empty(alloc), ascent)?;
     if made.closed {
         return Err(Fault::NotAllowed);
     }
-    let set = saturated_network(alloc, g, &decision, &made.packing)?;
+    let set = saturated_network(alloc, g, d, &made.packing)?;
     tell_edges(told, "saturated", &set);
     Ok(())
 }
