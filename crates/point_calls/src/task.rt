@@ -1,7 +1,7 @@
 //! Calls on Steiner problems in the graphs of STP files: the graph of a file, a first network, and the checker of
 //! answers.
 
-ghost use Rattle.std.specs.Prelude.{◌≤◌, length};
+ghost use Rattle.std.specs.Prelude.{◌≤◌, length, IfOk};
 ghost use Rattle.net_graph.specs.Network.{IsNetwork};
 ghost use Rattle.graph_solve.specs.Task.{all_edges};
 
@@ -18,7 +18,20 @@ use text_in::FormatFault;
 /// or what is asked of its graph. The file may stand in several pieces, one behind the other.
 pub fn answer(alloc: Global, call: &Call, told: &mut Told) -> Result<(), Fault> {
     let file = given_file(alloc, call)?;
-    match graph_of(alloc, &file) {
+    of_problem(alloc, call, graph_of(alloc, &file), told)
+}
+
+// Makes a call on the graph that was made of a file, or tells its fault.
+fn of_problem(
+    alloc: Global,
+    call: &Call,
+    made: Result<NetGraph, TaskFault>,
+    told: &mut Told,
+) -> Result<(), Fault>
+    requires few { IfOk made (λ g. length g.terminals ≤ 255) }
+    requires joined { IfOk made (λ g. IsNetwork g (all_edges g)) }
+{
+    match made {
         Ok(g) => of_graph(alloc, call, &g, told),
         Err(fault) => tell_fault(alloc, fault, told),
     }

@@ -14,8 +14,9 @@ use std::alloc::Global;
 pub fn cuts(alloc: Global, call: &Call, grid: &Grid) -> Result<Packing, Fault>
     ensures { IfOk result (All (IsCutOn (hanan_grid_of grid.now))) }
 {
+    let lines = call.text("cuts")?;
     let mut cuts = Packing::empty(alloc);
-    for line in call.text("cuts")?.lines() {
+    for line in lines.lines() {
         cuts.push(cut(alloc, line, grid)?)?;
     }
     Ok(cuts)
@@ -25,7 +26,13 @@ pub fn cuts(alloc: Global, call: &Call, grid: &Grid) -> Result<Packing, Fault>
 fn cut(alloc: Global, line: &str, grid: &Grid) -> Result<Cut, Fault>
     ensures { IfOk result (IsCutOn (hanan_grid_of grid.now)) }
 {
-    let numbers = numbers(alloc, line)?;
+    cut_of(alloc, &numbers(alloc, line)?, grid)
+}
+
+// The cut of numbers.
+fn cut_of(alloc: Global, numbers: &[u64], grid: &Grid) -> Result<Cut, Fault>
+    ensures { IfOk result (IsCutOn (hanan_grid_of grid.now)) }
+{
     let (weight, vertices) = numbers.split_first().ok_or(Fault::BadNumber)?;
     if *weight == 0 {
         return Err(Fault::NotAllowed);

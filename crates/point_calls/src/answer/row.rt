@@ -8,17 +8,22 @@ use std::alloc::Global;
 /// second, and then each number is one more.
 pub fn number_row(alloc: Global, call: &Call, told: &mut Told) -> Result<(), Fault> {
     let [len, place, value] = exactly::<3>(call.text("numbers")?)?;
-    let mut row = Row::zeros(alloc, narrow(len)?)?;
-    let place = narrow(place)?;
-    if place >= row.len() {
+    let (len, place) = (narrow(len)?, narrow(place)?);
+    if place >= len {
         return Err(Fault::NotAllowed);
     }
+    let mut row = Row::zeros(alloc, len)?;
     row.set(place, value);
+    tell_row(&mut row, told);
+    Ok(())
+}
+
+// Makes each number one more, and tells them.
+fn tell_row(row: &mut Row, told: &mut Told) {
     for number in row.numbers_mut() {
         *number = number.wrapping_add(1);
     }
     for n in 0..row.len() {
         told.line("", &row.get(n));
     }
-    Ok(())
 }

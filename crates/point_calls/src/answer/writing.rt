@@ -5,7 +5,6 @@ ghost use Rattle.hanan_grid.specs.Grid.{hanan_grid_of};
 ghost use Rattle.answer_text.specs.Answers.{IsAnswerOn};
 
 use crate::answer::described::cuts;
-use crate::grid::described::grid;
 use answer_text::{Answer, AnswerHead, ConcatNote, answer_len, write_answer};
 use cert_tree::CertTree;
 use graph_calls::described::edges;
@@ -18,10 +17,8 @@ use std::alloc::Global;
 const ROOM: usize = 1 << 16;
 
 /// The text of an answer whose tree is a leaf, and its length.
-pub fn write(alloc: Global, call: &Call, told: &mut Told) -> Result<(), Fault> {
-    let grid = grid(alloc, call)?;
-    let described = described_answer(alloc, call, &grid)?;
-    write_described(alloc, &grid, &described, told)
+pub fn write(alloc: Global, call: &Call, grid: &Grid, told: &mut Told) -> Result<(), Fault> {
+    write_described(alloc, grid, &described_answer(alloc, call, grid)?, told)
 }
 
 // The text of an answer, and its length.
@@ -48,13 +45,15 @@ fn described_answer(alloc: Global, call: &Call, grid: &Grid) -> Result<Answer, F
     ensures { IfOk result (λ answer. IsAnswerOn (hanan_grid_of grid.now) answer) }
 {
     let g = grid.graph();
+    let head = head(call)?;
+    let network = edges(alloc, call, g, "edges")?;
     let cuts = cuts(alloc, call, grid)?;
     if cuts.len() > 4 * g.edge_count() as usize + 1 {
         return Err(Fault::NotAllowed);
     }
     Ok(Answer {
-        head: head(call)?,
-        network: edges(alloc, call, g, "edges")?,
+        head,
+        network,
         tree: CertTree::leaf(alloc, cuts)?,
     })
 }

@@ -62,9 +62,25 @@ fn pieces(grid: &Grid, code: &TreeCode, told: &mut Told)
 
 /// The order of the trees under `first` and `second`, and that of their codes.
 pub fn order(alloc: Global, grid: &Grid, call: &Call, told: &mut Told) -> Result<(), Fault> {
-    let first = tree(alloc, call.text("first")?)?;
-    let second = tree(alloc, call.text("second")?)?;
-    compare(grid, &first, &second, told)
+    let second = call.text("second")?;
+    order_before(
+        alloc,
+        grid,
+        &tree(alloc, call.text("first")?)?,
+        second,
+        told,
+    )
+}
+
+// The order of a tree and that of a line.
+fn order_before(
+    alloc: Global,
+    grid: &Grid,
+    first: &Tree,
+    second: &str,
+    told: &mut Told,
+) -> Result<(), Fault> {
+    compare(grid, first, &tree(alloc, second)?, told)
 }
 
 // The order of two trees in form, and that of their codes.

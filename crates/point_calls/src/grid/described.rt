@@ -43,8 +43,9 @@ pub fn coordinates<const N: usize>(line: &str) -> Result<[i64; N], Fault> {
 
 /// The trees under a key, a line each.
 pub fn trees(alloc: Global, call: &Call, key: &str) -> Result<TreeList, Fault> {
+    let lines = call.text(key)?;
     let mut trees = TreeList::empty(alloc);
-    for line in call.text(key)?.lines() {
+    for line in lines.lines() {
         trees.push(tree(alloc, line)?)?;
     }
     Ok(trees)
@@ -69,21 +70,37 @@ pub fn code(alloc: Global, line: &str) -> Result<TreeCode, Fault> {
 // The code of words.
 fn code_of(alloc: Global, words: &[&str]) -> Result<TreeCode, Fault> {
     match words {
-        ["cross", west, south, east, north] => Ok(TreeCode::Cross {
-            west: byte(west)?,
-            south: byte(south)?,
-            east: byte(east)?,
-            north: byte(north)?,
-        }),
-        ["long", root, toward, tip, side, drops @ ..] => Ok(TreeCode::Long {
-            root: byte(root)?,
-            toward: way(toward)?,
-            side: side_place(side)?,
-            tip: byte(tip)?,
-            drops: places(alloc, drops)?,
-        }),
+        ["cross", ends @ ..] => cross(ends),
+        ["long", words @ ..] => long(alloc, words),
         _ => Err(Fault::UnknownSubject),
     }
+}
+
+// The cross of words: its four ends.
+fn cross(words: &[&str]) -> Result<TreeCode, Fault> {
+    let [west, south, east, north] = words else {
+        return Err(Fault::UnknownSubject);
+    };
+    Ok(TreeCode::Cross {
+        west: byte(west)?,
+        south: byte(south)?,
+        east: byte(east)?,
+        north: byte(north)?,
+    })
+}
+
+// The long tree of words.
+fn long(alloc: Global, words: &[&str]) -> Result<TreeCode, Fault> {
+    let [root, toward, tip, side, drops @ ..] = words else {
+        return Err(Fault::UnknownSubject);
+    };
+    Ok(TreeCode::Long {
+        root: byte(root)?,
+        toward: way(toward)?,
+        side: side_place(side)?,
+        tip: byte(tip)?,
+        drops: places(alloc, drops)?,
+    })
 }
 
 // The place at the side, or none where the word is a dash.

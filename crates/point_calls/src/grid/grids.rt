@@ -86,10 +86,16 @@ pub fn vertices_at(grid: &Grid, lines: &str, told: &mut Told) -> Result<(), Faul
 
 /// For each two terminals of the lines, by their places in the list, their distance and their bottleneck.
 pub fn distances(alloc: Global, grid: &Grid, lines: &str, told: &mut Told) -> Result<(), Fault> {
-    let table = bottlenecks(alloc, grid)?;
+    distances_by(grid, &bottlenecks(alloc, grid)?, lines, told)
+}
+
+// The same by the table of bottlenecks.
+fn distances_by(grid: &Grid, table: &Table, lines: &str, told: &mut Told) -> Result<(), Fault>
+    requires { table.now ≡ grid.now }
+{
     for line in lines.lines() {
         let [i, j] = exactly::<2>(line)?;
-        distance(grid, &table, i as usize, j as usize, told)?;
+        distance(grid, table, i as usize, j as usize, told)?;
     }
     Ok(())
 }

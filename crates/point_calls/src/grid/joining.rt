@@ -34,8 +34,9 @@ fn tell(joined: &Joined, told: &mut Told) {
 
 // The pairs under `pairs`: two numbers and a length a line.
 fn pairs(alloc: Global, call: &Call) -> Result<Vec<Pair>, Fault> {
+    let lines = call.text("pairs")?;
     let mut pairs = Vec::new(alloc);
-    for line in call.text("pairs")?.lines() {
+    for line in lines.lines() {
         pairs.push(pair(line)?)?;
     }
     Ok(pairs)

@@ -5,6 +5,7 @@ use fst_file::read_file;
 use row_tables::{Call, Fault, Told};
 use std::alloc::Global;
 use stp_format::read_stp;
+use text_in::FormatFault;
 
 /// What is said of prefixes in a row, and of how many.
 #[derive(Drop)]
@@ -55,23 +56,18 @@ pub(crate) fn cuts(alloc: Global, call: &Call, told: &mut Told) -> Result<(), Fa
 // What is said of a text as an STP file, or else as a file of full trees.
 fn said_of_text(alloc: Global, text: &[u8], is_stp: bool) -> Result<String, Fault> {
     if is_stp {
-        said_of_stp(alloc, text)
+        said_of_read(alloc, read_stp(alloc, text))
     } else {
-        said_of_fst(alloc, text)
+        said_of_read(alloc, read_file(alloc, text))
     }
 }
 
-// What is said of a text as an STP file.
-fn said_of_stp(alloc: Global, text: &[u8]) -> Result<String, Fault> {
-    match read_stp(alloc, text) {
-        Ok(_) => Ok(String::from_str(alloc, "a file")?),
-        Err(fault) => said_of(alloc, fault),
-    }
-}
-
-// What is said of a text as a file of full trees.
-fn said_of_fst(alloc: Global, text: &[u8]) -> Result<String, Fault> {
-    match read_file(alloc, text) {
+// What is said of a text that was read.
+fn said_of_read<T: Drop, F: FormatFault + Drop>(
+    alloc: Global,
+    read: Result<T, F>,
+) -> Result<String, Fault> {
+    match read {
         Ok(_) => Ok(String::from_str(alloc, "a file")?),
         Err(fault) => said_of(alloc, fault),
     }

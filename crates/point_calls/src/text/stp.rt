@@ -7,20 +7,18 @@ use stp_format::{StpFile, read_stp, write_stp};
 
 /// The fault of the STP file under `file`; or what it holds, and the file as it is written.
 pub(crate) fn stp(alloc: Global, call: &Call, told: &mut Told) -> Result<(), Fault> {
-    let file = match read_stp(alloc, call.bytes("file")?) {
-        Ok(file) => file,
+    match read_stp(alloc, call.bytes("file")?) {
+        Ok(file) => tell(alloc, call, &file, told),
         Err(fault) => {
-            told.word(said_of(alloc, fault)?.as_str());
-            told.word("\n");
-            return Ok(());
+            told.line("", &said_of(alloc, fault)?);
+            Ok(())
         }
-    };
-    tell_file(&file, told);
-    tell_written(alloc, call, &file, told)
+    }
 }
 
-// Tells what a sink has of the file as it is written.
-fn tell_written(alloc: Global, call: &Call, file: &StpFile, told: &mut Told) -> Result<(), Fault> {
+// Tells what a file holds, and what a sink has of it as it is written.
+fn tell(alloc: Global, call: &Call, file: &StpFile, told: &mut Told) -> Result<(), Fault> {
+    tell_file(file, told);
     let mut sink = given_sink(alloc, call)?;
     told.debug_line("written ", &write_stp(&mut sink, file));
     told.word(shown(sink.bytes())?);

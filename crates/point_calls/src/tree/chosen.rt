@@ -3,25 +3,15 @@
 ghost use Rattle.std.specs.Prelude.{All, length};
 ghost use Rattle.fst_concat.specs.Chosen.{HasMembersBelow};
 
-use crate::grid::described::grid;
-use crate::tree::fitting::fitting;
 use fst_concat::{Chosen, ChosenKind, ConcatFault, concat};
 use full_tree::TreeList;
 use hanan_grid::Grid;
-use row_tables::{Call, Fault, Told, narrow};
+use row_tables::{Fault, Told};
 use std::alloc::Global;
 
 /// The concatenation of the trees that a search with so many `allowed` splits chooses, or the terminal that all of them
 /// leave apart.
-pub fn chosen(alloc: Global, call: &Call, told: &mut Told) -> Result<(), Fault> {
-    let allowed = narrow(call.number("allowed")?)?;
-    let grid = grid(alloc, call)?;
-    let trees = fitting(alloc, call, &grid)?;
-    choose(alloc, &grid, &trees, allowed, told)
-}
-
-// The same of these trees.
-fn choose(
+pub fn chosen(
     alloc: Global,
     grid: &Grid,
     trees: &TreeList,

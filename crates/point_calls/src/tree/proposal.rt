@@ -29,8 +29,9 @@ fn tell(parts: u8, items: &[Item], found: &Proposal, told: &mut Told) {
 
 // The items under the key `items`, a line each: the parts that it touches, as a word, and its length.
 fn items(alloc: Global, call: &Call) -> Result<Vec<Item>, Fault> {
+    let lines = call.text("items")?;
     let mut items = Vec::new(alloc);
-    for line in call.text("items")?.lines() {
+    for line in lines.lines() {
         let [touched, length] = exactly::<2>(line)?;
         items.push(Item { touched, length })?;
     }
