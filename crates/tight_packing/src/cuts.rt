@@ -1,6 +1,7 @@
 //! New cuts of a group, asked for within the sweeps.
 
 use crate::loads::OVER_FACTOR;
+use crate::settings::Settings;
 use crate::state::State;
 use cut_groups::{BLOCKED, CutFinder, Wanted};
 use cut_pool::{Offered, Pool, Seeker};
@@ -16,9 +17,13 @@ impl State {
         group: u32,
         tries: u32,
     ) -> Result<(), AllocError> {
+        let Settings {
+            worth,
+            most_skips,
+            ..
+        } = *self.loads.settings();
         let failures = self.groups.failures(group);
-        let most = self.loads.settings().most_skips;
-        let rest = failures.min(most).wrapping_add(1);
+        let rest = failures.min(most_skips).wrapping_add(1);
         if failures > 0 && seeker.random.below(rest) != 0 {
             return Ok(());
         }
@@ -28,7 +33,9 @@ impl State {
         if cheapest == 0 {
             return Ok(());
         }
-        let limit = self.limit_below(cheapest);
+        let less = cheapest.checked_div(worth).unwrap_or(0);
+        let wanted = cheapest.saturating_sub(less);
+        let limit = wanted.saturating_mul(OVER_FACTOR).saturating_add(1);
         let found = self.find_below(seeker, finder, group, tries, limit)?;
         self.groups.note_search(group, found);
         Ok(())
@@ -63,16 +70,6 @@ impl State {
             }
         }
         Ok(found)
-    }
-
-    // What a new cut may cost, with its charges, where the overload of the cheapest one of its group is so much.
-    fn limit_below(&self, cheapest: i64) -> i64 {
-        let worth = self.loads.settings().worth;
-        let less = cheapest.checked_div(worth).unwrap_or(0);
-        cheapest
-            .saturating_sub(less)
-            .saturating_mul(OVER_FACTOR)
-            .saturating_add(1)
     }
 }
 

@@ -2,6 +2,7 @@
 
 use crate::loads::Loads;
 use crate::marks::Marks;
+use cut_groups::at;
 use std::alloc::{AllocError, Global};
 
 // Steps of the secant search: the amount need not be the best to the last part.
@@ -10,8 +11,7 @@ const STEPS: u8 = 6;
 /// A move of weight from a cut to another of its group, by the arcs that enter just one of them.
 #[derive(Drop)]
 pub struct Line {
-    // The arcs that enter the cut that gains, as far as they count, with marks on those whose loads rise.
-    gaining: Vec<u32>,
+    // The arcs that enter the cut that loses weight, and not the other one.
     marks: Marks,
     // The overloads of the arcs whose loads fall.
     falling: Vec<i64>,
@@ -37,7 +37,6 @@ impl Line {
     /// No move. An `Err` is want of memory.
     pub fn new(alloc: Global, arcs: u32) -> Result<Line, AllocError> {
         Ok(Line {
-            gaining: Vec::new(alloc),
             marks: Marks::none(alloc, arcs)?,
             falling: Vec::new(alloc),
             rising: Vec::new(alloc),
@@ -53,43 +52,38 @@ impl Line {
         to: &[u32],
         weight: i64,
     ) -> Result<(), AllocError> {
-        self.gain(loads, to, weight)?;
-        self.lose(loads, from, weight)?;
-        self.rising.clear();
-        for arc in &self.gaining {
-            if self.marks.has(*arc) {
-                self.rising.push(loads.excess(*arc))?;
-            }
-        }
-        Ok(())
-    }
-
-    // Marks the arcs that enter the cut that gains a weight, as far as they could come above their thresholds. An `Err`
-    // is want of memory.
-    fn gain(&mut self, loads: &Loads, to: &[u32], weight: i64) -> Result<(), AllocError> {
-        self.gaining.clear();
         self.marks.clear();
+        for arc in from {
+            self.marks.put(*arc);
+        }
+        self.gain(loads, to, weight)?;
+        self.lose(loads, from)
+    }
+
+    // Takes the arcs that enter the cut that gains a weight, as far as they could come above their thresholds, and takes
+    // the marks off those that enter both. An `Err` is want of memory.
+    fn gain(&mut self, loads: &Loads, to: &[u32], weight: i64) -> Result<(), AllocError> {
+        self.rising.clear();
         for arc in to {
-            if loads.excess(*arc).wrapping_add(weight) > 0 {
-                self.marks.put(*arc);
-                self.gaining.push(*arc)?;
+            if self.marks.has(*arc) {
+                self.marks.take(*arc);
+            } else {
+                let excess = loads.excess(*arc);
+                if excess.wrapping_add(weight) > 0 {
+                    self.rising.push(excess)?;
+                }
             }
         }
         Ok(())
     }
 
-    // Takes the arcs that enter the cut that loses a weight, and takes the marks off those that enter both. An `Err` is
-    // want of memory.
-    fn lose(&mut self, loads: &Loads, from: &[u32], weight: i64) -> Result<(), AllocError> {
+    // Takes the marked arcs of those that enter the cut that loses a weight. An `Err` is want of memory.
+    fn lose(&mut self, loads: &Loads, from: &[u32]) -> Result<(), AllocError> {
         self.falling.clear();
         for arc in from {
-            let excess = loads.excess(*arc);
-            if excess.wrapping_add(weight) > 0 {
-                if self.marks.has(*arc) {
-                    self.marks.take(*arc);
-                } else if excess > 0 {
-                    self.falling.push(excess)?;
-                }
+            let over = at(loads.overs(), *arc, 0);
+            if over > 0 && self.marks.has(*arc) {
+                self.falling.push(loads.excess(*arc))?;
             }
         }
         Ok(())

@@ -7,8 +7,8 @@ use std::alloc::{AllocError, Global};
 #[derive(Drop)]
 pub struct Marks {
     // The number of the set in which each arc was put last.
-    put: Vec<u64>,
-    number: u64,
+    put: Vec<u32>,
+    number: u32,
 }
 
 impl Marks {
