@@ -60,8 +60,8 @@ impl Line {
         self.lose(loads, from)
     }
 
-    // Takes the arcs that enter the cut that gains a weight, as far as they could come above their thresholds, and takes
-    // the marks off those that enter both. An `Err` is want of memory.
+    // Takes the arcs of the cut that gains a weight, as far as they could come above their thresholds, and takes the
+    // marks off those that enter both. An `Err` is want of memory.
     fn gain(&mut self, loads: &Loads, to: &[u32], weight: i64) -> Result<(), AllocError> {
         self.rising.clear();
         for arc in to {
