@@ -115,7 +115,8 @@ fn edge_within_room(g: &NetGraph, d: &Decision, cuts: &[Cut], n: u32) -> bool
 {
     let e = g.edge(n);
     let state = d.state(g, n);
-    within_room(state, e, load(cuts, e.a, e.b)) && within_room(state, e, load(cuts, e.b, e.a))
+    let (along, against) = loads(cuts, e.a, e.b);
+    within_room(state, e, along) && within_room(state, e, against)
 }
 
 // Whether the load is no more than the room of the edge's arcs.
@@ -129,19 +130,24 @@ fn within_room(state: EdgeState, e: Edge, load: u128) -> bool
     }
 }
 
-// The sum of the weights of the cuts that the arc from `u` to `v` enters.
-fn load(cuts: &[Cut], u: u32, v: u32) -> u128
+// The sums of the weights of the cuts that the arc from `u` to `v` enters, and of those that the arc from `v` to `u`
+// does.
+fn loads(cuts: &[Cut], u: u32, v: u32) -> (u128, u128)
     requires from { All (λ c. u < length c.members) cuts.now }
     requires to { All (λ c. v < length c.members) cuts.now }
-    ensures { result ≡ packing.load cuts.now u v }
+    ensures along { result.0 ≡ packing.load cuts.now u v }
+    ensures against { result.1 ≡ packing.load cuts.now v u }
 {
-    let mut sum = 0;
+    let mut along = 0;
+    let mut against = 0;
     for cut in cuts {
-        if enters(&cut.members, u, v) {
-            sum += u128::from(cut.weight);
+        match (cut.members.has(u), cut.members.has(v)) {
+            (false, true) => along += u128::from(cut.weight),
+            (true, false) => against += u128::from(cut.weight),
+            _ => {}
         }
     }
-    sum
+    (along, against)
 }
 
 /// Whether an arc from `u` to `v` enters the set: it leads to a member, and from a vertex that is none. One past the

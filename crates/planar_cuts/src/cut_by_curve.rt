@@ -51,21 +51,21 @@ impl PlanarCuts {
 
     // Goes on from both ends to the cheapest curve. An `Err` is want of memory.
     fn meet(&mut self, search: Search<'_>, meeting: &mut Meeting) -> Result<(), AllocError> {
-        let mut ahead = self.ahead.low();
-        let mut back = self.back.low();
+        let mut ahead_low = self.ahead.low();
+        let mut back_low = self.back.low();
         for _ in 0..u32::MAX {
-            let (Some(before), Some(behind)) = (ahead, back) else {
+            let (Some(ahead), Some(back)) = (ahead_low, back_low) else {
                 break;
             };
-            if before.wrapping_add(behind) >= meeting.bound {
+            if ahead.wrapping_add(back) >= meeting.bound {
                 break;
             }
             if self.ahead.work <= self.back.work {
-                self.ahead.go_on(search, &self.back, behind, meeting)?;
-                ahead = self.ahead.low();
+                self.ahead.go_on(search, &self.back, back, meeting)?;
+                ahead_low = self.ahead.low();
             } else {
-                self.back.go_on(search, &self.ahead, before, meeting)?;
-                back = self.back.low();
+                self.back.go_on(search, &self.ahead, ahead, meeting)?;
+                back_low = self.back.low();
             }
         }
         Ok(())

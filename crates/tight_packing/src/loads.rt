@@ -15,12 +15,11 @@ const FILL_CHARGE: i64 = 8;
 
 const NOISE: u32 = 3;
 
-// The limits of an arc, in parts, and whether the multipliers have lowered the threshold.
+// The limits of an arc, in parts: the threshold is the capacity until the multipliers lower it.
 #[derive(Clone, Copy)]
 struct Limit {
     capacity: i64,
     threshold: i64,
-    marked: bool,
 }
 
 /// The loads of all arcs, in parts: of each arc off the tree the weights of the cuts that it
@@ -46,7 +45,6 @@ pub struct Loads {
 const NO_LIMIT: Limit = Limit {
     capacity: 0,
     threshold: 0,
-    marked: false,
 };
 
 impl Loads {
@@ -91,15 +89,11 @@ impl Loads {
     // Appends an arc of a length in units. An `Err` is want of memory.
     fn push(&mut self, length: i64) -> Result<(), AllocError> {
         let capacity = length.wrapping_mul(PARTS);
-        let kept = self.settings.reserve.wrapping_mul(PARTS);
-        let reserve = kept.min(capacity.wrapping_shr(1));
-        let threshold = capacity.wrapping_sub(reserve);
         self.limits.push(Limit {
             capacity,
-            threshold,
-            marked: false,
+            threshold: capacity,
         })?;
-        self.excess.push(threshold.wrapping_neg())?;
+        self.excess.push(capacity.wrapping_neg())?;
         self.overs.push(0)?;
         self.charges.push(1)?;
         self.prices.push(1)?;
@@ -229,30 +223,25 @@ impl Loads {
     /// lowered one back what it is below (the method of multipliers of Hestenes and Powell 1969, with step 1).
     pub fn raise_multipliers(&mut self) {
         for arc in 0..self.len() {
-            let limit = self.limit(arc);
-            let excess = self.load(arc).wrapping_sub(limit.capacity);
-            let threshold = limit.threshold.wrapping_sub(excess);
-            if excess > 0 {
-                self.set_threshold(arc, threshold);
-            } else if excess < 0 && limit.marked && limit.threshold < limit.capacity {
-                self.set_threshold(arc, threshold.min(limit.capacity));
+            let Limit {
+                capacity,
+                threshold,
+            } = self.limit(arc);
+            let load = self.load(arc);
+            let above = load.wrapping_sub(capacity);
+            let raised = threshold.wrapping_sub(above).max(self.lowest);
+            let raised = raised.min(capacity);
+            if raised != threshold {
+                let excess = load.wrapping_sub(raised);
+                set(&mut self.excess, arc, excess);
+                let limit = Limit {
+                    capacity,
+                    threshold: raised,
+                };
+                set(&mut self.limits, arc, limit);
+                self.price_anew(arc, excess);
             }
         }
-    }
-
-    // Gives an arc a threshold, and marks it.
-    fn set_threshold(&mut self, arc: u32, threshold: i64) {
-        let threshold = threshold.max(self.lowest);
-        let excess = self.load(arc).wrapping_sub(threshold);
-        let capacity = self.limit(arc).capacity;
-        set(&mut self.excess, arc, excess);
-        let limit = Limit {
-            capacity,
-            threshold,
-            marked: true,
-        };
-        set(&mut self.limits, arc, limit);
-        self.price_anew(arc, excess);
     }
 
     /// What the loads are above the capacities, in all.

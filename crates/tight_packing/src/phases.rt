@@ -28,6 +28,9 @@ const TEST_GAP: u32 = 5;
 
 const LATE_TEST_GAP: u32 = 10;
 
+// Of so many rounds one ends with the pool tidied.
+const TIDY_GAP: u32 = 3;
+
 // A unit search is tried at this overload in units, or after so many whole rounds; so many rounds
 // are between two.
 const UNIT_EXCESS: i64 = 20;
@@ -166,6 +169,11 @@ impl Phases {
             self.fine_excess = excess.max(self.settings.least_excess);
         }
         is_due
+    }
+
+    /// Whether it is time to tidy the pool.
+    pub fn is_time_to_tidy(&self) -> bool {
+        self.round % TIDY_GAP == TIDY_GAP - 1
     }
 
     /// Whether it is time to test that no packing exists.

@@ -121,7 +121,9 @@ impl Rounds {
                 .sweep(state, seeker, finder, self.phases.tries())?;
         }
         self.phases.note_potential(state.loads.potential());
-        self.tidier.tidy(&mut state.pool)?;
+        if self.phases.is_time_to_tidy() {
+            self.tidier.tidy(&mut state.pool)?;
+        }
         if self.phases.begins_rounding(state.loads.true_excess()) {
             self.rounder.begin(&mut seeker.random);
         }

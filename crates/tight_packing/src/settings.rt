@@ -1,13 +1,11 @@
 //! How an exchange goes.
 
-/// How an exchange goes on grids, and how in other graphs.
+/// How an exchange goes in graphs that are drawn in the plane, and how in others.
 #[derive(Clone, Copy)]
 pub struct Settings {
-    /// Units kept free on each arc at first, of at most half its length; the rounding spends them.
-    pub reserve: i64,
     /// Whether an arc that isn't overloaded is charged by how full it is.
     pub charges_all: bool,
-    /// A new cut is to be cheaper than all others of its group by one in so many.
+    /// A new cut is to be cheaper than all others of its group by one in so many; the greatest number: by anything.
     pub worth: i64,
     /// A group that failed f times in a row to find one looks with chance 1 / (1 + min(f, this)).
     pub most_skips: u32,
@@ -24,9 +22,8 @@ pub struct Settings {
 }
 
 impl Settings {
-    /// On grids, whose edges are many units long.
+    /// In graphs that are drawn in the plane, as grids are.
     pub const GRIDS: Settings = Settings {
-        reserve: 4,
         charges_all: true,
         worth: 16,
         most_skips: 12,
@@ -40,7 +37,6 @@ impl Settings {
     /// In other graphs: an edge may be one unit long, and where nothing is charged a flow lives on overloaded arcs
     /// alone.
     pub const GRAPHS: Settings = Settings {
-        reserve: 0,
         charges_all: false,
         worth: i64::MAX,
         most_skips: 6,

@@ -31,11 +31,16 @@ impl State {
     ) -> Result<(), AllocError> {
         for turn in 1..TURNS + 1 {
             self.groups.shuffle(&mut seeker.random);
+            let mut served = 0u32;
             for visit in 0..self.groups.tree().groups() {
-                if visit % GROUPS_TO_CHARGES == 0 {
+                let group = self.groups.visited(visit);
+                if self.groups.lacking(group) <= 0 {
+                    continue;
+                }
+                if served % GROUPS_TO_CHARGES == 0 {
                     self.loads.draw_charges(&mut seeker.random);
                 }
-                let group = self.groups.visited(visit);
+                served = served.wrapping_add(1);
                 self.give_share(seeker, finder, group, turn)?;
             }
         }
