@@ -1,5 +1,5 @@
-//! The units in which lengths are counted: an exchange doesn't depend on the unit in which they are written, and it is
-//! carried out in coarse units first, so that it costs little more where lengths have many digits.
+//! The units in which lengths are counted. An exchange is carried out in coarse units first, so that it costs little more
+//! where lengths have many digits, and in finer ones than the unit in which they are written where it may.
 
 use net_graph::NetGraph;
 use std::alloc::{AllocError, Global};
@@ -15,6 +15,13 @@ const COARSE_BITS: u32 = 17;
 const STEP_BITS: u32 = 10;
 
 const MOST_STEPS_DOWN: u32 = 4;
+
+// The finest unit is a part of the greatest common divisor of the lengths, no less than one in so many, where a network
+// is not about 2 to this many units long else: the finer the units are, the fewer packings are lost that weights in
+// whole ones don't make.
+const MOST_PARTS: u64 = 4096;
+
+const ENOUGH_BITS: u32 = 18;
 
 // Coarse units are more than 2 to this many fine ones.
 const LEAST_BITS: u32 = 2;
@@ -43,18 +50,32 @@ impl Scale {
 }
 
 /// The finest unit for a network of some length: the greatest common divisor of all edges' lengths, or, where the
-/// network is then too long, this times the least power of 2 at which it isn't. Lengths are rounded down to units. At
-/// least 1.
+/// network is then too long, this times the least power of 2 at which it isn't, and where it is short, a part of it.
+/// Lengths are rounded down to units. At least 1.
 pub fn finest_unit(graph: &NetGraph, length: u64) -> u64 {
     let mut divisor = 0u64;
     for edge in graph.edges() {
         divisor = common_divisor(divisor, edge.length);
     }
-    let divisor = divisor.max(1);
+    let divisor = part_of(divisor.max(1), length);
     let bits = bits_of(length, divisor);
     divisor
         .wrapping_shl(bits.saturating_sub(LENGTH_BITS))
         .max(1)
+}
+
+// The greatest part of a divisor at which a network of some length isn't short, or else the least one.
+fn part_of(divisor: u64, length: u64) -> u64 {
+    let mut part = divisor;
+    for parts in 2..=MOST_PARTS {
+        if bits_of(length, part) >= ENOUGH_BITS {
+            break;
+        }
+        if divisor.checked_rem(parts) == Some(0) {
+            part = divisor.checked_div(parts).unwrap_or(part);
+        }
+    }
+    part
 }
 
 /// The units in which an exchange along a network of some length is carried out before it is in the finest one: coarser
