@@ -1,5 +1,5 @@
-//! The units in which lengths are counted. An exchange is carried out in coarse units first, so that it costs little more
-//! where lengths have many digits, and in finer ones than the unit in which they are written where it may.
+//! The units in which lengths are counted: an exchange is carried out in coarse units first, so that it costs little
+//! more where lengths have many digits, and in finer units than they are written in where these divide them.
 
 use net_graph::NetGraph;
 use std::alloc::{AllocError, Global};
@@ -16,12 +16,11 @@ const STEP_BITS: u32 = 10;
 
 const MOST_STEPS_DOWN: u32 = 4;
 
-// The finest unit is a part of the greatest common divisor of the lengths, no less than one in so many, where a network
-// is not about 2 to this many units long else: the finer the units are, the fewer packings are lost that weights in
-// whole ones don't make.
-const MOST_PARTS: u64 = 4096;
-
+// A network is about 2 to this many units long or longer where parts of the greatest common divisor of the lengths, no
+// less than one in so many, make it so: the finer the units are, the more packings stand in whole ones.
 const ENOUGH_BITS: u32 = 18;
+
+const MOST_PARTS: u64 = 4096;
 
 // Coarse units are more than 2 to this many fine ones.
 const LEAST_BITS: u32 = 2;
@@ -49,9 +48,9 @@ impl Scale {
     }
 }
 
-/// The finest unit for a network of some length: the greatest common divisor of all edges' lengths, or, where the
-/// network is then too long, this times the least power of 2 at which it isn't, and where it is short, a part of it.
-/// Lengths are rounded down to units. At least 1.
+/// The finest unit for a network of some length: the greatest common divisor of all edges' lengths; where the network
+/// is then short, a part of it; where it is too long, this times the least power of 2 at which it isn't. Lengths are
+/// rounded down to units. At least 1.
 pub fn finest_unit(graph: &NetGraph, length: u64) -> u64 {
     let mut divisor = 0u64;
     for edge in graph.edges() {
