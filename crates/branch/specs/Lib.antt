@@ -12,5 +12,6 @@ pub mod Meeting
 pub mod Notes
 pub mod Variants
 pub mod Searching
+pub mod Views
 pub mod SearchCode
 pub mod Solving

@@ -19,6 +19,7 @@ use crate::saturation::has_saturated_end;
 use crate::solved::Solved;
 use crate::split_kind::SplitKind;
 use crate::step::Step;
+use crate::view::LeafView;
 use cert_tree::{CertTree, SplitOn, tree_bounds_every_network};
 use dual_ascent::{Chooser, Rule};
 use net_graph::{Decision, EdgeSet, NetGraph, Packing};
@@ -59,6 +60,7 @@ impl<'a, F: Rule, G: Rule> Search<'a, F, G> {
     ghost use Rattle.branch.specs.Runs.{EndsRunOfOpenings};
     ghost use Rattle.branch.specs.Searching.{IsRaised, IsOffered, IsSettled, IsShownFirst, TakesStep};
     ghost use Rattle.branch.specs.Searching.{IsOpenAt, IsDecidedAt, CanSplitAt, IsSplitAt, AreOfSize};
+    ghost use Rattle.branch.specs.Views.{IsViewIn};
     ghost use Rattle.branch.specs.Solving.{IsSolved, ways_of};
 
     /// A search that begins with a network and with the leaf of an ascent from no cut. The rule `ascent` chooses among
@@ -162,6 +164,22 @@ impl<'a, F: Rule, G: Rule> Search<'a, F, G> {
         ensures { IsDecidedAt self.now leaf result.now }
     {
         &self.kept.notes[leaf as usize].decision
+    }
+
+    /// A leaf, given by its place in preorder, with what is kept beside it; `None` where its packing isn't maximal, which
+    /// is so only where its value is at least the sum of all lengths. It takes no memory.
+    pub fn view(&self, leaf: u32) -> Option<LeafView<'_>>
+        requires { leaf < length (packings_of self.now.tree) }
+        ensures { IfSome result (IsViewIn self.now.graph) }
+    {
+        let note = &self.kept.notes[leaf as usize];
+        let own = note.network.as_ref()?;
+        Some(LeafView {
+            decision: &note.decision,
+            packing: self.kept.tree.packing(leaf),
+            costs: &note.costs,
+            own,
+        })
     }
 
     /// Whether a leaf, given by its place in preorder, can be split on a vertex: exactly where its value is below the

@@ -18,6 +18,7 @@ mod solved;
 mod split_choice;
 mod split_kind;
 mod step;
+mod view;
 
 pub use branch_and_bound::Search;
 pub use offered::Offered;
@@ -26,3 +27,4 @@ pub use solve::solve_graph;
 pub use solved::Solved;
 pub use split_kind::SplitKind;
 pub use step::Step;
+pub use view::LeafView;

@@ -17,9 +17,6 @@ use std::alloc::{AllocError, Global};
 use std::cell::Cell;
 use strong_branching::{Draws, drawn_again, drawn_place, is_of, place_of};
 
-// So many searches are begun at most.
-const MOST_SEARCHES: u8 = 200;
-
 /// What the draws of each search that begins anew begin with.
 pub(crate) const SEED: u64 = 20240610;
 
@@ -71,7 +68,10 @@ fn found_by(
 {
     let mut draws = Draws::new(SEED, proposal.most_arcs());
     let mut first = first;
-    for _ in 0..MOST_SEARCHES {
+    for number in 0..proposal.most_searches() {
+        if number > 0 {
+            first = drawn_again(alloc, graph, first, &mut draws)?;
+        }
         let begun = network.copy()?;
         let mut proposing = proposal.begin(alloc, graph)?;
         let found = search(
@@ -89,7 +89,6 @@ fn found_by(
         if draws.is_spent() {
             return Ok(None);
         }
-        first = drawn_again(alloc, graph, first, &mut draws)?;
     }
     Ok(None)
 }
@@ -233,15 +232,10 @@ fn split_next<F: Rule, G: Rule>(
     let Some(leaf) = search.next_open() else {
         return Ok(false);
     };
-    let chosen = proposing.next(
-        alloc,
-        graph,
-        search.decision(leaf),
-        search.tree().packing(leaf),
-        search.network(),
-        left,
-        draws,
-    )?;
+    let Some(view) = search.view(leaf) else {
+        return Ok(false);
+    };
+    let chosen = proposing.next(alloc, graph, view, search.network(), left, draws)?;
     let Some(choice) = chosen else {
         return Ok(false);
     };

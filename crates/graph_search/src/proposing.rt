@@ -1,14 +1,15 @@
 //! What proposes the edges on which searches by chains split their leaves.
 
 ghost use Rattle.std.specs.Prelude.{◌≡◌, length};
-ghost use Rattle.net_graph.specs.Decision.{IsDecisionFor};
+ghost use Rattle.branch.specs.Views.{IsViewIn};
 
-use net_graph::{Decision, EdgeSet, NetGraph, Packing, length};
+use branch::LeafView;
+use net_graph::{EdgeSet, NetGraph, length};
 use std::alloc::{AllocError, Global};
 use strong_branching::{Choice, CutPlan, Draws, choose, choose_by_values};
 
-// So many arcs are looked at where splits go along cuts, which takes a second or two.
-const MOST_ARCS_OF_CUTS: u64 = 750_000;
+// So many arcs are looked at where splits go along cuts, which takes some seconds.
+const MOST_ARCS_OF_CUTS: u64 = 6_000_000;
 
 // So many arcs are looked at where both children are bounded, which takes some seconds.
 const MOST_ARCS: u64 = 1_500_000;
@@ -17,6 +18,9 @@ const MOST_ARCS: u64 = 1_500_000;
 const ARCS_A_SPLIT: u32 = 5_000;
 
 const MOST_CANDIDATES: u32 = 8;
+
+// So many searches are begun at most, where both children are bounded.
+const MOST_SEARCHES: u8 = 200;
 
 /// What proposes the edges that are split on.
 #[derive(Clone, Copy)]
@@ -36,6 +40,14 @@ impl Proposal {
             Proposal::Cut => MOST_ARCS_OF_CUTS,
             Proposal::BothChildren => MOST_ARCS,
             Proposal::Values => u64::MAX,
+        }
+    }
+
+    /// How many searches may be begun, each from another first packing.
+    pub fn most_searches(self) -> u8 {
+        match self {
+            Proposal::BothChildren => MOST_SEARCHES,
+            Proposal::Cut | Proposal::Values => 1,
         }
     }
 
@@ -64,22 +76,19 @@ impl Proposing {
         &mut self,
         alloc: Global,
         graph: &NetGraph,
-        decision: &Decision,
-        packing: &Packing,
+        view: LeafView<'_>,
         network: &EdgeSet,
         left: u8,
         draws: &mut Draws,
     ) -> Result<Option<Choice>, AllocError>
-        requires decision { IsDecisionFor graph.now decision.now }
+        requires view { IsViewIn graph.now view }
         requires network { length network.now ≡ length graph.now.edges }
     {
         let aim = length(graph, network);
         match self {
-            Proposing::Cut(plan) => plan.next(alloc, graph, decision, packing, aim, left, draws),
-            Proposing::BothChildren => choose(alloc, graph, decision, packing, network, aim, draws),
-            Proposing::Values(most) => {
-                choose_by_values(alloc, graph, decision, packing, aim, *most, draws)
-            }
+            Proposing::Cut(plan) => plan.next(alloc, graph, view, aim, left, draws),
+            Proposing::BothChildren => choose(alloc, graph, view, network, aim, draws),
+            Proposing::Values(most) => { choose_by_values(alloc, graph, view, aim, *most, draws) }
         }
     }
 }

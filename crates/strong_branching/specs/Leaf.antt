@@ -9,5 +9,5 @@ use Rattle.strong_branching.specs.declared.leaf.Leaf.{Leaf}
 pub record IsLeafOf (leaf : Leaf) : Type 0 where
   pub decision : IsDecisionFor leaf.graph.now leaf.decision.now
   pub feasible : IsFeasible leaf.graph.now leaf.decision.now leaf.packing.now
-  pub costs : leaf.costs ≡ costs_of leaf.graph.now.edges (states_of leaf.graph.now leaf.decision.now) leaf.packing.now
-  pub own : length leaf.own ≡ length leaf.graph.now.edges
+  pub costs : leaf.costs.now ≡ costs_of leaf.graph.now.edges (states_of leaf.graph.now leaf.decision.now) leaf.packing.now
+  pub own : length leaf.own.now ≡ length leaf.graph.now.edges

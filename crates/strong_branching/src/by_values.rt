@@ -1,13 +1,14 @@
 //! Splits by what ascents in drawn orders make of both children's values.
 
 ghost use Rattle.std.specs.Prelude.{◌<◌, length};
-ghost use Rattle.net_graph.specs.Decision.{IsDecisionFor};
+ghost use Rattle.branch.specs.Views.{IsViewIn};
 ghost use Rattle.strong_branching.specs.Leaf.{IsLeafOf};
 
 use crate::choice::Choice;
 use crate::draws::Draws;
 use crate::leaf::Leaf;
-use net_graph::{Cut, Decision, NetGraph, Packing};
+use branch::LeafView;
+use net_graph::{Cut, NetGraph};
 use std::alloc::{AllocError, Global};
 
 // An undecided edge of a leaf's own network, and by how much the cuts that it drops where it is taken in outweigh it.
@@ -26,21 +27,18 @@ struct Valued {
 
 /// The undecided edge of a leaf's own network, and the order of the ascents of both children, whose children are worth
 /// most. So many edges are looked at, those whose inside child begins with the most; a single one is taken as it is.
-/// `None` where there is no such edge, or the leaf's packing isn't maximal. An `Err` is want of memory.
+/// `None` where there is no such edge. An `Err` is want of memory.
 pub fn choose_by_values(
     alloc: Global,
     graph: &NetGraph,
-    decision: &Decision,
-    packing: &Packing,
+    view: LeafView<'_>,
     aim: u64,
     most: u32,
     draws: &mut Draws,
 ) -> Result<Option<Choice>, AllocError>
-    requires { IsDecisionFor graph.now decision.now }
+    requires { IsViewIn graph.now view }
 {
-    let Some(leaf) = Leaf::of(alloc, graph, decision, packing, aim)? else {
-        return Ok(None);
-    };
+    let leaf = Leaf::of(graph, view, aim);
     let edges = by_loss(alloc, &leaf)?;
     if most <= 1 {
         let seed = draws.seed();

@@ -2,12 +2,14 @@
 //! Bixby, Chvátal and Cook 1995).
 
 ghost use Rattle.std.specs.Prelude.{◌≡◌, length};
-ghost use Rattle.net_graph.specs.Decision.{IsDecisionFor, IsUndecided};
+ghost use Rattle.net_graph.specs.Decision.{IsUndecided};
+ghost use Rattle.branch.specs.Views.{IsViewIn};
 ghost use Rattle.strong_branching.specs.Leaf.{IsLeafOf};
 
 use crate::draws::Draws;
 use crate::leaf::Leaf;
-use net_graph::{Decision, EdgeSet, NetGraph, Packing};
+use branch::LeafView;
+use net_graph::{EdgeSet, NetGraph};
 use std::alloc::{AllocError, Global};
 
 // So many orders are drawn for the ascents of each candidate's children.
@@ -38,23 +40,20 @@ struct Best {
 
 /// The undecided edge of a leaf's own network, and the order of the ascents of both children, that leave least open:
 /// worth most is what closes one child and brings the other one closer to its end. Edges of the network that is known
-/// come first, and where one is good not all others are looked at. `None` where there is no such edge, or the leaf's
-/// packing isn't maximal. An `Err` is want of memory.
+/// come first, and where one is good not all others are looked at. `None` where there is no such edge. An
+/// `Err` is want of memory.
 pub fn choose(
     alloc: Global,
     graph: &NetGraph,
-    decision: &Decision,
-    packing: &Packing,
+    view: LeafView<'_>,
     known: &EdgeSet,
     aim: u64,
     draws: &mut Draws,
 ) -> Result<Option<Choice>, AllocError>
-    requires decision { IsDecisionFor graph.now decision.now }
+    requires view { IsViewIn graph.now view }
     requires known { length known.now ≡ length graph.now.edges }
 {
-    let Some(leaf) = Leaf::of(alloc, graph, decision, packing, aim)? else {
-        return Ok(None);
-    };
+    let leaf = Leaf::of(graph, view, aim);
     let mut best = Best {
         choice: None,
         worth: 0,

@@ -3,6 +3,7 @@
 
 ghost use Rattle.std.specs.Prelude.{◌≡◌, length};
 ghost use Rattle.net_graph.specs.Decision.{IsDecisionFor};
+ghost use Rattle.branch.specs.Views.{IsViewIn};
 ghost use Rattle.strong_branching.specs.Leaf.{IsLeafOf};
 
 use crate::choice::Choice;
@@ -10,9 +11,10 @@ use crate::draws::Draws;
 use crate::flow::Flow;
 use crate::leaf::Leaf;
 use crate::relevant::required_ends;
+use branch::LeafView;
 use cut_groups::{at, set};
 use dual_ascent::ReducedCosts;
-use net_graph::{Decision, EdgeState, NetGraph, Packing, Passage};
+use net_graph::{Decision, EdgeState, NetGraph, Passage};
 use std::alloc::{AllocError, Global};
 
 // So many orders are drawn at most for the ascents of an edge's inside child.
@@ -56,22 +58,19 @@ impl CutPlan {
 
     /// An edge of a leaf's own network that lies on a cut: on the one of the leaf before as long as that parts a
     /// required vertex from the root, and else on one along which the fewest splits seem to be needed. `None` where
-    /// these are more than so many, or the leaf's packing isn't maximal. An `Err` is want of memory.
+    /// these are more than so many. An `Err` is want of memory.
     pub fn next(
         &mut self,
         alloc: Global,
         graph: &NetGraph,
-        decision: &Decision,
-        packing: &Packing,
+        view: LeafView<'_>,
         aim: u64,
         most: u8,
         draws: &mut Draws,
     ) -> Result<Option<Choice>, AllocError>
-        requires { IsDecisionFor graph.now decision.now }
+        requires { IsViewIn graph.now view }
     {
-        let Some(leaf) = Leaf::of(alloc, graph, decision, packing, aim)? else {
-            return Ok(None);
-        };
+        let leaf = Leaf::of(graph, view, aim);
         if !self.parts(alloc, &leaf)? && !self.make(alloc, &leaf, most, draws)? {
             return Ok(None);
         }
@@ -170,7 +169,7 @@ impl CutPlan {
     fn rooms(&self, alloc: Global, leaf: &Leaf<'_>) -> Result<Vec<u32>, AllocError>
         requires { IsLeafOf leaf.now }
     {
-        self.rooms_by(alloc, leaf.graph, leaf.decision, &leaf.costs)
+        self.rooms_by(alloc, leaf.graph, leaf.decision, leaf.costs)
     }
 
     // The same by what a packing leaves of the rooms.

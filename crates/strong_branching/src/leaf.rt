@@ -4,16 +4,14 @@ ghost use Rattle.std.specs.Prelude.{◌≡◌, ◌<◌, length, IfOk, IfSome, Is
 ghost use Rattle.net_graph.specs.Decision.{IsDecisionFor, IsUndecided};
 ghost use Rattle.dual_ascent.specs.Carried.{DecidesOneMore};
 ghost use Rattle.dual_ascent.specs.Choosing.{IsCallableOnSome, AnswersAPlace};
+ghost use Rattle.branch.specs.Views.{IsViewIn};
 ghost use Rattle.strong_branching.specs.Leaf.{IsLeafOf};
 
 use crate::drawn_order::drawn_place;
 use crate::relevant::relevant_arcs;
-use crate::sizes::is_of;
-use branch::saturated_network;
-use dual_ascent::{
-    Candidate, Chooser, ReducedCosts, Rule, ascend_with, carry, carry_costs, maximal,
-};
-use net_graph::{Decision, EdgeSet, EdgeState, NetGraph, Packing, feasible, value};
+use branch::LeafView;
+use dual_ascent::{Candidate, Chooser, ReducedCosts, Rule, ascend_with, carry, carry_costs};
+use net_graph::{Decision, EdgeSet, EdgeState, NetGraph, Packing, value};
 use std::alloc::{AllocError, Global};
 
 // What a unit of a child's value is worth beside the wishes.
@@ -26,9 +24,9 @@ pub(crate) struct Leaf<'a> {
     pub graph: &'a NetGraph,
     pub decision: &'a Decision,
     pub packing: &'a Packing,
-    pub costs: ReducedCosts,
+    pub costs: &'a ReducedCosts,
     /// The network of its saturated arcs.
-    pub own: EdgeSet,
+    pub own: &'a EdgeSet,
     /// The value that closes a child.
     pub aim: u64,
 }
@@ -45,34 +43,20 @@ struct Child {
 }
 
 impl<'a> Leaf<'a> {
-    /// The leaf of a packing under a decision; none where the packing isn't a maximal one. An `Err` is want of memory.
-    pub fn of(
-        alloc: Global,
-        graph: &'a NetGraph,
-        decision: &'a Decision,
-        packing: &'a Packing,
-        aim: u64,
-    ) -> Result<Option<Leaf<'a>>, AllocError>
-        requires { IsDecisionFor graph.now decision.now }
-        ensures leaf { IfOk result (λ found. IfSome found IsLeafOf) }
-        ensures graph { IfOk result (λ found. IfSome found (λ leaf. leaf.graph.now ≡ graph.now)) }
+    /// The leaf of a graph's search that is seen.
+    pub fn of(graph: &'a NetGraph, view: LeafView<'a>, aim: u64) -> Leaf<'a>
+        requires { IsViewIn graph.now view }
+        ensures leaf { IsLeafOf result }
+        ensures graph { result.graph.now ≡ graph.now }
     {
-        if !is_of(graph, packing)
-            || !feasible(graph, decision, packing)
-            || !maximal(alloc, graph, decision, packing)?
-        {
-            return Ok(None);
-        }
-        let costs = ReducedCosts::of(alloc, graph, decision, packing)?;
-        let own = saturated_network(alloc, graph, decision, packing)?;
-        Ok(Some(Leaf {
+        Leaf {
             graph,
-            decision,
-            packing,
-            costs,
-            own,
+            decision: view.decision,
+            packing: view.packing,
+            costs: view.costs,
+            own: view.own,
             aim,
-        }))
+        }
     }
 }
 
@@ -81,7 +65,7 @@ impl Leaf<'_> {
     pub fn relevant(&self, alloc: Global) -> Result<u32, AllocError>
         requires { IsLeafOf self.now }
     {
-        relevant_arcs(alloc, self.graph, self.decision, &self.costs)
+        relevant_arcs(alloc, self.graph, self.decision, self.costs)
     }
 
     /// Whether a number is that of an undecided edge of its own network.
@@ -172,7 +156,7 @@ impl Leaf<'_> {
         let graph = self.graph;
         let before = self.decision;
         let start = carry(alloc, graph, before, now, self.packing)?;
-        let costs = carry_costs(alloc, graph, before, now, self.packing, &self.costs, &start)?;
+        let costs = carry_costs(alloc, graph, before, now, self.packing, self.costs, &start)?;
         let dropped = self.packing.len().saturating_sub(start.len());
         let dropped = u32::try_from(dropped).unwrap_or(u32::MAX);
         let ascent = ascend_with(alloc, graph, now, start, costs, &Chooser::new(rule))?;

@@ -4,7 +4,9 @@ use Rattle.std.proofs.Common.{refl, sym, ◌∙◌, subst, arith}
 use Rattle.std.specs.Prelude.{IfNone, IfSome}
 use Rattle.std.proofs.lemmas.Option.{slice_get_within, slice_get-get_or, same_Some}
 use Rattle.net_graph.specs.Graph.{Graph}
-use Rattle.net_graph.specs.Decision.{Decided, IsUndecided, IsVertexUndecided, states_of, nothing_decided}
+use Rattle.net_graph.specs.declared.packing.Cut.{Cut}
+use Rattle.net_graph.specs.Packing.{IsFeasible}
+use Rattle.net_graph.specs.Decision.{Decided, IsDecisionFor, IsUndecided, IsVertexUndecided, states_of, nothing_decided}
 use Rattle.net_graph.specs.DecisionLaws.{length-states_of}
 use Rattle.net_graph.specs.LengthLaws.{length_of_edges-le-sum}
 use Rattle.net_graph.specs.Network.{length_of}
@@ -22,7 +24,7 @@ use Rattle.branch.specs.Notes.{IsNoteOf, IsKeptNote, IsNextNote, HasSaturatedEnd
 use Rattle.branch.specs.Searching.{SearchState, search_state, IsSearch, IsDecidedAt, CanSplitAt}
 use Rattle.branch.proofs.lemmas.ListLemmas.{AllZip-length, beside_right}
 use Rattle.branch.proofs.lemmas.SaturatedLemmas.{HasSaturatedArc-used_up}
-use Rattle.branch.proofs.lemmas.TreeLemmas.{length-leaves_of}
+use Rattle.branch.proofs.lemmas.TreeLemmas.{length-leaves_of, packing_at}
 
 -- what holds anyway holds where there is nothing
 pub IfNone-holds : {A : Type 0} (o : Option A) (P : Type 0) → P → IfNone o P
@@ -55,6 +57,26 @@ module _ (g : Graph) (kept : Frontier) (k : ℕ) (note : LeafNote) (search : IsS
 
   pub rooms_size : IfSome note.network (λ _. length note.costs ≡ length g.edges)
   rooms_size = grind (arith, leaf_beside, length-costs_of, length-states_of)
+
+  -- a view of the leaf tells its decision, its packing, what that leaves, and a network of the graph's edges
+  pub seen_decision : IsDecisionFor g note.decision
+  seen_decision = grind (arith, leaf_beside)
+
+  pub seen_feasible : (packing : List Cut) → slice_get (packings_of kept.tree) k ≡ Some packing →
+      IsFeasible g note.decision packing
+  seen_feasible packing at =
+      let (leaf, leaf_at, kept_note) = leaf_beside in
+      grind (arith, packing_at (nothing_decided g) kept.tree k leaf leaf_at)
+
+  pub seen_costs : (set : List Bool) → note.network ≡ Some set → (packing : List Cut) →
+      slice_get (packings_of kept.tree) k ≡ Some packing →
+      note.costs ≡ costs_of g.edges (states_of g note.decision) packing
+  seen_costs set own packing at =
+      let (leaf, leaf_at, kept_note) = leaf_beside in
+      grind (arith, packing_at (nothing_decided g) kept.tree k leaf leaf_at, kept_note.0.costs set own)
+
+  pub seen_own : (set : List Bool) → note.network ≡ Some set → length set ≡ length g.edges
+  seen_own set own = grind (arith, leaf_beside)
 
   -- a vertex at which an undecided edge with a saturated arc ends can be split on
   pub can_split : (v : ℕ) → note.value < kept.best.length → HasSaturatedEnd g note v →
