@@ -229,14 +229,14 @@ impl Loads {
             } = self.limit(arc);
             let load = self.load(arc);
             let above = load.wrapping_sub(capacity);
-            let raised = threshold.wrapping_sub(above).max(self.lowest);
-            let raised = raised.min(capacity);
-            if raised != threshold {
-                let excess = load.wrapping_sub(raised);
+            let moved = threshold.wrapping_sub(above).max(self.lowest);
+            let moved = moved.min(capacity);
+            if moved != threshold {
+                let excess = load.wrapping_sub(moved);
                 set(&mut self.excess, arc, excess);
                 let limit = Limit {
                     capacity,
-                    threshold: raised,
+                    threshold: moved,
                 };
                 set(&mut self.limits, arc, limit);
                 self.price_anew(arc, excess);

@@ -1,5 +1,5 @@
 //! The units in which lengths are counted: an exchange is carried out in coarse units first, so that it costs little
-//! more where lengths have many digits, and in finer units than they are written in where these divide them.
+//! more where lengths have many digits, and in parts of their greatest common divisor where a network is short.
 
 use net_graph::NetGraph;
 use std::alloc::{AllocError, Global};
